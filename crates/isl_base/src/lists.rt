@@ -1,0 +1,72 @@
+// The list that contracts see as the list of its items.
+
+ghost use Rattle.std.specs.Prelude.{◌≡◌, ◌≤◌, List, [], ◌∷◌, ◌++◌, length, slice_get, Some, OnOk, OnErr, MatchOption};
+
+use crate::faults::NoMemory;
+use crate::place::Place;
+use std::alloc::Global;
+use std::marker::Model;
+
+/// A list that grows at its end.
+#[derive(Drop)]
+pub struct ItemList<T> {
+    items: Vec<T>,
+}
+
+impl<T> Model for ItemList<T> {
+    ghost use Rattle.std.specs.Prelude.{List};
+
+    ghost Value = { List T };
+
+    ghost view = { λ l. l.items.items };
+}
+
+impl<T> ItemList<T> {
+    /// The empty list; takes no memory.
+    pub fn new(alloc: Global) -> ItemList<T>
+        ensures { result ≡ [] }
+    {
+        ItemList {
+            items: Vec::new(alloc),
+        }
+    }
+
+    /// The number of items.
+    pub fn len(&self) -> usize
+        ensures { result ≡ length self.now }
+    {
+        self.items.len()
+    }
+
+    /// The item at that place; none exactly where `at` is not below the length.
+    pub fn get(&self, at: usize) -> Option<&T>
+        ensures { MatchOption result (length self.now ≤ at) (λ item. slice_get self.now at ≡ Some item.now) }
+    {
+        self.items.get(at)
+    }
+}
+
+impl<T: Drop> ItemList<T> {
+    /// Appends the item. After `NoMemory` the list is unchanged and the item is dropped.
+    pub fn push(&mut self, item: T) -> Result<(), NoMemory>
+        ensures ok { OnOk result (self.new ≡ self.old ++ item ∷ []) }
+        ensures err { OnErr result (self.new ≡ self.old) }
+    {
+        match self.items.push(item) {
+            Ok(()) => Ok(()),
+            Err(_) => Err(NoMemory),
+        }
+    }
+}
+
+/// Bytes.
+pub type Bytes = ItemList<u8>;
+
+/// Words of 32 bits.
+pub type WordList = ItemList<u32>;
+
+/// Numbers of calls, counted from 0.
+pub type CallList = ItemList<u32>;
+
+/// Places.
+pub type PlaceList = ItemList<Place>;
