@@ -1,6 +1,6 @@
 -- Core forms as contracts see them.
 use Rattle.std.specs.Prelude.{ℕ, suc, ◌+◌, List, [], ◌∷◌, Option, Some, None}
-use Rattle.isl_meaning.specs.declared.core_form.Primitive.{Primitive}
+use Rattle.isl_meaning.specs.declared.primitive.Primitive.{Primitive}
 
 mutual
   pub data Form : Type 0 where

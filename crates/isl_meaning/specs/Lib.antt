@@ -1,0 +1,4 @@
+pub mod Form
+pub mod FormCode
+pub mod View
+pub mod Falls
