@@ -2,3 +2,8 @@ pub mod Form
 pub mod FormCode
 pub mod View
 pub mod Falls
+pub mod Values
+pub mod State
+pub mod Counts
+pub mod Primitives
+pub mod Meaning
