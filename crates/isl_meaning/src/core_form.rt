@@ -61,5 +61,5 @@ impl Model for Core {
 
     ghost use Rattle.isl_meaning.specs.Falls.{falls};
 
-    ghost size_decreases = { λ c h. falls c };
+    ghost size_decreases = { λ c h. falls c.form };
 }
