@@ -1,5 +1,5 @@
 -- Each child of a core form is smaller than the form.
-use Rattle.std.specs.Prelude.{ℕ, ◌+◌, ◌≤◌, max, List, [], ◌∷◌, Option, Some, None}
+use Rattle.std.specs.Prelude.{◌+◌, ◌≤◌, max, List, [], ◌∷◌, Option, Some, None}
 use Rattle.std.proofs.Common.{arith}
 use denote.Param.Weighed.{most}
 use Rattle.isl_meaning.specs.Form.{Form, form_size, forms_size, clauses_size, maybe_size}

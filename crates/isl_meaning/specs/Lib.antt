@@ -2,3 +2,4 @@ pub mod Form
 pub mod FormCode
 pub mod View
 pub mod Falls
+pub mod Sizes
