@@ -1,5 +1,5 @@
 -- Core forms as contracts see them.
-use Rattle.std.specs.Prelude.{ℕ, suc, ◌+◌, List, [], ◌∷◌, Option, Some, None}
+use Rattle.std.specs.Prelude.{ℕ, ◌+◌}
 use Rattle.isl_meaning.specs.declared.primitive.Primitive.{Primitive}
 
 mutual

@@ -2,6 +2,7 @@ pub mod Form
 pub mod FormCode
 pub mod View
 pub mod Falls
+pub mod Sizes
 pub mod Values
 pub mod State
 pub mod Counts

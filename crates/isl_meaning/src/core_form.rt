@@ -1,8 +1,13 @@
 // Core forms: what every form of the language comes to.
 
+ghost use Rattle.std.specs.Prelude.{◌≡◌, IfOk};
+ghost use Rattle.isl_meaning.specs.Form.{literal, clauses, sequence, prim, sited};
+ghost use Rattle.isl_meaning.specs.View.{view_form, forms, clauses_of};
+
 use crate::primitive::Primitive;
 use crate::program::{LiteralId, SiteId};
-use isl_base::ItemList;
+use isl_base::{ItemList, NoMemory};
+use std::alloc::Global;
 use std::marker::Model;
 
 /// A core form. Contracts see it as the `Form` of specs/Form.antt.
@@ -61,5 +66,52 @@ impl Model for Core {
 
     ghost use Rattle.isl_meaning.specs.Falls.{falls};
 
-    ghost size_decreases = { λ c h. falls c };
+    ghost size_decreases = { λ c h. falls c.form };
+}
+
+impl Core {
+    /// A form of that kind.
+    pub fn new(form: CoreForm) -> Core
+        ensures { result ≡ view_form form }
+    {
+        Core { form }
+    }
+
+    /// The object of a literal row.
+    pub fn literal(id: LiteralId) -> Core
+        ensures { result ≡ literal id }
+    {
+        Core::new(CoreForm::Literal(id))
+    }
+
+    /// The body of the first clause whose test is not nil.
+    pub fn clauses(list: ClauseList) -> Core
+        ensures { result ≡ clauses (clauses_of list) }
+    {
+        Core::new(CoreForm::Clauses(list))
+    }
+
+    /// Forms in order.
+    pub fn sequence(list: CoreList) -> Core
+        ensures { result ≡ sequence (forms list) }
+    {
+        Core::new(CoreForm::Sequence(list))
+    }
+
+    /// A primitive of the values of its arguments.
+    pub fn prim(which: Primitive, list: CoreList) -> Core
+        ensures { result ≡ prim which (forms list) }
+    {
+        Core::new(CoreForm::Prim(which, list))
+    }
+
+    /// A form of the file, at its site; after `NoMemory` the form is dropped.
+    pub fn sited(alloc: Global, id: SiteId, inner: Core) -> Result<Core, NoMemory>
+        ensures { IfOk result (λ core. core ≡ sited id inner) }
+    {
+        match Box::new(alloc, inner) {
+            Ok(inner) => Ok(Core::new(CoreForm::Sited(id, inner))),
+            Err(_) => Err(NoMemory),
+        }
+    }
 }
