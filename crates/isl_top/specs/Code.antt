@@ -154,6 +154,15 @@ byte_of literals None = 0
 abbrev pub between : List ℕ → ℕ → List ℕ → List ℕ → List ℕ
 between first move second operation = first ++ move ∷ (second ++ operation)
 
+-- a primitive of two operands, the second of which may be a literal character
+abbrev pub operation_code : Primitive → List ℕ → List ℕ → ℕ → List ℕ
+operation_code Add first second byte = between first move_12_from_10 second (add_12_and_10 ∷ [])
+operation_code Subtract first second byte = between first move_12_from_10 second (subtract_10_from_12 ∷ [])
+operation_code NumberEqual first second byte = between first move_13_from_10 second (truth_code over_four_if_same)
+operation_code NumberLess first second byte = between first move_13_from_10 second (truth_code over_four_if_less)
+operation_code StandardOutput first second byte = first
+operation_code PutChar first second byte = first ++ constant byte ++ put_code
+
 module _ (literals : List LiteralRow) where
   unfoldable mutual
     pub form_code : Form → List ℕ
@@ -182,14 +191,6 @@ module _ (literals : List LiteralRow) where
     primitive_code which (form_and f no_form) = form_code f
     primitive_code which (form_and f (form_and g fs)) =
         operation_code which (form_code f) (form_code g) (byte_of literals (literal_number g))
-
-    operation_code : Primitive → List ℕ → List ℕ → ℕ → List ℕ
-    operation_code Add first second byte = between first move_12_from_10 second (add_12_and_10 ∷ [])
-    operation_code Subtract first second byte = between first move_12_from_10 second (subtract_10_from_12 ∷ [])
-    operation_code NumberEqual first second byte = between first move_13_from_10 second (truth_code over_four_if_same)
-    operation_code NumberLess first second byte = between first move_13_from_10 second (truth_code over_four_if_less)
-    operation_code StandardOutput first second byte = first
-    operation_code PutChar first second byte = first ++ constant byte ++ put_code
 
 -- the whole image: the header, nil for an empty program, the main forms, and the halt
 abbrev pub program_code : List LiteralRow → Forms → List ℕ

@@ -88,6 +88,15 @@ format_char_form p (tree_and (list q (tree_and (word _ w) no_tree)) (tree_and (w
     if bytes_eq w (codes "standard-output") then put_form p q r (letter_in c) t else None
 format_char_form p _ t = None
 
+-- what a list is, by its first word
+abbrev pub by_head : Head → Found Form → Found Form → Found Form
+by_head progn_head progn format_char = progn
+by_head format_char_head progn format_char = format_char
+by_head other_head progn format_char = None
+
+abbrev pub progn_form : Tables → Found Forms → Found Form
+progn_form t = as_form (λ fs. sited (next_site t) (sequence fs))
+
 unfoldable mutual
   pub form_of : TreeValue → Tables → Found Form
   form_of (word p w) t = None
@@ -96,12 +105,8 @@ unfoldable mutual
   pub list_form : Place → Trees → Tables → Found Form
   list_form p no_tree t = None
   list_form p (tree_and (list q us) ts) t = None
-  list_form p (tree_and (word q w) ts) t = headed_form (head_of w) p ts t
-
-  pub headed_form : Head → Place → Trees → Tables → Found Form
-  headed_form progn_head p ts t = as_form (λ fs. sited (next_site t) (sequence fs)) (forms_of ts (with_site p t))
-  headed_form format_char_head p ts t = format_char_form p ts t
-  headed_form other_head p ts t = None
+  list_form p (tree_and (word q w) ts) t =
+      by_head (head_of w) (progn_form t (forms_of ts (with_site p t))) (format_char_form p ts t)
 
   pub forms_of : Trees → Tables → Found Forms
   forms_of no_tree t = Some (no_form, t)
