@@ -3,3 +3,4 @@ pub mod FormCode
 pub mod View
 pub mod Falls
 pub mod Sizes
+pub mod Rest

@@ -33,9 +33,14 @@ pub test_in_smaller : (cs : List Clause) (i : ℕ) (c : Clause) → slice_get cs
     → form_size c.test < clauses_size (clauses_of cs)
 test_in_smaller cs i c h = omega (arith, clause_in_smaller cs i c h)
 
--- a body of a list of clauses is smaller than the list
-pub body_in_smaller : (cs : List Clause) (i : ℕ) (c : Clause) (f : Form) → slice_get cs i ≡ Some c → c.body ≡ Some f
+-- a body of a list of clauses, or its want, is smaller than the list
+pub body_in_smaller : (cs : List Clause) (i : ℕ) (c : Clause) → slice_get cs i ≡ Some c
+    → maybe_size (maybe_form c.body) < clauses_size (clauses_of cs)
+body_in_smaller cs i c h = omega (arith, clause_in_smaller cs i c h)
+
+-- the form of a body is smaller than the list
+pub body_form_in_smaller : (cs : List Clause) (i : ℕ) (c : Clause) (f : Form) → slice_get cs i ≡ Some c → c.body ≡ Some f
     → form_size f < clauses_size (clauses_of cs)
-body_in_smaller cs i c f h e =
+body_form_in_smaller cs i c f h e =
     let s : maybe_size (maybe_form c.body) ≡ form_size f + 1 = ap (λ b. maybe_size (maybe_form b)) e in
     omega (arith, clause_in_smaller cs i c h)
