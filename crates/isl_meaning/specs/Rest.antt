@@ -6,10 +6,12 @@ use Rattle.isl_meaning.specs.View.{forms, clauses_of, maybe_form}
 use Rattle.isl_meaning.specs.declared.core_form.Clause.{Clause}
 
 -- the item, and then what is left after it
-pub rest_at : {X : Type 0} (xs : List X) (i : ℕ) (x : X) → slice_get xs i ≡ Some x → drop i xs ≡ x ∷ drop (i + 1) xs
+pub rest_at : {X : Type 0} (xs : List X) (i : ℕ) (x : X) → slice_get xs i ≡ Some x
+    → drop i xs ≡ x ∷ drop (i + 1) xs
 rest_at [] i x h = absurd (cc)
 rest_at (y ∷ ys) zero x h = let e : y ≡ x = cc in ap (λ z. z ∷ ys) e
-rest_at (y ∷ ys) (suc i) x h = rw (add-one (suc i)) (rest_at ys i x h ∙ ap (λ n. x ∷ drop n ys) (add-one i))
+rest_at (y ∷ ys) (suc i) x h =
+    rw (add-one (suc i)) (rest_at ys i x h ∙ ap (λ n. x ∷ drop n ys) (add-one i))
 
 pub forms_at : (xs : List Form) (i : ℕ) (x : Form) → slice_get xs i ≡ Some x
     → forms (drop i xs) ≡ form_and x (forms (drop (i + 1) xs))
