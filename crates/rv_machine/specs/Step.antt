@@ -100,8 +100,13 @@ fetched (Some word) s = decoded (decode word) s
 unfoldable pub step_of : State → Result
 step_of s = fetched (word_at s.arena s.pc) s
 
--- what a call of `step` answers and leaves: the count rises with each step that went, up to its type's end
+-- what a call answers and leaves where it does what a step comes to: the count rises with each step
+-- that went, up to its type's end
+abbrev pub Does : Result → Counted → StepEnd → Counted → Type 0
+Does r old Went new = (r ≡ next new.state) × (new.count ≡ min (old.count + 1) 18446744073709551615)
+Does r old (Call which) new = (r ≡ environment_call which) × (new ≡ old)
+Does r old (Trap kind address) new = (r ≡ trapped kind address) × (new ≡ old)
+
+-- what a call of `step` answers and leaves
 abbrev pub Steps : Counted → StepEnd → Counted → Type 0
-Steps old Went new = (step_of old.state ≡ next new.state) × (new.count ≡ min (old.count + 1) 18446744073709551615)
-Steps old (Call which) new = (step_of old.state ≡ environment_call which) × (new ≡ old)
-Steps old (Trap kind address) new = (step_of old.state ≡ trapped kind address) × (new ≡ old)
+Steps old end new = Does (step_of old.state) old end new

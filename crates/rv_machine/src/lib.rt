@@ -1,11 +1,15 @@
-// The machine that compiled programs run on: RV32I's words, in an arena of its own.
+// The machine that compiled programs run on: words of RV32I, in an arena of their own.
 #![tactic(auto)]
 
 pub mod ending;
 pub mod image;
 mod instruction;
+pub mod laws;
+pub mod machine;
+pub mod run;
 
 
 pub use ending::{Ending, StepEnd, TooBig, TrapKind};
 pub use image::Image;
-
+pub use laws::{law_budget, law_split};
+pub use machine::Machine;
