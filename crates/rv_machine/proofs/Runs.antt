@@ -1,9 +1,8 @@
 -- Runs of more and of fewer instructions: each fact is first one of `act`, by its cases, and then one of
 -- `run_from`, by induction.
-use Rattle.std.proofs.Common.{◌≡◌, ℕ, zero, suc, ◌+◌, ◌%◌, ◌≤◌, List, [], ◌∷◌, ◌++◌, refl, sym, ap, ◌∙◌, arith, append_assoc, append-nil, zero-add, add-zero, add-one}
-use Rattle.rv_machine.specs.declared.ending.TrapKind.TheVariants.{BadCall}
-use Rattle.rv_machine.specs.declared.ending.Ending.TheVariants.{Halt, Budget, Trap}
-use Rattle.rv_machine.specs.State.{State, register}
+use Rattle.std.proofs.Common.{◌≡◌, ℕ, zero, suc, ◌+◌, ◌%◌, ◌≤◌, List, [], ◌∷◌, ◌++◌, refl, sym, ap, ◌∙◌, arith, append_assoc, append-nil, zero-add, add-zero}
+use Rattle.rv_machine.specs.declared.ending.Ending.TheVariants.{Budget}
+use Rattle.rv_machine.specs.State.{register}
 use Rattle.rv_machine.specs.Step.{Result, next, environment_call, trapped, behind, step_of}
 use Rattle.rv_machine.specs.Run.{Moment, Ended, act, stop, run_from, first, turn_of}
 

@@ -1,8 +1,8 @@
 -- A machine in the middle of a run: where it stands after i turns, and after one more.
-use Rattle.std.proofs.Common.{◌≡◌, ℕ, ◌+◌, ◌<◌, List, [], ◌∷◌, ◌++◌, length, Option, Some, None, IfSome, refl, sym, ap, subst, ◌∙◌, arith, append_assoc, append-nil, add-zero, length-append}
+use Rattle.std.proofs.Common.{◌≡◌, ℕ, ◌+◌, ◌<◌, List, [], ◌∷◌, ◌++◌, Option, Some, None, IfSome, refl, sym, ap, subst, ◌∙◌, arith, append_assoc, append-nil, add-zero, length-append}
 use Rattle.rv_machine.specs.declared.ending.Ending.{Ending}
 use Rattle.rv_machine.specs.declared.ending.Ending.TheVariants.{Budget}
-use Rattle.rv_machine.specs.State.{State, Counted}
+use Rattle.rv_machine.specs.State.{Counted}
 use Rattle.rv_machine.specs.Step.{environment_call, step_of}
 use Rattle.rv_machine.specs.Run.{Moment, Ended, run_from, first, turn_of, Gave, StandsAt, CutOff}
 use Rattle.rv_machine.proofs.Runs.{after, run_from-more, run_from-executed, run_from-turn}
@@ -47,8 +47,8 @@ pub stands-then :
     (m k : Moment) (old mid new : Counted) (told told' told'' : Option (List ℕ)) (writes writes' writes'' : ℕ)
     → StandsAt m old mid told writes told' writes' → StandsAt k mid new told' writes' told'' writes''
     → StandsAt
-        (record { state = k.state; printed = m.printed ++ k.printed; executed = m.executed + k.executed })
-        old new told writes told'' writes''
+    (record { state = k.state; printed = m.printed ++ k.printed; executed = m.executed + k.executed })
+    old new told writes told'' writes''
 stands-then m k old mid new told told' told'' writes writes' writes'' g h = record {
   state = h.state;
   count = let a = g.count in let b = h.count in omega arith;

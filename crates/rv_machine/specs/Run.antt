@@ -79,7 +79,7 @@ pub record CutOff (n : ℕ) (old new : Counted) (told : Option (List ℕ)) (writ
   pub stands : StandsAt (run_from turns (first old.state)).at old new told writes told' writes'
   pub call : step_of new.state ≡ environment_call 1
 
--- the endings of a run: the others are those of other machines
+-- the endings that a run can have: no environment call reads, signals, or asks for words
 abbrev pub IsOfRun : Ending → Type 0
 IsOfRun (Halt code) = Unit {0}
 IsOfRun (Unhandled class) = ⊥

@@ -1,5 +1,5 @@
 -- One step of the machine, one row an instruction (RISC-V Unprivileged ISA, 2.4 to 2.8).
-use Rattle.std.specs.Prelude.{◌≡◌, ◌<◌, ℕ, ◌+◌, ◌-◌, ◌*◌, ◌/◌, ◌%◌, ◌^◌, Option, Some, None, Bool, not, min, if◌then◌else◌, ◌==◌, nat_lt, int_lt, slice_set}
+use Rattle.std.specs.Prelude.{◌≡◌, ◌<◌, ℕ, ◌+◌, ◌-◌, ◌/◌, ◌%◌, Option, Some, None, Bool, not, min, if◌then◌else◌, ◌==◌, nat_lt, int_lt, slice_set}
 use Rattle.std.specs.Int.{cast_signed, w32}
 use Rattle.rv_machine.specs.declared.instruction.Instruction.{Instruction}
 use Rattle.rv_machine.specs.declared.instruction.Instruction.TheVariants.{Lui, Addi, Add, Sub, Slt, Beq, Bne, Blt, Bge, Jal, Jalr, Lw, Sw, Ecall}

@@ -18,7 +18,7 @@ pub enum TrapKind {
     StoreAddress,
     /// Register 17 names no environment call.
     BadCall,
-    /// The word is EBREAK.
+    /// Stands for EBREAK; `step` gives `BadWord` there.
     Break,
 }
 

@@ -33,14 +33,36 @@ pub fn decode(word: u32) -> Option<Instruction>
     let rs1 = rs1(word);
     let rs2 = rs2(word);
     match (opcode(word), funct3(word)) {
-        (0b0110111, _) => Some(Instruction::Lui { rd, immediate: immediate_u(word) }),
-        (0b0010011, 0) => Some(Instruction::Addi { rd, rs1, immediate: immediate_i(word) }),
+        (0b0110111, _) => Some(Instruction::Lui {
+            rd,
+            immediate: immediate_u(word),
+        }),
+        (0b0010011, 0) => Some(Instruction::Addi {
+            rd,
+            rs1,
+            immediate: immediate_i(word),
+        }),
         (0b0110011, _) => decode_operation(word),
         (0b1100011, _) => decode_branch(word),
-        (0b1101111, _) => Some(Instruction::Jal { rd, offset: immediate_j(word) }),
-        (0b1100111, 0) => Some(Instruction::Jalr { rd, rs1, immediate: immediate_i(word) }),
-        (0b0000011, 2) => Some(Instruction::Lw { rd, rs1, immediate: immediate_i(word) }),
-        (0b0100011, 2) => Some(Instruction::Sw { rs2, rs1, immediate: immediate_s(word) }),
+        (0b1101111, _) => Some(Instruction::Jal {
+            rd,
+            offset: immediate_j(word),
+        }),
+        (0b1100111, 0) => Some(Instruction::Jalr {
+            rd,
+            rs1,
+            immediate: immediate_i(word),
+        }),
+        (0b0000011, 2) => Some(Instruction::Lw {
+            rd,
+            rs1,
+            immediate: immediate_i(word),
+        }),
+        (0b0100011, 2) => Some(Instruction::Sw {
+            rs2,
+            rs1,
+            immediate: immediate_s(word),
+        }),
         _ if word == 0x73 => Some(Instruction::Ecall),
         _ => None,
     }
@@ -124,7 +146,11 @@ fn extended12(number: u32) -> u32
     requires { number < 4096 }
     ensures { result ≡ sign_extended_of 12 number }
 {
-    if number < 2048 { number } else { number + 0xffff_f000 }
+    if number < 2048 {
+        number
+    } else {
+        number + 0xffff_f000
+    }
 }
 
 // A number of 13 bits with its highest bit repeated up to 32.
@@ -132,7 +158,11 @@ fn extended13(number: u32) -> u32
     requires { number < 8192 }
     ensures { result ≡ sign_extended_of 13 number }
 {
-    if number < 4096 { number } else { number + 0xffff_e000 }
+    if number < 4096 {
+        number
+    } else {
+        number + 0xffff_e000
+    }
 }
 
 // A number of 21 bits with its highest bit repeated up to 32.
@@ -140,7 +170,11 @@ fn extended21(number: u32) -> u32
     requires { number < 2097152 }
     ensures { result ≡ sign_extended_of 21 number }
 {
-    if number < 1048576 { number } else { number + 0xffe0_0000 }
+    if number < 1048576 {
+        number
+    } else {
+        number + 0xffe0_0000
+    }
 }
 
 fn immediate_i(word: u32) -> u32

@@ -12,12 +12,10 @@ pub fn law_budget()
         ((rest : List ℕ) × ((run_from j m).at.printed ++ rest ≡ (run_from n m).at.printed)) }
     ensures executed { (j : ℕ) (m : Moment) → (run_from j m).ending ≡ Budget →
         (run_from j m).at.executed ≡ m.executed + j }
-{
-}
+{}
 
 /// A run that goes on after so many instructions is the run of the others from where it stands.
 pub fn law_split()
     ensures { (j k : ℕ) (m : Moment) → (run_from j m).ending ≡ Budget →
         run_from (j + k) m ≡ run_from k (run_from j m).at }
-{
-}
+{}

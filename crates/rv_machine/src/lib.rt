@@ -7,7 +7,8 @@ mod instruction;
 pub mod laws;
 pub mod machine;
 pub mod run;
-
+#[cfg(test)]
+mod tests;
 
 pub use ending::{Ending, StepEnd, TooBig, TrapKind};
 pub use image::Image;

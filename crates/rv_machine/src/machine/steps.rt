@@ -74,7 +74,11 @@ impl Machine {
                 let address = self.register(rs1).wrapping_add(immediate);
                 self.load_word(rd, address)
             }
-            Instruction::Sw { rs2, rs1, immediate } => {
+            Instruction::Sw {
+                rs2,
+                rs1,
+                immediate,
+            } => {
                 let address = self.register(rs1).wrapping_add(immediate);
                 let value = self.register(rs2);
                 self.store_word(address, value)

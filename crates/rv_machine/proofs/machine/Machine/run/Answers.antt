@@ -1,5 +1,5 @@
-use Rattle.std.proofs.Common.{◌≡◌, ◌+◌, [], sym, ap, subst, ◌∙◌, arith, rules}
-use Rattle.rv_machine.specs.Run.{Ended, StandsAt, first, run_from, turn_of}
+use Rattle.std.proofs.Common.{sym, ap, ◌∙◌, arith, rules}
+use Rattle.rv_machine.specs.Run.{Ended}
 use Rattle.rv_machine.proofs.Turns.{through-begin, through-count, through-ends, through-more, through-quiet, through-turn, stands-more}
 use Rattle.rv_machine.proofs.machine.Machine.run.Goals as goal
 
@@ -19,8 +19,8 @@ loop-turn-preserved g c =
       through = more;
       counted = through-count _ _ _ _ _ _ _ more;
       quiet = λ none.
-        let quiet = through-quiet _ _ _ _ _ _ _ c.loop-turn.invariant.through none in
-        c.in-Ok-None.ensures.quiet quiet.1 ∙ c.loop-turn.invariant.quiet quiet.0;
+          let quiet = through-quiet _ _ _ _ _ _ _ c.loop-turn.invariant.through none in
+          c.in-Ok-None.ensures.quiet quiet.1 ∙ c.loop-turn.invariant.quiet quiet.0;
       faults = let a = c.loop-turn.invariant.faults in let b = c.in-Ok-None.ensures.faults in omega arith;
     }
 
