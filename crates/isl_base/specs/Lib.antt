@@ -1,2 +1,4 @@
 pub mod Outside
 pub mod Reason
+pub mod Calls
+pub mod Memory
