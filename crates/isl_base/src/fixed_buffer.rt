@@ -1,6 +1,6 @@
 // A list of bytes with room for so many, taken at once.
 
-ghost use Rattle.std.specs.Prelude.{◌≡◌, ◌++◌, ◌-◌, ◌≤◌, ◌<◌, ◌^◌, length, take, min, IfOk};
+ghost use Rattle.std.specs.Prelude.{◌≡◌, ◌-◌, ◌≤◌, ◌<◌, ◌^◌, length, min, IfOk};
 ghost use Rattle.isl_base.specs.Memory.{empty_buffer, with_front};
 
 use crate::faults::NoMemory;
@@ -22,7 +22,8 @@ impl Model for FixedBuffer {
 
     ghost view = { λ b. record { bytes = b.items.items; capacity = b.capacity } };
 
-    ghost invariant = { λ b. (length b.items.items ≤ b.capacity) × (b.capacity ≤ vec_capacity b.items) };
+    ghost invariant = { λ b.
+        (length b.items.items ≤ b.capacity) × (b.capacity ≤ vec_capacity b.items) };
 }
 
 impl FixedBuffer {

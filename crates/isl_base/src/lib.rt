@@ -13,6 +13,9 @@ pub mod memory_source;
 pub mod outside;
 pub mod place;
 pub mod reason;
+pub mod sure;
+#[cfg(test)]
+mod tests;
 pub mod words;
 
 pub use calls::Calls;
@@ -25,4 +28,5 @@ pub use memory_source::MemSource;
 pub use outside::{Shelf, Sink, Source};
 pub use place::Place;
 pub use reason::{Reason, Refusal, Stop};
+pub use sure::{SureShelf, SureSink, SureSource};
 pub use words::Words;

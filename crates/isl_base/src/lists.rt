@@ -47,7 +47,8 @@ impl<T> ItemList<T> {
 
     /// The item at that place; none exactly where `at` is not below the length.
     pub fn get(&self, at: usize) -> Option<&T>
-        ensures { MatchOption result (length self.now ≤ at) (λ item. slice_get self.now at ≡ Some item.now) }
+        ensures { MatchOption result (length self.now ≤ at)
+            (λ item. slice_get self.now at ≡ Some item.now) }
     {
         self.items.get(at)
     }

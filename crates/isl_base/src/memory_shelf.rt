@@ -1,6 +1,6 @@
 // A shelf in memory with one file, whose listed calls fail.
 
-ghost use Rattle.std.specs.Prelude.{◌≡◌, ◌≢◌, ◌≤◌, ◌↔◌, ◌⊎◌, List, ℕ, length, drop, min, Option, Some, None, if◌then◌else◌, IfOk, IfSome, IsErr, OnErr, MatchResult};
+ghost use Rattle.std.specs.Prelude.{◌≡◌, ◌≢◌, ◌≤◌, ◌↔◌, ◌⊎◌, List, ℕ, length, drop, min, IfOk, IfSome, IsErr, OnErr, MatchResult};
 ghost use Rattle.isl_base.specs.Outside.{Rose, TakesFront};
 ghost use Rattle.isl_base.specs.Calls.{no_calls, passed, failed, NextFails};
 
@@ -59,7 +59,8 @@ impl Shelf for MemShelf {
         ensures failed { OnErr result (Rose self.old.calls.faults self.new.calls.faults) }
         ensures count { self.old.calls.faults ≤ self.new.calls.faults }
         ensures fails { IsErr result ↔ (NextFails self.old.calls ⊎ (name.now ≢ self.old.name)) }
-        ensures whole { IfOk result (λ n. n ≡ min (length (drop at self.old.file)) (length buf.old)) }
+        ensures whole { IfOk result (λ n.
+            n ≡ min (length (drop at self.old.file)) (length buf.old)) }
         ensures same { (self.new.name ≡ self.old.name) × (self.new.file ≡ self.old.file) }
         ensures calls { MatchResult result
             (λ _. self.new.calls ≡ passed self.old.calls)

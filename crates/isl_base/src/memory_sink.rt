@@ -27,7 +27,12 @@ impl Model for MemSink {
 
     ghost Value = { SinkState };
 
-    ghost view = { λ s. record { kept = s.kept.bytes; capacity = s.kept.capacity; writes = s.writes; calls = s.calls } };
+    ghost view = { λ s. record {
+      kept = s.kept.bytes;
+      capacity = s.kept.capacity;
+      writes = s.writes;
+      calls = s.calls;
+    } };
 
     ghost invariant = { λ s. s.writes ≤ length s.kept.bytes };
 }
@@ -77,12 +82,14 @@ impl Sink for MemSink {
         ensures bound { IfOk result (λ n. n ≤ length bytes.now) }
         ensures some { IfOk result (λ n. 0 < length bytes.now → 0 < n) }
         ensures told { MatchResult result
-            (λ n. Took (Some self.old.kept) self.old.writes n bytes.now self.new.kept self.new.writes)
+            (λ n. Took (Some self.old.kept) self.old.writes n bytes.now
+            self.new.kept self.new.writes)
             (λ _. (Some self.new.kept ≡ Some self.old.kept) × (self.new.writes ≡ self.old.writes)) }
         ensures failed { OnErr result (Rose self.old.calls.faults self.new.calls.faults) }
         ensures count { self.old.calls.faults ≤ self.new.calls.faults }
         ensures fails { IsErr result ↔ (NextFails self.old.calls ⊎ IsFullFor self.old bytes.now) }
-        ensures whole { IfOk result (λ n. n ≡ min (self.old.capacity - length self.old.kept) (length bytes.now)) }
+        ensures whole { IfOk result (λ n.
+            n ≡ min (self.old.capacity - length self.old.kept) (length bytes.now)) }
         ensures after { MatchResult result
             (λ n. self.new ≡ sink_took self.old n bytes.now)
             (λ _. self.new ≡ sink_failed self.old) }

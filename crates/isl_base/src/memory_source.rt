@@ -55,7 +55,8 @@ impl Source for MemSource {
     fn read(&mut self, buf: &mut [u8]) -> Result<usize, Failed>
         ensures bound { IfOk result (λ n. n ≤ length buf.old) }
         ensures told { MatchResult result
-            (λ n. TakesFront self.old.rest n buf.old buf.new × (self.new.rest ≡ drop n self.old.rest))
+            (λ n. TakesFront self.old.rest n buf.old buf.new
+            × (self.new.rest ≡ drop n self.old.rest))
             (λ _. self.new.rest ≡ self.old.rest) }
         ensures failed { OnErr result (Rose self.old.calls.faults self.new.calls.faults) }
         ensures count { self.old.calls.faults ≤ self.new.calls.faults }

@@ -56,7 +56,8 @@ impl Words {
 
     /// The word at that place; none exactly where `at` is not below the length.
     pub fn get(&self, at: usize) -> Option<&str>
-        ensures { MatchOption result (length self.now ≤ at) (λ word. slice_get self.now at ≡ Some word.now) }
+        ensures { MatchOption result (length self.now ≤ at)
+            (λ word. slice_get self.now at ≡ Some word.now) }
     {
         match self.words.get(at) {
             Some(word) => Some(word.as_str()),
