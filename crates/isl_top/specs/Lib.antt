@@ -7,3 +7,4 @@ pub mod Reads
 pub mod Shapes
 pub mod Code
 pub mod Represents
+pub mod Claims
