@@ -5,3 +5,5 @@ pub mod Founds
 pub mod Mains
 pub mod Simulates
 pub mod Whole
+pub mod Written
+pub mod Loading

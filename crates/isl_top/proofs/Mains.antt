@@ -65,9 +65,9 @@ pub main_and : (program : Program) (last v w : Value) (f : Form) (fs : List Form
 main_and program last v w f fs bytes more units others m ms = record {
   limited = λ l k z s. with_room l k z s (has_room (words l) (z.heap + z.stack + 0 + application_words (nodes f))) refl;
   free = λ k z s.
-    let e : mean_mains names program unlimited k (f ∷ fs) last z ≡ mean_mains names program unlimited k fs v (behind f bytes units z) =
-        ap (λ r. go_on r (λ x q. mean_mains names program unlimited k fs x q)) (main_value program f v bytes units m unlimited k z s refl) in
-    subst (Went z w (bytes ++ more) (units + others)) (sym e) (went_on bytes units refl refl (ms.free k (behind f bytes units z) s));
+      let e : mean_mains names program unlimited k (f ∷ fs) last z ≡ mean_mains names program unlimited k fs v (behind f bytes units z) =
+      ap (λ r. go_on r (λ x q. mean_mains names program unlimited k fs x q)) (main_value program f v bytes units m unlimited k z s refl) in
+      subst (Went z w (bytes ++ more) (units + others)) (sym e) (went_on bytes units refl refl (ms.free k (behind f bytes units z) s));
 }
   where
     with_room : (l k : ℕ) (z : State) → z.store ≡ first_objects → (b : Bool) → has_room (words l) (z.heap + z.stack + 0 + application_words (nodes f)) ≡ b → WantsWords (mean_mains names program (words l) k (f ∷ fs) last z) ⊎ Went z w (bytes ++ more) (units + others) (mean_mains names program (words l) k (f ∷ fs) last z)
@@ -76,7 +76,7 @@ main_and program last v w f fs bytes more units others m ms = record {
         inl (record { asked = 0 + application_words (nodes f); left = room_left (words l) (z.heap + z.stack); is = ap (λ r. r.outcome) e })
     with_room l k z s true b =
         let e : mean_mains names program (words l) k (f ∷ fs) last z ≡ mean_mains names program (words l) k fs v (behind f bytes units z) =
-            ap (λ r. go_on r (λ x q. mean_mains names program (words l) k fs x q)) (main_value program f v bytes units m (words l) k z s b) in
+        ap (λ r. go_on r (λ x q. mean_mains names program (words l) k fs x q)) (main_value program f v bytes units m (words l) k z s b) in
         ⊎_elim
         (λ h. inl (subst WantsWords (sym e) h))
         (λ h. inr (subst (Went z w (bytes ++ more) (units + others)) (sym e) (went_on bytes units refl refl h)))

@@ -34,25 +34,25 @@ pub no_forms_mean : (program : Program) (last : Value) → MeansSequence program
 unfolding mean
 no_forms_mean program last = record {
   by = λ limit below env around z s.
-    ap (λ p. gives last (record z { printed = p; units = z.units })) (sym (append-nil z.printed))
-    ∙ ap (λ u. gives last (record z { printed = z.printed ++ []; units = u })) (omega arith);
+      ap (λ p. gives last (record z { printed = p; units = z.units })) (sym (append-nil z.printed))
+      ∙ ap (λ u. gives last (record z { printed = z.printed ++ []; units = u })) (omega arith);
 }
 
 pub forms_mean : {program : Program} {last v w : Value} {f : Form} {fs : Forms} {bytes more : List ℕ} {units others : ℕ} → Means program f v bytes units → MeansSequence program v fs w more others → MeansSequence program last (form_and f fs) w (bytes ++ more) (units + others)
 unfolding mean
 forms_mean {program} {last} {v} {w} {f} {fs} {bytes} {more} {units} {others} m s = record {
   by = λ limit below env around z e.
-    ap (λ r. go_on r (λ x q. mean_sequence names program limit below x fs env around q)) (m.by limit below env around z e)
-    ∙ s.by limit below env around (after bytes units z) e
-    ∙ ap (gives w) (after_both bytes more units others z);
+      ap (λ r. go_on r (λ x q. mean_sequence names program limit below x fs env around q)) (m.by limit below env around z e)
+      ∙ s.by limit below env around (after bytes units z) e
+      ∙ ap (gives w) (after_both bytes more units others z);
 }
 
 pub sequence_means : {program : Program} {fs : Forms} {v : Value} {bytes : List ℕ} {units : ℕ} → MeansSequence program nil fs v bytes units → Means program (sequence fs) v bytes (1 + units)
 unfolding mean
 sequence_means {program} {fs} {v} {bytes} {units} s = record {
   by = λ limit below env around z e.
-    s.by limit below env around (charged 1 z) e
-    ∙ ap (λ u. gives v (record z { printed = z.printed ++ bytes; units = u })) (add_assoc z.units 1 units);
+      s.by limit below env around (charged 1 z) e
+      ∙ ap (λ u. gives v (record z { printed = z.printed ++ bytes; units = u })) (add_assoc z.units 1 units);
 }
 
 pub sited_means : {program : Program} {site : ℕ} {f : Form} {v : Value} {bytes : List ℕ} {units : ℕ} → Means program f v bytes units → Means program (sited site f) v bytes units
@@ -64,6 +64,6 @@ pub put_means : (program : Program) (site id c : ℕ) (p : Place) → slice_get 
 unfolding mean
 put_means program site id c p h = record {
   by = λ limit below env around z e.
-    let u : z.units + 3 + 1 + 1 ≡ z.units + 5 = omega arith in
-    rw (h, e, u) refl;
+      let u : z.units + 3 + 1 + 1 ≡ z.units + 5 = omega arith in
+      rw (h, e, u) refl;
 }

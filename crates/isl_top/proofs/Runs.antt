@@ -43,11 +43,11 @@ pub one : (arena registers printed : List ℕ) (i n w : ℕ) (ins : Instruction)
 unfolding run_from step_of
 one arena registers printed i n w ins m' h d e = record {
   by = λ k t q.
-    let p : t ≡ suc k = omega (arith, q) in
-    ap (λ x. run_from x (at arena i registers printed n)) p
-    ∙ ap (λ o. act (run_from k) (fetched o (at arena i registers printed n).state) (at arena i registers printed n)) (fetch arena i w h)
-    ∙ ap (λ o. act (run_from k) (decoded o (at arena i registers printed n).state) (at arena i registers printed n)) d
-    ∙ e (run_from k)
+      let p : t ≡ suc k = omega (arith, q) in
+      ap (λ x. run_from x (at arena i registers printed n)) p
+      ∙ ap (λ o. act (run_from k) (fetched o (at arena i registers printed n).state) (at arena i registers printed n)) (fetch arena i w h)
+      ∙ ap (λ o. act (run_from k) (decoded o (at arena i registers printed n).state) (at arena i registers printed n)) d
+      ∙ e (run_from k);
 }
 
 -- the jump over a constant leaves its address in x5
@@ -71,4 +71,4 @@ loaded arena registers printed i n w rd j value b bj d h five there =
     let a : (slice_index registers 5 + 0) % 2 ^ 32 ≡ 4 * j = omega (arith, five) in
     let p : (4 * i + 4) % 2 ^ 32 ≡ 4 * (i + 1) = omega arith in
     one arena registers printed i n w (Lw rd 5 0) (at arena (i + 1) (put rd value (at arena i registers printed n).state).registers printed (n + 1)) h d
-        (λ go_on. rw (a, fetch arena j value there, p) refl)
+    (λ go_on. rw (a, fetch arena j value there, p) refl)

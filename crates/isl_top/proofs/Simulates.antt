@@ -114,12 +114,12 @@ put_simulated program site inner id c p b h = record {
   cost = 8;
   means = sited_means (put_means program inner id c p h);
   yields = λ before.
-    let byte : row_byte (slice_get program.literals id) ≡ c = ap row_byte h in
-    let small : c % 256 ≡ c = omega arith in
-    let y : Yields before (constant stream_word ++ constant c ++ put_code) (c % 256 ∷ []) nil_word 8 =
-        yields_then (yields_then (constant_yields before stream_word) (constant_yields stream_word c)) (put_yields c) in
-    subst (λ x. Yields before (constant stream_word ++ constant x ++ put_code) (c ∷ []) nil_word 8) (sym byte)
-        (subst (λ x. Yields before (constant stream_word ++ constant c ++ put_code) (x ∷ []) nil_word 8) small y);
+      let byte : row_byte (slice_get program.literals id) ≡ c = ap row_byte h in
+      let small : c % 256 ≡ c = omega arith in
+      let y : Yields before (constant stream_word ++ constant c ++ put_code) (c % 256 ∷ []) nil_word 8 =
+      yields_then (yields_then (constant_yields before stream_word) (constant_yields stream_word c)) (put_yields c) in
+      subst (λ x. Yields before (constant stream_word ++ constant x ++ put_code) (c ∷ []) nil_word 8) (sym byte)
+      (subst (λ x. Yields before (constant stream_word ++ constant c ++ put_code) (x ∷ []) nil_word 8) small y);
   cheap = omega arith;
   forward = omega arith;
   plain = tt;
@@ -144,6 +144,7 @@ found_put_simulated program t f t' w g =
 
 mutual
   unfolding form_of
+
   -- the rows of a form come behind the rows before it
   form_grew : (x : TreeValue) (t : Tables) (f : Form) (t' : Tables) → form_of x t ≡ Some (f, t') → Grew t.literals t'.literals
   form_grew (word p w) t f t' e = absurd (cc)
@@ -164,6 +165,7 @@ mutual
 
 mutual
   unfolding form_of
+
   pub form_simulated : (program : Program) (x : TreeValue) (t : Tables) (f : Form) (t' : Tables) → form_of x t ≡ Some (f, t') → Grew t'.literals program.literals → Simulates program f
   form_simulated program (word p w) t f t' e g = absurd (cc)
   form_simulated program (list p no_tree) t f t' e g = absurd (cc)
@@ -171,7 +173,7 @@ mutual
   form_simulated program (list p (tree_and (word q w) ts)) t f t' e g =
       ⊎_elim
       (λ h. let m = was_made (λ fs. sited (next_site t) (sequence fs)) (forms_of ts (with_site p t)) f t' h in
-        subst (Simulates program) m.made (sequence_simulated program (next_site t) m.part (forms_simulated program ts (with_site p t) m.part t' nil m.found g)))
+      subst (Simulates program) m.made (sequence_simulated program (next_site t) m.part (forms_simulated program ts (with_site p t) m.part t' nil m.found g)))
       (λ h. found_put_simulated program t f t' (was_put p ts t f t' h) g)
       (was_headed (head_of w) (progn_form t (forms_of ts (with_site p t))) (format_char_form p ts t) f t' e)
 

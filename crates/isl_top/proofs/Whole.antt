@@ -34,7 +34,7 @@ halt_chosen arena registers printed i n b ready h =
     let v : (slice_index registers 0 + 0) % 2 ^ 32 ≡ 0 = ap (λ z. (z + 0) % 2 ^ 32) ready.zero_is in
     let p : (4 * i + 4) % 2 ^ 32 ≡ 4 * (i + 1) = omega arith in
     one arena registers printed i n choose_halt (Addi 17 0 0) (at arena (i + 1) (slice_set registers 17 0) printed (n + 1)) h refl
-        (λ go_on. rw (v, p) refl)
+    (λ go_on. rw (v, p) refl)
 
 -- from a moment every run of enough instructions ends so
 record EndsIn (steps : ℕ) (m : Moment) (e : Ended) : Type 0 where
@@ -50,10 +50,10 @@ halted : (arena registers printed : List ℕ) (i n : ℕ) → slice_index regist
 unfolding run_from step_of
 halted arena registers printed i n chosen h = record {
   by = λ k le.
-    let p : k ≡ suc (k - 1) = omega (arith, le) in
-    ap (λ x. run_from x (at arena i registers printed n)) p
-    ∙ ap (λ o. act (run_from (k - 1)) (fetched o (at arena i registers printed n).state) (at arena i registers printed n)) (fetch arena i environment h)
-    ∙ rw chosen refl;
+      let p : k ≡ suc (k - 1) = omega (arith, le) in
+      ap (λ x. run_from x (at arena i registers printed n)) p
+      ∙ ap (λ o. act (run_from (k - 1)) (fetched o (at arena i registers printed n).state) (at arena i registers printed n)) (fetch arena i environment h)
+      ∙ rw chosen refl;
 }
 
 -- the start's registers
@@ -175,8 +175,8 @@ module _ (laws : RunLaws) (program : Program) (fs : Forms) (main_is : program.ma
     prefix n =
         ⊎_elim
         (λ less.
-          let p = laws.printed n total begin (omega arith) in
-          (p.0, p.1 ∙ ap (λ e. e.at.printed) (in_the_end total (omega arith)) ∙ ended.3))
+        let p = laws.printed n total begin (omega arith) in
+        (p.0, p.1 ∙ ap (λ e. e.at.printed) (in_the_end total (omega arith)) ∙ ended.3))
         (λ le. ([], append-nil (run_from n begin).at.printed ∙ ap (λ e. e.at.printed) (in_the_end n le) ∙ ended.3))
         (cases_lt n total)
 

@@ -52,16 +52,16 @@ pub record Yields (before : ℕ) (code bytes : List ℕ) (word cost : ℕ) : Typ
 pub and_then : {before middle word c d : ℕ} {code more bytes after : List ℕ} → Yields before code bytes middle c → Yields middle more after word d → Yields before (code ++ more) (bytes ++ after) word (c + d)
 and_then {before} {middle} {word} {c} {d} {code} {more} {bytes} {after} y z = record {
   by = λ arena registers printed i n ready held room has.
-    let len : length (code ++ more) ≡ length code + length more = length-append code more in
-    let first = y.by arena registers printed i n ready held (omega (arith, len)) (has_front arena i code more has) in
-    let second = z.by arena first.registers' (printed ++ bytes) (i + length code) (n + c) first.ready first.holds (omega (arith, len)) (has_back arena i code more has) in
-    record {
-      registers' = second.registers';
-      comes = subst (λ p. Comes (c + d) (at arena i registers printed n) (at arena (i + length (code ++ more)) second.registers' p (n + (c + d)))) (append_assoc printed bytes after)
-          (moved (i + length (code ++ more)) (n + (c + d)) (omega (arith, len)) (omega arith) (and_on first.comes second.comes));
-      holds = second.holds;
-      ready = second.ready;
-    };
+      let len : length (code ++ more) ≡ length code + length more = length-append code more in
+      let first = y.by arena registers printed i n ready held (omega (arith, len)) (has_front arena i code more has) in
+      let second = z.by arena first.registers' (printed ++ bytes) (i + length code) (n + c) first.ready first.holds (omega (arith, len)) (has_back arena i code more has) in
+      record {
+        registers' = second.registers';
+        comes = subst (λ p. Comes (c + d) (at arena i registers printed n) (at arena (i + length (code ++ more)) second.registers' p (n + (c + d)))) (append_assoc printed bytes after)
+            (moved (i + length (code ++ more)) (n + (c + d)) (omega (arith, len)) (omega arith) (and_on first.comes second.comes));
+        holds = second.holds;
+        ready = second.ready;
+      };
 }
 
 -- nothing
@@ -79,18 +79,18 @@ nothing before = record {
 pub constant_yields : (before word : ℕ) → Yields before (constant word) [] word 2
 constant_yields before word = record {
   by = λ arena registers printed i n ready held room has.
-    let five : List ℕ = slice_set registers 5 (4 * (i + 1)) in
-    let five_ready : Ready five = ready_set registers 5 (4 * (i + 1)) (omega arith) ready in
-    let j : i + 1 + 1 ≡ i + 2 = omega arith in
-    let load : slice_get arena (i + 2) ≡ Some load_10 = subst (λ x. slice_get arena x ≡ Some load_10) j has.1.1.0 in
-    let a = linked arena registers printed i n (omega arith) has.0 in
-    let b = loaded arena five printed (i + 2) (n + 1) load_10 10 (i + 1) word (omega arith) (omega arith) refl load (same registers 5 (4 * (i + 1)) (omega arith) ready) has.1.0 in
-    record {
-      registers' = slice_set five 10 word;
-      comes = subst (λ p. Comes 2 (at arena i registers printed n) (at arena (i + 3) (slice_set five 10 word) p (n + 2))) (sym (append-nil printed)) (moved (i + 3) (n + 2) (omega arith) (omega arith) (and_on a b));
-      holds = same five 10 word (omega arith) five_ready;
-      ready = ready_set five 10 word (omega arith) five_ready;
-    };
+      let five : List ℕ = slice_set registers 5 (4 * (i + 1)) in
+      let five_ready : Ready five = ready_set registers 5 (4 * (i + 1)) (omega arith) ready in
+      let j : i + 1 + 1 ≡ i + 2 = omega arith in
+      let load : slice_get arena (i + 2) ≡ Some load_10 = subst (λ x. slice_get arena x ≡ Some load_10) j has.1.1.0 in
+      let a = linked arena registers printed i n (omega arith) has.0 in
+      let b = loaded arena five printed (i + 2) (n + 1) load_10 10 (i + 1) word (omega arith) (omega arith) refl load (same registers 5 (4 * (i + 1)) (omega arith) ready) has.1.0 in
+      record {
+        registers' = slice_set five 10 word;
+        comes = subst (λ p. Comes 2 (at arena i registers printed n) (at arena (i + 3) (slice_set five 10 word) p (n + 2))) (sym (append-nil printed)) (moved (i + 3) (n + 2) (omega arith) (omega arith) (and_on a b));
+        holds = same five 10 word (omega arith) five_ready;
+        ready = ready_set five 10 word (omega arith) five_ready;
+      };
 }
 
 -- the next place, in words
@@ -102,13 +102,13 @@ put_chosen : (arena registers printed : List ℕ) (i n : ℕ) → i < 2 ^ 25 →
 put_chosen arena registers printed i n b ready h =
     let v : (slice_index registers 0 + 1) % 2 ^ 32 ≡ 1 = ap (λ z. (z + 1) % 2 ^ 32) ready.zero_is in
     one arena registers printed i n choose_put (Addi 17 0 1) (at arena (i + 1) (slice_set registers 17 1) printed (n + 1)) h refl
-        (λ go_on. rw (v, next_place i b) refl)
+    (λ go_on. rw (v, next_place i b) refl)
 
 -- and the call puts it
 byte_put : (arena registers printed : List ℕ) (i n : ℕ) → i < 2 ^ 25 → slice_index registers 17 ≡ 1 → slice_get arena i ≡ Some environment → Comes 1 (at arena i registers printed n) (at arena (i + 1) registers (printed ++ slice_index registers 10 % 256 ∷ []) (n + 1))
 byte_put arena registers printed i n b chosen h =
     one arena registers printed i n environment Ecall (at arena (i + 1) registers (printed ++ slice_index registers 10 % 256 ∷ []) (n + 1)) h refl
-        (λ go_on. rw (chosen, next_place i b) refl)
+    (λ go_on. rw (chosen, next_place i b) refl)
 
 -- the byte in register 10 is put, and nil is the value
 pub put_yields : (byte : ℕ) → Yields byte put_code (byte % 256 ∷ []) nil_word 4
@@ -117,14 +117,14 @@ put_yields byte = and_then {before = byte} {middle = byte} {word = nil_word} {c 
     called : Yields byte (choose_put ∷ environment ∷ []) (byte % 256 ∷ []) byte 2
     called = record {
       by = λ arena registers printed i n ready held room has.
-        let chosen : List ℕ = slice_set registers 17 1 in
-        let ten : slice_index chosen 10 ≡ byte = other registers 17 1 10 (omega arith) ∙ held in
-        let a = put_chosen arena registers printed i n (omega arith) ready has.0 in
-        let b = byte_put arena chosen printed (i + 1) (n + 1) (omega arith) (same registers 17 1 (omega arith) ready) has.1.0 in
-        record {
-          registers' = chosen;
-          comes = subst (λ x. Comes 2 (at arena i registers printed n) (at arena (i + 2) chosen (printed ++ x % 256 ∷ []) (n + 2))) ten (moved (i + 2) (n + 2) (omega arith) (omega arith) (and_on a b));
-          holds = ten;
-          ready = ready_set registers 17 1 (omega arith) ready;
-        };
+          let chosen : List ℕ = slice_set registers 17 1 in
+          let ten : slice_index chosen 10 ≡ byte = other registers 17 1 10 (omega arith) ∙ held in
+          let a = put_chosen arena registers printed i n (omega arith) ready has.0 in
+          let b = byte_put arena chosen printed (i + 1) (n + 1) (omega arith) (same registers 17 1 (omega arith) ready) has.1.0 in
+          record {
+            registers' = chosen;
+            comes = subst (λ x. Comes 2 (at arena i registers printed n) (at arena (i + 2) chosen (printed ++ x % 256 ∷ []) (n + 2))) ten (moved (i + 2) (n + 2) (omega arith) (omega arith) (and_on a b));
+            holds = ten;
+            ready = ready_set registers 17 1 (omega arith) ready;
+          };
     }

@@ -40,55 +40,55 @@ abbrev pub entry : ℕ
 entry = 8
 
 -- instructions
-abbrev pub link_5_over_word : ℕ    -- jal x5, 8
+abbrev pub link_5_over_word : ℕ  -- jal x5, 8
 link_5_over_word = 0x008002EF
 
-abbrev pub load_6 : ℕ              -- lw x6, 0(x5)
+abbrev pub load_6 : ℕ  -- lw x6, 0(x5)
 load_6 = 0x0002A303
 
-abbrev pub load_10 : ℕ             -- lw x10, 0(x5)
+abbrev pub load_10 : ℕ  -- lw x10, 0(x5)
 load_10 = 0x0002A503
 
-abbrev pub load_11 : ℕ             -- lw x11, 0(x5)
+abbrev pub load_11 : ℕ  -- lw x11, 0(x5)
 load_11 = 0x0002A583
 
-abbrev pub add_6_to_5 : ℕ          -- add x5, x5, x6
+abbrev pub add_6_to_5 : ℕ  -- add x5, x5, x6
 add_6_to_5 = 0x006282B3
 
-abbrev pub go_to_5 : ℕ             -- jalr x0, 0(x5)
+abbrev pub go_to_5 : ℕ  -- jalr x0, 0(x5)
 go_to_5 = 0x00028067
 
 abbrev pub over_jump_unless_same : ℕ  -- bne x10, x11, 24
 over_jump_unless_same = 0x00B51C63
 
-abbrev pub move_12_from_10 : ℕ     -- addi x12, x10, 0
+abbrev pub move_12_from_10 : ℕ  -- addi x12, x10, 0
 move_12_from_10 = 0x00050613
 
-abbrev pub move_13_from_10 : ℕ     -- addi x13, x10, 0
+abbrev pub move_13_from_10 : ℕ  -- addi x13, x10, 0
 move_13_from_10 = 0x00050693
 
-abbrev pub add_12_and_10 : ℕ       -- add x10, x12, x10
+abbrev pub add_12_and_10 : ℕ  -- add x10, x12, x10
 add_12_and_10 = 0x00A60533
 
-abbrev pub subtract_10_from_12 : ℕ -- sub x10, x12, x10
+abbrev pub subtract_10_from_12 : ℕ  -- sub x10, x12, x10
 subtract_10_from_12 = 0x40A60533
 
-abbrev pub over_four_if_same : ℕ   -- beq x13, x10, 20
+abbrev pub over_four_if_same : ℕ  -- beq x13, x10, 20
 over_four_if_same = 0x00A68A63
 
-abbrev pub over_four_if_less : ℕ   -- blt x13, x10, 20
+abbrev pub over_four_if_less : ℕ  -- blt x13, x10, 20
 over_four_if_less = 0x00A6CA63
 
-abbrev pub over_three : ℕ          -- jal x0, 16
+abbrev pub over_three : ℕ  -- jal x0, 16
 over_three = 0x0100006F
 
-abbrev pub choose_halt : ℕ         -- addi x17, x0, 0
+abbrev pub choose_halt : ℕ  -- addi x17, x0, 0
 choose_halt = 0x00000893
 
-abbrev pub choose_put : ℕ          -- addi x17, x0, 1
+abbrev pub choose_put : ℕ  -- addi x17, x0, 1
 choose_put = 0x00100893
 
-abbrev pub environment : ℕ         -- ecall
+abbrev pub environment : ℕ  -- ecall
 environment = 0x00000073
 
 -- a constant in x10, or in x11

@@ -79,8 +79,10 @@ letter_in (a ∷ b ∷ c ∷ d ∷ ds) = None
 abbrev pub put_form : Place → Place → Place → Option ℕ → Tables → Found Form
 put_form p q r None t = None
 put_form p q r (Some c) t =
-    Some (sited (next_site t) (prim PutChar (form_and (sited (next_site t + 1) (prim StandardOutput no_form)) (form_and (literal (next_literal t)) no_form))),
-      with_literal r (Char c) (with_site q (with_site p t)))
+    Some (
+      sited (next_site t) (prim PutChar (form_and (sited (next_site t + 1) (prim StandardOutput no_form)) (form_and (literal (next_literal t)) no_form))),
+      with_literal r (Char c) (with_site q (with_site p t)),
+    )
 
 -- (format-char (standard-output) #\c) behind its head
 abbrev pub format_char_form : Place → Trees → Tables → Found Form
