@@ -57,7 +57,7 @@ fn behind(place: Place, byte: u8) -> Place
 }
 
 impl Cutter {
-    ghost use Rattle.isl_top.specs.Cutting.{all_tokens, ended};
+    ghost use Rattle.isl_top.specs.Cutting.{all_tokens, moved, IsPushed, IsEnded, GoesOn};
 
     // Nothing is cut yet.
     fn new(alloc: Global) -> Cutter
@@ -75,9 +75,7 @@ impl Cutter {
     }
 
     fn push(&mut self, token: Token) -> Result<(), NoMemory>
-        ensures done { OnOk result (self.new.done.items ≡ self.old.done.items ++ token ∷ []) }
-        ensures word { OnOk result (self.new.word ≡ self.old.word) }
-        ensures place { OnOk result (self.new.place ≡ self.old.place) }
+        ensures { OnOk result (IsPushed self.old self.new token) }
     {
         match self.done.push(token) {
             Ok(()) => Ok(()),
@@ -87,9 +85,7 @@ impl Cutter {
 
     // A word in progress, if there is one, becomes a token.
     fn end_word(&mut self, alloc: Global) -> Result<(), NoMemory>
-        ensures done { OnOk result (self.new.done.items ≡ self.old.done.items ++ ended self.old.start self.old.word) }
-        ensures word { OnOk result (self.new.word ≡ []) }
-        ensures place { OnOk result (self.new.place ≡ self.old.place) }
+        ensures { OnOk result (IsEnded self.old self.new) }
     {
         if self.word.len() == 0 {
             return Ok(());
@@ -100,11 +96,7 @@ impl Cutter {
 
     // A byte more of the word in progress, which it begins if there is none.
     fn go_on(&mut self, byte: u8) -> Result<(), NoMemory>
-        ensures done { OnOk result (self.new.done.items ≡ self.old.done.items) }
-        ensures word { OnOk result (self.new.word ≡ self.old.word ++ byte ∷ []) }
-        ensures begins { OnOk result (self.old.word ≡ [] → self.new.start ≡ self.old.place) }
-        ensures goes_on { OnOk result (0 < length self.old.word → self.new.start ≡ self.old.start) }
-        ensures place { OnOk result (self.new.place ≡ self.old.place) }
+        ensures { OnOk result (GoesOn self.old self.new byte) }
     {
         if self.word.len() == 0 {
             self.start = self.place;
@@ -112,27 +104,36 @@ impl Cutter {
         self.word.push(byte)
     }
 
+    // Cuts a byte, whose place is still the next one's.
+    fn cut(&mut self, alloc: Global, byte: u8) -> Result<(), NoMemory>
+        ensures tokens { OnOk result ((rest : List ℕ) →
+            all_tokens (moved self.new byte) rest ≡ all_tokens self.old (byte ∷ rest)) }
+        ensures place { OnOk result (self.new.place ≡ self.old.place) }
+    {
+        match byte {
+            b' ' | b'\n' => self.end_word(alloc),
+            b'(' => {
+                self.end_word(alloc)?;
+                self.push(Token::Open(self.place))
+            }
+            b')' => {
+                self.end_word(alloc)?;
+                self.push(Token::Close)
+            }
+            _ => self.go_on(byte),
+        }
+    }
+
     // Cuts one byte more.
     fn take(&mut self, alloc: Global, byte: u8) -> Result<(), NoMemory>
         requires line { self.old.place.line + 1 < 2 ^ 32 }
         requires column { self.old.place.column + 1 < 2 ^ 32 }
-        ensures tokens { OnOk result ((rest : List ℕ) → all_tokens self.new rest ≡ all_tokens self.old (byte ∷ rest)) }
+        ensures tokens { OnOk result ((rest : List ℕ) →
+            all_tokens self.new rest ≡ all_tokens self.old (byte ∷ rest)) }
         ensures place { OnOk result (self.new.place ≡ place_after self.old.place byte) }
     {
-        let place = self.place;
-        match byte {
-            b' ' | b'\n' => self.end_word(alloc)?,
-            b'(' => {
-                self.end_word(alloc)?;
-                self.push(Token::Open(place))?;
-            }
-            b')' => {
-                self.end_word(alloc)?;
-                self.push(Token::Close)?;
-            }
-            _ => self.go_on(byte)?,
-        }
-        self.place = behind(place, byte);
+        self.cut(alloc, byte)?;
+        self.place = behind(self.place, byte);
         Ok(())
     }
 }
