@@ -25,7 +25,7 @@ struct OpenList {
 // Tokens read from left to right: the lists that are open, the innermost last, and its trees so far.
 #[derive(Drop)]
 struct Reader {
-    open: Vec<OpenList>,
+    unclosed: Vec<OpenList>,
     done: TreeList,
 }
 
@@ -43,8 +43,7 @@ pub fn read_trees(alloc: Global, text: &[u8]) -> Result<Option<TreeList>, NoMemo
 /// A text reads as trees in at most one way.
 pub fn law_one_reading()
     ensures { (text : List ℕ) (a b : Trees) → Reads text a → Reads text b → a ≡ b }
-{
-}
+{}
 
 impl Reader {
     ghost use Rattle.isl_top.specs.Reading.{reading, Ahead};
@@ -54,7 +53,7 @@ impl Reader {
         ensures { IfOk result (λ o. o ≡ reading tokens.items [] []) }
     {
         let mut reader = Reader {
-            open: Vec::new(alloc),
+            unclosed: Vec::new(alloc),
             done: ItemList::new(alloc),
         };
         for token in tokens {
@@ -62,7 +61,7 @@ impl Reader {
                 return Ok(None);
             }
         }
-        if reader.open.is_empty() {
+        if reader.unclosed.is_empty() {
             Ok(Some(reader.done))
         } else {
             Ok(None)
@@ -87,21 +86,21 @@ impl Reader {
     fn open_list(&mut self, alloc: Global, place: Place) -> Result<bool, NoMemory>
         ensures { IfOk result (λ taken. Ahead taken (Token.Open place) self.old self.new) }
     {
-        if self.open.len() == MOST_OPEN {
+        if self.unclosed.len() >= MOST_OPEN {
             return Ok(false);
         }
         let before = mem::replace(&mut self.done, ItemList::new(alloc));
-        match self.open.push(OpenList { place, before }) {
-            Ok(()) => Ok(true),
-            Err(_) => Err(NoMemory),
-        }
+        self.unclosed
+            .push(OpenList { place, before })
+            .map_err(|_| NoMemory)?;
+        Ok(true)
     }
 
     // The innermost open list ends.
     fn close_list(&mut self) -> Result<bool, NoMemory>
         ensures { IfOk result (λ taken. Ahead taken Token.Close self.old self.new) }
     {
-        let Some(list) = self.open.pop() else {
+        let Some(list) = self.unclosed.pop() else {
             return Ok(false);
         };
         let items = mem::replace(&mut self.done, list.before);
