@@ -108,3 +108,49 @@ impl Reader {
         Ok(true)
     }
 }
+
+#[cfg(test)]
+mod tests {
+    use super::*;
+    use crate::tree::Shape;
+    use std::test::Fail;
+
+    #[test]
+    fn says_which_texts_read(rt: HostRuntime) -> Result<(), Fail> {
+        let mut lists_64 = [b'('; 128];
+        for i in 64..128 {
+            lists_64[i] = b')';
+        }
+        let mut lists_65 = [b'('; 130];
+        for i in 65..130 {
+            lists_65[i] = b')';
+        }
+        assert!(rt; read_trees(rt.alloc(), b"")?.is_some());
+        assert!(rt; read_trees(rt.alloc(), b"(a b) c")?.is_some());
+        assert!(rt; read_trees(rt.alloc(), b")")?.is_none());
+        assert!(rt; read_trees(rt.alloc(), b"(a")?.is_none());
+        assert!(rt; read_trees(rt.alloc(), &lists_64)?.is_some());
+        assert!(rt; read_trees(rt.alloc(), &lists_65)?.is_none());
+        Ok(())
+    }
+
+    #[test]
+    fn reads_words_with_their_places(rt: HostRuntime) -> Result<(), Fail> {
+        let list = read_trees(rt.alloc(), b"(a\n bc)")?.ok_or("no trees")?;
+        assert_eq!(rt; list.len(), 1);
+        let tree = list.get(0).ok_or("no tree")?;
+        assert_eq!(rt; tree.place, Place { line: 1, column: 1 });
+        let Shape::List(words) = &tree.shape else {
+            return Err(Fail::from("no list"));
+        };
+        assert_eq!(rt; words.len(), 2);
+        let tree = words.get(1).ok_or("no word")?;
+        assert_eq!(rt; tree.place, Place { line: 2, column: 2 });
+        let Shape::Word(bytes) = &tree.shape else {
+            return Err(Fail::from("no word"));
+        };
+        assert_eq!(rt; bytes.len(), 2);
+        assert_eq!(rt; bytes.get(1).copied(), Some(b'c'));
+        Ok(())
+    }
+}
