@@ -1,3 +1,5 @@
+pub mod Cutting
+pub mod Reading
 pub mod Runs
 pub mod Yields
 pub mod Means
@@ -5,5 +7,6 @@ pub mod Founds
 pub mod Mains
 pub mod Simulates
 pub mod Whole
+pub mod Sizes
 pub mod Written
 pub mod Loading
