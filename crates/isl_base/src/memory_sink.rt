@@ -45,14 +45,12 @@ impl MemSink {
     pub fn new(alloc: Global, capacity: usize, fails: CallList) -> Result<MemSink, NoMemory>
         ensures { IfOk result (λ sink. sink ≡ empty_sink capacity fails) }
     {
-        match FixedBuffer::new(alloc, capacity) {
-            Ok(kept) => Ok(MemSink {
-                kept,
-                writes: 0,
-                calls: Calls::new(fails),
-            }),
-            Err(NoMemory) => Err(NoMemory),
-        }
+        let kept = FixedBuffer::new(alloc, capacity)?;
+        Ok(MemSink {
+            kept,
+            writes: 0,
+            calls: Calls::new(fails),
+        })
     }
 
     /// The bytes that it was given: never more than it has room for, and at least one for each
@@ -97,7 +95,7 @@ impl Sink for MemSink {
         if self.calls.next_fails() {
             return Err(self.calls.fail());
         }
-        if bytes.len() > 0 && self.kept.room() == 0 {
+        if !bytes.is_empty() && self.kept.room() == 0 {
             return Err(self.calls.fail());
         }
         let count = self.kept.put(bytes);

@@ -88,14 +88,12 @@ impl SureSink {
     pub fn new(alloc: Global, capacity: usize) -> Result<SureSink, NoMemory>
         ensures { IfOk result (λ sink. sink ≡ empty_sure_sink capacity) }
     {
-        match FixedBuffer::new(alloc, capacity) {
-            Ok(kept) => Ok(SureSink {
-                kept,
-                over: false,
-                writes: 0,
-            }),
-            Err(NoMemory) => Err(NoMemory),
-        }
+        let kept = FixedBuffer::new(alloc, capacity)?;
+        Ok(SureSink {
+            kept,
+            over: false,
+            writes: 0,
+        })
     }
 
     /// The first bytes that it was given: never more than it keeps, and at least one for each
