@@ -1,6 +1,6 @@
 -- Core forms as contracts see them.
-use Rattle.std.specs.Prelude.{ℕ, suc, ◌+◌, List, [], ◌∷◌, Option, Some, None}
-use Rattle.isl_meaning.specs.declared.core_form.Primitive.{Primitive}
+use Rattle.std.specs.Prelude.{ℕ, ◌+◌}
+use Rattle.isl_meaning.specs.declared.primitive.Primitive.{Primitive}
 
 mutual
   pub data Form : Type 0 where
@@ -22,22 +22,22 @@ mutual
     no_body : MaybeForm
     with_body : Form → MaybeForm
 
-mutual
-  abbrev pub form_size : Form → ℕ
+abbrev mutual
+  pub form_size : Form → ℕ
   form_size (literal i) = 1
   form_size (clauses cs) = clauses_size cs + 1
   form_size (sequence fs) = forms_size fs + 1
   form_size (prim p fs) = forms_size fs + 1
   form_size (sited s f) = form_size f + 1
 
-  abbrev pub forms_size : Forms → ℕ
+  pub forms_size : Forms → ℕ
   forms_size no_form = 1
   forms_size (form_and f fs) = form_size f + forms_size fs + 1
 
-  abbrev pub clauses_size : ClauseForms → ℕ
+  pub clauses_size : ClauseForms → ℕ
   clauses_size no_clause = 1
   clauses_size (clause_and t b cs) = form_size t + maybe_size b + clauses_size cs + 3
 
-  abbrev pub maybe_size : MaybeForm → ℕ
+  pub maybe_size : MaybeForm → ℕ
   maybe_size no_body = 1
   maybe_size (with_body f) = form_size f + 1

@@ -1,0 +1,11 @@
+pub mod Form
+pub mod FormCode
+pub mod View
+pub mod Falls
+pub mod Sizes
+pub mod Rest
+pub mod Values
+pub mod State
+pub mod Counts
+pub mod Primitives
+pub mod Meaning

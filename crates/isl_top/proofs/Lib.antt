@@ -1,0 +1,7 @@
+pub mod Runs
+pub mod Yields
+pub mod Means
+pub mod Founds
+pub mod Mains
+pub mod Simulates
+pub mod Whole

@@ -1,0 +1,10 @@
+pub mod Tokens
+pub mod Trees
+pub mod TreeCode
+pub mod TreeView
+pub mod TreeFalls
+pub mod Reads
+pub mod Shapes
+pub mod Code
+pub mod Represents
+pub mod Claims
