@@ -12,7 +12,9 @@ pub get_or-laid : (words : List ℕ) (n k : ℕ) → k < n → length words ≤ 
 get_or-laid words n k h fits = elim (cases_lt k (length words)) [
   | inl within ↦ get_or_append_left words _ 0 k within
   | inr behind ↦
-      get_or-append_right words _ (length words) k 0 refl behind ∙ (get_or-replicate (n - length words) (k - length words) 0 0 (omega arith) ∙ sym (get_or_past words k 0 behind))
+      get_or-append_right words _ (length words) k 0 refl behind
+      ∙ (get_or-replicate (n - length words) (k - length words) 0 0 (omega arith)
+      ∙ sym (get_or_past words k 0 behind))
 ]
 
 -- an arena that reads so is the image's words and 0 behind them

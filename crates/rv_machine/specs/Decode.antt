@@ -37,7 +37,8 @@ immediate_s word = sign_extended 12 (funct7 word * 32 + rd word)
 -- B: bit 31, bit 7, bits 30 to 25, bits 11 to 8, and a 0
 abbrev pub immediate_b : ℕ → ℕ
 immediate_b word =
-    sign_extended 13 (word / 2147483648 * 4096 + word / 128 % 2 * 2048 + word / 33554432 % 64 * 32 + word / 256 % 16 * 2)
+    sign_extended 13
+    (word / 2147483648 * 4096 + word / 128 % 2 * 2048 + word / 33554432 % 64 * 32 + word / 256 % 16 * 2)
 
 -- U: bits 31 to 12, and twelve 0
 abbrev pub immediate_u : ℕ → ℕ
@@ -46,7 +47,9 @@ immediate_u word = word / 4096 * 4096
 -- J: bit 31, bits 19 to 12, bit 20, bits 30 to 21, and a 0
 abbrev pub immediate_j : ℕ → ℕ
 immediate_j word =
-    sign_extended 21 (word / 2147483648 * 1048576 + word / 4096 % 256 * 4096 + word / 1048576 % 2 * 2048 + word / 2097152 % 1024 * 2)
+    sign_extended 21
+    (word / 2147483648 * 1048576 + word / 4096 % 256 * 4096 + word / 1048576 % 2 * 2048
+    + word / 2097152 % 1024 * 2)
 
 -- register with register: opcode 0110011
 abbrev pub decode_operation : ℕ → Option Instruction

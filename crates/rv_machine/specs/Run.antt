@@ -24,7 +24,11 @@ act go_on (next s) m = go_on (record m { state = s; executed = m.executed + 1 })
 act go_on (environment_call zero) m =
     record { ending = Halt (register m.state 10); at = record m { executed = m.executed + 1 } }
 act go_on (environment_call (suc zero)) m =
-    go_on (record { state = behind m.state; printed = m.printed ++ register m.state 10 % 256 ∷ []; executed = m.executed + 1 })
+    go_on (record {
+      state = behind m.state;
+      printed = m.printed ++ register m.state 10 % 256 ∷ [];
+      executed = m.executed + 1;
+    })
 act go_on (environment_call (suc (suc _))) m = record { ending = Trap BadCall m.state.pc; at = m }
 act go_on (trapped kind address) m = record { ending = Trap kind address; at = m }
 
@@ -32,7 +36,8 @@ act go_on (trapped kind address) m = record { ending = Trap kind address; at = m
 abbrev pub stop : Moment → Ended
 stop m = record { ending = Budget; at = m }
 
--- a run of at most n instructions from a moment on; it ends Budget where n were executed without an end
+-- a run of at most n instructions from a moment on; it ends Budget where n were executed without an
+-- end
 unfoldable pub run_from : ℕ → Moment → Ended
 run_from zero m = stop m
 run_from (suc n) m = act (run_from n) (step_of m.state) m
@@ -56,7 +61,8 @@ Tells (Some ending) e = (e.ending ≡ ending) × (ending ≡ Budget → ⊥) × 
 
 -- a sink that tells now what it was given told it before, and was given these bytes since, each by a
 -- write of its own
-pub record Gave (told : Option (List ℕ)) (writes : ℕ) (bytes : List ℕ) (after : List ℕ) (writes' : ℕ) : Type 0 where
+pub record Gave
+    (told : Option (List ℕ)) (writes : ℕ) (bytes : List ℕ) (after : List ℕ) (writes' : ℕ) : Type 0 where
   pub before : List ℕ
   pub was : told ≡ Some before
   pub appended : after ≡ before ++ bytes
@@ -65,14 +71,17 @@ pub record Gave (told : Option (List ℕ)) (writes : ℕ) (bytes : List ℕ) (af
 -- a machine that stood at the first moment of a run stands at this one, and the sink was given what
 -- was put since
 pub record StandsAt
-    (m : Moment) (old new : Counted) (told : Option (List ℕ)) (writes : ℕ) (told' : Option (List ℕ)) (writes' : ℕ) : Type 0 where
+    (m : Moment) (old new : Counted)
+    (told : Option (List ℕ)) (writes : ℕ) (told' : Option (List ℕ)) (writes' : ℕ) : Type 0 where
   pub state : new.state ≡ m.state
   pub count : new.count ≡ old.count + m.executed
   pub given : IfSome told' (λ after. Gave told writes m.printed after writes')
 
 -- a run of n instructions that a write has cut off: it stands before the environment call that was to
 -- put a byte, fewer than n instructions were executed, and the bytes before it were taken
-pub record CutOff (n : ℕ) (old new : Counted) (told : Option (List ℕ)) (writes : ℕ) (told' : Option (List ℕ)) (writes' : ℕ) : Type 0 where
+pub record CutOff
+    (n : ℕ) (old new : Counted)
+    (told : Option (List ℕ)) (writes : ℕ) (told' : Option (List ℕ)) (writes' : ℕ) : Type 0 where
   pub turns : ℕ
   pub below : turns < n
   pub goes_on : (run_from turns (first old.state)).ending ≡ Budget

@@ -1,7 +1,7 @@
 // The machine: what it holds, how it is loaded, and what can be seen of it.
 
 ghost use Rattle.std.specs.Prelude.{◌≡◌, ◌+◌, ◌*◌, ◌<◌, ◌≤◌, length, replicate, slice_index, IfOk, IfErr, MatchResult};
-ghost use Rattle.rv_machine.specs.State.{start, laid, start_registers};
+ghost use Rattle.rv_machine.specs.State.{start, laid};
 
 mod steps;
 
@@ -23,19 +23,24 @@ pub struct Machine {
 }
 
 impl Model for Machine {
-    ghost use Rattle.std.specs.Prelude.{◌≤◌, length};
+    ghost use Rattle.std.specs.Prelude.{◌≡◌, ◌≤◌, length, slice_index};
     ghost use Rattle.rv_machine.specs.State.{Counted};
 
     ghost Value = { Counted };
 
-    ghost view = { λ m. record { state = record { pc = m.pc; registers = m.registers; arena = m.arena.items }; count = m.count } };
+    ghost view = { λ m. record {
+      state = record { pc = m.pc; registers = m.registers; arena = m.arena.items };
+      count = m.count;
+    } };
 
-    ghost invariant = { λ m. (1 ≤ length m.arena.items) × (length m.arena.items ≤ 16777216) };
+    ghost invariant = { λ m.
+        (1 ≤ length m.arena.items) × (length m.arena.items ≤ 16777216)
+        × (slice_index m.registers 0 ≡ 0) };
 }
 
 impl Machine {
-    /// A machine at address 0, with all registers and that many words of arena 0; no instruction was
-    /// executed.
+    /// A machine at address 0, with all registers and that many words of arena 0; no instruction
+    /// was executed.
     pub fn new(alloc: Global, arena_words: u32) -> Result<Machine, NoMemory>
         requires some { 1 ≤ arena_words }
         requires bounded { arena_words ≤ 16777216 }
@@ -60,8 +65,9 @@ impl Machine {
     /// `TooBig` exactly where the image has more words than the arena; the machine is then
     /// unchanged. Takes no memory.
     pub fn load(&mut self, image: &Image) -> Result<(), TooBig>
-        ensures loaded { MatchResult result
-            (λ _. self.new.state ≡ start image.now.words image.now.entry (length self.old.state.arena))
+        ensures loaded { let arena = length self.old.state.arena in
+            MatchResult result
+            (λ _. self.new.state ≡ start image.now.words image.now.entry arena)
             (λ _. self.new ≡ self.old) }
         ensures count { IfOk result (λ _. self.new.count ≡ 0) }
         ensures fits { MatchResult result
@@ -91,10 +97,11 @@ impl Machine {
         self.pc
     }
 
-    /// The value of a register.
+    /// The value of a register; register 0 is always 0.
     pub fn register(&self, at: u32) -> u32
         requires { at < 32 }
-        ensures { result ≡ slice_index self.now.state.registers at }
+        ensures exact { result ≡ slice_index self.now.state.registers at }
+        ensures zero { at ≡ 0 → result ≡ 0 }
     {
         self.registers[at as usize]
     }
@@ -108,8 +115,8 @@ impl Machine {
         self.arena.as_slice()
     }
 
-    /// How many instructions were executed since the image was loaded; the count stays at its type's
-    /// greatest value.
+    /// How many instructions were executed since the image was loaded; the count stays at its
+    /// type's greatest value.
     pub fn count(&self) -> u64
         ensures { result ≡ self.now.count }
     {

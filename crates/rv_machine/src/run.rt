@@ -10,13 +10,14 @@ use crate::machine::Machine;
 use isl_base::{Failed, Sink, Source};
 
 impl Machine {
-    /// Executes at most `n` instructions. Environment call 1 gives the sink the low byte of register
-    /// 10, by a write of its own, and goes on behind the call; call 0 halts with register 10. No call
-    /// reads from the source yet. After `WriteFault` the machine stands before the call whose byte
-    /// the sink did not take.
+    /// Executes at most `n` instructions. Environment call 1 gives the sink the low byte of
+    /// register 10, by a write of its own, and goes on behind the call; call 0 halts with register
+    /// 10. No call reads from the source. After `WriteFault` the machine stands before the call
+    /// whose byte the sink did not take.
     pub fn run<S: Source, K: Sink>(&mut self, n: u64, source: &mut S, sink: &mut K) -> Ending
         requires { self.old.count + n < 2 ^ 64 }
-        ensures ending { result ≢ Ending.WriteFault → result ≡ (run_from n (first self.old.state)).ending }
+        ensures ending { result ≢ Ending.WriteFault →
+            result ≡ (run_from n (first self.old.state)).ending }
         ensures stands { result ≢ Ending.WriteFault →
             StandsAt (run_from n (first self.old.state)).at self.old self.new
             (K.given sink.old) (K.writes sink.old) (K.given sink.new) (K.writes sink.new) }
@@ -51,7 +52,8 @@ impl Machine {
         ensures stands { IfOk result (λ _.
             StandsAt (turn_of self.old.state).at self.old self.new
             (K.given sink.old) (K.writes sink.old) (K.given sink.new) (K.writes sink.new)) }
-        ensures quiet { IfOk result (λ _. (turn_of self.old.state).at.printed ≡ [] → sink.new ≡ sink.old) }
+        ensures quiet { IfOk result (λ _.
+            (turn_of self.old.state).at.printed ≡ [] → sink.new ≡ sink.old) }
         ensures only { IfOk result (λ told. IfSome told IsOfRun) }
 
         ensures call { OnErr result (step_of self.old.state ≡ environment_call 1) }
@@ -80,8 +82,8 @@ impl Machine {
 
 // Gives the sink one byte, by one write.
 fn put_byte<K: Sink>(sink: &mut K, byte: u8) -> Result<(), Failed>
-    ensures put { OnOk result (IfSome (K.given sink.new)
-        (λ after. Gave (K.given sink.old) (K.writes sink.old) (byte ∷ []) after (K.writes sink.new))) }
+    ensures put { OnOk result (IfSome (K.given sink.new) (λ after.
+        Gave (K.given sink.old) (K.writes sink.old) (byte ∷ []) after (K.writes sink.new))) }
     ensures given { OnErr result (K.given sink.new ≡ K.given sink.old) }
     ensures writes { OnErr result (K.writes sink.new ≡ K.writes sink.old) }
     ensures rose { OnErr result (Rose (K.faults sink.old) (K.faults sink.new)) }

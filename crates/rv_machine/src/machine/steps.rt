@@ -156,7 +156,8 @@ impl Machine {
 
     // An environment call is left to the caller of `step`.
     fn call(&self) -> StepEnd
-        ensures { Does (call_of (register self.now.state 17) self.now.state) self.now result self.now }
+        ensures { let which = register self.now.state 17 in
+            Does (call_of which self.now.state) self.now result self.now }
     {
         let which = self.register(17);
         if which < 2 {
