@@ -21,34 +21,32 @@ arena_words = 4194304
 abbrev pub the_run : Image → Ended
 the_run image = run_of image.words image.entry arena_words most_instructions
 
--- A text was taken of the file, it spells a program, and the image that was kept is the program's and
--- fits the arena.
-pub record Accepted (held : Option (List ℕ)) (kept : Option Image) : Type 0 where
-  pub text : List ℕ
-  pub taken : IsTaken held text
-  pub program : Program
-  pub spelled : Spells text program
+-- The image that was kept is the program's and fits the arena, and whatever the input, its run halts with
+-- the meaning's value and prints what the meaning prints.
+pub record Ran (program : Program) (kept : Option Image) : Type 0 where
   pub image : Image
   pub is_kept : kept ≡ Some image
   pub compiled : Compiled program image.words image.entry
   pub fits : length image.words ≤ arena_words
+  pub carries : (input : List ℕ) → HaltsWith (the_run image) (meaning names program input most_instructions unlimited)
 
--- A text was taken of the file, and it spells no program.
+-- A sink that tells now was given, since, all that the run printed, each byte by a write of its own.
+abbrev pub GivenAll : {program : Program} {kept : Option Image} → Ran program kept → Option (List ℕ) → ℕ → Option (List ℕ) → ℕ → Type 0
+GivenAll ran told writes told' writes' = IfSome told' (λ after. Gave told writes (the_run ran.image).at.printed after writes')
+
+-- A sink that tells now was given a front of what the run printed, each byte by a write of its own.
+abbrev pub GivenFront : {program : Program} {kept : Option Image} → Ran program kept → Option (List ℕ) → ℕ → Option (List ℕ) → ℕ → Type 0
+GivenFront ran told writes told' writes' =
+    IfSome told' (λ after. (front : List ℕ) × IsPrefixOf front (the_run ran.image).at.printed × Gave told writes front after writes')
+
+-- a text that was taken of the file spells this program
+pub record Accepted (held : Option (List ℕ)) (program : Program) : Type 0 where
+  pub text : List ℕ
+  pub taken : IsTaken held text
+  pub spelled : Spells text program
+
+-- a text that was taken of the file spells no program
 pub record Declined (held : Option (List ℕ)) : Type 0 where
   pub text : List ℕ
   pub taken : IsTaken held text
   pub unspelled : (program : Program) → Spells text program → ⊥
-
--- where the input told what it had left, the run halts with the meaning's value, and what it printed is
--- what the meaning prints
-abbrev pub CarriesMeaning : Program → Option (List ℕ) → Ended → Type 0
-CarriesMeaning program left run = IfSome left (λ input. HaltsWith run (meaning names program input most_instructions unlimited))
-
--- a sink that tells now was given, since, all that was printed, each byte by a write of its own
-abbrev pub GivenAll : List ℕ → Option (List ℕ) → ℕ → Option (List ℕ) → ℕ → Type 0
-GivenAll bytes told writes told' writes' = IfSome told' (λ after. Gave told writes bytes after writes')
-
--- a sink that tells now was given a front of what was printed, each byte by a write of its own
-abbrev pub GivenFront : List ℕ → Option (List ℕ) → ℕ → Option (List ℕ) → ℕ → Type 0
-GivenFront bytes told writes told' writes' =
-    IfSome told' (λ after. (front : List ℕ) × IsPrefixOf front bytes × Gave told writes front after writes')

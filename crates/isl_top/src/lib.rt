@@ -2,11 +2,10 @@
 #![tactic(auto)]
 
 pub mod command;
+pub mod first_build;
 pub mod kept;
 pub mod lines;
 pub mod load;
-pub mod main_call;
-pub mod program;
 pub mod read;
 pub mod run;
 pub mod status;
@@ -14,5 +13,4 @@ pub mod token;
 pub mod tree;
 
 pub use kept::Kept;
-pub use main_call::isl_main;
 pub use status::Status;
