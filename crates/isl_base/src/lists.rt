@@ -1,6 +1,6 @@
 // The list that contracts see as the list of its items.
 
-ghost use Rattle.std.specs.Prelude.{◌≡◌, ◌≤◌, List, [], ◌∷◌, ◌++◌, length, slice_get, Some, OnOk, OnErr, MatchOption};
+ghost use Rattle.std.specs.Prelude.{◌≡◌, ◌≤◌, List, [], ◌∷◌, ◌++◌, length, slice_get, Some, OnOk, OnErr, IfOk, MatchOption};
 
 use crate::faults::NoMemory;
 use crate::place::Place;
@@ -38,9 +38,17 @@ impl<T> ItemList<T> {
         self.items.len()
     }
 
+    /// All items.
+    pub fn as_slice(&self) -> &[T]
+        ensures { result.now ≡ self.now }
+    {
+        self.items.as_slice()
+    }
+
     /// The item at that place; none exactly where `at` is not below the length.
     pub fn get(&self, at: usize) -> Option<&T>
-        ensures { MatchOption result (length self.now ≤ at) (λ item. slice_get self.now at ≡ Some item.now) }
+        ensures { MatchOption result (length self.now ≤ at)
+            (λ item. slice_get self.now at ≡ Some item.now) }
     {
         self.items.get(at)
     }
@@ -53,6 +61,29 @@ impl<T: Drop> ItemList<T> {
         ensures err { OnErr result (self.new ≡ self.old) }
     {
         match self.items.push(item) {
+            Ok(()) => Ok(()),
+            Err(_) => Err(NoMemory),
+        }
+    }
+}
+
+impl ItemList<u8> {
+    /// The list of these bytes.
+    pub fn from_slice(alloc: Global, bytes: &[u8]) -> Result<Bytes, NoMemory>
+        ensures { IfOk result (λ list. list ≡ bytes.now) }
+    {
+        match Vec::from_slice(alloc, bytes) {
+            Ok(items) => Ok(ItemList { items }),
+            Err(_) => Err(NoMemory),
+        }
+    }
+
+    /// Appends all these bytes. After `NoMemory` the list is unchanged.
+    pub fn append(&mut self, bytes: &[u8]) -> Result<(), NoMemory>
+        ensures ok { OnOk result (self.new ≡ self.old ++ bytes.now) }
+        ensures err { OnErr result (self.new ≡ self.old) }
+    {
+        match self.items.extend_from_slice(bytes) {
             Ok(()) => Ok(()),
             Err(_) => Err(NoMemory),
         }

@@ -74,8 +74,10 @@ abbrev mutual
   read_form (suc k) (zero ∷ xs) = (literal (first xs), after xs)
   read_form (suc k) (suc zero ∷ xs) = under clauses (read_clauses k xs)
   read_form (suc k) (suc (suc zero) ∷ xs) = under sequence (read_forms k xs)
-  read_form (suc k) (suc (suc (suc zero)) ∷ xs) = under (prim (primitive_at (first xs))) (read_forms k (after xs))
-  read_form (suc k) (suc (suc (suc (suc n))) ∷ xs) = under (sited (first xs)) (read_form k (after xs))
+  read_form (suc k) (suc (suc (suc zero)) ∷ xs) =
+      under (prim (primitive_at (first xs))) (read_forms k (after xs))
+  read_form (suc k) (suc (suc (suc (suc n))) ∷ xs) =
+      under (sited (first xs)) (read_form k (after xs))
 
   read_forms : ℕ → List ℕ → Forms × List ℕ
   read_forms zero xs = (no_form, xs)
@@ -101,7 +103,8 @@ abbrev mutual
 
 -- to the depth of its size, a form is read back from its numbers
 mutual
-  form_back : (k : ℕ) (f : Form) (rest : List ℕ) → form_size f ≤ k → read_form k (write_form f rest) ≡ (f, rest)
+  form_back : (k : ℕ) (f : Form) (rest : List ℕ) → form_size f ≤ k
+      → read_form k (write_form f rest) ≡ (f, rest)
   form_back zero (literal i) rest h = absurd (omega arith)
   form_back zero (clauses cs) rest h = absurd (omega arith)
   form_back zero (sequence fs) rest h = absurd (omega arith)
@@ -114,7 +117,8 @@ mutual
       rw (primitive_back p) (ap (under (prim p)) (forms_back k fs rest (omega arith)))
   form_back (suc k) (sited s f) rest h = ap (under (sited s)) (form_back k f rest (omega arith))
 
-  forms_back : (k : ℕ) (fs : Forms) (rest : List ℕ) → forms_size fs ≤ k → read_forms k (write_forms fs rest) ≡ (fs, rest)
+  forms_back : (k : ℕ) (fs : Forms) (rest : List ℕ) → forms_size fs ≤ k
+      → read_forms k (write_forms fs rest) ≡ (fs, rest)
   forms_back zero no_form rest h = absurd (omega arith)
   forms_back zero (form_and f fs) rest h = absurd (omega arith)
   forms_back (suc k) no_form rest h = refl
@@ -122,15 +126,18 @@ mutual
       rw (form_back k f (write_forms fs rest) (omega arith))
       (ap (under (form_and f)) (forms_back k fs rest (omega arith)))
 
-  clauses_back : (k : ℕ) (cs : ClauseForms) (rest : List ℕ) → clauses_size cs ≤ k → read_clauses k (write_clauses cs rest) ≡ (cs, rest)
+  clauses_back : (k : ℕ) (cs : ClauseForms) (rest : List ℕ) → clauses_size cs ≤ k
+      → read_clauses k (write_clauses cs rest) ≡ (cs, rest)
   clauses_back zero no_clause rest h = absurd (omega arith)
   clauses_back zero (clause_and t b cs) rest h = absurd (omega arith)
   clauses_back (suc k) no_clause rest h = refl
   clauses_back (suc k) (clause_and t b cs) rest h =
-      rw (form_back k t (write_maybe b (write_clauses cs rest)) (omega arith), maybe_back k b (write_clauses cs rest) (omega arith))
-      (ap (under (clause_and t b)) (clauses_back k cs rest (omega arith)))
+      rw (form_back k t (write_maybe b (write_clauses cs rest)) (omega arith))
+      (rw (maybe_back k b (write_clauses cs rest) (omega arith))
+      (ap (under (clause_and t b)) (clauses_back k cs rest (omega arith))))
 
-  maybe_back : (k : ℕ) (b : MaybeForm) (rest : List ℕ) → maybe_size b ≤ k → read_maybe k (write_maybe b rest) ≡ (b, rest)
+  maybe_back : (k : ℕ) (b : MaybeForm) (rest : List ℕ) → maybe_size b ≤ k
+      → read_maybe k (write_maybe b rest) ≡ (b, rest)
   maybe_back zero no_body rest h = absurd (omega arith)
   maybe_back zero (with_body f) rest h = absurd (omega arith)
   maybe_back (suc k) no_body rest h = refl

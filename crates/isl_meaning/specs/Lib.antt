@@ -3,6 +3,7 @@ pub mod FormCode
 pub mod View
 pub mod Falls
 pub mod Sizes
+pub mod Rest
 pub mod Values
 pub mod State
 pub mod Counts

@@ -1,4 +1,4 @@
--- What stands in a list of a core form is smaller than the list: why a recursion over core forms ends.
+-- What stands in a list of a core form is smaller than the list: a recursion over forms ends.
 use Rattle.std.specs.Prelude.{◌≡◌, ℕ, zero, suc, ◌+◌, ◌<◌, List, [], ◌∷◌, Some, slice_get}
 use Rattle.std.proofs.Common.{arith, ap, subst}
 use Rattle.isl_meaning.specs.Form.{Form, form_size, forms_size, clauses_size, maybe_size}
@@ -11,7 +11,8 @@ forms_size_above [] = omega arith
 forms_size_above (x ∷ xs) = omega arith
 
 -- a form of a list is smaller than the list
-pub form_in_smaller : (xs : List Form) (i : ℕ) (x : Form) → slice_get xs i ≡ Some x → form_size x < forms_size (forms xs)
+pub form_in_smaller : (xs : List Form) (i : ℕ) (x : Form) → slice_get xs i ≡ Some x
+    → form_size x < forms_size (forms xs)
 form_in_smaller [] i x h = absurd (cc)
 form_in_smaller (y ∷ ys) zero x h =
     let e : form_size y ≡ form_size x = cc in
@@ -24,7 +25,8 @@ pub clause_in_smaller : (cs : List Clause) (i : ℕ) (c : Clause) → slice_get 
 clause_in_smaller [] i c h = absurd (cc)
 clause_in_smaller (d ∷ ds) zero c h =
     let e : d ≡ c = cc in
-    let P : Clause → Type 0 = λ a. form_size a.test + maybe_size (maybe_form a.body) < clauses_size (clauses_of (d ∷ ds)) in
+    let P : Clause → Type 0 =
+    λ a. form_size a.test + maybe_size (maybe_form a.body) < clauses_size (clauses_of (d ∷ ds)) in
     subst P e (omega arith)
 clause_in_smaller (d ∷ ds) (suc i) c h = omega (arith, clause_in_smaller ds i c h)
 
@@ -33,9 +35,16 @@ pub test_in_smaller : (cs : List Clause) (i : ℕ) (c : Clause) → slice_get cs
     → form_size c.test < clauses_size (clauses_of cs)
 test_in_smaller cs i c h = omega (arith, clause_in_smaller cs i c h)
 
--- a body of a list of clauses is smaller than the list
-pub body_in_smaller : (cs : List Clause) (i : ℕ) (c : Clause) (f : Form) → slice_get cs i ≡ Some c → c.body ≡ Some f
+-- a body of a list of clauses, or its want, is smaller than the list
+pub body_in_smaller : (cs : List Clause) (i : ℕ) (c : Clause) → slice_get cs i ≡ Some c
+    → maybe_size (maybe_form c.body) < clauses_size (clauses_of cs)
+body_in_smaller cs i c h = omega (arith, clause_in_smaller cs i c h)
+
+-- the form of a body is smaller than the list
+pub body_form_in_smaller : (cs : List Clause) (i : ℕ) (c : Clause) (f : Form)
+    → slice_get cs i ≡ Some c → c.body ≡ Some f
     → form_size f < clauses_size (clauses_of cs)
-body_in_smaller cs i c f h e =
-    let s : maybe_size (maybe_form c.body) ≡ form_size f + 1 = ap (λ b. maybe_size (maybe_form b)) e in
+body_form_in_smaller cs i c f h e =
+    let s : maybe_size (maybe_form c.body) ≡ form_size f + 1 =
+    ap (λ b. maybe_size (maybe_form b)) e in
     omega (arith, clause_in_smaller cs i c h)

@@ -4,6 +4,8 @@
 pub mod core_form;
 pub mod primitive;
 pub mod program;
+#[cfg(test)]
+mod tests;
 
 pub use core_form::{Clause, ClauseList, Core, CoreForm, CoreList};
 pub use primitive::Primitive;

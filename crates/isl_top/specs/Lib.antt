@@ -10,3 +10,4 @@ pub mod Reading
 pub mod Shapes
 pub mod Code
 pub mod Represents
+pub mod Claims

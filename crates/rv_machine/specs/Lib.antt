@@ -1,3 +1,4 @@
+pub mod Ends
 pub mod State
 pub mod Decode
 pub mod Step

@@ -1,5 +1,5 @@
 -- One step of the machine, one row an instruction (RISC-V Unprivileged ISA, 2.4 to 2.8).
-use Rattle.std.specs.Prelude.{◌≡◌, ℕ, ◌+◌, ◌-◌, ◌*◌, ◌/◌, ◌%◌, ◌^◌, Option, Some, None, Bool, not, min, if◌then◌else◌, ◌==◌, nat_lt, int_lt, slice_set}
+use Rattle.std.specs.Prelude.{◌≡◌, ◌<◌, ℕ, ◌+◌, ◌-◌, ◌/◌, ◌%◌, Option, Some, None, Bool, not, min, if◌then◌else◌, ◌==◌, nat_lt, int_lt, slice_set}
 use Rattle.std.specs.Int.{cast_signed, w32}
 use Rattle.rv_machine.specs.declared.instruction.Instruction.{Instruction}
 use Rattle.rv_machine.specs.declared.instruction.Instruction.TheVariants.{Lui, Addi, Add, Sub, Slt, Beq, Bne, Blt, Bge, Jal, Jalr, Lw, Sw, Ecall}
@@ -9,6 +9,23 @@ use Rattle.rv_machine.specs.declared.ending.StepEnd.{StepEnd}
 use Rattle.rv_machine.specs.declared.ending.StepEnd.TheVariants.{Went, Call, Trap}
 use Rattle.rv_machine.specs.State.{State, Counted, register, put, sum32, difference32, word_at}
 use Rattle.rv_machine.specs.Decode.{decode}
+
+-- the register numbers of an instruction are below 32
+abbrev pub NamesRegisters : Instruction → Type 0
+NamesRegisters (Lui rd immediate) = rd < 32
+NamesRegisters (Addi rd rs1 immediate) = (rd < 32) × (rs1 < 32)
+NamesRegisters (Add rd rs1 rs2) = (rd < 32) × (rs1 < 32) × (rs2 < 32)
+NamesRegisters (Sub rd rs1 rs2) = (rd < 32) × (rs1 < 32) × (rs2 < 32)
+NamesRegisters (Slt rd rs1 rs2) = (rd < 32) × (rs1 < 32) × (rs2 < 32)
+NamesRegisters (Beq rs1 rs2 offset) = (rs1 < 32) × (rs2 < 32)
+NamesRegisters (Bne rs1 rs2 offset) = (rs1 < 32) × (rs2 < 32)
+NamesRegisters (Blt rs1 rs2 offset) = (rs1 < 32) × (rs2 < 32)
+NamesRegisters (Bge rs1 rs2 offset) = (rs1 < 32) × (rs2 < 32)
+NamesRegisters (Jal rd offset) = rd < 32
+NamesRegisters (Jalr rd rs1 immediate) = (rd < 32) × (rs1 < 32)
+NamesRegisters (Lw rd rs1 immediate) = (rd < 32) × (rs1 < 32)
+NamesRegisters (Sw rs2 rs1 immediate) = (rs2 < 32) × (rs1 < 32)
+NamesRegisters Ecall = Unit {0}
 
 -- what a step comes to: the next state, an environment call, or a trap with its address; with the
 -- latter two nothing changes
@@ -83,8 +100,13 @@ fetched (Some word) s = decoded (decode word) s
 unfoldable pub step_of : State → Result
 step_of s = fetched (word_at s.arena s.pc) s
 
--- what a call of `step` answers and leaves: the count rises with each step that went, up to its type's end
+-- what a call answers and leaves where it does what a step comes to: the count rises with each step
+-- that went, up to its type's end
+abbrev pub Does : Result → Counted → StepEnd → Counted → Type 0
+Does r old Went new = (r ≡ next new.state) × (new.count ≡ min (old.count + 1) 18446744073709551615)
+Does r old (Call which) new = (r ≡ environment_call which) × (new ≡ old)
+Does r old (Trap kind address) new = (r ≡ trapped kind address) × (new ≡ old)
+
+-- what a call of `step` answers and leaves
 abbrev pub Steps : Counted → StepEnd → Counted → Type 0
-Steps old Went new = (step_of old.state ≡ next new.state) × (new.count ≡ min (old.count + 1) 18446744073709551615)
-Steps old (Call which) new = (step_of old.state ≡ environment_call which) × (new ≡ old)
-Steps old (Trap kind address) new = (step_of old.state ≡ trapped kind address) × (new ≡ old)
+Steps old end new = Does (step_of old.state) old end new
