@@ -15,7 +15,8 @@ resumed-ended p [] ts = refl
 resumed-ended p (b ∷ w) ts = refl
 
 -- a word of one byte
-resumed-joined : (p : Place) (b : ℕ) (s : Bool) (ts : List Token) → resumed p (b ∷ []) s ts ≡ joined p b s ts
+resumed-joined : (p : Place) (b : ℕ) (s : Bool) (ts : List Token)
+    → resumed p (b ∷ []) s ts ≡ joined p b s ts
 resumed-joined p b false ts = refl
 resumed-joined p b true [] = refl
 resumed-joined p b true (Open q ∷ ts) = refl
@@ -29,7 +30,8 @@ joined-resumed p q a w b false ts = refl
 joined-resumed p q a w b true [] = refl
 joined-resumed p q a w b true (Open r ∷ ts) = refl
 joined-resumed p q a w b true (Close ∷ ts) = refl
-joined-resumed p q a w b true (Word r v ∷ ts) = ap (λ u. Word p (a ∷ u) ∷ ts) (sym (append_assoc w (b ∷ []) v))
+joined-resumed p q a w b true (Word r v ∷ ts) =
+    ap (λ u. Word p (a ∷ u) ∷ ts) (sym (append_assoc w (b ∷ []) v))
 
 -- what a byte that is no byte of a word does to the tokens before it
 pub record Cuts (c d : Cutter) (more : List Token) : Type 0 where
@@ -54,7 +56,11 @@ pub blank_cut : (c d : Cutter) (b : ℕ) → is_blank b ≡ true → IsEnded c d
     → (rest : List ℕ) → all_tokens (moved d b) rest ≡ all_tokens c (b ∷ rest)
 unfolding tokens
 blank_cut c d b k e rest =
-    cut c (moved d b) b [] (record { done = e.done ∙ sym (append-nil (c.done.items ++ ended c.start c.word)); word = e.word }) rest
+    cut c (moved d b) b []
+    (record {
+      done = e.done ∙ sym (append-nil (c.done.items ++ ended c.start c.word));
+      word = e.word;
+    }) rest
     (rw k refl) (rw (k, e.place) refl)
 
 -- a parenthesis is cut
@@ -63,7 +69,12 @@ pub open_cut : (c e d : Cutter) (b : ℕ) → b ≡ 40 → IsEnded c e → IsPus
 unfolding tokens
 open_cut c e d b k h p rest =
     cut c (moved d b) b (Open c.place ∷ [])
-    (record { done = p.done ∙ ap (λ ts. ts ++ Open e.place ∷ []) h.done ∙ ap (λ q. (c.done.items ++ ended c.start c.word) ++ Open q ∷ []) h.place; word = p.word ∙ h.word })
+    (record {
+      done =
+          p.done ∙ ap (λ ts. ts ++ Open e.place ∷ []) h.done
+          ∙ ap (λ q. (c.done.items ++ ended c.start c.word) ++ Open q ∷ []) h.place;
+      word = p.word ∙ h.word;
+    })
     rest (rw k refl) (rw (k, p.place, h.place) refl)
 
 pub close_cut : (c e d : Cutter) (b : ℕ) → b ≡ 41 → IsEnded c e → IsPushed e d Close
@@ -104,7 +115,8 @@ resumed-byte : (p q : Place) (w : List ℕ) (b : ℕ) (s : Bool) (ts : List Toke
 resumed-byte p q [] b s ts r begins goes_on =
     sym (resumed-joined q b s ts) ∙ ap (λ u. resumed u (b ∷ []) s ts) (sym (begins refl))
 resumed-byte p q (a ∷ w) b s ts r begins goes_on =
-    joined-resumed p q a w b s ts ∙ ap (λ u. resumed u ((a ∷ w) ++ b ∷ []) s ts) (sym (goes_on (omega arith)))
+    joined-resumed p q a w b s ts
+    ∙ ap (λ u. resumed u ((a ∷ w) ++ b ∷ []) s ts) (sym (goes_on (omega arith)))
 
 -- a byte of a word is cut
 pub word_cut : (c d : Cutter) (b : ℕ) → is_word b ≡ true → GoesOn c d b
@@ -112,7 +124,8 @@ pub word_cut : (c d : Cutter) (b : ℕ) → is_word b ≡ true → GoesOn c d b
 word_cut c d b k g rest =
     rw (g.done, g.word, k, g.place, tokens-word c.place b rest k)
     (ap (λ ts. c.done.items ++ ts)
-    (sym (resumed-byte c.start c.place c.word b (begins_word rest) (tokens (place_after c.place b) rest) d.start g.begins g.goes_on)))
+    (sym (resumed-byte c.start c.place c.word b (begins_word rest)
+    (tokens (place_after c.place b) rest) d.start g.begins g.goes_on)))
 
 -- a text of which a front is cut: the tokens are those of the whole text, and the places are small
 pub record IsFrontCut (text : List ℕ) (c : Cutter) (i : ℕ) : Type 0 where
@@ -121,8 +134,11 @@ pub record IsFrontCut (text : List ℕ) (c : Cutter) (i : ℕ) : Type 0 where
   pub column : c.place.column ≤ i + 1
 
 -- behind the last byte
-pub all_cut : (text : List ℕ) (c d : Cutter) → IsFrontCut text c (length text) → IsEnded c d → d.done.items ≡ tokens first_place text
+pub all_cut : (text : List ℕ) (c d : Cutter) → IsFrontCut text c (length text) → IsEnded c d
+    → d.done.items ≡ tokens first_place text
 unfolding tokens
 all_cut text c d h e =
-    e.done ∙ sym (ap (λ ts. c.done.items ++ ts) (resumed-ended c.start c.word [] ∙ append-nil (ended c.start c.word)))
+    e.done
+    ∙ sym (ap (λ ts. c.done.items ++ ts)
+    (resumed-ended c.start c.word [] ∙ append-nil (ended c.start c.word)))
     ∙ ap (all_tokens c) (sym (drop-length text)) ∙ h.same

@@ -1,5 +1,5 @@
-pub mod Cutting
-pub mod Reading
+mod Cutting
+mod Reading
 pub mod Runs
 pub mod Yields
 pub mod Means

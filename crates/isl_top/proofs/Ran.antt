@@ -1,5 +1,5 @@
 -- From what the machine's run says to what a run of the program says.
-use Rattle.std.proofs.Common.{◌≡◌, ◌≢◌, ℕ, ◌+◌, ◌<◌, ◌≤◌, List, ◌++◌, length, refl, sym, ap, subst, ◌∙◌, arith, Some, None, replicate, length-replicate}
+use Rattle.std.proofs.Common.{◌≡◌, ◌≢◌, ℕ, ◌+◌, ◌<◌, ◌≤◌, List, ◌++◌, length, refl, sym, ap, subst, ◌∙◌, arith, Some, None}
 use Rattle.std.specs.Prelude.{Option, IfSome}
 use Rattle.rv_machine.specs.declared.image.Image.{Image}
 use Rattle.rv_machine.specs.State.{State, Counted, start}
@@ -36,3 +36,12 @@ given_front image old new told told' writes writes' law e c =
     let p = law c.turns most_instructions (first old.state) (omega (arith, c.below)) in
     let P : State → Type 0 = λ s. IsPrefixOf (run_from c.turns (first old.state)).at.printed (run_from most_instructions (first s)).at.printed in
     with_front told told' writes writes' (run_from c.turns (first old.state)).at.printed (the_run image).at.printed (subst P e p) c.stands.given
+
+-- a run that was written whole, and one that a write cut off
+pub ran_whole : (program : Program) (image : Image) (state : State) (told told' : Option (List ℕ)) (writes writes' : ℕ) → Compiled program image.words image.entry → length image.words ≤ arena_words → state ≡ start image.words image.entry arena_words → IfSome told' (λ after. Gave told writes (run_from most_instructions (first state)).at.printed after writes') → (r : Ran program (Some image)) × GivenAll r told writes told' writes'
+unfolding ran
+ran_whole program image state told told' writes writes' compiled fits e g = (ran program image compiled fits, given_all image state told told' writes writes' e g)
+
+pub ran_cut_off : (program : Program) (image : Image) (old new : Counted) (told told' : Option (List ℕ)) (writes writes' : ℕ) → Compiled program image.words image.entry → length image.words ≤ arena_words → ((j n : ℕ) (m : Moment) → j ≤ n → (rest : List ℕ) × ((run_from j m).at.printed ++ rest ≡ (run_from n m).at.printed)) → old.state ≡ start image.words image.entry arena_words → CutOff most_instructions old new told writes told' writes' → (r : Ran program (Some image)) × GivenFront r told writes told' writes'
+unfolding ran
+ran_cut_off program image old new told told' writes writes' compiled fits law e c = (ran program image compiled fits, given_front image old new told told' writes writes' law e c)

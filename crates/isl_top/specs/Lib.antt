@@ -5,6 +5,7 @@ pub mod TreeCode
 pub mod TreeView
 pub mod TreeFalls
 pub mod TreeSizes
+pub mod TreeRest
 pub mod Reads
 pub mod Reading
 pub mod Shapes

@@ -65,13 +65,15 @@ abbrev mutual
 
 -- to the depth of its size, a tree is read back from its numbers
 mutual
-  tree_back : (k : ℕ) (t : TreeValue) (rest : List ℕ) → tree_size t ≤ k → read_tree k (write_tree t rest) ≡ (t, rest)
+  tree_back : (k : ℕ) (t : TreeValue) (rest : List ℕ) → tree_size t ≤ k
+      → read_tree k (write_tree t rest) ≡ (t, rest)
   tree_back zero (word p w) rest h = absurd (omega arith)
   tree_back zero (list p ts) rest h = absurd (omega arith)
   tree_back (suc k) (word p w) rest h = ap (under (word p)) (list_back w rest)
   tree_back (suc k) (list p ts) rest h = ap (under (list p)) (trees_back k ts rest (omega arith))
 
-  trees_back : (k : ℕ) (ts : Trees) (rest : List ℕ) → trees_size ts ≤ k → read_trees k (write_trees ts rest) ≡ (ts, rest)
+  trees_back : (k : ℕ) (ts : Trees) (rest : List ℕ) → trees_size ts ≤ k
+      → read_trees k (write_trees ts rest) ≡ (ts, rest)
   trees_back zero no_tree rest h = absurd (omega arith)
   trees_back zero (tree_and t ts) rest h = absurd (omega arith)
   trees_back (suc k) no_tree rest h = refl

@@ -10,7 +10,8 @@ trees_size_above [] = omega arith
 trees_size_above (t ∷ ts) = omega arith
 
 -- a tree of a list is smaller than the list
-pub tree_in_smaller : (ts : List TreeValue) (i : ℕ) (t : TreeValue) → slice_get ts i ≡ Some t → tree_size t < trees_size (trees ts)
+pub tree_in_smaller : (ts : List TreeValue) (i : ℕ) (t : TreeValue) → slice_get ts i ≡ Some t
+    → tree_size t < trees_size (trees ts)
 tree_in_smaller [] i t h = absurd (cc)
 tree_in_smaller (u ∷ us) zero t h =
     let e : tree_size u ≡ tree_size t = cc in

@@ -1,10 +1,9 @@
 // Reading: the trees that the tokens of a text spell.
 
-ghost use Rattle.std.specs.Prelude.{◌≡◌, ℕ, ◌≤◌, List, [], ◌∷◌, length, reverse, IfOk, MatchOption, MatchBool, None};
+ghost use Rattle.std.specs.Prelude.{◌≡◌, ℕ, ◌≤◌, List, [], length, IfOk, MatchOption};
 ghost use Rattle.isl_top.specs.Trees.{Trees};
 ghost use Rattle.isl_top.specs.TreeView.{trees};
 ghost use Rattle.isl_top.specs.Reads.{Reads};
-ghost use Rattle.isl_top.specs.declared.token.Token.{Token};
 
 use crate::token::{Token, tokens_of};
 use crate::tree::{Tree, TreeList};
@@ -22,7 +21,8 @@ struct OpenList {
     before: TreeList,
 }
 
-// Tokens read from left to right: the lists that are open, the innermost last, and its trees so far.
+// Tokens read from left to right: the lists that are open, the innermost last, and the trees so
+// far of that one.
 #[derive(Drop)]
 struct Reader {
     unclosed: Vec<OpenList>,
@@ -30,7 +30,7 @@ struct Reader {
 }
 
 /// The trees that a text reads as; none where it reads as no trees: where a parenthesis has no
-/// other, or more than 64 lists stand inside one another.
+/// other, or more than 64 lists stand inside one another. `NoMemory` is the only error.
 pub fn read_trees(alloc: Global, text: &[u8]) -> Result<Option<TreeList>, NoMemory>
     requires { length text.now ≤ 4096 }
     ensures { IfOk result (λ o. MatchOption o

@@ -49,7 +49,7 @@ pub fn run<S: Source, O: Sink>(
     let Ok(image) = first_build(alloc, program) else {
         return Status::NoMemory;
     };
-    let Ok(mut machine) = started(alloc, &image) else {
+    let Ok(mut machine) = started(alloc, &image, ARENA_WORDS) else {
         return Status::NoMemory;
     };
     let ending = machine.run(MOST_INSTRUCTIONS, input, out);
@@ -60,13 +60,14 @@ pub fn run<S: Source, O: Sink>(
     }
 }
 
-// A machine at the start of the image.
-fn started(alloc: Global, image: &Image) -> Result<Machine, NoMemory>
-    requires { length image.now.words ≤ arena_words }
-    ensures state { IfOk result (λ m. m.state ≡ start image.now.words image.now.entry arena_words) }
+// A machine of that many words at the start of the image.
+fn started(alloc: Global, image: &Image, arena: u32) -> Result<Machine, NoMemory>
+    requires fits { length image.now.words ≤ arena }
+    requires bounded { arena ≤ 16777216 }
+    ensures state { IfOk result (λ m. m.state ≡ start image.now.words image.now.entry arena) }
     ensures count { IfOk result (λ m. m.count ≡ 0) }
 {
-    let mut machine = Machine::new(alloc, ARENA_WORDS)?;
+    let mut machine = Machine::new(alloc, arena)?;
     match machine.load(image) {
         Ok(()) => Ok(machine),
         Err(_) => unreachable!(),

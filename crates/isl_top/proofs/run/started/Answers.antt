@@ -1,11 +1,12 @@
-use Rattle.std.proofs.Common.{◌≡◌, ℕ, ◌<◌, length, sym, ap, ◌∙◌, arith, replicate, length-replicate}
+use Rattle.std.proofs.Common.{◌≡◌, ℕ, ◌<◌, length, sym, ap, ◌∙◌, arith, replicate}
+use Rattle.std.proofs.Math.ListN.{length-replicate}
 use Rattle.rv_machine.specs.State.{start}
 use Rattle.isl_top.proofs.run.started.Goals as goal
 
 pub unreachable-requires : goal.unreachable-requires
-unreachable-requires c = omega (arith, c.in-Err.ensures.fits, c.requires, ap length c.in_ok-machine.ensures.arena)
+unreachable-requires c = omega (arith, c.in-Err.ensures.fits, c.requires.fits, ap length c.in_ok-machine.ensures.arena, length-replicate {A = ℕ} c.args.arena 0)
 
 pub returns-clause-state : goal.returns-clause-state
 returns-clause-state c =
     c.in-Ok.ensures.loaded
-    ∙ ap (start c.args.image.now.words c.args.image.now.entry) (ap length c.in_ok-machine.ensures.arena ∙ length-replicate 4194304 0)
+    ∙ ap (start c.args.image.now.words c.args.image.now.entry) (ap length c.in_ok-machine.ensures.arena ∙ length-replicate {A = ℕ} c.args.arena 0)

@@ -7,4 +7,5 @@ returns-in_default c = stray_ahead c.args.self.now c.args.self.now (search rules
 
 pub returns : goal.returns
 returns c =
-    close_ahead c.args.self.now (record { unclosed = c.pop.new.self; done = c.push.new.self }) c.in-Some.list c.in-Some.ensures.items (search rules)
+    close_ahead c.args.self.now (record { unclosed = c.pop.new.self; done = c.push.new.self })
+    c.in-Some.list c.in-Some.ensures.items (search rules)
