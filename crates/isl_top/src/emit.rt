@@ -7,6 +7,8 @@ ghost use Rattle.isl_top.specs.Code.{form_code, forms_code, clauses_code, body_c
 pub(crate) mod instructions;
 mod literal;
 pub(crate) mod pieces;
+#[cfg(test)]
+mod tests;
 
 use crate::emit::instructions::{NIL_WORD, STREAM_WORD};
 use crate::emit::literal::{row_byte, row_word};

@@ -6,6 +6,9 @@ ghost use Rattle.isl_top.specs.Claims.{Compiled};
 ghost use Rattle.isl_top.specs.Code.{program_code};
 ghost use Rattle.isl_top.specs.Shapes.{IsFirstPath};
 
+#[cfg(test)]
+mod tests;
+
 use crate::emit::append_forms;
 use crate::emit::instructions::{CHOOSE_HALT, ENVIRONMENT, NIL_WORD};
 use crate::emit::pieces::{MOST_WORDS, append, constant, list_of};
@@ -20,9 +23,10 @@ const HEADER: [u32; 2] = [1, 116];
 // Where the code begins, in bytes.
 const ENTRY: u32 = 8;
 
-/// The image of the program: on each machine that it fits, it prints what the program's meaning prints
-/// and halts with the word of the meaning's value (ISO/IEC 13816:2007, 7, for the values of forms).
-/// `NoMemory` also where the image would have more than 16,777,216 words, which no arena has.
+/// The image of a program of `progn` forms and of `format-char` forms with letters (ISO/IEC
+/// 13816:2007, 14.7 and 26.4): on each machine that it fits, it prints what the program's meaning
+/// prints, and halts with the word of the meaning's value. `NoMemory` also where the image would have
+/// more than 16,777,216 words, which no arena has. The program is unchanged.
 pub fn first_build(alloc: Global, program: &Program) -> Result<Image, NoMemory>
     requires first { IsFirstPath program.now }
     ensures compiled { IfOk result (λ image. Compiled program.now image.words image.entry) }

@@ -12,7 +12,7 @@ use isl_base::{NoMemory, WordList};
 use isl_meaning::Primitive;
 use std::alloc::Global;
 
-// No image has more words: code of more is want of memory.
+// No image has more words, so a jump over more is want of memory.
 pub(crate) const MOST_WORDS: usize = 16_777_216;
 
 // Appends all these words.

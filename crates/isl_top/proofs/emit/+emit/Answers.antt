@@ -25,7 +25,7 @@ two_operands : (rows : List LiteralRow) (which : Primitive) (fs : List Form) (f 
 unfolding primitive_code
 two_operands rows which [] f g h k = absurd (cc)
 two_operands rows which (x ∷ []) f g h k = absurd (cc)
-two_operands rows which (x ∷ y ∷ fs) f g h k = 
+two_operands rows which (x ∷ y ∷ fs) f g h k =
     let e : x ≡ f = cc in
     let d : y ≡ g = cc in
     ap (λ z. operation_code which (form_code rows z) (form_code rows y) (byte_of rows (literal_number y))) e

@@ -11,5 +11,5 @@ returns-clause-compiled c =
     record { ended = c.law_budget.ensures.ended; printed = c.law_budget.ensures.printed } in
     let P : List ℕ → Type 0 = λ words. Compiled c.args.program.now words entry in
     subst P
-      (sym c.in_ok-words.ensures)
-      (compiled laws c.requires.first.trees c.args.program.now c.requires.first.meant)
+    (sym c.in_ok-words.ensures)
+    (compiled laws c.requires.first.trees c.args.program.now c.requires.first.meant)
