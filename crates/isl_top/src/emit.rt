@@ -38,7 +38,7 @@ fn form_code(alloc: Global, literals: &LiteralRows, core: &Core) -> Result<WordL
 
 // Appends the code of the forms, in order.
 #[cycle(emit)]
-#[tactic(auto, using(isl_meaning::specs::Sizes::form_in_smaller, isl_meaning::specs::Rest::forms_at, std::proofs::lemmas::List::append_assoc), unfolding(crate::specs::Code::forms_code))]
+#[tactic(auto, using(isl_meaning::specs::Sizes::form_in_smaller), unfolding(crate::specs::Code::forms_code))]
 pub(crate) fn append_forms(
     code: &mut WordList,
     alloc: Global,

@@ -1,6 +1,6 @@
 // The words of literals.
 
-ghost use Rattle.std.specs.Prelude.{◌≡◌, slice_get, map};
+ghost use Rattle.std.specs.Prelude.{◌≡◌, slice_get};
 ghost use Rattle.isl_top.specs.Code.{integer_word, kind_word, kind_byte, row_word, row_byte};
 
 use crate::emit::instructions::{NIL_WORD, T_WORD};

@@ -1,5 +1,5 @@
 -- A loop appends a form's code at each turn, and a primitive takes its operands by their number.
-use Rattle.std.proofs.Common.{◌≡◌, ℕ, ◌+◌, ◌≤◌, List, [], ◌∷◌, ◌++◌, Some, length, drop, slice_get, refl, sym, ap, ◌∙◌, append_assoc, arith}
+use Rattle.std.proofs.Common.{◌≡◌, ℕ, ◌+◌, ◌≤◌, List, [], ◌∷◌, ◌++◌, Some, length, drop, slice_get, sym, ap, ◌∙◌, append_assoc, arith}
 use Rattle.isl_meaning.specs.Form.{Form}
 use Rattle.isl_meaning.specs.View.{forms}
 use Rattle.isl_meaning.specs.Rest.{forms_at}

@@ -1,14 +1,12 @@
 -- The program is that of the trees of its text.
-use Rattle.std.proofs.Common.{◌≡◌, ℕ, List, [], ◌∷◌, ◌++◌, Some, refl, sym, subst, ap, ◌∙◌}
+use Rattle.std.proofs.Common.{◌≡◌, ℕ, List, [], ◌∷◌, Some, refl, sym, ap, ◌∙◌}
 use Rattle.std.specs.Prelude.{codes}
 use Rattle.isl_base.specs.declared.place.Place.{Place}
 use Rattle.isl_base.specs.declared.datum.Kind.TheVariants.{Char}
-use Rattle.isl_meaning.specs.Form.{Form, Forms, literal, sequence, prim, sited, no_form, form_and}
-use Rattle.isl_meaning.specs.View.{forms}
+use Rattle.isl_meaning.specs.Form.{Form, literal, sequence, prim, sited, no_form, form_and}
 use Rattle.isl_meaning.specs.declared.primitive.Primitive.TheVariants.{StandardOutput, PutChar}
 use Rattle.isl_meaning.specs.declared.program.LiteralRow.{LiteralRow}
 use Rattle.isl_meaning.specs.declared.program.LiteralRow.TheVariants as row
-use Rattle.isl_meaning.specs.declared.program.Program.{Program}
 use Rattle.isl_top.specs.Shapes.{IsFirstPath, program_of, forms_of}
 use Rattle.isl_top.specs.Trees.{TreeValue, Trees, word, list, no_tree, tree_and}
 use Rattle.isl_top.proofs.first_build.tests.puts_y.Goals as goal
