@@ -1,0 +1,57 @@
+// The words of literals.
+
+ghost use Rattle.std.specs.Prelude.{◌≡◌, slice_get};
+ghost use Rattle.isl_top.specs.Code.{integer_word, kind_word, kind_byte, row_word, row_byte};
+
+use crate::emit::instructions::{NIL_WORD, T_WORD};
+use isl_base::Kind;
+use isl_meaning::{LiteralId, LiteralRow, LiteralRows};
+
+// The word of an integer: four times its residue of 32 bits.
+fn integer_word(n: i32) -> u32
+    ensures { result ≡ integer_word n }
+{
+    n.cast_unsigned().wrapping_mul(4)
+}
+
+// The word of a datum.
+fn kind_word(kind: Kind) -> u32
+    ensures { result ≡ kind_word kind }
+{
+    match kind {
+        Kind::Int(n) => integer_word(n),
+        Kind::Char(c) => u32::from(c) * 8 + 7,
+        Kind::Sym(_) => T_WORD,
+        Kind::Nil => NIL_WORD,
+    }
+}
+
+// The byte of a datum that is a character, else 0.
+fn kind_byte(kind: Kind) -> u32
+    ensures { result ≡ kind_byte kind }
+{
+    match kind {
+        Kind::Char(c) => u32::from(c),
+        Kind::Int(_) | Kind::Sym(_) | Kind::Nil => 0,
+    }
+}
+
+// The word of a literal; that of nil where there is no such row.
+pub(crate) fn row_word(literals: &LiteralRows, id: LiteralId) -> u32
+    ensures { result ≡ row_word (slice_get literals.now id) }
+{
+    match literals.get(id) {
+        Some(LiteralRow::Datum(datum)) => kind_word(datum.kind),
+        None => NIL_WORD,
+    }
+}
+
+// The byte of a literal that is a character, else 0.
+pub(crate) fn row_byte(literals: &LiteralRows, id: LiteralId) -> u32
+    ensures { result ≡ row_byte (slice_get literals.now id) }
+{
+    match literals.get(id) {
+        Some(LiteralRow::Datum(datum)) => kind_byte(datum.kind),
+        None => 0,
+    }
+}
