@@ -5,3 +5,4 @@ pub mod Founds
 pub mod Mains
 pub mod Simulates
 pub mod Whole
+mod Cutting

@@ -1,9 +1,12 @@
 pub mod Tokens
+pub mod Cutting
 pub mod Trees
 pub mod TreeCode
 pub mod TreeView
 pub mod TreeFalls
+pub mod TreeSizes
 pub mod Reads
+pub mod Reading
 pub mod Shapes
 pub mod Code
 pub mod Represents

@@ -1,5 +1,6 @@
 // The actions of the program: text in, statuses and bytes out.
 #![tactic(auto)]
 
+pub mod read;
 pub mod token;
 pub mod tree;

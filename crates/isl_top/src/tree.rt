@@ -1,5 +1,9 @@
 // Words and lists: what the tokens of a text spell.
 
+ghost use Rattle.std.specs.Prelude.{◌≡◌};
+ghost use Rattle.isl_top.specs.Trees.{word, list};
+ghost use Rattle.isl_top.specs.TreeView.{trees};
+
 use isl_base::{Bytes, ItemList, Place};
 use std::marker::Model;
 
@@ -42,4 +46,26 @@ impl Model for Tree {
     ghost use Rattle.isl_top.specs.TreeFalls.{falls};
 
     ghost size_decreases = { λ c h. falls c.place c.shape };
+}
+
+impl Tree {
+    /// A word at that place.
+    pub fn word(place: Place, bytes: Bytes) -> Tree
+        ensures { result ≡ word place bytes }
+    {
+        Tree {
+            place,
+            shape: Shape::Word(bytes),
+        }
+    }
+
+    /// A list of these trees, whose parenthesis opens at that place.
+    pub fn list(place: Place, items: TreeList) -> Tree
+        ensures { result ≡ list place (trees items) }
+    {
+        Tree {
+            place,
+            shape: Shape::List(items),
+        }
+    }
 }
