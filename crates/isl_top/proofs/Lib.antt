@@ -6,3 +6,5 @@ pub mod Mains
 pub mod Simulates
 pub mod Whole
 mod Cutting
+pub mod Arguments
+pub mod Forming
