@@ -1,3 +1,5 @@
+mod Cutting
+mod Reading
 pub mod Runs
 pub mod Yields
 pub mod Means
@@ -5,6 +7,5 @@ pub mod Founds
 pub mod Mains
 pub mod Simulates
 pub mod Whole
-mod Cutting
 pub mod Arguments
 pub mod Forming

@@ -20,7 +20,7 @@ reading (Close ∷ ts) (o ∷ os) done = reading ts os (o.before ++ list o.place
 
 -- the trees that tokens give, read on from there
 abbrev pub read_on : List Token → Reader → Option (List TreeValue)
-read_on ts r = reading ts (reverse r.open.items) r.done
+read_on ts r = reading ts (reverse r.unclosed.items) r.done
 
 -- a token is taken and the rest is read on from there, or with this token there are no trees
 abbrev pub Ahead : Bool → Token → Reader → Reader → Type 0

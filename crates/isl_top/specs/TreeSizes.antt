@@ -1,5 +1,5 @@
 -- A tree of a list is smaller than the list: why a recursion over trees ends.
-use Rattle.std.specs.Prelude.{◌≡◌, ℕ, zero, suc, ◌+◌, ◌<◌, List, [], ◌∷◌, Some, slice_get}
+use Rattle.std.specs.Prelude.{◌≡◌, ℕ, zero, suc, ◌<◌, List, [], ◌∷◌, Some, slice_get}
 use Rattle.std.proofs.Common.{arith}
 use Rattle.isl_top.specs.Trees.{TreeValue, tree_size, trees_size}
 use Rattle.isl_top.specs.TreeView.{trees}

@@ -1,5 +1,5 @@
 -- The tree that contracts see in a tree: one level of the view.
-use Rattle.std.specs.Prelude.{◌≡◌, ℕ, List as Seq, [], ◌∷◌, ◌++◌, refl}
+use Rattle.std.specs.Prelude.{◌≡◌, List as Seq, [], ◌∷◌, refl}
 use Rattle.std.proofs.Common.{ap}
 use Rattle.isl_base.specs.declared.place.Place.{Place}
 use Rattle.isl_top.specs.Trees.{TreeValue, word, list, Trees, no_tree, tree_and}

@@ -1,10 +1,9 @@
 // Reading: the trees that the tokens of a text spell.
 
-ghost use Rattle.std.specs.Prelude.{◌≡◌, ℕ, ◌≤◌, List, [], ◌∷◌, length, reverse, IfOk, MatchOption, MatchBool, None};
+ghost use Rattle.std.specs.Prelude.{◌≡◌, ℕ, ◌≤◌, List, [], length, IfOk, MatchOption};
 ghost use Rattle.isl_top.specs.Trees.{Trees};
 ghost use Rattle.isl_top.specs.TreeView.{trees};
 ghost use Rattle.isl_top.specs.Reads.{Reads};
-ghost use Rattle.isl_top.specs.declared.token.Token.{Token};
 
 use crate::token::{Token, tokens_of};
 use crate::tree::{Tree, TreeList};
@@ -22,15 +21,16 @@ struct OpenList {
     before: TreeList,
 }
 
-// Tokens read from left to right: the lists that are open, the innermost last, and its trees so far.
+// Tokens read from left to right: the lists that are open, the innermost last, and the trees so
+// far of that one.
 #[derive(Drop)]
 struct Reader {
-    open: Vec<OpenList>,
+    unclosed: Vec<OpenList>,
     done: TreeList,
 }
 
 /// The trees that a text reads as; none where it reads as no trees: where a parenthesis has no
-/// other, or more than 64 lists stand inside one another.
+/// other, or more than 64 lists stand inside one another. `NoMemory` is the only error.
 pub fn read_trees(alloc: Global, text: &[u8]) -> Result<Option<TreeList>, NoMemory>
     requires { length text.now ≤ 4096 }
     ensures { IfOk result (λ o. MatchOption o
@@ -43,8 +43,7 @@ pub fn read_trees(alloc: Global, text: &[u8]) -> Result<Option<TreeList>, NoMemo
 /// A text reads as trees in at most one way.
 pub fn law_one_reading()
     ensures { (text : List ℕ) (a b : Trees) → Reads text a → Reads text b → a ≡ b }
-{
-}
+{}
 
 impl Reader {
     ghost use Rattle.isl_top.specs.Reading.{reading, Ahead};
@@ -54,7 +53,7 @@ impl Reader {
         ensures { IfOk result (λ o. o ≡ reading tokens.items [] []) }
     {
         let mut reader = Reader {
-            open: Vec::new(alloc),
+            unclosed: Vec::new(alloc),
             done: ItemList::new(alloc),
         };
         for token in tokens {
@@ -62,7 +61,7 @@ impl Reader {
                 return Ok(None);
             }
         }
-        if reader.open.is_empty() {
+        if reader.unclosed.is_empty() {
             Ok(Some(reader.done))
         } else {
             Ok(None)
@@ -87,25 +86,71 @@ impl Reader {
     fn open_list(&mut self, alloc: Global, place: Place) -> Result<bool, NoMemory>
         ensures { IfOk result (λ taken. Ahead taken (Token.Open place) self.old self.new) }
     {
-        if self.open.len() == MOST_OPEN {
+        if self.unclosed.len() >= MOST_OPEN {
             return Ok(false);
         }
         let before = mem::replace(&mut self.done, ItemList::new(alloc));
-        match self.open.push(OpenList { place, before }) {
-            Ok(()) => Ok(true),
-            Err(_) => Err(NoMemory),
-        }
+        self.unclosed
+            .push(OpenList { place, before })
+            .map_err(|_| NoMemory)?;
+        Ok(true)
     }
 
     // The innermost open list ends.
     fn close_list(&mut self) -> Result<bool, NoMemory>
         ensures { IfOk result (λ taken. Ahead taken Token.Close self.old self.new) }
     {
-        let Some(list) = self.open.pop() else {
+        let Some(list) = self.unclosed.pop() else {
             return Ok(false);
         };
         let items = mem::replace(&mut self.done, list.before);
         self.done.push(Tree::list(list.place, items))?;
         Ok(true)
+    }
+}
+
+#[cfg(test)]
+mod tests {
+    use super::*;
+    use crate::tree::Shape;
+    use std::test::Fail;
+
+    #[test]
+    fn says_which_texts_read(rt: HostRuntime) -> Result<(), Fail> {
+        let mut lists_64 = [b'('; 128];
+        for i in 64..128 {
+            lists_64[i] = b')';
+        }
+        let mut lists_65 = [b'('; 130];
+        for i in 65..130 {
+            lists_65[i] = b')';
+        }
+        assert!(rt; read_trees(rt.alloc(), b"")?.is_some());
+        assert!(rt; read_trees(rt.alloc(), b"(a b) c")?.is_some());
+        assert!(rt; read_trees(rt.alloc(), b")")?.is_none());
+        assert!(rt; read_trees(rt.alloc(), b"(a")?.is_none());
+        assert!(rt; read_trees(rt.alloc(), &lists_64)?.is_some());
+        assert!(rt; read_trees(rt.alloc(), &lists_65)?.is_none());
+        Ok(())
+    }
+
+    #[test]
+    fn reads_words_with_their_places(rt: HostRuntime) -> Result<(), Fail> {
+        let list = read_trees(rt.alloc(), b"(a\n bc)")?.ok_or("no trees")?;
+        assert_eq!(rt; list.len(), 1);
+        let tree = list.get(0).ok_or("no tree")?;
+        assert_eq!(rt; tree.place, Place { line: 1, column: 1 });
+        let Shape::List(words) = &tree.shape else {
+            return Err(Fail::from("no list"));
+        };
+        assert_eq!(rt; words.len(), 2);
+        let tree = words.get(1).ok_or("no word")?;
+        assert_eq!(rt; tree.place, Place { line: 2, column: 2 });
+        let Shape::Word(bytes) = &tree.shape else {
+            return Err(Fail::from("no word"));
+        };
+        assert_eq!(rt; bytes.len(), 2);
+        assert_eq!(rt; bytes.get(1).copied(), Some(b'c'));
+        Ok(())
     }
 }

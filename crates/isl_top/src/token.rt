@@ -24,7 +24,8 @@ struct Cutter {
     place: Place,
 }
 
-/// The tokens of a text.
+/// The tokens of a text, in order. It has at most 4096 bytes, so that lines and columns fit.
+/// `NoMemory` is the only error.
 pub fn tokens_of(alloc: Global, text: &[u8]) -> Result<Vec<Token>, NoMemory>
     requires { length text.now ≤ 4096 }
     ensures { IfOk result (λ ts. ts.items ≡ tokens first_place text.now) }
@@ -74,6 +75,7 @@ impl Cutter {
         }
     }
 
+    // A token more; the word in progress stays.
     fn push(&mut self, token: Token) -> Result<(), NoMemory>
         ensures { OnOk result (IsPushed self.old self.new token) }
     {
