@@ -103,3 +103,6 @@ fn forms_of(
     }
     Ok(Some(done))
 }
+
+#[cfg(test)]
+mod tests;
