@@ -1,13 +1,13 @@
 -- The forms of trees, one step of the definition at a time: a list by its first word, and the items of
 -- a list one after another.
-use Rattle.std.proofs.Common.{◌≡◌, ℕ, zero, suc, ◌+◌, ◌≤◌, List, [], ◌∷◌, ◌++◌, length, slice_get, drop, Option, Some, None, refl, ap, ◌∙◌, sym, arith}
+use Rattle.std.proofs.Common.{◌≡◌, ℕ, ◌+◌, ◌≤◌, List, [], ◌∷◌, ◌++◌, length, slice_get, drop, Some, None, refl, ap, arith}
 use Rattle.std.proofs.lemmas.List.{drop_all}
 use Rattle.isl_base.specs.declared.place.Place.{Place}
 use Rattle.isl_meaning.specs.Form.{Form, Forms, no_form, form_and}
 use Rattle.isl_meaning.specs.Rest.{rest_at}
 use Rattle.isl_meaning.specs.View.{forms}
 use Rattle.isl_top.specs.Shapes.{Tables, Found, with_site, and_then, as_form, head_of, by_head, progn_form, format_char_form, form_of, list_form, forms_of}
-use Rattle.isl_top.specs.Trees.{TreeValue, word, list, Trees, no_tree, tree_and}
+use Rattle.isl_top.specs.Trees.{TreeValue, word, list, Trees, tree_and}
 use Rattle.isl_top.specs.TreeView.{trees}
 
 -- a word is no form, and a list is what its first word makes of it

@@ -1,10 +1,10 @@
 -- The arguments of a list, one at a time: the call of the standard output, and a letter.
-use Rattle.std.specs.Prelude.{ℕ, List, [], ◌∷◌, Option, Some, None, if◌then◌else◌, codes}
+use Rattle.std.specs.Prelude.{ℕ, Option, Some, None, if◌then◌else◌, codes}
 use Rattle.std.specs.Str.{bytes_eq}
 use Rattle.isl_base.specs.declared.place.Place.{Place}
 use Rattle.isl_top.specs.declared.format_char.Letter.{Letter}
 use Rattle.isl_top.specs.Shapes.{Tables, Found, letter_in, put_form}
-use Rattle.isl_top.specs.Trees.{TreeValue, word, list, Trees, no_tree, tree_and}
+use Rattle.isl_top.specs.Trees.{TreeValue, word, list, no_tree, tree_and}
 use Rattle.isl_meaning.specs.Form.{Form}
 
 -- the place of a tree that is (standard-output)
