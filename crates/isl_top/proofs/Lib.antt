@@ -7,6 +7,9 @@ pub mod Founds
 pub mod Mains
 pub mod Simulates
 pub mod Whole
+pub mod Sizes
 pub mod Ran
 pub mod Written
 pub mod Loading
+pub mod Arguments
+pub mod Forming

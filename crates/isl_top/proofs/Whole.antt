@@ -87,7 +87,7 @@ has_in front (w ∷ ws) tail =
     (at_seam front (ws ++ tail) w, subst (λ a. HasAt a (length front + 1) ws) e (subst (λ i. HasAt ((front ++ w ∷ []) ++ (ws ++ tail)) i ws) l (has_in (front ++ w ∷ []) ws tail)))
 
 -- the mirror of a list of forms, and the list again
-forms_again : (fs : Forms) → forms (forms_list fs) ≡ fs
+pub forms_again : (fs : Forms) → forms (forms_list fs) ≡ fs
 forms_again no_form = refl
 forms_again (form_and f fs) = ap (form_and f) (forms_again fs)
 

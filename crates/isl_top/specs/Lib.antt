@@ -9,6 +9,9 @@ pub mod TreeRest
 pub mod Reads
 pub mod Reading
 pub mod Shapes
+pub mod Heads
+pub mod Finds
+pub mod Arguments
 pub mod Code
 pub mod Represents
 pub mod Claims

@@ -2,15 +2,24 @@
 #![tactic(auto)]
 
 pub mod command;
+mod emit;
 pub mod first_build;
+mod format_char;
+mod heads;
 pub mod kept;
 pub mod lines;
 pub mod load;
+pub mod main_call;
+pub mod program;
 pub mod read;
 pub mod run;
+pub mod shape;
 pub mod status;
+mod tables;
 pub mod token;
 pub mod tree;
 
+pub use first_build::first_build;
 pub use kept::Kept;
+pub use main_call::isl_main;
 pub use status::Status;

@@ -1,0 +1,69 @@
+// The tables of a program: its literals, and the places of its sites.
+
+ghost use Rattle.std.specs.Prelude.{◌≡◌, Some, IfOk, OnOk};
+ghost use Rattle.isl_top.specs.Shapes.{no_tables, with_literal, with_site, next_literal, next_site, program_with};
+ghost use Rattle.isl_meaning.specs.View.{forms};
+
+use isl_base::{Datum, NoMemory, Place, PlaceList};
+use isl_meaning::{CoreList, LiteralId, LiteralRow, LiteralRows, Program, SiteId};
+use std::alloc::Global;
+use std::marker::Model;
+
+/// The literals and the sites that the forms so far have. Contracts see it as the `Tables` of
+/// specs/Shapes.antt.
+#[derive(Drop)]
+pub(crate) struct Tables {
+    literals: LiteralRows,
+    sites: PlaceList,
+}
+
+impl Model for Tables {
+    ghost use Rattle.isl_top.specs.Shapes.{Tables as FormTables};
+
+    ghost Value = { FormTables };
+
+    ghost view = { λ t. record { literals = t.literals; sites = t.sites } };
+}
+
+impl Tables {
+    /// No literal and no site; takes no memory.
+    pub(crate) fn new(alloc: Global) -> Tables
+        ensures { result ≡ no_tables }
+    {
+        Tables {
+            literals: LiteralRows::new(alloc),
+            sites: PlaceList::new(alloc),
+        }
+    }
+
+    /// A literal more, and its number.
+    pub(crate) fn add_literal(&mut self, datum: Datum) -> Result<LiteralId, NoMemory>
+        ensures id { IfOk result (λ id. id ≡ next_literal self.old) }
+        ensures after { OnOk result (self.new ≡ with_literal datum.place datum.kind self.old) }
+    {
+        let id = self.literals.len();
+        self.literals.push(LiteralRow::Datum(datum))?;
+        Ok(id)
+    }
+
+    /// A site more, and its number, counted from 1.
+    pub(crate) fn add_site(&mut self, place: Place) -> Result<SiteId, NoMemory>
+        ensures id { IfOk result (λ id. id ≡ next_site self.old) }
+        ensures after { OnOk result (self.new ≡ with_site place self.old) }
+    {
+        self.sites.push(place)?;
+        Ok(self.sites.len())
+    }
+
+    /// The program of these main forms, with these tables.
+    #[tactic(auto, using(isl_meaning::specs::View::forms_back))]
+    pub(crate) fn program(self, main: CoreList) -> Program
+        ensures { Some result ≡ program_with (Some (forms main, self)) }
+    {
+        Program {
+            literals: self.literals,
+            main,
+            sites: self.sites,
+        }
+    }
+}
