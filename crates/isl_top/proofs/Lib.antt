@@ -8,6 +8,8 @@ pub mod Mains
 pub mod Simulates
 pub mod Whole
 pub mod Sizes
+pub mod Programs
+pub mod Ends
 pub mod Ran
 pub mod Written
 pub mod Loading

@@ -3,7 +3,7 @@
 
 pub mod command;
 mod emit;
-pub mod first_build;
+pub mod first_image;
 mod format_char;
 mod heads;
 pub mod kept;
@@ -19,7 +19,7 @@ mod tables;
 pub mod token;
 pub mod tree;
 
-pub use first_build::first_build;
+pub use first_image::first_build;
 pub use kept::Kept;
 pub use main_call::isl_main;
 pub use status::Status;

@@ -1,6 +1,6 @@
 // The lines that statuses write to the error sink.
 
-ghost use Rattle.std.specs.Prelude.{◌≡◌, ◌≢◌, ◌≤◌, List, ℕ, OnOk, OnErr, ◌++◌, []};
+ghost use Rattle.std.specs.Prelude.{◌≡◌, ◌≢◌, ◌≤◌, List, ℕ, OnOk, OnErr, IsOk, ◌++◌, []};
 ghost use Rattle.isl_base.specs.Outside.{Rose};
 ghost use Rattle.isl_top.specs.Lines.{WasGiven, line_of as line_of_status};
 ghost use Rattle.isl_top.specs.declared.status.Status.TheVariants.{WriteFault};
@@ -26,6 +26,7 @@ fn line_of(status: Status) -> &'static [u8]
 pub fn end_with<E: Sink>(err: &mut E, status: Status) -> Status
     ensures written { result ≢ WriteFault → result ≡ status }
     ensures line { result ≢ WriteFault → WasGiven (E.given err.old) (line_of_status status) (E.given err.new) }
+    ensures quiet { line_of_status status ≡ [] → result ≡ status }
     ensures fault { result ≡ WriteFault → status ≢ WriteFault → Rose (E.faults err.old) (E.faults err.new) }
     ensures count { E.faults err.old ≤ E.faults err.new }
 {
@@ -38,6 +39,7 @@ pub fn end_with<E: Sink>(err: &mut E, status: Status) -> Status
 // Gives the sink all these bytes, in as many writes as it takes.
 fn write_all<E: Sink>(sink: &mut E, bytes: &[u8]) -> Result<(), Failed>
     ensures given { OnOk result (WasGiven (E.given sink.old) bytes.now (E.given sink.new)) }
+    ensures quiet { bytes.now ≡ [] → IsOk result }
     ensures fault { OnErr result (Rose (E.faults sink.old) (E.faults sink.new)) }
     ensures count { E.faults sink.old ≤ E.faults sink.new }
 {

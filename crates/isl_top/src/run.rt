@@ -9,7 +9,7 @@ ghost use Rattle.isl_top.specs.Code.{program_code};
 ghost use Rattle.isl_top.specs.Answers.{arena_words, Ran, GivenAll, GivenFront};
 ghost use Rattle.isl_top.specs.declared.status.Status.TheVariants.{Done, WriteFault, NoMemory as WantsMemory};
 
-use crate::first_build::first_build;
+use crate::first_image::first_build;
 use crate::kept::Kept;
 use crate::status::Status;
 use isl_base::{NoMemory, Sink, Source};

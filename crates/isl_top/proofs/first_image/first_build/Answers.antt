@@ -3,7 +3,7 @@ use Rattle.std.proofs.Common.{ℕ, List, sym, subst}
 use Rattle.isl_top.specs.Claims.{Compiled}
 use Rattle.isl_top.specs.Code.{entry}
 use Rattle.isl_top.proofs.Whole.{RunLaws, compiled}
-use Rattle.isl_top.proofs.first_build.first_build.Goals as goal
+use Rattle.isl_top.proofs.first_image.first_build.Goals as goal
 
 pub returns-clause-compiled : goal.returns-clause-compiled
 returns-clause-compiled c =

@@ -9,7 +9,7 @@ use Rattle.isl_meaning.specs.declared.program.LiteralRow.{LiteralRow}
 use Rattle.isl_meaning.specs.declared.program.LiteralRow.TheVariants as row
 use Rattle.isl_top.specs.Shapes.{IsFirstPath, program_of, forms_of}
 use Rattle.isl_top.specs.Trees.{TreeValue, Trees, word, list, no_tree, tree_and}
-use Rattle.isl_top.proofs.first_build.tests.puts_y.Goals as goal
+use Rattle.isl_top.proofs.first_image.tests.puts_y.Goals as goal
 
 column : ℕ → Place
 column n = record { line = 1; column = n }
