@@ -1,8 +1,6 @@
 -- What a core form and a program mean.
 use Rattle.std.specs.Prelude.{ℕ, zero, suc, ◌+◌, ◌-◌, List, [], ◌∷◌, ◌++◌, Option, Some, None, slice_get, slice_index_or}
 use Rattle.isl_base.specs.declared.place.Place.{Place}
-use Rattle.isl_base.specs.declared.datum.Name.{Name}
-use Rattle.isl_base.specs.declared.datum.Datum.{Datum}
 use Rattle.isl_base.specs.declared.datum.Kind.{Kind}
 use Rattle.isl_base.specs.declared.datum.Kind.TheVariants.{Int, Char, Sym, Nil}
 use Rattle.isl_base.specs.declared.datum.Symbol.TheVariants.{Named}
@@ -12,7 +10,7 @@ use Rattle.isl_meaning.specs.declared.program.Program.{Program}
 use Rattle.isl_meaning.specs.Form.{Form, literal, clauses, sequence, prim, sited, Forms, no_form, form_and, ClauseForms, no_clause, clause_and, MaybeForm, no_body, with_body}
 use Rattle.isl_meaning.specs.Counts.{count_forms, count_clauses, nodes, application_words}
 use Rattle.isl_meaning.specs.Values.{Value, integer, character, symbol, named, nil, object}
-use Rattle.isl_meaning.specs.State.{State, first_state, Surroundings, main_surroundings, Environment, no_environment, no_place, Outcome, value, exit, full, more, Landing, at_segment, at_site, Evaluated, gives, go_on, Limit, request, charged}
+use Rattle.isl_meaning.specs.State.{State, first_state, Surroundings, main_surroundings, Environment, no_environment, no_place, Outcome, value, exit, full, more, at_segment, at_site, Evaluated, gives, go_on, Limit, request, charged}
 use Rattle.isl_meaning.specs.Primitives.{primitive}
 
 -- what is evaluated one level below: in this part of the language, a form
@@ -94,8 +92,8 @@ meaning_at names program limit (suc k) (form f) = mean names program limit (mean
 abbrev pub mean_main : List (List ℕ) → Program → Limit → ℕ → Form → State → Evaluated
 mean_main names program limit k f z =
     request limit 0 (application_words (nodes f)) z (λ entered.
-      go_on (meaning_at names program limit k (form f) no_environment main_surroundings entered) (λ v after.
-        gives v (record after { stack = z.stack })))
+    go_on (meaning_at names program limit k (form f) no_environment main_surroundings entered) (λ v after.
+    gives v (record after { stack = z.stack })))
 
 -- the main forms in order, behind a last value
 abbrev pub mean_mains : List (List ℕ) → Program → Limit → ℕ → List Form → Value → State → Evaluated

@@ -1,5 +1,5 @@
 -- What the primitives give, and which condition they signal.
-use Rattle.std.specs.Prelude.{◌≡◌, ℕ, ◌+◌, Bool, ℤ, true, false, ◌+ℤ◌, ◌-ℤ◌, int_lt, int_le, ◌&&◌, nat_eq, ◌==◌, List, [], ◌∷◌, ◌++◌, length, map, Option, Some, None, slice_get, if◌then◌else◌}
+use Rattle.std.specs.Prelude.{ℕ, ◌+◌, Bool, ℤ, true, false, ◌+ℤ◌, ◌-ℤ◌, int_lt, int_le, ◌&&◌, ◌==◌, List, [], ◌∷◌, ◌++◌, length, map, Option, Some, None, slice_get, if◌then◌else◌}
 use Rattle.isl_meaning.specs.declared.primitive.Primitive.{Primitive}
 use Rattle.isl_meaning.specs.declared.primitive.Primitive.TheVariants.{Add, Subtract, NumberEqual, NumberLess, StandardOutput, PutChar}
 use Rattle.isl_meaning.specs.Values.{Value, integer, character, symbol, nil, object, truth, in_range, Object, instance, class_object, input_stream, output_stream, class_number, standard_output, character_class, integer_class, stream_class, integer_overflow_class, domain_error_class}

@@ -1,5 +1,5 @@
 -- What an evaluation changes, what surrounds it, and what it comes to.
-use Rattle.std.specs.Prelude.{ℕ, ◌+◌, ◌-◌, ◌≤◌, Bool, true, nat_le, max, List, [], ◌∷◌, ◌++◌, if◌then◌else◌}
+use Rattle.std.specs.Prelude.{ℕ, ◌+◌, ◌-◌, Bool, true, nat_le, max, List, [], ◌∷◌, if◌then◌else◌}
 use Rattle.isl_base.specs.declared.place.Place.{Place}
 use Rattle.isl_meaning.specs.Values.{Value, Object, first_objects}
 

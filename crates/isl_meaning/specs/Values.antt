@@ -1,6 +1,6 @@
 -- Values and objects (ISO/IEC 13816:2007, 10 and 11): a value is an integer, a character, a symbol, nil,
 -- or the number of an object in the store.
-use Rattle.std.specs.Prelude.{ℕ, zero, suc, ◌+◌, ℤ, pos, negsuc, Bool, true, ◌&&◌, int_le, List, [], ◌∷◌, ◌++◌, Option, map, if◌then◌else◌}
+use Rattle.std.specs.Prelude.{ℕ, zero, suc, ◌+◌, ℤ, pos, negsuc, Bool, ◌&&◌, int_le, List, [], ◌∷◌, ◌++◌, Option, map, if◌then◌else◌}
 
 -- a symbol that a text names, by its name
 pub data SymbolValue : Type 0 where
