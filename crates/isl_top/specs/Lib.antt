@@ -8,6 +8,7 @@ pub mod TreeSizes
 pub mod TreeRest
 pub mod Reads
 pub mod Reading
+pub mod Numbers
 pub mod Shapes
 pub mod Heads
 pub mod Finds
