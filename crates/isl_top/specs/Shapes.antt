@@ -1,9 +1,8 @@
 -- The programs of the first path, by cases on the trees of a text:
 --     F is (progn F*), or (format-char (standard-output) #\c) with c from a to z.
-use Rattle.std.specs.Prelude.{◌≡◌, ℕ, ◌+◌, ◌≤◌, Bool, true, false, ◌&&◌, nat_le, List, [], ◌∷◌, ◌++◌, length, Option, Some, None, if◌then◌else◌, codes}
+use Rattle.std.specs.Prelude.{◌≡◌, ℕ, ◌+◌, ◌≤◌, ◌&&◌, nat_le, List, [], ◌∷◌, ◌++◌, length, Option, Some, None, if◌then◌else◌, codes}
 use Rattle.std.specs.Str.{bytes_eq}
 use Rattle.isl_base.specs.declared.place.Place.{Place}
-use Rattle.isl_base.specs.declared.datum.Datum.{Datum}
 use Rattle.isl_base.specs.declared.datum.Kind.{Kind}
 use Rattle.isl_base.specs.declared.datum.Kind.TheVariants.{Char}
 use Rattle.isl_meaning.specs.declared.program.LiteralRow.{LiteralRow}
