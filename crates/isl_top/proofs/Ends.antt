@@ -1,5 +1,5 @@
 -- How the status that is answered comes from the status of the file's run.
-use Rattle.std.proofs.Common.{◌≡◌, ◌≢◌, ℕ, List, [], ◌∷◌, refl, sym, ◌∙◌, ◌⊎◌, inl, inr}
+use Rattle.std.proofs.Common.{◌≡◌, ◌≢◌, [], refl, sym, ◌∙◌, ◌⊎◌, inl, inr}
 use Rattle.isl_top.specs.declared.status.Status.{Status}
 use Rattle.isl_top.specs.declared.status.Status.TheVariants.{Done, Usage, Refused, FileFault, WriteFault, NoMemory}
 use Rattle.isl_top.specs.Lines.{line_of}

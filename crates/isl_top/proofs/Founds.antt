@@ -1,15 +1,15 @@
 -- What a form that was found is made of: the ways back from a result to its parts.
-use Rattle.std.proofs.Common.{◌≡◌, ℕ, ◌+◌, ◌<◌, ◌≤◌, Bool, true, false, List, [], ◌∷◌, ◌++◌, length, refl, sym, ap, subst, ◌∙◌, arith, Some, None, ◌⊎◌, inl, inr, append_assoc, append-nil, leb-true}
+use Rattle.std.proofs.Common.{◌≡◌, ℕ, ◌+◌, ◌<◌, ◌≤◌, Bool, true, false, List, [], ◌∷◌, ◌++◌, refl, sym, ap, ◌∙◌, arith, Some, None, ◌⊎◌, inl, inr, append_assoc, append-nil, leb-true}
 use Rattle.std.specs.Prelude.{Option, nat_le, ◌&&◌, if◌then◌else◌, codes}
 use Rattle.std.specs.Str.{bytes_eq}
 use Rattle.isl_base.specs.declared.place.Place.{Place}
 use Rattle.isl_base.specs.declared.datum.Kind.TheVariants.{Char}
 use Rattle.isl_meaning.specs.declared.program.LiteralRow.{LiteralRow}
 use Rattle.isl_meaning.specs.declared.primitive.Primitive.TheVariants.{StandardOutput, PutChar}
-use Rattle.isl_meaning.specs.Form.{Form, literal, sequence, prim, sited}
-use Rattle.isl_meaning.specs.Form.{Forms, no_form, form_and}
-use Rattle.isl_top.specs.Trees.{TreeValue, word, list, Trees, no_tree, tree_and}
-use Rattle.isl_top.specs.Shapes.{Tables, with_literal, with_site, next_literal, next_site, Found, and_then, as_form, Head, progn_head, format_char_head, other_head, head_of, letter_in, put_form, format_char_form, by_head, progn_form, form_of, list_form, forms_of}
+use Rattle.isl_meaning.specs.Form.{Form, literal, prim, sited}
+use Rattle.isl_meaning.specs.Form.{no_form, form_and}
+use Rattle.isl_top.specs.Trees.{word, list, Trees, no_tree, tree_and}
+use Rattle.isl_top.specs.Shapes.{Tables, with_literal, with_site, next_literal, next_site, Found, and_then, as_form, Head, progn_head, format_char_head, other_head, letter_in, put_form, format_char_form, by_head}
 
 -- the rows of the tables behind begin with the rows before
 pub record Grew (before after : List LiteralRow) : Type 0 where

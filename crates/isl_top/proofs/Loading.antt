@@ -1,5 +1,5 @@
 -- What a loop over the pieces of a file keeps.
-use Rattle.std.proofs.Common.{◌≡◌, ◌≢◌, ℕ, ◌+◌, ◌-◌, ◌<◌, ◌≤◌, List, [], ◌∷◌, ◌++◌, length, take, drop, refl, sym, ap, subst, ◌∙◌, arith, Some, None, append_assoc, append-nil, length-drop, length-append, length-take}
+use Rattle.std.proofs.Common.{◌≡◌, ◌≢◌, ℕ, ◌+◌, ◌<◌, ◌≤◌, List, [], ◌∷◌, ◌++◌, length, take, drop, refl, sym, ap, subst, ◌∙◌, arith, Some, None, append_assoc, append-nil, length-append, length-take}
 use Rattle.std.specs.Prelude.{Option, IfSome}
 use Rattle.std.proofs.lemmas.List.{take-append-drop, take-append-le, take_all}
 use Rattle.std.proofs.Math.Seq.{drop-append_seam}
@@ -44,7 +44,7 @@ loaded_end (Some file) text buffer piece l t b =
     at_end : (rest : List ℕ) → (rest ≢ [] → 0 < 0) → file ≡ text ++ rest → text ≡ take 1048577 file
     at_end [] h e =
         let whole : file ≡ text = e ∙ append-nil text in
-        sym (take_all 1048577 file (omega (arith, l.within, ap length whole))  ∙ whole)
+        sym (take_all 1048577 file (omega (arith, l.within, ap length whole)) ∙ whole)
     at_end (x ∷ xs) h e = absurd (omega (arith, h (λ c. cc)))
 
 -- the front of two lists joined

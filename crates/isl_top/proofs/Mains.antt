@@ -1,12 +1,11 @@
 -- What the main forms of a program of the first path mean, one after another.
-use Rattle.std.proofs.Common.{◌≡◌, ℕ, zero, suc, ◌+◌, ◌*◌, ◌<◌, ◌≤◌, Bool, true, false, List, [], ◌∷◌, ◌++◌, length, refl, sym, ap, subst, ◌∙◌, arith, ◌⊎◌, inl, inr, ⊎_elim, append_assoc, append-nil}
-use Rattle.std.specs.Prelude.{Option, if◌then◌else◌}
+use Rattle.std.proofs.Common.{◌≡◌, ℕ, zero, suc, ◌+◌, Bool, true, false, List, [], ◌∷◌, ◌++◌, refl, sym, ap, subst, ◌∙◌, arith, ◌⊎◌, inl, inr, ⊎_elim, append_assoc, append-nil}
 use Rattle.isl_meaning.specs.declared.program.Program.{Program}
 use Rattle.isl_meaning.specs.Form.{Form}
 use Rattle.isl_meaning.specs.Counts.{nodes, application_words}
 use Rattle.isl_meaning.specs.Values.{Value, first_objects}
-use Rattle.isl_meaning.specs.State.{State, Evaluated, Outcome, value, full, gives, go_on, Limit, words, unlimited, has_room, room_left, request, with_words, no_environment, main_surroundings}
-use Rattle.isl_meaning.specs.Meaning.{Task, form, mean, meaning_at, mean_main, mean_mains, none_below}
+use Rattle.isl_meaning.specs.State.{State, Evaluated, full, gives, go_on, Limit, words, unlimited, has_room, room_left, with_words, no_environment, main_surroundings}
+use Rattle.isl_meaning.specs.Meaning.{form, meaning_at, mean_main, mean_mains, none_below}
 use Rattle.isl_top.specs.Shapes.{names}
 use Rattle.isl_top.proofs.Means.{Means, after}
 

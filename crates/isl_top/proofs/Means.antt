@@ -1,6 +1,6 @@
 -- What a form of the first path means, told without the evaluation: a value, bytes and units.
-use Rattle.std.proofs.Common.{◌≡◌, ℕ, ◌+◌, ◌*◌, ◌<◌, ◌≤◌, List, [], ◌∷◌, ◌++◌, length, refl, sym, ap, subst, ◌∙◌, arith, Some, None, append_assoc, append-nil, add_assoc}
-use Rattle.std.specs.Prelude.{slice_get, Option}
+use Rattle.std.proofs.Common.{◌≡◌, ℕ, ◌+◌, List, [], ◌∷◌, ◌++◌, refl, sym, ap, ◌∙◌, arith, Some, append_assoc, append-nil, add_assoc}
+use Rattle.std.specs.Prelude.{slice_get}
 use Rattle.isl_base.specs.declared.datum.Kind.TheVariants.{Char}
 use Rattle.isl_base.specs.declared.place.Place.{Place}
 use Rattle.isl_meaning.specs.declared.program.LiteralRow.TheVariants as row
@@ -8,10 +8,9 @@ use Rattle.isl_meaning.specs.declared.program.Program.{Program}
 use Rattle.isl_meaning.specs.declared.primitive.Primitive.TheVariants.{StandardOutput, PutChar}
 use Rattle.isl_meaning.specs.Form.{Form, literal, sequence, prim, sited}
 use Rattle.isl_meaning.specs.Form.{Forms, no_form, form_and}
-use Rattle.isl_meaning.specs.Values.{Value, nil, character, first_objects, standard_output, output_stream}
-use Rattle.isl_meaning.specs.State.{State, Surroundings, Environment, Evaluated, gives, go_on, Limit, charged}
-use Rattle.isl_meaning.specs.Primitives.{primitive, put_char}
-use Rattle.isl_meaning.specs.Meaning.{Task, Evaluation, mean, mean_sequence, mean_arguments}
+use Rattle.isl_meaning.specs.Values.{Value, nil, first_objects}
+use Rattle.isl_meaning.specs.State.{State, Surroundings, Environment, gives, go_on, Limit, charged}
+use Rattle.isl_meaning.specs.Meaning.{Task, Evaluation, mean, mean_sequence}
 use Rattle.isl_top.specs.Shapes.{names}
 
 -- the state after these bytes and units

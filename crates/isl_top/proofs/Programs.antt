@@ -1,5 +1,5 @@
 -- From the trees of a text to what the text spells.
-use Rattle.std.proofs.Common.{◌≡◌, ℕ, ◌≤◌, List, length, refl, sym, ap, subst, ◌∙◌, Some, None, Ok, Err}
+use Rattle.std.proofs.Common.{◌≡◌, ℕ, ◌≤◌, List, length, sym, ap, ◌∙◌, Some, None, Ok, Err}
 use Rattle.std.specs.Prelude.{Option, IfOk, MatchOption}
 use Rattle.std.specs.Prelude.{Result}
 use Rattle.isl_base.specs.declared.faults.NoMemory.{NoMemory}

@@ -1,9 +1,9 @@
 -- From what the machine's run says to what a run of the program says.
-use Rattle.std.proofs.Common.{◌≡◌, ◌≢◌, ℕ, ◌+◌, ◌<◌, ◌≤◌, List, ◌++◌, length, refl, sym, ap, subst, ◌∙◌, arith, Some, None}
+use Rattle.std.proofs.Common.{◌≡◌, ℕ, ◌≤◌, List, ◌++◌, length, refl, subst, arith, Some, None}
 use Rattle.std.specs.Prelude.{Option, IfSome}
 use Rattle.rv_machine.specs.declared.image.Image.{Image}
 use Rattle.rv_machine.specs.State.{State, Counted, start}
-use Rattle.rv_machine.specs.Run.{Moment, run_from, run_of, first, Gave, StandsAt, CutOff}
+use Rattle.rv_machine.specs.Run.{Moment, run_from, first, Gave, CutOff}
 use Rattle.isl_meaning.specs.declared.program.Program.{Program}
 use Rattle.isl_top.specs.Claims.{IsPrefixOf, Compiled}
 use Rattle.isl_top.specs.Answers.{arena_words, most_instructions, the_run, Ran, GivenAll, GivenFront}
@@ -16,9 +16,9 @@ ran program image compiled fits = record {
   compiled = compiled;
   fits = fits;
   carries = λ input.
-    let f = compiled arena_words most_instructions input fits (omega arith) in
-    let h = f.forward (omega arith) in
-    f.halt h.0 h.1;
+      let f = compiled arena_words most_instructions input fits (omega arith) in
+      let h = f.forward (omega arith) in
+      f.halt h.0 h.1;
 }
 
 -- what was given in the run of a machine at the image's start

@@ -1,13 +1,13 @@
 -- Runs of the machine from one moment to another, and what each instruction of the code does there.
-use Rattle.std.proofs.Common.{◌≡◌, ℕ, zero, suc, ◌+◌, ◌*◌, ◌/◌, ◌%◌, ◌^◌, ◌<◌, ◌≤◌, List, [], ◌∷◌, ◌++◌, length, refl, sym, ap, subst, ◌∙◌, arith, Some, None}
-use Rattle.std.specs.Prelude.{slice_get, slice_index, slice_set, Option}
-use Rattle.rv_machine.specs.State.{State, register, put, sum32, word_at}
+use Rattle.std.proofs.Common.{◌≡◌, ℕ, suc, ◌+◌, ◌*◌, ◌/◌, ◌%◌, ◌^◌, ◌<◌, List, [], ◌∷◌, refl, ap, subst, ◌∙◌, arith, Some}
+use Rattle.std.specs.Prelude.{slice_get, slice_index, slice_set}
+use Rattle.rv_machine.specs.State.{put, word_at}
 use Rattle.rv_machine.specs.Decode.{decode}
 use Rattle.rv_machine.specs.declared.instruction.Instruction.{Instruction}
-use Rattle.rv_machine.specs.declared.instruction.Instruction.TheVariants.{Jal, Lw, Addi, Ecall}
-use Rattle.rv_machine.specs.Step.{Result, next, execute, step_of, fetched, decoded}
+use Rattle.rv_machine.specs.declared.instruction.Instruction.TheVariants.{Jal, Lw}
+use Rattle.rv_machine.specs.Step.{execute, step_of, fetched, decoded}
 use Rattle.rv_machine.specs.Run.{Moment, Ended, act, run_from}
-use Rattle.isl_top.specs.Code.{link_5_over_word, load_10}
+use Rattle.isl_top.specs.Code.{link_5_over_word}
 
 -- a moment at a word of the arena
 abbrev pub at : List ℕ → ℕ → List ℕ → List ℕ → ℕ → Moment

@@ -1,6 +1,6 @@
 -- The code of each form of the first path does what the form means.
-use Rattle.std.proofs.Common.{◌≡◌, ℕ, zero, suc, ◌+◌, ◌*◌, ◌%◌, ◌<◌, ◌≤◌, List, [], ◌∷◌, ◌++◌, length, refl, sym, ap, subst, ◌∙◌, arith, Some, None, ⊎_elim, append_assoc, append-nil, length-append}
-use Rattle.std.specs.Prelude.{slice_get, Option}
+use Rattle.std.proofs.Common.{◌≡◌, ℕ, ◌+◌, ◌*◌, ◌%◌, ◌<◌, ◌≤◌, List, [], ◌∷◌, ◌++◌, length, refl, sym, ap, subst, arith, Some, ⊎_elim, append_assoc, length-append}
+use Rattle.std.specs.Prelude.{slice_get}
 use Rattle.isl_base.specs.declared.place.Place.{Place}
 use Rattle.isl_base.specs.declared.datum.Kind.TheVariants.{Char}
 use Rattle.isl_meaning.specs.declared.program.LiteralRow.{LiteralRow}
@@ -11,7 +11,7 @@ use Rattle.isl_meaning.specs.Form.{Form, literal, sequence, prim, sited}
 use Rattle.isl_meaning.specs.Form.{Forms, no_form, form_and}
 use Rattle.isl_meaning.specs.Values.{Value, integer, character, symbol, nil, object}
 use Rattle.isl_top.specs.Trees.{TreeValue, word, list, Trees, no_tree, tree_and}
-use Rattle.isl_top.specs.Shapes.{Tables, with_literal, with_site, next_literal, next_site, Found, and_then, as_form, head_of, format_char_form, by_head, progn_form, form_of, list_form, forms_of}
+use Rattle.isl_top.specs.Shapes.{Tables, with_site, next_literal, next_site, as_form, head_of, format_char_form, progn_form, form_of, forms_of}
 use Rattle.isl_top.specs.Code.{integer_word, character_word, nil_word, t_word, stream_word, constant, put_code, row_byte, form_code, forms_code}
 use Rattle.isl_top.proofs.Yields.{Yields, nothing, constant_yields, put_yields}
 use Rattle.isl_top.proofs.Yields.{and_then as yields_then}

@@ -1,18 +1,17 @@
 -- How long the code of a text's program is at most.
-use Rattle.std.proofs.Common.{◌≡◌, ℕ, zero, suc, ◌+◌, ◌*◌, ◌<◌, ◌≤◌, Bool, true, false, List, [], ◌∷◌, ◌++◌, length, refl, sym, ap, subst, ◌∙◌, arith, Some, None, ⊎_elim, length-append}
-use Rattle.std.specs.Prelude.{Option, ◌||◌, ◌==◌, if◌then◌else◌}
+use Rattle.std.proofs.Common.{◌≡◌, ℕ, ◌+◌, ◌*◌, ◌≤◌, Bool, true, false, List, [], ◌∷◌, ◌++◌, length, refl, sym, ap, subst, ◌∙◌, arith, Some, None, ⊎_elim, length-append}
+use Rattle.std.specs.Prelude.{◌==◌, if◌then◌else◌}
 use Rattle.isl_base.specs.declared.place.Place.{Place}
 use Rattle.isl_meaning.specs.declared.program.LiteralRow.{LiteralRow}
 use Rattle.isl_meaning.specs.declared.program.Program.{Program}
-use Rattle.isl_meaning.specs.declared.primitive.Primitive.TheVariants.{StandardOutput, PutChar}
-use Rattle.isl_meaning.specs.Form.{Form, literal, sequence, prim, sited}
+use Rattle.isl_meaning.specs.Form.{Form, sequence, sited}
 use Rattle.isl_meaning.specs.Form.{Forms, no_form, form_and}
 use Rattle.isl_meaning.specs.View.{forms, forms_list}
 use Rattle.isl_top.specs.declared.token.Token.{Token}
 use Rattle.isl_top.specs.declared.token.Token.TheVariants.{Open, Close, Word}
 use Rattle.isl_top.specs.Tokens.{tokens, joined, is_blank, begins_word, place_after, first_place}
 use Rattle.isl_top.specs.Trees.{TreeValue, word, list, Trees, no_tree, tree_and, spelling, spellings}
-use Rattle.isl_top.specs.Shapes.{Tables, no_tables, with_site, next_site, Found, as_form, head_of, format_char_form, progn_form, form_of, forms_of, program_of, program_with, Spells}
+use Rattle.isl_top.specs.Shapes.{Tables, no_tables, with_site, next_site, Found, as_form, head_of, format_char_form, progn_form, form_of, forms_of, program_with, Spells}
 use Rattle.isl_top.specs.Code.{program_code, form_code, forms_code, choose_halt, environment}
 use Rattle.isl_top.proofs.Founds.{was_made, was_and, was_headed, was_put, WasPut}
 use Rattle.isl_top.proofs.Whole.{forms_again}
@@ -52,6 +51,7 @@ format_char_tokens p (tree_and (list q us) ts) t f t' e = omega arith
 
 mutual
   unfolding form_of form_code spelling
+
   form_short : (rows : List LiteralRow) (x : TreeValue) (t : Tables) (f : Form) (t' : Tables) → form_of x t ≡ Some (f, t') → length (form_code rows f) ≤ 16 * length (spelling x)
   form_short rows (word p w) t f t' e = absurd (cc)
   form_short rows (list p no_tree) t f t' e = absurd (cc)
@@ -59,8 +59,8 @@ mutual
   form_short rows (list p (tree_and (word q w) ts)) t f t' e =
       ⊎_elim
       (λ h. let m = was_made (λ fs. sited (next_site t) (sequence fs)) (forms_of ts (with_site p t)) f t' h in
-        subst (λ x. length (form_code rows x) ≤ 16 * length (spelling (list p (tree_and (word q w) ts)))) m.made
-          (omega (arith, forms_short rows ts (with_site p t) m.part t' m.found, length-append (spellings ts) (Close ∷ []))))
+      subst (λ x. length (form_code rows x) ≤ 16 * length (spelling (list p (tree_and (word q w) ts)))) m.made
+      (omega (arith, forms_short rows ts (with_site p t) m.part t' m.found, length-append (spellings ts) (Close ∷ []))))
       (λ h. omega (arith, put_short rows t f t' 0 (was_put p ts t f t' h), length-append (spellings ts) (Close ∷ [])))
       (was_headed (head_of w) (progn_form t (forms_of ts (with_site p t))) (format_char_form p ts t) f t' e)
 
@@ -70,7 +70,7 @@ mutual
       let a = was_and (form_of x t) (λ f after. as_form (λ gs. form_and f gs) (forms_of xs after)) fs t' e in
       let m = was_made (λ gs. form_and a.part gs) (forms_of xs a.tables) fs t' a.second in
       subst (λ x'. length (forms_code rows x') ≤ 16 * length (spelling x ++ spellings xs)) m.made
-        (omega (arith, form_short rows x t a.part a.tables a.first, forms_short rows xs a.tables m.part t' m.found, length-append (form_code rows a.part) (forms_code rows m.part), length-append (spelling x) (spellings xs)))
+      (omega (arith, form_short rows x t a.part a.tables a.first, forms_short rows xs a.tables m.part t' m.found, length-append (form_code rows a.part) (forms_code rows m.part), length-append (spelling x) (spellings xs)))
 
 found_small : (trees : Trees) (program : Program) (r : Found Forms) → forms_of trees no_tables ≡ r → program_with r ≡ Some program → length (spellings trees) ≤ 4096 → length (program_code program.literals (forms program.main)) ≤ 4194304
 found_small trees program None e h b = absurd (cc)

@@ -1,30 +1,29 @@
 -- The image of a program of the first path is the program's.
-use Rattle.std.proofs.Common.{◌≡◌, ◌≢◌, ℕ, zero, suc, ◌+◌, ◌-◌, ◌*◌, ◌%◌, ◌^◌, ◌<◌, ◌≤◌, List, [], ◌∷◌, ◌++◌, length, refl, sym, ap, subst, ◌∙◌, arith, Some, None, ◌⊎◌, inl, inr, ⊎_elim, append_assoc, append-nil, length-append, replicate, zero-add}
+use Rattle.std.proofs.Common.{◌≡◌, ◌≢◌, ℕ, suc, ◌+◌, ◌-◌, ◌*◌, ◌%◌, ◌^◌, ◌<◌, ◌≤◌, List, [], ◌∷◌, ◌++◌, length, refl, sym, ap, subst, ◌∙◌, arith, Some, None, ◌⊎◌, inl, inr, ⊎_elim, append_assoc, append-nil, length-append, replicate, zero-add}
 use Rattle.std.proofs.lemmas.Bool.{cases_lt}
-use Rattle.std.specs.Prelude.{slice_get, slice_index, slice_set, Option}
+use Rattle.std.specs.Prelude.{slice_get, slice_index, slice_set}
 use Rattle.rv_machine.specs.declared.ending.Ending.{Ending}
 use Rattle.rv_machine.specs.declared.ending.Ending.TheVariants.{Halt, Unhandled, Full, Budget, Trap, ReadFault, WriteFault}
-use Rattle.rv_machine.specs.declared.instruction.Instruction.TheVariants.{Addi, Ecall}
-use Rattle.rv_machine.specs.State.{State, start, start_registers, laid, register, word_at}
-use Rattle.rv_machine.specs.Decode.{decode}
-use Rattle.rv_machine.specs.Step.{step_of, fetched, decoded}
+use Rattle.rv_machine.specs.declared.instruction.Instruction.TheVariants.{Addi}
+use Rattle.rv_machine.specs.State.{start, start_registers, laid}
+use Rattle.rv_machine.specs.Step.{step_of, fetched}
 use Rattle.rv_machine.specs.Run.{Moment, Ended, act, run_from, run_of, first}
 use Rattle.isl_meaning.specs.declared.program.Program.{Program}
 use Rattle.isl_meaning.specs.Form.{Forms, no_form, form_and}
 use Rattle.isl_meaning.specs.View.{forms, forms_list}
 use Rattle.isl_meaning.specs.Counts.{bound}
 use Rattle.isl_meaning.specs.Values.{Value, integer, character, symbol, nil, object}
-use Rattle.isl_meaning.specs.State.{Limit, words, unlimited, gives, first_state, full}
-use Rattle.isl_meaning.specs.Meaning.{Meant, ended_value, ended_full, meaning, meant, mean_mains, end_of}
-use Rattle.isl_top.specs.Shapes.{names, Tables, no_tables, Found, forms_of, program_of, program_with}
+use Rattle.isl_meaning.specs.State.{Limit, words, unlimited, first_state}
+use Rattle.isl_meaning.specs.Meaning.{Meant, ended_value, ended_full, meaning, mean_mains, end_of}
+use Rattle.isl_top.specs.Shapes.{names, no_tables, Found, forms_of, program_of, program_with}
 use Rattle.isl_top.specs.Trees.{Trees}
-use Rattle.isl_top.specs.Code.{program_code, header, entry, constant, nil_word, forms_code, choose_halt, environment}
+use Rattle.isl_top.specs.Code.{program_code, entry, constant, nil_word, forms_code, choose_halt, environment}
 use Rattle.isl_top.specs.Represents.{Represents}
 use Rattle.isl_top.specs.Claims.{IsPrefixOf, HaltsWith, Faithful, Compiled}
-use Rattle.isl_top.proofs.Runs.{at, Comes, HasAt, one, fetch, moved, and_on}
-use Rattle.isl_top.proofs.Yields.{Yields, Reached, Ready, has_front, has_back, ready_set, same, other, constant_yields}
+use Rattle.isl_top.proofs.Runs.{at, Comes, HasAt, one, fetch, and_on}
+use Rattle.isl_top.proofs.Yields.{Yields, Ready, has_front, has_back, same, other, constant_yields}
 use Rattle.isl_top.proofs.Yields.{and_then as yields_then}
-use Rattle.isl_top.proofs.Mains.{MeansMains, Went, WantsWords}
+use Rattle.isl_top.proofs.Mains.{MeansMains, Went}
 use Rattle.isl_top.proofs.Founds.{Grew, grew_none}
 use Rattle.isl_top.proofs.Simulates.{IsPlain, word_of, SimulatesAll, forms_simulated}
 

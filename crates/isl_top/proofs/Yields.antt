@@ -1,12 +1,10 @@
 -- What a piece of code yields: a word in register 10, and bytes put, in so many instructions.
-use Rattle.std.proofs.Common.{◌≡◌, ◌≢◌, ℕ, zero, suc, ◌+◌, ◌*◌, ◌/◌, ◌%◌, ◌^◌, ◌<◌, ◌≤◌, List, [], ◌∷◌, ◌++◌, length, refl, sym, ap, subst, ◌∙◌, arith, Some, None, append_assoc, length-append, append-nil}
-use Rattle.std.specs.Prelude.{slice_get, slice_index, slice_set, Option}
+use Rattle.std.proofs.Common.{◌≡◌, ◌≢◌, ℕ, ◌+◌, ◌*◌, ◌%◌, ◌^◌, ◌<◌, List, [], ◌∷◌, ◌++◌, length, refl, sym, ap, subst, ◌∙◌, arith, Some, append_assoc, length-append, append-nil}
+use Rattle.std.specs.Prelude.{slice_get, slice_index, slice_set}
 use Rattle.std.proofs.lemmas.List.{get_or-set_same, get_or-set_other, length-set}
-use Rattle.rv_machine.specs.State.{State, register, put, sum32, word_at}
-use Rattle.rv_machine.specs.declared.instruction.Instruction.TheVariants.{Jal, Lw, Addi, Ecall}
-use Rattle.rv_machine.specs.Run.{Moment, Ended, act, run_from}
-use Rattle.isl_top.specs.Code.{link_5_over_word, load_10, constant, put_code, nil_word, choose_put, environment}
-use Rattle.isl_top.proofs.Runs.{at, Comes, stays, and_on, HasAt, one, linked, moved, costs, loaded}
+use Rattle.rv_machine.specs.declared.instruction.Instruction.TheVariants.{Addi, Ecall}
+use Rattle.isl_top.specs.Code.{load_10, constant, put_code, nil_word, choose_put, environment}
+use Rattle.isl_top.proofs.Runs.{at, Comes, stays, and_on, HasAt, one, linked, moved, loaded}
 
 -- a value in the arena from which code is read
 pub has_front : (arena : List ℕ) (i : ℕ) (a b : List ℕ) → HasAt arena i (a ++ b) → HasAt arena i a

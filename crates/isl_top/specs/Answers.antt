@@ -1,6 +1,5 @@
 -- What a call of `isl_main` answers, status by status.
-use Rattle.std.specs.Prelude.{◌≡◌, ℕ, ◌≤◌, ◌⊎◌, List, length, Option, Some, None, IfSome}
-use Rattle.isl_base.specs.Outside.{Rose}
+use Rattle.std.specs.Prelude.{◌≡◌, ℕ, ◌≤◌, List, length, Option, Some, IfSome}
 use Rattle.rv_machine.specs.declared.image.Image.{Image}
 use Rattle.rv_machine.specs.Run.{Ended, run_of, Gave}
 use Rattle.isl_meaning.specs.declared.program.Program.{Program}

@@ -1,13 +1,12 @@
 -- What it is for an image to be that of a program: for every arena that it fits, every input and every
 -- number of instructions.
 use Rattle.std.specs.Prelude.{◌≡◌, ℕ, ◌-◌, ◌≤◌, ◌⊎◌, List, ◌++◌, length}
-use Rattle.rv_machine.specs.declared.ending.Ending.{Ending}
 use Rattle.rv_machine.specs.declared.ending.Ending.TheVariants.{Halt, Budget}
 use Rattle.rv_machine.specs.Run.{Ended, run_of}
 use Rattle.isl_meaning.specs.declared.program.Program.{Program}
 use Rattle.isl_meaning.specs.Counts.{bound}
 use Rattle.isl_meaning.specs.Values.{Value}
-use Rattle.isl_meaning.specs.State.{Limit, words, unlimited}
+use Rattle.isl_meaning.specs.State.{words, unlimited}
 use Rattle.isl_meaning.specs.Meaning.{Meant, ended_value, meaning}
 use Rattle.isl_top.specs.Shapes.{names}
 use Rattle.isl_top.specs.Represents.{Represents}

@@ -9,7 +9,6 @@ use Rattle.isl_base.specs.declared.datum.Kind.{Kind}
 use Rattle.isl_base.specs.declared.datum.Kind.TheVariants.{Int, Char, Sym, Nil}
 use Rattle.isl_meaning.specs.declared.program.LiteralRow.{LiteralRow}
 use Rattle.isl_meaning.specs.declared.program.LiteralRow.TheVariants as row
-use Rattle.isl_meaning.specs.declared.program.Program.{Program}
 use Rattle.isl_meaning.specs.declared.primitive.Primitive.{Primitive}
 use Rattle.isl_meaning.specs.declared.primitive.Primitive.TheVariants.{Add, Subtract, NumberEqual, NumberLess, StandardOutput, PutChar}
 use Rattle.isl_meaning.specs.Form.{Form, literal, clauses, sequence, prim, sited, Forms, no_form, form_and, ClauseForms, no_clause, clause_and, MaybeForm, no_body, with_body}

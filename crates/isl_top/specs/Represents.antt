@@ -1,6 +1,6 @@
 -- When a word in an arena stands for a value: an integer has the tag 00, a symbol 10 with its name at the
 -- address, nil and the like 11. Values of other kinds are not represented in this part of the work.
-use Rattle.std.specs.Prelude.{◌≡◌, ℕ, ◌+◌, ◌/◌, ◌%◌, List, [], ◌∷◌, length, Option, Some, slice_get}
+use Rattle.std.specs.Prelude.{◌≡◌, ℕ, ◌+◌, ◌/◌, ◌%◌, List, [], ◌∷◌, length, Some, slice_get}
 use Rattle.isl_meaning.specs.Values.{Value, integer, character, symbol, named, nil, object}
 use Rattle.isl_top.specs.Code.{integer_word, nil_word}
 

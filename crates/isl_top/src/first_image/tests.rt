@@ -4,7 +4,7 @@ ghost use Rattle.std.specs.Prelude.{◌≡◌, [], ◌∷◌, IfOk};
 ghost use Rattle.isl_meaning.specs.Form.{literal, sequence, prim, sited, no_form, form_and};
 ghost use Rattle.isl_top.specs.Shapes.{IsFirstPath};
 
-use crate::first_build::first_build;
+use crate::first_image::first_build;
 use isl_base::{Bytes, Datum, ItemList, Kind, NoMemory, Place, PlaceList, SureSink, SureSource};
 use isl_meaning::{Core, CoreList, LiteralRow, LiteralRows, Primitive, Program};
 use rv_machine::{Ending, Machine};

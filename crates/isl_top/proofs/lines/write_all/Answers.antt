@@ -1,4 +1,4 @@
-use Rattle.std.proofs.Common.{◌≡◌, ◌+◌, ◌-◌, List, ℕ, length, take, drop, arith, sym, subst}
+use Rattle.std.proofs.Common.{sym, subst}
 use Rattle.isl_top.proofs.Written.{Written, written_more, rest_whole}
 use Rattle.isl_top.proofs.lines.write_all.Goals as goal
 

@@ -1,5 +1,4 @@
-use Rattle.std.proofs.Common.{◌≡◌, ◌≢◌, refl, sym}
-use Rattle.isl_top.specs.declared.status.Status.TheVariants.{Done, Usage, Refused, FileFault, WriteFault}
+use Rattle.isl_top.specs.declared.status.Status.TheVariants.{Refused}
 use Rattle.isl_top.proofs.Ends.{by_status, same_status}
 use Rattle.isl_top.proofs.main_call.isl_main.Goals as goal
 

@@ -1,4 +1,4 @@
-use Rattle.std.proofs.Common.{◌≡◌, ⊎_elim, refl, sym, subst}
+use Rattle.std.proofs.Common.{⊎_elim, refl, sym, subst}
 use Rattle.isl_top.proofs.Sizes.{small}
 use Rattle.isl_top.specs.Loads.{IsTaken}
 use Rattle.isl_top.proofs.main_call.run_file.Goals as goal

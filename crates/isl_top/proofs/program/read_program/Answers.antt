@@ -1,4 +1,4 @@
-use Rattle.std.proofs.Common.{arith, ◌≤◌}
+use Rattle.std.proofs.Common.{arith}
 use Rattle.isl_top.proofs.Programs.{spelled}
 use Rattle.isl_top.proofs.program.read_program.Goals as goal
 

@@ -1,4 +1,4 @@
-use Rattle.std.proofs.Common.{◌≡◌, ◌≢◌, ℕ, ◌≤◌, length, sym, ap, ◌∙◌, arith, subst, refl}
+use Rattle.std.proofs.Common.{length, ap, arith, refl}
 use Rattle.isl_top.proofs.Ran.{ran_whole, ran_cut_off}
 use Rattle.isl_top.proofs.run.run.Goals as goal
 
