@@ -15,3 +15,4 @@ pub mod Written
 pub mod Loading
 pub mod Arguments
 pub mod Forming
+pub mod Integers
