@@ -1,7 +1,10 @@
 mod Cutting
 mod Reading
+pub mod Integers
 pub mod Runs
 pub mod Yields
+pub mod Operands
+pub mod Choices
 pub mod Means
 pub mod Founds
 pub mod Mains
@@ -15,4 +18,3 @@ pub mod Written
 pub mod Loading
 pub mod Arguments
 pub mod Forming
-pub mod Integers

@@ -1,16 +1,19 @@
 -- What a form of the first path means, told without the evaluation: a value, bytes and units.
 use Rattle.std.proofs.Common.{◌≡◌, ℕ, ◌+◌, List, [], ◌∷◌, ◌++◌, refl, sym, ap, ◌∙◌, arith, Some, append_assoc, append-nil, add_assoc}
 use Rattle.std.specs.Prelude.{slice_get}
+use Rattle.isl_base.specs.declared.datum.Kind.{Kind}
 use Rattle.isl_base.specs.declared.datum.Kind.TheVariants.{Char}
 use Rattle.isl_base.specs.declared.place.Place.{Place}
 use Rattle.isl_meaning.specs.declared.program.LiteralRow.TheVariants as row
 use Rattle.isl_meaning.specs.declared.program.Program.{Program}
 use Rattle.isl_meaning.specs.declared.primitive.Primitive.TheVariants.{StandardOutput, PutChar}
-use Rattle.isl_meaning.specs.Form.{Form, literal, sequence, prim, sited}
+use Rattle.isl_meaning.specs.declared.primitive.Primitive.{Primitive}
+use Rattle.isl_meaning.specs.Form.{Form, literal, clauses, sequence, prim, sited, no_clause, clause_and, with_body}
 use Rattle.isl_meaning.specs.Form.{Forms, no_form, form_and}
-use Rattle.isl_meaning.specs.Values.{Value, nil, first_objects}
+use Rattle.isl_meaning.specs.Values.{Value, t, nil, first_objects}
+use Rattle.isl_meaning.specs.Primitives.{primitive}
 use Rattle.isl_meaning.specs.State.{State, Surroundings, Environment, gives, go_on, Limit, charged}
-use Rattle.isl_meaning.specs.Meaning.{Task, Evaluation, mean, mean_sequence}
+use Rattle.isl_meaning.specs.Meaning.{Task, Evaluation, value_of_kind, unless_nil, mean, mean_sequence, mean_arguments, mean_clauses}
 use Rattle.isl_top.specs.Shapes.{names}
 
 -- the state after these bytes and units
@@ -66,3 +69,59 @@ put_means program site id c p h = record {
       let u : z.units + 3 + 1 + 1 ≡ z.units + 5 = omega arith in
       rw (h, e, u) refl;
 }
+
+-- a literal
+pub literal_means : (program : Program) (id : ℕ) (p : Place) (kind : Kind) → slice_get program.literals id ≡ Some (row.Datum (record { place = p; kind = kind })) → Means program (literal id) (value_of_kind names kind) [] 1
+unfolding mean
+literal_means program id p kind h = record {
+  by = λ limit below env around z e.
+    rw h (ap (λ q. gives (value_of_kind names kind) (record z { printed = q; units = z.units + 1 })) (sym (append-nil z.printed)));
+}
+
+-- a primitive of two arguments that put nothing, where it has this value at theirs
+pub two_mean : {program : Program} {f g : Form} {x y : Value} {u w : ℕ} (which : Primitive) (v : Value) → Means program f x [] u → Means program g y [] w → ((limit : Limit) (around : Surroundings) (z : State) → primitive limit which (x ∷ y ∷ []) around z ≡ gives v z) → Means program (prim which (form_and f (form_and g no_form))) v [] (3 + u + w)
+unfolding mean
+two_mean {program} {f} {g} {x} {y} {u} {w} which v m n e = record {
+  by = λ limit below env around z s.
+    let first = charged 3 z in
+    let second = after [] u first in
+    ap (λ r. go_on r (λ a q. mean_arguments names program limit below (form_and g no_form) (a ∷ []) env around q (λ vs q'. primitive limit which vs around q'))) (m.by limit below env around first s)
+    ∙ ap (λ r. go_on r (λ a q. mean_arguments names program limit below no_form (x ∷ a ∷ []) env around q (λ vs q'. primitive limit which vs around q'))) (n.by limit below env around second s)
+    ∙ e limit around (after [] w second)
+    ∙ ap (gives v) (after_both [] [] u w first)
+    ∙ ap (λ k. gives v (record z { printed = z.printed ++ []; units = k })) (sum_of_three z.units u w);
+}
+  where
+    sum_of_three : (a u w : ℕ) → a + 3 + (u + w) ≡ a + (3 + u + w)
+    sum_of_three a u w = omega arith
+
+-- `cond` of a test and of t: the first body where the test is t, the second where it is nil
+pub chosen_means : {program : Program} {f g h : Form} {v : Value} {bytes : List ℕ} {u w : ℕ} (id : ℕ) → Means program f t [] u → Means program g v bytes w → Means program (clauses (clause_and f (with_body g) (clause_and (literal id) (with_body h) no_clause))) v bytes (3 + u + w)
+unfolding mean
+chosen_means {program} {f} {g} {h} {v} {bytes} {u} {w} id m n = record {
+  by = λ limit below env around z e.
+    let first = charged 3 z in
+    ap (λ r. go_on r (λ x q. unless_nil x (mean names program limit below g env around q) (mean_clauses names program limit below (clause_and (literal id) (with_body h) no_clause) env around q))) (m.by limit below env around first e)
+    ∙ n.by limit below env around (after [] u first) e
+    ∙ ap (gives v) (after_both [] bytes u w first)
+    ∙ ap (λ k. gives v (record z { printed = z.printed ++ bytes; units = k })) (sum_of_three z.units u w);
+}
+  where
+    sum_of_three : (a u w : ℕ) → a + 3 + (u + w) ≡ a + (3 + u + w)
+    sum_of_three a u w = omega arith
+
+pub passed_means : {program : Program} {f g h : Form} {v : Value} {bytes : List ℕ} {u w : ℕ} (id : ℕ) → Means program f nil [] u → Means program (literal id) t [] 1 → Means program h v bytes w → Means program (clauses (clause_and f (with_body g) (clause_and (literal id) (with_body h) no_clause))) v bytes (3 + u + (1 + w))
+unfolding mean
+passed_means {program} {f} {g} {h} {v} {bytes} {u} {w} id m l n = record {
+  by = λ limit below env around z e.
+    let first = charged 3 z in
+    let second = after [] u first in
+    ap (λ r. go_on r (λ x q. unless_nil x (mean names program limit below g env around q) (mean_clauses names program limit below (clause_and (literal id) (with_body h) no_clause) env around q))) (m.by limit below env around first e)
+    ∙ ap (λ r. go_on r (λ x q. unless_nil x (mean names program limit below h env around q) (mean_clauses names program limit below no_clause env around q))) (l.by limit below env around second e)
+    ∙ n.by limit below env around (after [] 1 second) e
+    ∙ ap (gives v) (after_both [] bytes 1 w second ∙ after_both [] bytes u (1 + w) first)
+    ∙ ap (λ k. gives v (record z { printed = z.printed ++ bytes; units = k })) (sum_of_three z.units u (1 + w));
+}
+  where
+    sum_of_three : (a u w : ℕ) → a + 3 + (u + w) ≡ a + (3 + u + w)
+    sum_of_three a u w = omega arith

@@ -1,24 +1,30 @@
 -- The code of each form of the first path does what the form means.
-use Rattle.std.proofs.Common.{◌≡◌, ℕ, ◌+◌, ◌*◌, ◌%◌, ◌<◌, ◌≤◌, List, [], ◌∷◌, ◌++◌, length, refl, sym, ap, subst, arith, Some, ⊎_elim, append_assoc, length-append}
-use Rattle.std.specs.Prelude.{slice_get}
+use Rattle.std.proofs.Common.{◌≡◌, ℕ, ℤ, ◌+ℤ◌, ◌-ℤ◌, Bool, true, false, ◌+◌, ◌*◌, ◌%◌, ◌<◌, ◌≤◌, List, [], ◌∷◌, ◌++◌, length, refl, sym, ap, subst, arith, Some, ⊎_elim, append_assoc, length-append}
+use Rattle.std.specs.Prelude.{slice_get, int_lt}
 use Rattle.isl_base.specs.declared.place.Place.{Place}
-use Rattle.isl_base.specs.declared.datum.Kind.TheVariants.{Char}
+use Rattle.isl_base.specs.declared.datum.Kind.TheVariants.{Int, Char, Sym}
+use Rattle.isl_base.specs.declared.datum.Symbol.TheVariants.{Named}
 use Rattle.isl_meaning.specs.declared.program.LiteralRow.{LiteralRow}
 use Rattle.isl_meaning.specs.declared.program.LiteralRow.TheVariants as row
 use Rattle.isl_meaning.specs.declared.program.Program.{Program}
-use Rattle.isl_meaning.specs.declared.primitive.Primitive.TheVariants.{StandardOutput, PutChar}
-use Rattle.isl_meaning.specs.Form.{Form, literal, sequence, prim, sited}
+use Rattle.isl_meaning.specs.declared.primitive.Primitive.TheVariants.{Add, Subtract, NumberEqual, NumberLess, StandardOutput, PutChar}
+use Rattle.isl_meaning.specs.Form.{Form, literal, clauses, sequence, prim, sited, no_clause, clause_and, with_body}
 use Rattle.isl_meaning.specs.Form.{Forms, no_form, form_and}
-use Rattle.isl_meaning.specs.Values.{Value, integer, character, symbol, nil, object}
+use Rattle.isl_meaning.specs.Values.{Value, integer, character, symbol, nil, object, truth}
+use Rattle.isl_meaning.specs.Primitives.{int_equal}
 use Rattle.isl_top.specs.Trees.{TreeValue, word, list, Trees, no_tree, tree_and}
-use Rattle.isl_top.specs.Shapes.{Tables, with_site, next_literal, next_site, as_form, head_of, format_char_form, progn_form, form_of, forms_of}
-use Rattle.isl_top.specs.Code.{integer_word, character_word, nil_word, t_word, stream_word, constant, put_code, row_byte, form_code, forms_code}
+use Rattle.isl_top.specs.Shapes.{Tables, with_site, with_truth, next_literal, next_site, and_then, as_form, head_of, format_char_form, progn_form, sum_form, test_of, choice, if_form, form_of, forms_of}
+use Rattle.isl_top.specs.Code.{integer_word, character_word, nil_word, t_word, stream_word, constant, put_code, row_word, row_byte, between, truth_code, clause_code, move_12_from_10, move_13_from_10, add_12_and_10, subtract_10_from_12, over_four_if_same, over_four_if_less, form_code, forms_code}
 use Rattle.isl_top.proofs.Yields.{Yields, nothing, constant_yields, put_yields}
 use Rattle.isl_top.proofs.Yields.{and_then as yields_then}
-use Rattle.isl_top.proofs.Means.{Means, MeansSequence, no_forms_mean, forms_mean, sequence_means, sited_means, put_means}
+use Rattle.isl_top.proofs.Means.{Means, MeansSequence, no_forms_mean, forms_mean, sequence_means, sited_means, put_means, literal_means, two_mean, chosen_means, passed_means}
+use Rattle.isl_top.proofs.Operands.{Operand, operand_yields, constant_operand, sum_operand, difference_operand, truth_word, truth_cost, same_yields, less_yields}
+use Rattle.isl_top.proofs.Choices.{chosen_yields, passed_yields, placed_length}
+use Rattle.isl_top.proofs.Integers.{Within, wider, sum_within, difference_within, within_range, small_word, sum_word, difference_word, less_word, same_word}
 use Rattle.isl_top.proofs.Mains.{MeansMains, no_mains, main_and}
 use Rattle.isl_meaning.specs.View.{forms_list}
-use Rattle.isl_top.proofs.Founds.{Grew, grew_none, grew_both, was_made, was_and, was_headed, was_put, WasPut}
+use Rattle.isl_meaning.specs.declared.primitive.Primitive.{Primitive}
+use Rattle.isl_top.proofs.Founds.{Grew, grew_none, grew_both, was_made, was_and, was_headed, was_progn, was_format_char, was_if, was_plus, was_minus, was_put, WasPut, WasInteger, was_integer, WasSum, was_sum, WasOperand, was_number, was_added, was_subtracted, WasComparison, was_test}
 
 -- the word of a value
 abbrev pub word_of : Value → ℕ
@@ -91,18 +97,32 @@ both_simulated program last f fs s r = record {
   mains = main_and program last s.v r.v f (forms_list fs) s.bytes r.bytes s.units r.units s.means r.mains;
 }
 
-sequence_simulated : (program : Program) (site : ℕ) (fs : Forms) → SimulatesAll program nil fs → Simulates program (sited site (sequence fs))
+sequence_simulated : (program : Program) (fs : Forms) → SimulatesAll program nil fs → Simulates program (sequence fs)
 unfolding form_code
-sequence_simulated program site fs r = record {
+sequence_simulated program fs r = record {
   v = r.v;
   bytes = r.bytes;
   units = 1 + r.units;
   cost = 2 + r.cost;
-  means = sited_means (sequence_means r.means);
+  means = sequence_means r.means;
   yields = λ before. yields_then (constant_yields before nil_word) r.yields;
   cheap = omega (arith, r.cheap);
   forward = omega (arith, r.forward);
   plain = r.plain tt;
+}
+
+sited_simulated : (program : Program) (site : ℕ) (f : Form) → Simulates program f → Simulates program (sited site f)
+unfolding form_code
+sited_simulated program site f s = record {
+  v = s.v;
+  bytes = s.bytes;
+  units = s.units;
+  cost = s.cost;
+  means = sited_means s.means;
+  yields = s.yields;
+  cheap = s.cheap;
+  forward = s.forward;
+  plain = s.plain;
 }
 
 put_simulated : (program : Program) (site inner id c : ℕ) (p : Place) → c < 256 → slice_get program.literals id ≡ Some (row.Datum (record { place = p; kind = Char c })) → Simulates program (sited site (prim PutChar (form_and (sited inner (prim StandardOutput no_form)) (form_and (literal id) no_form))))
@@ -125,6 +145,152 @@ put_simulated program site inner id c p b h = record {
   plain = tt;
 }
 
+-- an operand: an integer, which the code leaves in register 10 while register 13 stays
+record SimulatesOperand (program : Program) (f : Form) : Type 0 where
+  n : ℤ
+  within : Within 199999998 n
+  units : ℕ
+  cost : ℕ
+  means : Means program f (integer n) [] units
+  operand : Operand (form_code program.literals f) (integer_word n) cost
+  cheap : cost ≤ 300 * units
+  forward : cost ≤ length (form_code program.literals f)
+
+-- a test: t or nil
+record SimulatesTest (program : Program) (f : Form) : Type 0 where
+  so : Bool
+  units : ℕ
+  cost : ℕ
+  means : Means program f (truth so) [] units
+  yields : (before : ℕ) → Yields before (form_code program.literals f) [] (truth_word so) cost
+  cheap : cost ≤ 300 * units
+  forward : cost ≤ length (form_code program.literals f)
+
+operand_simulated : (program : Program) (f : Form) → SimulatesOperand program f → Simulates program f
+operand_simulated program f o = record {
+  v = integer o.n;
+  bytes = [];
+  units = o.units;
+  cost = o.cost;
+  means = o.means;
+  yields = λ before. operand_yields before o.operand;
+  cheap = o.cheap;
+  forward = o.forward;
+  plain = tt;
+}
+
+integer_simulated : (program : Program) (id : ℕ) (p : Place) (n : ℤ) → Within 99999999 n → slice_get program.literals id ≡ Some (row.Datum (record { place = p; kind = Int n })) → SimulatesOperand program (literal id)
+unfolding form_code
+integer_simulated program id p n small h = record {
+  n = n;
+  within = wider n small;
+  units = 1;
+  cost = 2;
+  means = literal_means program id p (Int n) h;
+  operand = subst (λ w. Operand (constant w) (integer_word n) 2) (sym (ap row_word h)) (constant_operand (integer_word n));
+  cheap = omega arith;
+  forward = omega arith;
+}
+
+-- a sum or a difference under a site
+module _ (program : Program) (site i j : ℕ) (p q : Place) (a b : ℤ) (x : Within 99999999 a) (y : Within 99999999 b) (h : slice_get program.literals i ≡ Some (row.Datum (record { place = p; kind = Int a }))) (k : slice_get program.literals j ≡ Some (row.Datum (record { place = q; kind = Int b }))) where
+  added_simulated : SimulatesOperand program (sited site (prim Add (form_and (literal i) (form_and (literal j) no_form))))
+  unfolding form_code
+  added_simulated = record {
+    n = a +ℤ b;
+    within = sum_within a b x y;
+    units = 5;
+    cost = 6;
+    means = sited_means (two_mean Add (integer (a +ℤ b)) (literal_means program i p (Int a) h) (literal_means program j q (Int b) k) (λ limit around z. rw (within_range (a +ℤ b) (sum_within a b x y)) refl));
+    operand =
+      subst (λ v. Operand (between (constant v) move_12_from_10 (constant (row_word (slice_get program.literals j))) (add_12_and_10 ∷ [])) (integer_word (a +ℤ b)) 6) (sym (ap row_word h))
+          (subst (λ w. Operand (between (constant (integer_word a)) move_12_from_10 (constant w) (add_12_and_10 ∷ [])) (integer_word (a +ℤ b)) 6) (sym (ap row_word k))
+            (subst (λ w. Operand (between (constant (integer_word a)) move_12_from_10 (constant (integer_word b)) (add_12_and_10 ∷ [])) w 6) (sum_word a b x y) (sum_operand (integer_word a) (integer_word b) (small_word a))));
+    cheap = omega arith;
+    forward = omega arith;
+  }
+
+  subtracted_simulated : SimulatesOperand program (sited site (prim Subtract (form_and (literal i) (form_and (literal j) no_form))))
+  unfolding form_code
+  subtracted_simulated = record {
+    n = a -ℤ b;
+    within = difference_within a b x y;
+    units = 5;
+    cost = 6;
+    means = sited_means (two_mean Subtract (integer (a -ℤ b)) (literal_means program i p (Int a) h) (literal_means program j q (Int b) k) (λ limit around z. rw (within_range (a -ℤ b) (difference_within a b x y)) refl));
+    operand =
+      subst (λ v. Operand (between (constant v) move_12_from_10 (constant (row_word (slice_get program.literals j))) (subtract_10_from_12 ∷ [])) (integer_word (a -ℤ b)) 6) (sym (ap row_word h))
+          (subst (λ w. Operand (between (constant (integer_word a)) move_12_from_10 (constant w) (subtract_10_from_12 ∷ [])) (integer_word (a -ℤ b)) 6) (sym (ap row_word k))
+            (subst (λ w. Operand (between (constant (integer_word a)) move_12_from_10 (constant (integer_word b)) (subtract_10_from_12 ∷ [])) w 6) (difference_word a b x y) (difference_operand (integer_word a) (integer_word b) (small_word a))));
+    cheap = omega arith;
+    forward = omega arith;
+  }
+
+-- a truth takes at most four instructions, and its code has eight words
+truth_short : (so : Bool) → truth_cost so ≤ 4
+truth_short true = omega arith
+truth_short false = omega arith
+
+-- comparisons of two operands under a site
+module _ (program : Program) (site : ℕ) (f g : Form) (o : SimulatesOperand program f) (p : SimulatesOperand program g) where
+  equal_simulated : SimulatesTest program (sited site (prim NumberEqual (form_and f (form_and g no_form))))
+  unfolding form_code
+  equal_simulated = record {
+    so = int_equal o.n p.n;
+    units = 3 + o.units + p.units;
+    cost = o.cost + 1 + p.cost + truth_cost (int_equal o.n p.n);
+    means = sited_means (two_mean NumberEqual (truth (int_equal o.n p.n)) o.means p.means (λ limit around z. refl));
+    yields = λ before. same_yields (int_equal o.n p.n) before _ _ (integer_word o.n) (integer_word p.n) o.cost p.cost o.operand p.operand (small_word o.n) (same_word o.n p.n o.within p.within);
+    cheap = omega (arith, o.cheap, p.cheap, truth_short (int_equal o.n p.n));
+    forward = omega (arith, o.forward, p.forward, truth_short (int_equal o.n p.n), length-append (form_code program.literals f) (move_13_from_10 ∷ (form_code program.literals g ++ truth_code over_four_if_same)), length-append (form_code program.literals g) (truth_code over_four_if_same));
+  }
+
+  less_simulated : SimulatesTest program (sited site (prim NumberLess (form_and f (form_and g no_form))))
+  unfolding form_code
+  less_simulated = record {
+    so = int_lt o.n p.n;
+    units = 3 + o.units + p.units;
+    cost = o.cost + 1 + p.cost + truth_cost (int_lt o.n p.n);
+    means = sited_means (two_mean NumberLess (truth (int_lt o.n p.n)) o.means p.means (λ limit around z. refl));
+    yields = λ before. less_yields (int_lt o.n p.n) before _ _ (integer_word o.n) (integer_word p.n) o.cost p.cost o.operand p.operand (small_word o.n) (less_word o.n p.n o.within p.within);
+    cheap = omega (arith, o.cheap, p.cheap, truth_short (int_lt o.n p.n));
+    forward = omega (arith, o.forward, p.forward, truth_short (int_lt o.n p.n), length-append (form_code program.literals f) (move_13_from_10 ∷ (form_code program.literals g ++ truth_code over_four_if_less)), length-append (form_code program.literals g) (truth_code over_four_if_less));
+  }
+
+-- the choice between two bodies
+clause_length : (test body others : List ℕ) → length (clause_code test body others) ≡ length test + 14 + length body + length others
+clause_length test body others = placed_length test body others
+
+choice_simulated : (program : Program) (id : ℕ) (p : Place) (f g h : Form) → slice_get program.literals id ≡ Some (row.Datum (record { place = p; kind = Sym (Named (record { 0 = 0 })) })) → (test : SimulatesTest program f) → (so : Bool) → test.so ≡ so → Simulates program g → Simulates program h → Simulates program (clauses (clause_and f (with_body g) (clause_and (literal id) (with_body h) no_clause)))
+unfolding form_code
+choice_simulated program id p f g h e test true b s r = record {
+  v = s.v;
+  bytes = s.bytes;
+  units = 3 + test.units + s.units;
+  cost = test.cost + 3 + s.cost + 4;
+  means = chosen_means id (subst (λ x. Means program f (truth x) [] test.units) b test.means) s.means;
+  yields = λ before. chosen_yields before (form_code program.literals f) (form_code program.literals g) (clause_code (constant (row_word (slice_get program.literals id))) (form_code program.literals h) (constant nil_word)) s.bytes (word_of s.v) test.cost s.cost (subst (λ x. Yields before (form_code program.literals f) [] (truth_word x) test.cost) b (test.yields before)) (s.yields t_word);
+  cheap = omega (arith, test.cheap, s.cheap);
+  forward = omega (arith, test.forward, s.forward, clause_length (form_code program.literals f) (form_code program.literals g) (clause_code (constant (row_word (slice_get program.literals id))) (form_code program.literals h) (constant nil_word)));
+  plain = s.plain;
+}
+choice_simulated program id p f g h e test false b s r =
+    let truth_there : constant (row_word (slice_get program.literals id)) ≡ constant t_word = ap (λ x. constant (row_word x)) e in
+    let others : List ℕ = clause_code (constant (row_word (slice_get program.literals id))) (form_code program.literals h) (constant nil_word) in
+    let second : Yields nil_word (clause_code (constant t_word) (form_code program.literals h) (constant nil_word)) r.bytes (word_of r.v) (2 + 3 + r.cost + 4) =
+        chosen_yields nil_word (constant t_word) (form_code program.literals h) (constant nil_word) r.bytes (word_of r.v) 2 r.cost (constant_yields nil_word t_word) (r.yields t_word) in
+    record {
+      v = r.v;
+      bytes = r.bytes;
+      units = 3 + test.units + (1 + r.units);
+      cost = test.cost + 3 + 4 + (2 + 3 + r.cost + 4);
+      means = passed_means id (subst (λ x. Means program f (truth x) [] test.units) b test.means) (literal_means program id p (Sym (Named (record { 0 = 0 }))) e) r.means;
+      yields = λ before. passed_yields before (form_code program.literals f) (form_code program.literals g) others r.bytes (word_of r.v) test.cost (2 + 3 + r.cost + 4) (subst (λ x. Yields before (form_code program.literals f) [] (truth_word x) test.cost) b (test.yields before)) (subst (λ x. Yields nil_word (clause_code x (form_code program.literals h) (constant nil_word)) r.bytes (word_of r.v) (2 + 3 + r.cost + 4)) (sym truth_there) second);
+      cheap = omega (arith, test.cheap, r.cheap);
+      forward = omega (arith, test.forward, r.forward, clause_length (form_code program.literals f) (form_code program.literals g) others, clause_length (constant (row_word (slice_get program.literals id))) (form_code program.literals h) (constant nil_word));
+      plain = r.plain;
+    }
+
 -- an item stands behind those before it
 at_seam : {A : Type 0} (before more : List A) (x : A) → slice_get (before ++ x ∷ more) (length before) ≡ Some x
 at_seam [] more x = refl
@@ -134,27 +300,137 @@ at_seam (y ∷ ys) more x = at_seam ys more x
 row_there : (before rows : List LiteralRow) (r : LiteralRow) → Grew (before ++ r ∷ []) rows → slice_get rows (length before) ≡ Some r
 row_there before rows r g = rw (g.is, append_assoc before (r ∷ []) g.more) (at_seam before g.more r)
 
-put_grew : (t : Tables) (f : Form) (t' : Tables) → WasPut t f t' → Grew t.literals t'.literals
-put_grew t f t' w = record { more = row.Datum (record { place = w.r; kind = Char w.c }) ∷ []; is = ap (λ x. x.literals) w.tables }
+-- the rows of tables with a literal more
+grew_one : (rows : List LiteralRow) (r : LiteralRow) → Grew rows (rows ++ r ∷ [])
+grew_one rows r = record { more = r ∷ []; is = refl }
 
+-- the rows that a form adds come behind the rows before it
+grew_tables : (t u t' : Tables) → t' ≡ u → Grew t.literals u.literals → Grew t.literals t'.literals
+grew_tables t u t' e g = subst (λ x. Grew t.literals x.literals) (sym e) g
+
+put_grew : (t : Tables) (f : Form) (t' : Tables) → WasPut t f t' → Grew t.literals t'.literals
+put_grew t f t' w = grew_tables t _ t' w.tables (grew_one t.literals (row.Datum (record { place = w.r; kind = Char w.c })))
+
+integer_grew : (t : Tables) (f : Form) (t' : Tables) → WasInteger t f t' → Grew t.literals t'.literals
+integer_grew t f t' w = grew_tables t _ t' w.tables (grew_one t.literals (row.Datum (record { place = w.p; kind = Int w.n })))
+
+sum_grew : (which : Primitive) (t : Tables) (f : Form) (t' : Tables) → WasSum which t f t' → Grew t.literals t'.literals
+sum_grew which t f t' w =
+    let a : LiteralRow = row.Datum (record { place = w.q; kind = Int w.a }) in
+    let b : LiteralRow = row.Datum (record { place = w.r; kind = Int w.b }) in
+    grew_tables t _ t' w.tables (grew_both (grew_one t.literals a) (grew_one (t.literals ++ a ∷ []) b))
+
+operand_grew : (t : Tables) (f : Form) (t' : Tables) → WasOperand t f t' → Grew t.literals t'.literals
+operand_grew t f t' (was_number w) = integer_grew t f t' w
+operand_grew t f t' (was_added w) = sum_grew Add t f t' w
+operand_grew t f t' (was_subtracted w) = sum_grew Subtract t f t' w
+
+comparison_grew : (which : Primitive) (t : Tables) (f : Form) (t' : Tables) → WasComparison which t f t' → Grew t.literals t'.literals
+comparison_grew which t f t' w = grew_both (operand_grew (with_site w.p t) w.first w.middle w.one) (operand_grew w.middle w.second t' w.two)
+
+test_grew : (x : TreeValue) (t : Tables) (f : Form) (t' : Tables) → test_of x t ≡ Some (f, t') → Grew t.literals t'.literals
+test_grew x t f t' e = ⊎_elim (λ w. comparison_grew NumberEqual t f t' w) (λ w. comparison_grew NumberLess t f t' w) (was_test x t f t' e)
+
+-- forms that were found are simulated, in every program whose rows go on from theirs
 found_put_simulated : (program : Program) (t : Tables) (f : Form) (t' : Tables) → WasPut t f t' → Grew t'.literals program.literals → Simulates program f
 found_put_simulated program t f t' w g =
     let g' : Grew (t.literals ++ row.Datum (record { place = w.r; kind = Char w.c }) ∷ []) program.literals = subst (λ x. Grew x.literals program.literals) w.tables g in
     subst (Simulates program) (sym w.form) (put_simulated program (next_site t) (next_site t + 1) (next_literal t) w.c w.r w.byte (row_there t.literals program.literals (row.Datum (record { place = w.r; kind = Char w.c })) g'))
 
+found_integer_simulated : (program : Program) (t : Tables) (f : Form) (t' : Tables) → WasInteger t f t' → Grew t'.literals program.literals → SimulatesOperand program f
+found_integer_simulated program t f t' w g =
+    let r : LiteralRow = row.Datum (record { place = w.p; kind = Int w.n }) in
+    let g' : Grew (t.literals ++ r ∷ []) program.literals = subst (λ x. Grew x.literals program.literals) w.tables g in
+    subst (SimulatesOperand program) (sym w.form) (integer_simulated program (next_literal t) w.p w.n w.small (row_there t.literals program.literals r g'))
+
+-- where the two rows of a sum stand
+record BothRows (program : Program) (t : Tables) (q r : Place) (a b : ℤ) : Type 0 where
+  left : slice_get program.literals (next_literal t) ≡ Some (row.Datum (record { place = q; kind = Int a }))
+  right : slice_get program.literals (next_literal t + 1) ≡ Some (row.Datum (record { place = r; kind = Int b }))
+
+both_rows : (which : Primitive) (program : Program) (t : Tables) (f : Form) (t' : Tables) (w : WasSum which t f t') → Grew t'.literals program.literals → BothRows program t w.q w.r w.a w.b
+both_rows which program t f t' w g =
+    let a : LiteralRow = row.Datum (record { place = w.q; kind = Int w.a }) in
+    let b : LiteralRow = row.Datum (record { place = w.r; kind = Int w.b }) in
+    let g' : Grew (t.literals ++ a ∷ [] ++ b ∷ []) program.literals = subst (λ x. Grew x.literals program.literals) w.tables g in
+    let l : length (t.literals ++ a ∷ []) ≡ length t.literals + 1 = length-append t.literals (a ∷ []) in
+    record {
+      left = row_there t.literals program.literals a (grew_both (grew_one (t.literals ++ a ∷ []) b) g');
+      right = subst (λ i. slice_get program.literals i ≡ Some b) l (row_there (t.literals ++ a ∷ []) program.literals b g');
+    }
+
+found_added_simulated : (program : Program) (t : Tables) (f : Form) (t' : Tables) → WasSum Add t f t' → Grew t'.literals program.literals → SimulatesOperand program f
+found_added_simulated program t f t' w g =
+    let rows = both_rows Add program t f t' w g in
+    subst (SimulatesOperand program) (sym w.form) (added_simulated program (next_site t) (next_literal t) (next_literal t + 1) w.q w.r w.a w.b w.first w.second rows.left rows.right)
+
+found_subtracted_simulated : (program : Program) (t : Tables) (f : Form) (t' : Tables) → WasSum Subtract t f t' → Grew t'.literals program.literals → SimulatesOperand program f
+found_subtracted_simulated program t f t' w g =
+    let rows = both_rows Subtract program t f t' w g in
+    subst (SimulatesOperand program) (sym w.form) (subtracted_simulated program (next_site t) (next_literal t) (next_literal t + 1) w.q w.r w.a w.b w.first w.second rows.left rows.right)
+
+found_operand_simulated : (program : Program) (t : Tables) (f : Form) (t' : Tables) → WasOperand t f t' → Grew t'.literals program.literals → SimulatesOperand program f
+found_operand_simulated program t f t' (was_number w) g = found_integer_simulated program t f t' w g
+found_operand_simulated program t f t' (was_added w) g = found_added_simulated program t f t' w g
+found_operand_simulated program t f t' (was_subtracted w) g = found_subtracted_simulated program t f t' w g
+
+found_test_simulated : (program : Program) (x : TreeValue) (t : Tables) (f : Form) (t' : Tables) → test_of x t ≡ Some (f, t') → Grew t'.literals program.literals → SimulatesTest program f
+found_test_simulated program x t f t' e g =
+    ⊎_elim
+    (λ w.
+      let a = found_operand_simulated program (with_site w.p t) w.first w.middle w.one (grew_both (operand_grew w.middle w.second t' w.two) g) in
+      let b = found_operand_simulated program w.middle w.second t' w.two g in
+      subst (SimulatesTest program) (sym w.form) (equal_simulated program (next_site t) w.first w.second a b))
+    (λ w.
+      let a = found_operand_simulated program (with_site w.p t) w.first w.middle w.one (grew_both (operand_grew w.middle w.second t' w.two) g) in
+      let b = found_operand_simulated program w.middle w.second t' w.two g in
+      subst (SimulatesTest program) (sym w.form) (less_simulated program (next_site t) w.first w.second a b))
+    (was_test x t f t' e)
+
+-- the parts of an `if`
+pub record WasIf (p : Place) (x a b : TreeValue) (t : Tables) (f : Form) (t' : Tables) : Type 0 where
+  pub test : Form
+  pub one : Form
+  pub two : Form
+  pub u : Tables
+  pub v : Tables
+  pub tested : test_of x (with_site p t) ≡ Some (test, u)
+  pub first : form_of a u ≡ Some (one, v)
+  pub second : form_of b (with_truth p v) ≡ Some (two, t')
+  pub made : choice (next_site t) (next_literal v) test one two ≡ f
+
+pub was_if_form : (p : Place) (x a b : TreeValue) (t : Tables) (f : Form) (t' : Tables) → if_form p (tree_and x (tree_and a (tree_and b no_tree))) t ≡ Some (f, t') → WasIf p x a b t f t'
+unfolding form_of
+was_if_form p x a b t f t' e =
+    let k = was_and (test_of x (with_site p t)) (λ g u. and_then (form_of a u) (λ h v. as_form (λ l. choice (next_site t) (next_literal v) g h l) (form_of b (with_truth p v)))) f t' e in
+    let m = was_and (form_of a k.tables) (λ h v. as_form (λ l. choice (next_site t) (next_literal v) k.part h l) (form_of b (with_truth p v))) f t' k.second in
+    let n = was_made (λ l. choice (next_site t) (next_literal m.tables) k.part m.part l) (form_of b (with_truth p m.tables)) f t' m.second in
+    record { test = k.part; one = m.part; two = n.part; u = k.tables; v = m.tables; tested = k.first; first = m.first; second = n.found; made = n.made }
+
 mutual
   unfolding form_of
-
   -- the rows of a form come behind the rows before it
   form_grew : (x : TreeValue) (t : Tables) (f : Form) (t' : Tables) → form_of x t ≡ Some (f, t') → Grew t.literals t'.literals
-  form_grew (word p w) t f t' e = absurd (cc)
+  form_grew (word p w) t f t' e = integer_grew t f t' (was_integer p w t f t' e)
   form_grew (list p no_tree) t f t' e = absurd (cc)
   form_grew (list p (tree_and (list q us) ts)) t f t' e = absurd (cc)
   form_grew (list p (tree_and (word q w) ts)) t f t' e =
-      ⊎_elim
-      (λ h. let m = was_made (λ fs. sited (next_site t) (sequence fs)) (forms_of ts (with_site p t)) f t' h in forms_grew ts (with_site p t) m.part t' m.found)
-      (λ h. put_grew t f t' (was_put p ts t f t' h))
-      (was_headed (head_of w) (progn_form t (forms_of ts (with_site p t))) (format_char_form p ts t) f t' e)
+      elim (was_headed (head_of w) (progn_form t (forms_of ts (with_site p t))) (format_char_form p ts t) (if_form p ts t) (sum_form Add p ts t) (sum_form Subtract p ts t) f t' e) [
+        was_progn h ↦ let m = was_made (λ fs. sited (next_site t) (sequence fs)) (forms_of ts (with_site p t)) f t' h in forms_grew ts (with_site p t) m.part t' m.found
+        | was_format_char h ↦ put_grew t f t' (was_put p ts t f t' h)
+        | was_if h ↦ if_grew p ts t f t' h
+        | was_plus h ↦ sum_grew Add t f t' (was_sum Add p ts t f t' h)
+        | was_minus h ↦ sum_grew Subtract t f t' (was_sum Subtract p ts t f t' h)
+      ]
+
+  if_grew : (p : Place) (ts : Trees) (t : Tables) (f : Form) (t' : Tables) → if_form p ts t ≡ Some (f, t') → Grew t.literals t'.literals
+  if_grew p no_tree t f t' e = absurd (cc)
+  if_grew p (tree_and x no_tree) t f t' e = absurd (cc)
+  if_grew p (tree_and x (tree_and a no_tree)) t f t' e = absurd (cc)
+  if_grew p (tree_and x (tree_and a (tree_and b no_tree))) t f t' e =
+      let w = was_if_form p x a b t f t' e in
+      grew_both (test_grew x (with_site p t) w.test w.u w.tested) (grew_both (form_grew a w.u w.one w.v w.first) (grew_both (grew_one w.v.literals (row.Datum (record { place = p; kind = Sym (Named (record { 0 = 0 })) }))) (form_grew b (with_truth p w.v) w.two t' w.second)))
+  if_grew p (tree_and x (tree_and a (tree_and b (tree_and c cs)))) t f t' e = absurd (cc)
 
   forms_grew : (xs : Trees) (t : Tables) (fs : Forms) (t' : Tables) → forms_of xs t ≡ Some (fs, t') → Grew t.literals t'.literals
   forms_grew no_tree t fs t' e = let h : ◌≡◌ {A = Forms × Tables} (no_form, t) (fs, t') = cc in subst (λ x. Grew t.literals x.literals) (ap (λ x. x.1) h) (grew_none t.literals)
@@ -163,19 +439,41 @@ mutual
       let m = was_made (λ gs. form_and a.part gs) (forms_of xs a.tables) fs t' a.second in
       grew_both (form_grew x t a.part a.tables a.first) (forms_grew xs a.tables m.part t' m.found)
 
+-- the sequence of one form
+single_simulated : (program : Program) (f : Form) → Simulates program f → Simulates program (sequence (form_and f no_form))
+single_simulated program f s = sequence_simulated program (form_and f no_form) (both_simulated program nil f no_form s (none_simulated program s.v))
+
 mutual
   unfolding form_of
-
   pub form_simulated : (program : Program) (x : TreeValue) (t : Tables) (f : Form) (t' : Tables) → form_of x t ≡ Some (f, t') → Grew t'.literals program.literals → Simulates program f
-  form_simulated program (word p w) t f t' e g = absurd (cc)
+  form_simulated program (word p w) t f t' e g = operand_simulated program f (found_integer_simulated program t f t' (was_integer p w t f t' e) g)
   form_simulated program (list p no_tree) t f t' e g = absurd (cc)
   form_simulated program (list p (tree_and (list q us) ts)) t f t' e g = absurd (cc)
   form_simulated program (list p (tree_and (word q w) ts)) t f t' e g =
-      ⊎_elim
-      (λ h. let m = was_made (λ fs. sited (next_site t) (sequence fs)) (forms_of ts (with_site p t)) f t' h in
-      subst (Simulates program) m.made (sequence_simulated program (next_site t) m.part (forms_simulated program ts (with_site p t) m.part t' nil m.found g)))
-      (λ h. found_put_simulated program t f t' (was_put p ts t f t' h) g)
-      (was_headed (head_of w) (progn_form t (forms_of ts (with_site p t))) (format_char_form p ts t) f t' e)
+      elim (was_headed (head_of w) (progn_form t (forms_of ts (with_site p t))) (format_char_form p ts t) (if_form p ts t) (sum_form Add p ts t) (sum_form Subtract p ts t) f t' e) [
+        was_progn h ↦ let m = was_made (λ fs. sited (next_site t) (sequence fs)) (forms_of ts (with_site p t)) f t' h in
+          subst (Simulates program) m.made (sited_simulated program (next_site t) (sequence m.part) (sequence_simulated program m.part (forms_simulated program ts (with_site p t) m.part t' nil m.found g)))
+        | was_format_char h ↦ found_put_simulated program t f t' (was_put p ts t f t' h) g
+        | was_if h ↦ if_simulated program p ts t f t' h g
+        | was_plus h ↦ operand_simulated program f (found_added_simulated program t f t' (was_sum Add p ts t f t' h) g)
+        | was_minus h ↦ operand_simulated program f (found_subtracted_simulated program t f t' (was_sum Subtract p ts t f t' h) g)
+      ]
+
+  if_simulated : (program : Program) (p : Place) (ts : Trees) (t : Tables) (f : Form) (t' : Tables) → if_form p ts t ≡ Some (f, t') → Grew t'.literals program.literals → Simulates program f
+  if_simulated program p no_tree t f t' e g = absurd (cc)
+  if_simulated program p (tree_and x no_tree) t f t' e g = absurd (cc)
+  if_simulated program p (tree_and x (tree_and a no_tree)) t f t' e g = absurd (cc)
+  if_simulated program p (tree_and x (tree_and a (tree_and b no_tree))) t f t' e g =
+      let w = was_if_form p x a b t f t' e in
+      let r : LiteralRow = row.Datum (record { place = p; kind = Sym (Named (record { 0 = 0 })) }) in
+      let g2 : Grew (w.v.literals ++ r ∷ []) program.literals = grew_both (form_grew b (with_truth p w.v) w.two t' w.second) g in
+      let g1 : Grew w.v.literals program.literals = grew_both (grew_one w.v.literals r) g2 in
+      let g0 : Grew w.u.literals program.literals = grew_both (form_grew a w.u w.one w.v w.first) g1 in
+      let test = found_test_simulated program x (with_site p t) w.test w.u w.tested g0 in
+      let one = form_simulated program a w.u w.one w.v w.first g1 in
+      let two = form_simulated program b (with_truth p w.v) w.two t' w.second g in
+      subst (Simulates program) w.made (sited_simulated program (next_site t) _ (choice_simulated program (next_literal w.v) p w.test (sequence (form_and w.one no_form)) (sequence (form_and w.two no_form)) (row_there w.v.literals program.literals r g2) test test.so refl (single_simulated program w.one one) (single_simulated program w.two two)))
+  if_simulated program p (tree_and x (tree_and a (tree_and b (tree_and c cs)))) t f t' e g = absurd (cc)
 
   pub forms_simulated : (program : Program) (xs : Trees) (t : Tables) (fs : Forms) (t' : Tables) (last : Value) → forms_of xs t ≡ Some (fs, t') → Grew t'.literals program.literals → SimulatesAll program last fs
   forms_simulated program no_tree t fs t' last e g = let h : ◌≡◌ {A = Forms × Tables} (no_form, t) (fs, t') = cc in subst (SimulatesAll program last) (ap (λ x. x.0) h) (none_simulated program last)

@@ -4,16 +4,19 @@ use Rattle.std.specs.Prelude.{◌==◌, if◌then◌else◌}
 use Rattle.isl_base.specs.declared.place.Place.{Place}
 use Rattle.isl_meaning.specs.declared.program.LiteralRow.{LiteralRow}
 use Rattle.isl_meaning.specs.declared.program.Program.{Program}
-use Rattle.isl_meaning.specs.Form.{Form, sequence, sited}
+use Rattle.isl_meaning.specs.Form.{Form, literal, sequence, sited}
 use Rattle.isl_meaning.specs.Form.{Forms, no_form, form_and}
 use Rattle.isl_meaning.specs.View.{forms, forms_list}
 use Rattle.isl_top.specs.declared.token.Token.{Token}
 use Rattle.isl_top.specs.declared.token.Token.TheVariants.{Open, Close, Word}
 use Rattle.isl_top.specs.Tokens.{tokens, joined, is_blank, begins_word, place_after, first_place}
 use Rattle.isl_top.specs.Trees.{TreeValue, word, list, Trees, no_tree, tree_and, spelling, spellings}
-use Rattle.isl_top.specs.Shapes.{Tables, no_tables, with_site, next_site, Found, as_form, head_of, format_char_form, progn_form, form_of, forms_of, program_with, Spells}
-use Rattle.isl_top.specs.Code.{program_code, form_code, forms_code, choose_halt, environment}
-use Rattle.isl_top.proofs.Founds.{was_made, was_and, was_headed, was_put, WasPut}
+use Rattle.isl_top.specs.Shapes.{Tables, no_tables, with_site, with_truth, next_literal, next_site, Found, as_form, head_of, format_char_form, progn_form, sum_form, test_of, choice, if_form, form_of, forms_of, program_of, program_with, Spells}
+use Rattle.isl_top.specs.Code.{constant, nil_word, clause_code, truth_code, move_13_from_10, over_four_if_same, over_four_if_less, program_code, form_code, forms_code, choose_halt, environment}
+use Rattle.isl_meaning.specs.declared.primitive.Primitive.TheVariants.{Add, Subtract, NumberEqual, NumberLess}
+use Rattle.isl_top.proofs.Choices.{placed_length}
+use Rattle.isl_top.proofs.Simulates.{was_if_form}
+use Rattle.isl_top.proofs.Founds.{was_made, was_and, was_headed, was_progn, was_format_char, was_if, was_plus, was_minus, was_put, WasPut, WasInteger, was_integer, WasSum, was_sum, WasOperand, was_number, was_added, was_subtracted, WasComparison, was_test}
 use Rattle.isl_top.proofs.Whole.{forms_again}
 
 -- a byte gives at most one token more
@@ -37,32 +40,87 @@ tokens_short p (b ∷ bs) =
     let ts = tokens (place_after p b) bs in
     omega (arith, one_more (is_blank b) (b == 40) (b == 41) p ts (joined p b (begins_word bs) ts) (length bs) (tokens_short (place_after p b) bs) (joined_short p b (begins_word bs) ts))
 
--- a form has at most sixteen words for each token of its tree
-put_short : (rows : List LiteralRow) (t : Tables) (f : Form) (t' : Tables) (n : ℕ) → WasPut t f t' → length (form_code rows f) ≤ 11
+-- a form has at most sixteen words for each token of its tree: forms that put a character, numbers, sums
+-- and comparisons
+put_short : (rows : List LiteralRow) (t : Tables) (f : Form) (t' : Tables) → WasPut t f t' → length (form_code rows f) ≤ 11
 unfolding form_code
-put_short rows t f t' n w = rw w.form (omega arith)
+put_short rows t f t' w = rw w.form (omega arith)
 
--- the tokens of a form that puts a character
-format_char_tokens : (p : Place) (ts : Trees) (t : Tables) (f : Form) (t' : Tables) → format_char_form p ts t ≡ Some (f, t') → 1 ≤ length (spellings ts)
+integer_short : (rows : List LiteralRow) (t : Tables) (f : Form) (t' : Tables) → WasInteger t f t' → length (form_code rows f) ≤ 3
+unfolding form_code
+integer_short rows t f t' w = rw w.form (omega arith)
+
+added_short : (rows : List LiteralRow) (t : Tables) (f : Form) (t' : Tables) → WasSum Add t f t' → length (form_code rows f) ≤ 8
+unfolding form_code
+added_short rows t f t' w = rw w.form (omega arith)
+
+subtracted_short : (rows : List LiteralRow) (t : Tables) (f : Form) (t' : Tables) → WasSum Subtract t f t' → length (form_code rows f) ≤ 8
+unfolding form_code
+subtracted_short rows t f t' w = rw w.form (omega arith)
+
+operand_short : (rows : List LiteralRow) (t : Tables) (f : Form) (t' : Tables) → WasOperand t f t' → length (form_code rows f) ≤ 8
+operand_short rows t f t' (was_number w) = omega (arith, integer_short rows t f t' w)
+operand_short rows t f t' (was_added w) = added_short rows t f t' w
+operand_short rows t f t' (was_subtracted w) = subtracted_short rows t f t' w
+
+equal_short : (rows : List LiteralRow) (t : Tables) (f : Form) (t' : Tables) → WasComparison NumberEqual t f t' → length (form_code rows f) ≤ 25
+unfolding form_code
+equal_short rows t f t' w =
+    rw w.form (omega (arith, operand_short rows (with_site w.p t) w.first w.middle w.one, operand_short rows w.middle w.second t' w.two, length-append (form_code rows w.first) (move_13_from_10 ∷ (form_code rows w.second ++ truth_code over_four_if_same)), length-append (form_code rows w.second) (truth_code over_four_if_same)))
+
+less_short : (rows : List LiteralRow) (t : Tables) (f : Form) (t' : Tables) → WasComparison NumberLess t f t' → length (form_code rows f) ≤ 25
+unfolding form_code
+less_short rows t f t' w =
+    rw w.form (omega (arith, operand_short rows (with_site w.p t) w.first w.middle w.one, operand_short rows w.middle w.second t' w.two, length-append (form_code rows w.first) (move_13_from_10 ∷ (form_code rows w.second ++ truth_code over_four_if_less)), length-append (form_code rows w.second) (truth_code over_four_if_less)))
+
+-- a test is a list, so it has at least two tokens
+test_tokens : (x : TreeValue) (t : Tables) (f : Form) (t' : Tables) → test_of x t ≡ Some (f, t') → 2 ≤ length (spelling x)
 unfolding spelling
-format_char_tokens p no_tree t f t' e = absurd (cc)
-format_char_tokens p (tree_and (word q w) ts) t f t' e = omega arith
-format_char_tokens p (tree_and (list q us) ts) t f t' e = omega arith
+test_tokens (word p w) t f t' e = absurd (cc)
+test_tokens (list p ts) t f t' e = omega (arith, length-append (spellings ts) (Close ∷ []))
+
+test_short : (rows : List LiteralRow) (x : TreeValue) (t : Tables) (f : Form) (t' : Tables) → test_of x t ≡ Some (f, t') → length (form_code rows f) ≤ 16 * length (spelling x)
+test_short rows x t f t' e =
+    ⊎_elim
+    (λ w. omega (arith, equal_short rows t f t' w, test_tokens x t f t' e))
+    (λ w. omega (arith, less_short rows t f t' w, test_tokens x t f t' e))
+    (was_test x t f t' e)
+
+-- the code of a choice
+choice_short : (rows : List LiteralRow) (site id : ℕ) (f g h : Form) → length (form_code rows (choice site id f g h)) ≤ length (form_code rows f) + length (form_code rows g) + length (form_code rows h) + 40
+unfolding form_code
+choice_short rows site id f g h =
+    let first = constant nil_word ++ (form_code rows g ++ []) in
+    let second = constant nil_word ++ (form_code rows h ++ []) in
+    let others = clause_code (form_code rows (literal id)) second (constant nil_word) in
+    omega (arith, placed_length (form_code rows f) first others, placed_length (form_code rows (literal id)) second (constant nil_word), length-append (form_code rows g) [], length-append (form_code rows h) [])
 
 mutual
   unfolding form_of form_code spelling
-
   form_short : (rows : List LiteralRow) (x : TreeValue) (t : Tables) (f : Form) (t' : Tables) → form_of x t ≡ Some (f, t') → length (form_code rows f) ≤ 16 * length (spelling x)
-  form_short rows (word p w) t f t' e = absurd (cc)
+  form_short rows (word p w) t f t' e = omega (arith, integer_short rows t f t' (was_integer p w t f t' e))
   form_short rows (list p no_tree) t f t' e = absurd (cc)
   form_short rows (list p (tree_and (list q us) ts)) t f t' e = absurd (cc)
   form_short rows (list p (tree_and (word q w) ts)) t f t' e =
-      ⊎_elim
-      (λ h. let m = was_made (λ fs. sited (next_site t) (sequence fs)) (forms_of ts (with_site p t)) f t' h in
-      subst (λ x. length (form_code rows x) ≤ 16 * length (spelling (list p (tree_and (word q w) ts)))) m.made
-      (omega (arith, forms_short rows ts (with_site p t) m.part t' m.found, length-append (spellings ts) (Close ∷ []))))
-      (λ h. omega (arith, put_short rows t f t' 0 (was_put p ts t f t' h), length-append (spellings ts) (Close ∷ [])))
-      (was_headed (head_of w) (progn_form t (forms_of ts (with_site p t))) (format_char_form p ts t) f t' e)
+      elim (was_headed (head_of w) (progn_form t (forms_of ts (with_site p t))) (format_char_form p ts t) (if_form p ts t) (sum_form Add p ts t) (sum_form Subtract p ts t) f t' e) [
+        was_progn h ↦ let m = was_made (λ fs. sited (next_site t) (sequence fs)) (forms_of ts (with_site p t)) f t' h in
+          subst (λ x. length (form_code rows x) ≤ 16 * length (spelling (list p (tree_and (word q w) ts)))) m.made
+            (omega (arith, forms_short rows ts (with_site p t) m.part t' m.found, length-append (spellings ts) (Close ∷ [])))
+        | was_format_char h ↦ omega (arith, put_short rows t f t' (was_put p ts t f t' h), length-append (spellings ts) (Close ∷ []))
+        | was_if h ↦ omega (arith, if_short rows p ts t f t' h, length-append (spellings ts) (Close ∷ []))
+        | was_plus h ↦ omega (arith, added_short rows t f t' (was_sum Add p ts t f t' h), length-append (spellings ts) (Close ∷ []))
+        | was_minus h ↦ omega (arith, subtracted_short rows t f t' (was_sum Subtract p ts t f t' h), length-append (spellings ts) (Close ∷ []))
+      ]
+
+  if_short : (rows : List LiteralRow) (p : Place) (ts : Trees) (t : Tables) (f : Form) (t' : Tables) → if_form p ts t ≡ Some (f, t') → length (form_code rows f) ≤ 16 * length (spellings ts) + 40
+  if_short rows p no_tree t f t' e = absurd (cc)
+  if_short rows p (tree_and x no_tree) t f t' e = absurd (cc)
+  if_short rows p (tree_and x (tree_and a no_tree)) t f t' e = absurd (cc)
+  if_short rows p (tree_and x (tree_and a (tree_and b no_tree))) t f t' e =
+      let w = was_if_form p x a b t f t' e in
+      let P : Form → Type 0 = λ y. length (form_code rows y) ≤ 16 * length (spelling x ++ (spelling a ++ (spelling b ++ []))) + 40 in
+      subst P w.made (omega (arith, choice_short rows (next_site t) (next_literal w.v) w.test w.one w.two, test_short rows x (with_site p t) w.test w.u w.tested, form_short rows a w.u w.one w.v w.first, form_short rows b (with_truth p w.v) w.two t' w.second, length-append (spelling x) (spelling a ++ (spelling b ++ [])), length-append (spelling a) (spelling b ++ []), length-append (spelling b) []))
+  if_short rows p (tree_and x (tree_and a (tree_and b (tree_and c cs)))) t f t' e = absurd (cc)
 
   forms_short : (rows : List LiteralRow) (xs : Trees) (t : Tables) (fs : Forms) (t' : Tables) → forms_of xs t ≡ Some (fs, t') → length (forms_code rows fs) ≤ 16 * length (spellings xs)
   forms_short rows no_tree t fs t' e = let h : ◌≡◌ {A = Forms × Tables} (no_form, t) (fs, t') = cc in subst (λ x. length (forms_code rows x) ≤ 0) (ap (λ x. x.0) h) (omega arith)
@@ -70,7 +128,7 @@ mutual
       let a = was_and (form_of x t) (λ f after. as_form (λ gs. form_and f gs) (forms_of xs after)) fs t' e in
       let m = was_made (λ gs. form_and a.part gs) (forms_of xs a.tables) fs t' a.second in
       subst (λ x'. length (forms_code rows x') ≤ 16 * length (spelling x ++ spellings xs)) m.made
-      (omega (arith, form_short rows x t a.part a.tables a.first, forms_short rows xs a.tables m.part t' m.found, length-append (form_code rows a.part) (forms_code rows m.part), length-append (spelling x) (spellings xs)))
+        (omega (arith, form_short rows x t a.part a.tables a.first, forms_short rows xs a.tables m.part t' m.found, length-append (form_code rows a.part) (forms_code rows m.part), length-append (spelling x) (spellings xs)))
 
 found_small : (trees : Trees) (program : Program) (r : Found Forms) → forms_of trees no_tables ≡ r → program_with r ≡ Some program → length (spellings trees) ≤ 4096 → length (program_code program.literals (forms program.main)) ≤ 4194304
 found_small trees program None e h b = absurd (cc)
