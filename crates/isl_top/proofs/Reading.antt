@@ -94,19 +94,19 @@ spelled [] [] done result e s n =
 spelled [] (o ∷ os) done result e s n = absurd (cc)
 spelled (Word p w ∷ ts) os done result e s n =
     let r =
-        spelled ts os (done ++ word p w ∷ []) result e s
-        (omega (arith, nestings-append done (word p w ∷ []))) in
+    spelled ts os (done ++ word p w ∷ []) result e s
+    (omega (arith, nestings-append done (word p w ∷ []))) in
     record {
       spelled = rw (spellings-append done (word p w ∷ [])) (simp append_assoc) ∙ r.spelled;
       shallow = r.shallow;
     }
 spelled (Open p ∷ ts) os done result e s n =
     let c =
-        chosen (nat_lt (length os) 64) (reading ts (record { place = p; before = done } ∷ os) [])
-        result e in
+    chosen (nat_lt (length os) 64) (reading ts (record { place = p; before = done } ∷ os) [])
+    result e in
     let r =
-        spelled ts (record { place = p; before = done } ∷ os) [] result c.1 (n, s)
-        (omega (arith, ltb-true (length os) 64 c.0)) in
+    spelled ts (record { place = p; before = done } ∷ os) [] result c.1 (n, s)
+    (omega (arith, ltb-true (length os) 64 c.0)) in
     record {
       spelled = (simp append_assoc) ∙ r.spelled;
       shallow = r.shallow;
@@ -115,8 +115,8 @@ spelled (Close ∷ ts) [] done result e s n = absurd (cc)
 spelled (Close ∷ ts) (o ∷ os) done result e s n =
     let more = o.before ++ list o.place (trees done) ∷ [] in
     let r =
-        spelled ts os more result e s.1
-        (omega (arith, n, s.0, nestings-append o.before (list o.place (trees done) ∷ []))) in
+    spelled ts os more result e s.1
+    (omega (arith, n, s.0, nestings-append o.before (list o.place (trees done) ∷ []))) in
     record {
       spelled =
           rw (spellings-append o.before (list o.place (trees done) ∷ [])) (simp append_assoc)
@@ -150,7 +150,7 @@ reads-result text ts (Err f) s e = tt
 pub one_reading : (text : List ℕ) (a b : Trees) → Reads text a → Reads text b → a ≡ b
 one_reading text a b r s =
     let e : trees_list a ≡ trees_list b =
-        (let f = reading-reads text a r in let g = reading-reads text b s in cc) in
+    (let f = reading-reads text a r in let g = reading-reads text b s in cc) in
     sym (trees-trees_list a) ∙ ap trees e ∙ trees-trees_list b
 
 -- a word is taken
@@ -168,7 +168,7 @@ pub open_ahead : (r q : Reader) (p : Place) → length r.unclosed.items < 64
 unfolding reading
 open_ahead r q p n o d ts =
     let lt : nat_lt (length (reverse r.unclosed.items)) 64 ≡ true =
-        rw length-reverse (lt-ltb (length r.unclosed.items) 64 n) in
+    rw length-reverse (lt-ltb (length r.unclosed.items) 64 n) in
     rw (o, d, lt, reverse-append r.unclosed.items (record { place = p; before = r.done } ∷ [])) refl
 
 -- no list more may open
@@ -177,7 +177,7 @@ pub full_ahead : (r q : Reader) (p : Place) → 64 ≤ length r.unclosed.items
 unfolding reading
 full_ahead r q p n ts =
     let ge : nat_lt (length (reverse r.unclosed.items)) 64 ≡ false =
-        rw length-reverse (le-ltb (length r.unclosed.items) 64 n) in
+    rw length-reverse (le-ltb (length r.unclosed.items) 64 n) in
     rw ge refl
 
 -- the innermost open list ends
