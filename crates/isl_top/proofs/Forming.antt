@@ -6,12 +6,34 @@ use Rattle.isl_base.specs.declared.place.Place.{Place}
 use Rattle.isl_meaning.specs.Form.{Form, Forms, no_form, form_and}
 use Rattle.isl_meaning.specs.Rest.{rest_at}
 use Rattle.isl_meaning.specs.View.{forms}
-use Rattle.isl_top.specs.Shapes.{Tables, Found, with_site, and_then, as_form, head_of, by_head, progn_form, format_char_form, form_of, list_form, forms_of}
+use Rattle.isl_top.specs.Shapes.{Tables, Found, with_site, and_then, as_form, head_of, by_head, progn_form, format_char_form, integer_form, sum_form, if_form, form_of, list_form, forms_of, other_head}
+use Rattle.isl_meaning.specs.declared.primitive.Primitive.TheVariants.{Add, Subtract}
+use Rattle.isl_top.specs.Heads.{head_in}
+use Rattle.isl_top.specs.Numbers.{number_in}
 use Rattle.isl_top.specs.Trees.{TreeValue, word, list, Trees, tree_and}
 use Rattle.isl_top.specs.TreeView.{trees}
 
--- a word is no form, and a list is what its first word makes of it
-pub form_of_word : (p : Place) (w : List ℕ) (t : Tables) → form_of (word p w) t ≡ None
+-- what the first item makes of a list
+pub head_in_none : (ts : List TreeValue) → length ts ≤ 0 → head_in (trees ts) ≡ other_head
+head_in_none [] h = refl
+head_in_none (x ∷ xs) h = absurd (omega (arith, h))
+
+pub head_in_list : (ts : List TreeValue) (q : Place) (us : Trees) → slice_get ts 0 ≡ Some (list q us) → head_in (trees ts) ≡ other_head
+head_in_list [] q us h = absurd (cc)
+head_in_list (x ∷ xs) q us h =
+    let e : x ≡ list q us = cc in
+    ap (λ y. head_in (tree_and y (trees xs))) e
+
+pub head_in_word : (ts : List TreeValue) (q : Place) (w : List ℕ) → slice_get ts 0 ≡ Some (word q w) → head_in (trees ts) ≡ head_of w
+head_in_word [] q w h = absurd (cc)
+head_in_word (x ∷ xs) q w h =
+    let e : x ≡ word q w = cc in
+    ap (λ y. head_in (tree_and y (trees xs))) e
+
+pub ruleset first_word = (head_in_none, head_in_list, head_in_word)
+
+-- a word is the form of its number, and a list is what its first word makes of it
+pub form_of_word : (p : Place) (w : List ℕ) (t : Tables) → form_of (word p w) t ≡ integer_form p (number_in w) t
 unfolding form_of
 form_of_word p w t = refl
 
@@ -21,26 +43,13 @@ form_of_list p ts t = refl
 
 pub ruleset one_tree = (form_of_word, form_of_list)
 
-pub list_form_empty : (p : Place) (ts : List TreeValue) (t : Tables) → length ts ≤ 0 → list_form p (trees ts) t ≡ None
+pub list_form_head : (p : Place) (ts : List TreeValue) (t : Tables) → list_form p (trees ts) t ≡ by_head (head_in (trees ts)) (progn_form t (forms_of (trees (drop 1 ts)) (with_site p t))) (format_char_form p (trees (drop 1 ts)) t) (if_form p (trees (drop 1 ts)) t) (sum_form Add p (trees (drop 1 ts)) t) (sum_form Subtract p (trees (drop 1 ts)) t)
 unfolding list_form
-list_form_empty p [] t h = refl
-list_form_empty p (x ∷ xs) t h = absurd (omega (arith, h))
+list_form_head p [] t = refl
+list_form_head p (list q us ∷ xs) t = refl
+list_form_head p (word q w ∷ xs) t = refl
 
-pub list_form_list : (p : Place) (ts : List TreeValue) (q : Place) (us : Trees) (t : Tables) → slice_get ts 0 ≡ Some (list q us) → list_form p (trees ts) t ≡ None
-unfolding list_form
-list_form_list p [] q us t h = absurd (cc)
-list_form_list p (x ∷ xs) q us t h =
-    let e : x ≡ list q us = cc in
-    ap (λ y. list_form p (tree_and y (trees xs)) t) e
-
-pub list_form_word : (p : Place) (ts : List TreeValue) (q : Place) (w : List ℕ) (t : Tables) → slice_get ts 0 ≡ Some (word q w) → list_form p (trees ts) t ≡ by_head (head_of w) (progn_form t (forms_of (trees (drop 1 ts)) (with_site p t))) (format_char_form p (trees (drop 1 ts)) t)
-unfolding list_form
-list_form_word p [] q w t h = absurd (cc)
-list_form_word p (x ∷ xs) q w t h =
-    let e : x ≡ word q w = cc in
-    ap (λ y. list_form p (tree_and y (trees xs)) t) e
-
-pub ruleset one_list = (list_form_empty, list_form_list, list_form_word)
+pub ruleset one_list = (list_form_head)
 
 -- what is left of a list of trees from an item on
 trees_at : (ts : List TreeValue) (i : ℕ) (x : TreeValue) → slice_get ts i ≡ Some x → trees (drop i ts) ≡ tree_and x (trees (drop (i + 1) ts))

@@ -18,3 +18,7 @@ pub mod Written
 pub mod Loading
 pub mod Arguments
 pub mod Forming
+pub mod Digits
+pub mod Sums
+pub mod Comparing
+pub mod Choosing

@@ -3,10 +3,9 @@
 --     Z is I, or (+ I I), or (- I I);
 --     T is (= Z Z), or (< Z Z);
 --     F is Z, or (if T F F), or (progn F*), or (format-char (standard-output) #\c) with c from a to z.
-use Rattle.std.specs.Prelude.{◌≡◌, ℕ, ◌+◌, ◌≤◌, ℤ, Bool, true, false, ◌&&◌, nat_le, List, [], ◌∷◌, ◌++◌, length, Option, Some, None, if◌then◌else◌, codes}
+use Rattle.std.specs.Prelude.{◌≡◌, ℕ, ◌+◌, ◌≤◌, ℤ, ◌&&◌, nat_le, List, [], ◌∷◌, ◌++◌, length, Option, Some, None, if◌then◌else◌, codes}
 use Rattle.std.specs.Str.{bytes_eq}
 use Rattle.isl_base.specs.declared.place.Place.{Place}
-use Rattle.isl_base.specs.declared.datum.Datum.{Datum}
 use Rattle.isl_base.specs.declared.datum.Kind.{Kind}
 use Rattle.isl_base.specs.declared.datum.Kind.TheVariants.{Int, Char, Sym}
 use Rattle.isl_base.specs.declared.datum.Symbol.TheVariants.{Named}
@@ -147,7 +146,7 @@ operand_of (list p (tree_and (word q w) ts)) t = by_sum (head_of w) (sum_form Ad
 abbrev pub comparison_of : Primitive → Place → TreeValue → TreeValue → Tables → Found Form
 comparison_of which p x y t =
     and_then (operand_of x (with_site p t)) (λ f after.
-      as_form (λ g. sited (next_site t) (prim which (form_and f (form_and g no_form)))) (operand_of y after))
+    as_form (λ g. sited (next_site t) (prim which (form_and f (form_and g no_form)))) (operand_of y after))
 
 abbrev pub comparison_form : Primitive → Place → Trees → Tables → Found Form
 comparison_form which p (tree_and x (tree_and y no_tree)) t = comparison_of which p x y t
@@ -212,8 +211,8 @@ unfoldable mutual
   if_form p (tree_and x (tree_and a no_tree)) t = None
   if_form p (tree_and x (tree_and a (tree_and b no_tree))) t =
       and_then (test_of x (with_site p t)) (λ f u.
-        and_then (form_of a u) (λ g v.
-          as_form (λ h. choice (next_site t) (next_literal v) f g h) (form_of b (with_truth p v))))
+      and_then (form_of a u) (λ g v.
+      as_form (λ h. choice (next_site t) (next_literal v) f g h) (form_of b (with_truth p v))))
   if_form p (tree_and x (tree_and a (tree_and b (tree_and c cs)))) t = None
 
   pub forms_of : Trees → Tables → Found Forms

@@ -1,7 +1,9 @@
 // The actions of the program: text in, statuses and bytes out.
 #![tactic(auto)]
 
+mod choice;
 pub mod command;
+mod comparisons;
 mod emit;
 pub mod first_image;
 mod format_char;
@@ -10,6 +12,8 @@ pub mod kept;
 pub mod lines;
 pub mod load;
 pub mod main_call;
+mod numbers;
+mod operands;
 pub mod program;
 pub mod read;
 pub mod run;

@@ -3,19 +3,27 @@
 ghost use Rattle.std.specs.Prelude.{◌≡◌, drop, IfOk};
 ghost use Rattle.isl_meaning.specs.View.{forms};
 ghost use Rattle.isl_top.specs.Finds.{Finds, FindsAs};
-ghost use Rattle.isl_top.specs.Shapes.{with_site, form_of, list_form, progn_form, forms_of, program_of};
+ghost use Rattle.isl_top.specs.Shapes.{with_site, form_of, list_form, if_form, progn_form, forms_of, program_of};
 ghost use Rattle.isl_top.specs.TreeView.{trees};
 
+use crate::choice::choice;
+use crate::comparisons::test_of;
 use crate::format_char::format_char_form;
 use crate::heads::Head;
+use crate::operands::{integer_form, sum_form};
 use crate::tables::Tables;
 use crate::tree::{Shape, Tree, TreeList};
 use isl_base::{NoMemory, Place};
-use isl_meaning::{Core, CoreList, Program};
+use isl_meaning::{Core, CoreList, Primitive, Program};
 use std::alloc::Global;
 
 /// The program that these trees are; none where they are not one of the first path: where a tree
-/// is neither `(progn F*)` nor `(format-char (standard-output) #\c)` with c from a to z.
+/// is none of these, with numbers I of an optional `-` and one to eight digits:
+///
+/// - Z, which is I, `(+ I I)` or `(- I I)`;
+/// - `(if T F F)`, where T is `(= Z Z)` or `(< Z Z)`, and F is a tree of this list;
+/// - `(progn F*)`;
+/// - `(format-char (standard-output) #\c)` with c from a to z.
 pub fn program_of(alloc: Global, list: &TreeList) -> Result<Option<Program>, NoMemory>
     ensures { IfOk result (λ o. o ≡ program_of (trees list.now)) }
 {
@@ -33,7 +41,7 @@ fn form_of(alloc: Global, tree: &Tree, tables: &mut Tables) -> Result<Option<Cor
     ensures { Finds result tables.new (form_of tree.now tables.old) }
 {
     match &tree.shape {
-        Shape::Word(_) => Ok(None),
+        Shape::Word(word) => integer_form(tree.place, word.as_slice(), tables),
         Shape::List(list) => list_form(alloc, tree.place, list, tables),
     }
 }
@@ -49,16 +57,13 @@ fn list_form(
 ) -> Result<Option<Core>, NoMemory>
     ensures { Finds result tables.new (list_form place (trees list.now) tables.old) }
 {
-    let Some(first) = list.get(0) else {
-        return Ok(None);
-    };
-    let Shape::Word(word) = &first.shape else {
-        return Ok(None);
-    };
-    match Head::of(word.as_slice()) {
+    match Head::in_list(list) {
         Head::Progn => sequence_form(alloc, place, list, tables),
         Head::FormatChar => format_char_form(alloc, place, list, tables),
-        Head::Other => Ok(None),
+        Head::If => if_form(alloc, place, list, tables),
+        Head::Plus => sum_form(alloc, Primitive::Add, place, list, tables),
+        Head::Minus => sum_form(alloc, Primitive::Subtract, place, list, tables),
+        Head::Equal | Head::Less | Head::Other => Ok(None),
     }
 }
 
@@ -78,6 +83,36 @@ fn sequence_form(
         return Ok(None);
     };
     Ok(Some(Core::sited(alloc, site, Core::sequence(forms))?))
+}
+
+// The form of a list that begins with `if`; none where it is not `(if T F F)`. Its site comes first,
+// and the literal of `t` before the last form.
+#[cycle(shape)]
+#[tactic(auto, using(crate::proofs::Choosing::item_smaller, crate::proofs::Choosing::branches))]
+fn if_form(
+    alloc: Global,
+    place: Place,
+    list: &TreeList,
+    tables: &mut Tables,
+) -> Result<Option<Core>, NoMemory>
+    ensures { Finds result tables.new (if_form place (trees (drop 1 list.now)) tables.old) }
+{
+    let [_, test, consequent, alternative] = list.as_slice() else {
+        return Ok(None);
+    };
+    let site = tables.add_site(place)?;
+    let Some(test) = test_of(alloc, test, tables)? else {
+        return Ok(None);
+    };
+    let Some(consequent) = form_of(alloc, consequent, tables)? else {
+        return Ok(None);
+    };
+    let truth = tables.add_truth(place)?;
+    let Some(alternative) = form_of(alloc, alternative, tables)? else {
+        return Ok(None);
+    };
+    let form = choice(alloc, site, truth, test, consequent, alternative)?;
+    Ok(Some(form))
 }
 
 // The forms that the trees of a list are, from the one at `start` on.

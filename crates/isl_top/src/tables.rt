@@ -1,10 +1,10 @@
 // The tables of a program: its literals, and the places of its sites.
 
 ghost use Rattle.std.specs.Prelude.{◌≡◌, Some, IfOk, OnOk};
-ghost use Rattle.isl_top.specs.Shapes.{no_tables, with_literal, with_site, next_literal, next_site, program_with};
+ghost use Rattle.isl_top.specs.Shapes.{no_tables, with_literal, with_truth, with_site, next_literal, next_site, program_with};
 ghost use Rattle.isl_meaning.specs.View.{forms};
 
-use isl_base::{Datum, NoMemory, Place, PlaceList};
+use isl_base::{Datum, Kind, Name, NoMemory, Place, PlaceList, Symbol};
 use isl_meaning::{CoreList, LiteralId, LiteralRow, LiteralRows, Program, SiteId};
 use std::alloc::Global;
 use std::marker::Model;
@@ -44,6 +44,17 @@ impl Tables {
         let id = self.literals.len();
         self.literals.push(LiteralRow::Datum(datum))?;
         Ok(id)
+    }
+
+    /// The symbol t as a literal more, and its number.
+    pub(crate) fn add_truth(&mut self, place: Place) -> Result<LiteralId, NoMemory>
+        ensures id { IfOk result (λ id. id ≡ next_literal self.old) }
+        ensures after { OnOk result (self.new ≡ with_truth place self.old) }
+    {
+        self.add_literal(Datum {
+            place,
+            kind: Kind::Sym(Symbol::Named(Name(0))),
+        })
     }
 
     /// A site more, and its number, counted from 1.

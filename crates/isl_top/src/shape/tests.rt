@@ -2,7 +2,7 @@
 
 use super::program_of;
 use crate::tree::{Tree, TreeList};
-use isl_base::{Bytes, Datum, Kind, NoMemory, Place};
+use isl_base::{Bytes, Datum, Kind, Name, NoMemory, Place, Symbol};
 use isl_meaning::{Core, CoreForm, CoreList, LiteralRow, Primitive};
 use std::alloc::Global;
 use std::test::Fail;
@@ -82,6 +82,54 @@ fn a_progn_of_a_letter(rt: HostRuntime) -> Result<(), Fail> {
     assert_eq!(rt; stream.len(), 0);
     let letter = put.get(1).ok_or("a letter")?;
     assert!(rt; matches!(&letter.form, CoreForm::Literal(0)));
+    Ok(())
+}
+
+// The tree of `(< 1 2)` in the fifth column.
+fn one_below_two(alloc: Global) -> Result<Tree, NoMemory> {
+    let mut items = TreeList::new(alloc);
+    items.push(word(alloc, 6, b"<")?)?;
+    items.push(word(alloc, 8, b"1")?)?;
+    items.push(word(alloc, 10, b"2")?)?;
+    Ok(Tree::list(at(5), items))
+}
+
+// The trees of `(if (< 1 2) 30 -4)`.
+fn if_of_numbers(alloc: Global) -> Result<TreeList, NoMemory> {
+    let mut items = TreeList::new(alloc);
+    items.push(word(alloc, 2, b"if")?)?;
+    items.push(one_below_two(alloc)?)?;
+    items.push(word(alloc, 13, b"30")?)?;
+    items.push(word(alloc, 16, b"-4")?)?;
+    let mut trees = TreeList::new(alloc);
+    trees.push(Tree::list(at(1), items))?;
+    Ok(trees)
+}
+
+// A literal of that kind in that column.
+fn literal(column: u32, kind: Kind) -> LiteralRow {
+    LiteralRow::Datum(Datum {
+        place: at(column),
+        kind,
+    })
+}
+
+#[test]
+fn an_if_of_numbers(rt: HostRuntime) -> Result<(), Fail> {
+    let trees = if_of_numbers(rt.alloc())?;
+    let program = program_of(rt.alloc(), &trees)?.ok_or("a program")?;
+
+    let literals = [
+        literal(8, Kind::Int(1)),
+        literal(10, Kind::Int(2)),
+        literal(13, Kind::Int(30)),
+        literal(1, Kind::Sym(Symbol::Named(Name(0)))),
+        literal(16, Kind::Int(-4)),
+    ];
+    assert_eq!(rt; program.literals.as_slice(), literals.as_slice());
+    assert_eq!(rt; program.sites.as_slice(), [at(1), at(5)].as_slice());
+    assert_eq!(rt; program.main.len(), 1);
+    assert!(rt; matches!(sited(program.main.get(0), 1), Some(CoreForm::Clauses(_))));
     Ok(())
 }
 

@@ -16,6 +16,9 @@ decreases-list_form l = 3 * trees_size (trees l.list.now) + 2
 abbrev pub decreases-sequence_form : goal.decreases-sequence_form
 decreases-sequence_form l = 3 * trees_size (trees l.list.now) + 1
 
+abbrev pub decreases-if_form : goal.decreases-if_form
+decreases-if_form l = 3 * trees_size (trees l.list.now) + 1
+
 abbrev pub decreases-forms_of : goal.decreases-forms_of
 decreases-forms_of l = 3 * trees_size (trees l.list.now)
 
