@@ -3,8 +3,8 @@ mod Reading
 pub mod Integers
 pub mod Runs
 pub mod Yields
-pub mod Operands
-pub mod Choices
+pub mod OperandCode
+pub mod ChoiceCode
 pub mod Means
 pub mod Founds
 pub mod Mains

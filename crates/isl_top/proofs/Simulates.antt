@@ -18,8 +18,8 @@ use Rattle.isl_top.specs.Code.{integer_word, character_word, nil_word, t_word, s
 use Rattle.isl_top.proofs.Yields.{Yields, nothing, constant_yields, put_yields}
 use Rattle.isl_top.proofs.Yields.{and_then as yields_then}
 use Rattle.isl_top.proofs.Means.{Means, MeansSequence, no_forms_mean, forms_mean, sequence_means, sited_means, put_means, literal_means, two_mean, chosen_means, passed_means}
-use Rattle.isl_top.proofs.Operands.{Operand, operand_yields, constant_operand, sum_operand, difference_operand, truth_word, truth_cost, same_yields, less_yields}
-use Rattle.isl_top.proofs.Choices.{chosen_yields, passed_yields, placed_length}
+use Rattle.isl_top.proofs.OperandCode.{Operand, operand_yields, constant_operand, sum_operand, difference_operand, truth_word, truth_cost, same_yields, less_yields}
+use Rattle.isl_top.proofs.ChoiceCode.{chosen_yields, passed_yields, placed_length}
 use Rattle.isl_top.proofs.Integers.{Within, wider, sum_within, difference_within, within_range, small_word, sum_word, difference_word, less_word, same_word}
 use Rattle.isl_top.proofs.Mains.{MeansMains, no_mains, main_and}
 use Rattle.isl_meaning.specs.View.{forms_list}

@@ -14,7 +14,7 @@ use Rattle.isl_top.specs.Trees.{TreeValue, word, list, Trees, no_tree, tree_and,
 use Rattle.isl_top.specs.Shapes.{Tables, no_tables, with_site, with_truth, next_literal, next_site, Found, as_form, head_of, format_char_form, progn_form, sum_form, test_of, choice, if_form, form_of, forms_of, program_of, program_with, Spells}
 use Rattle.isl_top.specs.Code.{constant, nil_word, clause_code, truth_code, move_13_from_10, over_four_if_same, over_four_if_less, program_code, form_code, forms_code, choose_halt, environment}
 use Rattle.isl_meaning.specs.declared.primitive.Primitive.TheVariants.{Add, Subtract, NumberEqual, NumberLess}
-use Rattle.isl_top.proofs.Choices.{placed_length}
+use Rattle.isl_top.proofs.ChoiceCode.{placed_length}
 use Rattle.isl_top.proofs.Simulates.{was_if_form}
 use Rattle.isl_top.proofs.Founds.{was_made, was_and, was_headed, was_progn, was_format_char, was_if, was_plus, was_minus, was_put, WasPut, WasInteger, was_integer, WasSum, was_sum, WasOperand, was_number, was_added, was_subtracted, WasComparison, was_test}
 use Rattle.isl_top.proofs.Whole.{forms_again}
