@@ -1,6 +1,7 @@
 // The words of the command line.
 
-ghost use Rattle.std.specs.Prelude.{◌≡◌, ◌⊎◌, IfErr};
+ghost use Rattle.std.specs.Prelude.{◌≡◌, ◌⊎◌, drop, map, string_bytes, IfOk, IfErr};
+ghost use Rattle.std.specs.Vec.Iter.{into_iter_items};
 ghost use Rattle.isl_top.specs.declared.status.Status.TheVariants.{Usage, NoMemory as WantsMemory};
 
 use isl_base::Words;
@@ -24,11 +25,14 @@ pub fn command_words<R: Env + AllocGlobal>(rt: &R) -> Result<Words, Status>
 }
 
 // All arguments but the first, as words.
-fn words_behind_name(alloc: Global, args: Args) -> Result<Words, Status>
-    ensures { IfErr result (λ status. status ≡ WantsMemory) }
+fn words_behind_name(alloc: Global, mut args: Args) -> Result<Words, Status>
+    ensures words { IfOk result (λ words.
+        words ≡ map (λ s. string_bytes s) (drop 1 (into_iter_items args))) }
+    ensures memory { IfErr result (λ status. status ≡ WantsMemory) }
 {
     let mut words = Words::new(alloc);
-    for word in args.skip(1) {
+    let _ = args.next();
+    for word in args {
         if words.push(word.as_str()).is_err() {
             return Err(Status::NoMemory);
         }

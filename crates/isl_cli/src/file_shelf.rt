@@ -1,6 +1,6 @@
 // The files of the system as a shelf.
 
-ghost use Rattle.std.specs.Prelude.{◌≤◌, length, None, IfOk};
+ghost use Rattle.std.specs.Prelude.{◌≡◌, ◌≤◌, length, None, IfOk};
 
 use crate::fault_count::FaultCount;
 use isl_base::{Failed, Shelf};
@@ -18,7 +18,9 @@ pub struct FileShelf<'a, R: Files> {
 
 impl<'a, R: Files> FileShelf<'a, R> {
     /// The files of that runtime; no call has failed yet.
-    pub fn new(files: &'a R) -> FileShelf<'a, R> {
+    pub fn new(files: &'a R) -> FileShelf<'a, R>
+        ensures { result.faults.raised ≡ 0 }
+    {
         FileShelf {
             files,
             faults: FaultCount::new(),

@@ -1,6 +1,6 @@
 // Standard output and standard error as sinks.
 
-ghost use Rattle.std.specs.Prelude.{◌≤◌, ◌<◌, length, None, IfOk};
+ghost use Rattle.std.specs.Prelude.{◌≡◌, ◌≤◌, ◌<◌, length, None, IfOk};
 
 use crate::fault_count::FaultCount;
 use isl_base::{Failed, Sink};
@@ -16,7 +16,9 @@ pub struct StdSink<W: Write + Drop> {
 
 impl<W: Write + Drop> StdSink<W> {
     /// What goes to that writer; no call has failed yet.
-    pub fn new(writer: W) -> StdSink<W> {
+    pub fn new(writer: W) -> StdSink<W>
+        ensures { result.faults.raised ≡ 0 }
+    {
         StdSink {
             writer,
             faults: FaultCount::new(),
@@ -39,5 +41,22 @@ impl<W: Write + Drop> Sink for StdSink<W> {
             },
             _ => Err(self.faults.raise()),
         }
+    }
+}
+
+#[cfg(test)]
+mod tests {
+    use super::*;
+
+    #[test]
+    fn a_write_that_takes_nothing_is_a_counted_fault(rt: HostRuntime) {
+        let mut room = [0u8; 2];
+        let mut sink = StdSink::new(room.as_mut_slice());
+        assert_eq!(rt; sink.write(b"a"), Ok(1));
+        assert_eq!(rt; sink.write(b"bc"), Ok(1));
+        assert_eq!(rt; sink.write(b"c"), Err(Failed));
+        assert_eq!(rt; sink.write(b""), Ok(0));
+        assert_eq!(rt; sink.faults.raised, 1);
+        assert_eq!(rt; room, [b'a', b'b']);
     }
 }

@@ -1,6 +1,6 @@
 // Standard input as a source.
 
-ghost use Rattle.std.specs.Prelude.{None};
+ghost use Rattle.std.specs.Prelude.{◌≡◌, None};
 
 use crate::fault_count::FaultCount;
 use isl_base::{Failed, Source};
@@ -15,7 +15,9 @@ pub struct StdSource<R: Read + Drop> {
 
 impl<R: Read + Drop> StdSource<R> {
     /// What that reader gives; no call has failed yet.
-    pub fn new(reader: R) -> StdSource<R> {
+    pub fn new(reader: R) -> StdSource<R>
+        ensures { result.faults.raised ≡ 0 }
+    {
         StdSource {
             reader,
             faults: FaultCount::new(),
@@ -33,5 +35,22 @@ impl<R: Read + Drop> Source for StdSource<R> {
             Ok(count) => Ok(count),
             Err(_) => Err(self.faults.raise()),
         }
+    }
+}
+
+#[cfg(test)]
+mod tests {
+    use super::*;
+
+    #[test]
+    fn gives_what_the_reader_gives(rt: HostRuntime) {
+        let mut source = StdSource::new(b"abc".as_slice());
+        let mut buf = [0u8; 2];
+        assert_eq!(rt; source.read(&mut buf), Ok(2));
+        assert_eq!(rt; buf, [b'a', b'b']);
+        assert_eq!(rt; source.read(&mut buf), Ok(1));
+        assert_eq!(rt; buf[0], b'c');
+        assert_eq!(rt; source.read(&mut buf), Ok(0));
+        assert_eq!(rt; source.faults.raised, 0);
     }
 }
