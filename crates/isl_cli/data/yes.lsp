@@ -1,0 +1,1 @@
+(format-char (standard-output) #\y)

@@ -1,0 +1,60 @@
+// The program: the words of the command line, and the files, the input and the outputs of the system.
+#![tactic(auto)]
+
+ghost use Rattle.std.specs.Prelude.{◌≡◌, ◌≢◌, ◌⊎◌, None};
+ghost use Rattle.std.specs.Process.{exit_status};
+ghost use Rattle.isl_top.specs.Command.{asked_file};
+ghost use Rattle.isl_top.specs.Lines.{WasGiven, line_of, number_of};
+ghost use Rattle.isl_top.specs.declared.status.Status.TheVariants.{Usage, WriteFault};
+
+mod command_words;
+mod fault_count;
+mod file_shelf;
+mod std_sink;
+mod std_source;
+
+use command_words::command_words;
+use file_shelf::FileShelf;
+use isl_base::{Sink, Words};
+use isl_top::lines::end_with;
+use isl_top::{Kept, Status, isl_main};
+use std::process::ExitCode;
+use std_sink::StdSink;
+use std_source::StdSource;
+
+fn main(rt: HostRuntime) -> ExitCode {
+    let mut err = StdSink::new(rt.stderr());
+    let status = match command_words(&rt) {
+        Ok(words) => status_of(&rt, &words, &mut err),
+        Err(status) => end_with(&mut err, status),
+    };
+    exit_code(status)
+}
+
+// The status of a call with these words.
+fn status_of<E: Sink>(rt: &HostRuntime, words: &Words, err: &mut E) -> Status
+    ensures usage { result ≡ Usage → asked_file words.now ≡ None }
+    ensures words_first { asked_file words.now ≡ None → (result ≡ Usage) ⊎ (result ≡ WriteFault) }
+    ensures line { result ≢ WriteFault → WasGiven (E.given err.old) (line_of result) (E.given err.new) }
+{
+    let mut shelf = FileShelf::new(rt);
+    let mut input = StdSource::new(rt.stdin());
+    let mut out = StdSink::new(rt.stdout());
+    let mut kept = Kept::new();
+    isl_main(
+        rt.alloc(),
+        words,
+        &mut shelf,
+        &mut input,
+        &mut out,
+        err,
+        &mut kept,
+    )
+}
+
+// The status as the process ends with it.
+fn exit_code(status: Status) -> ExitCode
+    ensures { exit_status result ≡ number_of status }
+{
+    ExitCode::from(status.number())
+}

@@ -1,0 +1,56 @@
+// Standard input as a source.
+
+ghost use Rattle.std.specs.Prelude.{◌≡◌, None};
+
+use crate::fault_count::FaultCount;
+use isl_base::{Failed, Source};
+use std::io::Read;
+
+/// A reader as a source. It tells no content.
+#[derive(Drop)]
+pub struct StdSource<R: Read + Drop> {
+    reader: R,
+    faults: FaultCount,
+}
+
+impl<R: Read + Drop> StdSource<R> {
+    /// What that reader gives; no call has failed yet.
+    pub fn new(reader: R) -> StdSource<R>
+        ensures { result.faults.raised ≡ 0 }
+    {
+        StdSource {
+            reader,
+            faults: FaultCount::new(),
+        }
+    }
+}
+
+impl<R: Read + Drop> Source for StdSource<R> {
+    ghost left = { λ _. None };
+
+    ghost faults = { λ s. s.faults.raised };
+
+    fn read(&mut self, buf: &mut [u8]) -> Result<usize, Failed> {
+        match self.reader.read(buf) {
+            Ok(count) => Ok(count),
+            Err(_) => Err(self.faults.raise()),
+        }
+    }
+}
+
+#[cfg(test)]
+mod tests {
+    use super::*;
+
+    #[test]
+    fn gives_what_the_reader_gives(rt: HostRuntime) {
+        let mut source = StdSource::new(b"abc".as_slice());
+        let mut buf = [0u8; 2];
+        assert_eq!(rt; source.read(&mut buf), Ok(2));
+        assert_eq!(rt; buf, [b'a', b'b']);
+        assert_eq!(rt; source.read(&mut buf), Ok(1));
+        assert_eq!(rt; buf[0], b'c');
+        assert_eq!(rt; source.read(&mut buf), Ok(0));
+        assert_eq!(rt; source.faults.raised, 0);
+    }
+}
