@@ -1,13 +1,10 @@
 -- What the code of a clause yields: its body where the test is not nil, else the other clauses.
-use Rattle.std.proofs.Common.{◌≡◌, ◌≢◌, ℕ, suc, ◌+◌, ◌-◌, ◌*◌, ◌%◌, ◌^◌, ◌<◌, ◌≤◌, Bool, true, false, List, [], ◌∷◌, ◌++◌, length, refl, sym, ap, subst, ◌∙◌, arith, Some, append-nil, append_assoc, length-append}
-use Rattle.std.specs.Prelude.{slice_get, slice_index, slice_set, if◌then◌else◌, ◌==◌}
-use Rattle.rv_machine.specs.State.{State, register, sum32}
-use Rattle.rv_machine.specs.Decode.{decode}
-use Rattle.rv_machine.specs.declared.instruction.Instruction.TheVariants.{Lw, Add, Bne, Jalr}
-use Rattle.rv_machine.specs.Step.{even}
-use Rattle.isl_top.specs.Code.{load_6, load_11, add_6_to_5, go_to_5, link_5_over_word, over_jump_unless_same, jump_over, second_constant, clause_code, nil_word, t_word}
+use Rattle.std.proofs.Common.{◌≡◌, ℕ, ◌+◌, ◌-◌, ◌*◌, ◌%◌, ◌^◌, ◌<◌, List, [], ◌∷◌, ◌++◌, length, refl, subst, ◌∙◌, arith, Some, append-nil, length-append}
+use Rattle.std.specs.Prelude.{slice_get, slice_index, slice_set}
+use Rattle.rv_machine.specs.declared.instruction.Instruction.TheVariants.{Add, Bne, Jalr}
+use Rattle.isl_top.specs.Code.{load_6, load_11, add_6_to_5, go_to_5, over_jump_unless_same, jump_over, second_constant, clause_code, nil_word, t_word}
 use Rattle.isl_top.proofs.Runs.{at, Comes, and_on, HasAt, one, linked, moved, loaded}
-use Rattle.isl_top.proofs.Yields.{Ready, ready_set, same, other, has_front, has_back, Reached, Yields}
+use Rattle.isl_top.proofs.Yields.{Ready, ready_set, same, other, has_front, has_back, Yields}
 
 next_place : (i : ℕ) → i < 2 ^ 25 → (4 * i + 4) % 2 ^ 32 ≡ 4 * (i + 1)
 next_place i b = omega arith
@@ -58,12 +55,13 @@ second_loaded arena registers printed i n word ready room has =
     let j : i + 1 + 1 ≡ i + 2 = omega arith in
     let load : slice_get arena (i + 2) ≡ Some load_11 = subst (λ x. slice_get arena x ≡ Some load_11) j has.1.1.0 in
     let a = linked arena registers printed i n (omega arith) has.0 in
-    let b = loaded arena five printed (i + 2) (n + 1) load_11 11 (i + 1) word (omega arith) (omega arith) refl load (same registers 5 (4 * (i + 1)) (omega arith) ready) has.1.0 in
-    (slice_set five 11 word,
+    let b = loaded arena five printed (i + 2) (n + 1) load_11 11 (i + 1) word (omega arith) (omega arith) refl load (same registers 5 (4 * (i + 1)) (omega arith) ready) has.1.0 in (
+      slice_set five 11 word,
       moved (i + 3) (n + 2) (omega arith) (omega arith) (and_on a b),
       ready_set five 11 word (omega arith) five_ready,
       other five 11 word 10 (omega arith) ∙ other registers 5 (4 * (i + 1)) 10 (omega arith),
-      same five 11 word (omega arith) five_ready)
+      same five 11 word (omega arith) five_ready,
+    )
 
 -- a branch over a jump where register 10 is not nil
 tested_true : (arena registers printed : List ℕ) (i n : ℕ) → Ready registers → i + 9 < 2 ^ 25 → slice_index registers 10 ≡ t_word → HasAt arena i (second_constant nil_word) → slice_get arena (i + 3) ≡ Some over_jump_unless_same → Passes 3 arena registers printed i n (i + 9)
@@ -129,38 +127,38 @@ placed_length test body others =
 pub chosen_yields : (before : ℕ) (test body others bytes : List ℕ) (word c d : ℕ) → Yields before test [] t_word c → Yields t_word body bytes word d → Yields before (clause_code test body others) bytes word (c + 3 + d + 4)
 chosen_yields before test body others bytes word c d y z = record {
   by = λ arena registers printed i n ready held room has.
-    let p = placed arena i test body others has in
-    let t = y.by arena registers printed i n ready held (omega (arith, p.size)) p.test_at in
-    let same_printed : printed ++ [] ≡ printed = append-nil printed in
-    let t_comes : Comes c (at arena i registers printed n) (at arena (i + length test) t.registers' printed (n + c)) = subst (λ q. Comes c (at arena i registers printed n) (at arena (i + length test) t.registers' q (n + c))) same_printed t.comes in
-    let s = tested_true arena t.registers' printed (i + length test) (n + c) t.ready (omega (arith, p.size)) t.holds p.nil_at p.branch_at.0 in
-    let b = z.by arena s.registers' printed (i + length test + 9) (n + c + 3) s.ready (s.first ∙ t.holds) (omega (arith, p.size)) p.body_at in
-    let j = jumped (length others) arena b.registers' (printed ++ bytes) (i + length test + 9 + length body) (n + c + 3 + d) b.ready (omega (arith, p.size)) p.jump_at in
-    record {
-      registers' = j.registers';
-      comes = moved (i + length (clause_code test body others)) (n + (c + 3 + d + 4)) (omega (arith, p.size)) (omega arith) (and_on (and_on (and_on t_comes s.comes) b.comes) j.comes);
-      holds = j.first ∙ b.holds;
-      ready = j.ready;
-    };
+      let p = placed arena i test body others has in
+      let t = y.by arena registers printed i n ready held (omega (arith, p.size)) p.test_at in
+      let same_printed : printed ++ [] ≡ printed = append-nil printed in
+      let t_comes : Comes c (at arena i registers printed n) (at arena (i + length test) t.registers' printed (n + c)) = subst (λ q. Comes c (at arena i registers printed n) (at arena (i + length test) t.registers' q (n + c))) same_printed t.comes in
+      let s = tested_true arena t.registers' printed (i + length test) (n + c) t.ready (omega (arith, p.size)) t.holds p.nil_at p.branch_at.0 in
+      let b = z.by arena s.registers' printed (i + length test + 9) (n + c + 3) s.ready (s.first ∙ t.holds) (omega (arith, p.size)) p.body_at in
+      let j = jumped (length others) arena b.registers' (printed ++ bytes) (i + length test + 9 + length body) (n + c + 3 + d) b.ready (omega (arith, p.size)) p.jump_at in
+      record {
+        registers' = j.registers';
+        comes = moved (i + length (clause_code test body others)) (n + (c + 3 + d + 4)) (omega (arith, p.size)) (omega arith) (and_on (and_on (and_on t_comes s.comes) b.comes) j.comes);
+        holds = j.first ∙ b.holds;
+        ready = j.ready;
+      };
 }
 
 -- the test is nil: the body is passed, and the others' value
 pub passed_yields : (before : ℕ) (test body others bytes : List ℕ) (word c d : ℕ) → Yields before test [] nil_word c → Yields nil_word others bytes word d → Yields before (clause_code test body others) bytes word (c + 3 + 4 + d)
 passed_yields before test body others bytes word c d y z = record {
   by = λ arena registers printed i n ready held room has.
-    let p = placed arena i test body others has in
-    let t = y.by arena registers printed i n ready held (omega (arith, p.size)) p.test_at in
-    let same_printed : printed ++ [] ≡ printed = append-nil printed in
-    let t_comes : Comes c (at arena i registers printed n) (at arena (i + length test) t.registers' printed (n + c)) = subst (λ q. Comes c (at arena i registers printed n) (at arena (i + length test) t.registers' q (n + c))) same_printed t.comes in
-    let s = tested_false arena t.registers' printed (i + length test) (n + c) t.ready (omega (arith, p.size)) t.holds p.nil_at p.branch_at.0 in
-    let jump_has : HasAt arena (i + length test + 4) (jump_over (length body + 5)) = shifted arena (jump_over (length body + 5)) _ _ (omega arith) p.branch_at.1 in
-    let j = jumped (length body + 5) arena s.registers' printed (i + length test + 4) (n + c + 3) s.ready (omega (arith, p.size)) jump_has in
-    let o_has : HasAt arena (i + length test + 4 + 5 + (length body + 5)) others = shifted arena others _ _ (omega arith) p.others_at in
-    let o = z.by arena j.registers' printed (i + length test + 4 + 5 + (length body + 5)) (n + c + 3 + 4) j.ready (j.first ∙ s.first ∙ t.holds) (omega (arith, p.size)) o_has in
-    record {
-      registers' = o.registers';
-      comes = moved (i + length (clause_code test body others)) (n + (c + 3 + 4 + d)) (omega (arith, p.size)) (omega arith) (and_on (and_on (and_on t_comes s.comes) j.comes) o.comes);
-      holds = o.holds;
-      ready = o.ready;
-    };
+      let p = placed arena i test body others has in
+      let t = y.by arena registers printed i n ready held (omega (arith, p.size)) p.test_at in
+      let same_printed : printed ++ [] ≡ printed = append-nil printed in
+      let t_comes : Comes c (at arena i registers printed n) (at arena (i + length test) t.registers' printed (n + c)) = subst (λ q. Comes c (at arena i registers printed n) (at arena (i + length test) t.registers' q (n + c))) same_printed t.comes in
+      let s = tested_false arena t.registers' printed (i + length test) (n + c) t.ready (omega (arith, p.size)) t.holds p.nil_at p.branch_at.0 in
+      let jump_has : HasAt arena (i + length test + 4) (jump_over (length body + 5)) = shifted arena (jump_over (length body + 5)) _ _ (omega arith) p.branch_at.1 in
+      let j = jumped (length body + 5) arena s.registers' printed (i + length test + 4) (n + c + 3) s.ready (omega (arith, p.size)) jump_has in
+      let o_has : HasAt arena (i + length test + 4 + 5 + (length body + 5)) others = shifted arena others _ _ (omega arith) p.others_at in
+      let o = z.by arena j.registers' printed (i + length test + 4 + 5 + (length body + 5)) (n + c + 3 + 4) j.ready (j.first ∙ s.first ∙ t.holds) (omega (arith, p.size)) o_has in
+      record {
+        registers' = o.registers';
+        comes = moved (i + length (clause_code test body others)) (n + (c + 3 + 4 + d)) (omega (arith, p.size)) (omega arith) (and_on (and_on (and_on t_comes s.comes) j.comes) o.comes);
+        holds = o.holds;
+        ready = o.ready;
+      };
 }

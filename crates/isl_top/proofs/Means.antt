@@ -75,7 +75,7 @@ pub literal_means : (program : Program) (id : ℕ) (p : Place) (kind : Kind) →
 unfolding mean
 literal_means program id p kind h = record {
   by = λ limit below env around z e.
-    rw h (ap (λ q. gives (value_of_kind names kind) (record z { printed = q; units = z.units + 1 })) (sym (append-nil z.printed)));
+      rw h (ap (λ q. gives (value_of_kind names kind) (record z { printed = q; units = z.units + 1 })) (sym (append-nil z.printed)));
 }
 
 -- a primitive of two arguments that put nothing, where it has this value at theirs
@@ -83,13 +83,13 @@ pub two_mean : {program : Program} {f g : Form} {x y : Value} {u w : ℕ} (which
 unfolding mean
 two_mean {program} {f} {g} {x} {y} {u} {w} which v m n e = record {
   by = λ limit below env around z s.
-    let first = charged 3 z in
-    let second = after [] u first in
-    ap (λ r. go_on r (λ a q. mean_arguments names program limit below (form_and g no_form) (a ∷ []) env around q (λ vs q'. primitive limit which vs around q'))) (m.by limit below env around first s)
-    ∙ ap (λ r. go_on r (λ a q. mean_arguments names program limit below no_form (x ∷ a ∷ []) env around q (λ vs q'. primitive limit which vs around q'))) (n.by limit below env around second s)
-    ∙ e limit around (after [] w second)
-    ∙ ap (gives v) (after_both [] [] u w first)
-    ∙ ap (λ k. gives v (record z { printed = z.printed ++ []; units = k })) (sum_of_three z.units u w);
+      let first = charged 3 z in
+      let second = after [] u first in
+      ap (λ r. go_on r (λ a q. mean_arguments names program limit below (form_and g no_form) (a ∷ []) env around q (λ vs q'. primitive limit which vs around q'))) (m.by limit below env around first s)
+      ∙ ap (λ r. go_on r (λ a q. mean_arguments names program limit below no_form (x ∷ a ∷ []) env around q (λ vs q'. primitive limit which vs around q'))) (n.by limit below env around second s)
+      ∙ e limit around (after [] w second)
+      ∙ ap (gives v) (after_both [] [] u w first)
+      ∙ ap (λ k. gives v (record z { printed = z.printed ++ []; units = k })) (sum_of_three z.units u w);
 }
   where
     sum_of_three : (a u w : ℕ) → a + 3 + (u + w) ≡ a + (3 + u + w)
@@ -100,11 +100,11 @@ pub chosen_means : {program : Program} {f g h : Form} {v : Value} {bytes : List 
 unfolding mean
 chosen_means {program} {f} {g} {h} {v} {bytes} {u} {w} id m n = record {
   by = λ limit below env around z e.
-    let first = charged 3 z in
-    ap (λ r. go_on r (λ x q. unless_nil x (mean names program limit below g env around q) (mean_clauses names program limit below (clause_and (literal id) (with_body h) no_clause) env around q))) (m.by limit below env around first e)
-    ∙ n.by limit below env around (after [] u first) e
-    ∙ ap (gives v) (after_both [] bytes u w first)
-    ∙ ap (λ k. gives v (record z { printed = z.printed ++ bytes; units = k })) (sum_of_three z.units u w);
+      let first = charged 3 z in
+      ap (λ r. go_on r (λ x q. unless_nil x (mean names program limit below g env around q) (mean_clauses names program limit below (clause_and (literal id) (with_body h) no_clause) env around q))) (m.by limit below env around first e)
+      ∙ n.by limit below env around (after [] u first) e
+      ∙ ap (gives v) (after_both [] bytes u w first)
+      ∙ ap (λ k. gives v (record z { printed = z.printed ++ bytes; units = k })) (sum_of_three z.units u w);
 }
   where
     sum_of_three : (a u w : ℕ) → a + 3 + (u + w) ≡ a + (3 + u + w)
@@ -114,13 +114,13 @@ pub passed_means : {program : Program} {f g h : Form} {v : Value} {bytes : List 
 unfolding mean
 passed_means {program} {f} {g} {h} {v} {bytes} {u} {w} id m l n = record {
   by = λ limit below env around z e.
-    let first = charged 3 z in
-    let second = after [] u first in
-    ap (λ r. go_on r (λ x q. unless_nil x (mean names program limit below g env around q) (mean_clauses names program limit below (clause_and (literal id) (with_body h) no_clause) env around q))) (m.by limit below env around first e)
-    ∙ ap (λ r. go_on r (λ x q. unless_nil x (mean names program limit below h env around q) (mean_clauses names program limit below no_clause env around q))) (l.by limit below env around second e)
-    ∙ n.by limit below env around (after [] 1 second) e
-    ∙ ap (gives v) (after_both [] bytes 1 w second ∙ after_both [] bytes u (1 + w) first)
-    ∙ ap (λ k. gives v (record z { printed = z.printed ++ bytes; units = k })) (sum_of_three z.units u (1 + w));
+      let first = charged 3 z in
+      let second = after [] u first in
+      ap (λ r. go_on r (λ x q. unless_nil x (mean names program limit below g env around q) (mean_clauses names program limit below (clause_and (literal id) (with_body h) no_clause) env around q))) (m.by limit below env around first e)
+      ∙ ap (λ r. go_on r (λ x q. unless_nil x (mean names program limit below h env around q) (mean_clauses names program limit below no_clause env around q))) (l.by limit below env around second e)
+      ∙ n.by limit below env around (after [] 1 second) e
+      ∙ ap (gives v) (after_both [] bytes 1 w second ∙ after_both [] bytes u (1 + w) first)
+      ∙ ap (λ k. gives v (record z { printed = z.printed ++ bytes; units = k })) (sum_of_three z.units u (1 + w));
 }
   where
     sum_of_three : (a u w : ℕ) → a + 3 + (u + w) ≡ a + (3 + u + w)

@@ -1,15 +1,12 @@
 -- What the code of operands and of comparisons yields.
-use Rattle.std.proofs.Common.{◌≡◌, ◌≢◌, ℕ, ℤ, suc, ◌+◌, ◌*◌, ◌%◌, ◌^◌, ◌<◌, ◌≤◌, Bool, true, false, List, [], ◌∷◌, ◌++◌, length, refl, sym, ap, subst, ◌∙◌, arith, Some, append-nil, length-append}
+use Rattle.std.proofs.Common.{◌≡◌, ℕ, suc, ◌+◌, ◌*◌, ◌%◌, ◌^◌, ◌<◌, Bool, true, false, List, [], ◌∷◌, ◌++◌, length, refl, sym, ap, subst, ◌∙◌, arith, Some, append-nil, length-append}
 use Rattle.std.specs.Prelude.{slice_get, slice_index, slice_set, if◌then◌else◌, ◌==◌}
-use Rattle.rv_machine.specs.State.{State, register, sum32, difference32}
-use Rattle.rv_machine.specs.Decode.{decode}
-use Rattle.rv_machine.specs.declared.instruction.Instruction.{Instruction}
+use Rattle.rv_machine.specs.State.{sum32, difference32}
 use Rattle.rv_machine.specs.declared.instruction.Instruction.TheVariants.{Addi, Add, Sub, Beq, Blt, Jal}
-use Rattle.rv_machine.specs.Step.{Result, execute, less_signed, gives}
-use Rattle.rv_machine.specs.Run.{Moment, Ended, act}
+use Rattle.rv_machine.specs.Step.{less_signed}
 use Rattle.isl_top.specs.Code.{load_10, constant, nil_word, t_word, between, truth_code, move_12_from_10, move_13_from_10, add_12_and_10, subtract_10_from_12, over_four_if_same, over_four_if_less, over_three}
-use Rattle.isl_top.proofs.Runs.{at, Comes, and_on, HasAt, one, linked, moved, loaded, costs}
-use Rattle.isl_top.proofs.Yields.{Ready, ready_set, same, other, has_front, has_back, Reached, Yields}
+use Rattle.isl_top.proofs.Runs.{at, Comes, and_on, HasAt, one, linked, moved, loaded}
+use Rattle.isl_top.proofs.Yields.{Ready, ready_set, same, other, has_front, has_back, Yields}
 
 -- where the code of an operand ends: register 13 is as before, and nothing was put
 pub record Kept (arena registers printed : List ℕ) (i n size word cost : ℕ) : Type 0 where
@@ -26,13 +23,13 @@ pub record Operand (code : List ℕ) (word cost : ℕ) : Type 0 where
 pub operand_yields : {code : List ℕ} {word cost : ℕ} (before : ℕ) → Operand code word cost → Yields before code [] word cost
 operand_yields {code} {word} {cost} before o = record {
   by = λ arena registers printed i n ready held room has.
-    let k = o.by arena registers printed i n ready room has in
-    record {
-      registers' = k.registers';
-      comes = subst (λ p. Comes cost (at arena i registers printed n) (at arena (i + length code) k.registers' p (n + cost))) (sym (append-nil printed)) k.comes;
-      holds = k.holds;
-      ready = k.ready;
-    };
+      let k = o.by arena registers printed i n ready room has in
+      record {
+        registers' = k.registers';
+        comes = subst (λ p. Comes cost (at arena i registers printed n) (at arena (i + length code) k.registers' p (n + cost))) (sym (append-nil printed)) k.comes;
+        holds = k.holds;
+        ready = k.ready;
+      };
 }
 
 -- a constant changes registers 5 and 10
@@ -64,8 +61,8 @@ constant_reached arena registers printed i n word ready room has =
 pub constant_operand : (word : ℕ) → Operand (constant word) word 2
 constant_operand word = record {
   by = λ arena registers printed i n ready room has.
-    let c = constant_reached arena registers printed i n word ready room has in
-    record { registers' = c.registers'; comes = c.comes; holds = c.holds; ready = c.ready; first = c.first };
+      let c = constant_reached arena registers printed i n word ready room has in
+      record { registers' = c.registers'; comes = c.comes; holds = c.holds; ready = c.ready; first = c.first };
 }
 
 next_place : (i : ℕ) → i < 2 ^ 25 → (4 * i + 4) % 2 ^ 32 ≡ 4 * (i + 1)
@@ -76,13 +73,13 @@ moved_to_12 : (arena registers printed : List ℕ) (i n word : ℕ) → i < 2 ^ 
 moved_to_12 arena registers printed i n word b held small h =
     let v : (slice_index registers 10 + 0) % 2 ^ 32 ≡ word = omega (arith, held) in
     one arena registers printed i n move_12_from_10 (Addi 12 10 0) (at arena (i + 1) (slice_set registers 12 word) printed (n + 1)) h refl
-        (λ go_on. rw (v, next_place i b) refl)
+    (λ go_on. rw (v, next_place i b) refl)
 
 moved_to_13 : (arena registers printed : List ℕ) (i n word : ℕ) → i < 2 ^ 25 → slice_index registers 10 ≡ word → word < 2 ^ 32 → slice_get arena i ≡ Some move_13_from_10 → Comes 1 (at arena i registers printed n) (at arena (i + 1) (slice_set registers 13 word) printed (n + 1))
 moved_to_13 arena registers printed i n word b held small h =
     let v : (slice_index registers 10 + 0) % 2 ^ 32 ≡ word = omega (arith, held) in
     one arena registers printed i n move_13_from_10 (Addi 13 10 0) (at arena (i + 1) (slice_set registers 13 word) printed (n + 1)) h refl
-        (λ go_on. rw (v, next_place i b) refl)
+    (λ go_on. rw (v, next_place i b) refl)
 
 -- an operation on registers 12 and 10
 record Computes (operation : ℕ) (result : ℕ → ℕ → ℕ) : Type 0 where
@@ -91,36 +88,36 @@ record Computes (operation : ℕ) (result : ℕ → ℕ → ℕ) : Type 0 where
 adds : Computes add_12_and_10 sum32
 adds = record {
   by = λ arena registers printed i n a b room left right h.
-    one arena registers printed i n add_12_and_10 (Add 10 12 10) (at arena (i + 1) (slice_set registers 10 (sum32 a b)) printed (n + 1)) h refl
-        (λ go_on. rw (left, right, next_place i room) refl);
+      one arena registers printed i n add_12_and_10 (Add 10 12 10) (at arena (i + 1) (slice_set registers 10 (sum32 a b)) printed (n + 1)) h refl
+      (λ go_on. rw (left, right, next_place i room) refl);
 }
 
 subtracts : Computes subtract_10_from_12 difference32
 subtracts = record {
   by = λ arena registers printed i n a b room left right h.
-    one arena registers printed i n subtract_10_from_12 (Sub 10 12 10) (at arena (i + 1) (slice_set registers 10 (difference32 a b)) printed (n + 1)) h refl
-        (λ go_on. rw (left, right, next_place i room) refl);
+      one arena registers printed i n subtract_10_from_12 (Sub 10 12 10) (at arena (i + 1) (slice_set registers 10 (difference32 a b)) printed (n + 1)) h refl
+      (λ go_on. rw (left, right, next_place i room) refl);
 }
 
 computed : (operation : ℕ) (result : ℕ → ℕ → ℕ) → Computes operation result → (a b : ℕ) → a < 2 ^ 32 → Operand (between (constant a) move_12_from_10 (constant b) (operation ∷ [])) (result a b) 6
 computed operation result computes a b small = record {
   by = λ arena registers printed i n ready room has.
-    let first = constant_reached arena registers printed i n a ready (omega arith) (has_front arena i (constant a) (move_12_from_10 ∷ (constant b ++ operation ∷ [])) has) in
-    let rest = has_back arena i (constant a) (move_12_from_10 ∷ (constant b ++ operation ∷ [])) has in
-    let move = moved_to_12 arena first.registers' printed (i + 3) (n + 2) a (omega arith) first.holds small rest.0 in
-    let twelve : List ℕ = slice_set first.registers' 12 a in
-    let twelve_ready : Ready twelve = ready_set first.registers' 12 a (omega arith) first.ready in
-    let second = constant_reached arena twelve printed (i + 3 + 1) (n + 2 + 1) b twelve_ready (omega arith) (has_front arena (i + 3 + 1) (constant b) (operation ∷ []) rest.1) in
-    let last = has_back arena (i + 3 + 1) (constant b) (operation ∷ []) rest.1 in
-    let left : slice_index second.registers' 12 ≡ a = second.left ∙ same first.registers' 12 a (omega arith) first.ready in
-    let done = computes.by arena second.registers' printed (i + 3 + 1 + 3) (n + 2 + 1 + 2) a b (omega arith) left second.holds last.0 in
-    record {
-      registers' = slice_set second.registers' 10 (result a b);
-      comes = moved (i + 8) (n + 6) (omega arith) (omega arith) (and_on (and_on (and_on first.comes move) second.comes) done);
-      holds = same second.registers' 10 (result a b) (omega arith) second.ready;
-      ready = ready_set second.registers' 10 (result a b) (omega arith) second.ready;
-      first = other second.registers' 10 (result a b) 13 (omega arith) ∙ second.first ∙ other first.registers' 12 a 13 (omega arith) ∙ first.first;
-    };
+      let first = constant_reached arena registers printed i n a ready (omega arith) (has_front arena i (constant a) (move_12_from_10 ∷ (constant b ++ operation ∷ [])) has) in
+      let rest = has_back arena i (constant a) (move_12_from_10 ∷ (constant b ++ operation ∷ [])) has in
+      let move = moved_to_12 arena first.registers' printed (i + 3) (n + 2) a (omega arith) first.holds small rest.0 in
+      let twelve : List ℕ = slice_set first.registers' 12 a in
+      let twelve_ready : Ready twelve = ready_set first.registers' 12 a (omega arith) first.ready in
+      let second = constant_reached arena twelve printed (i + 3 + 1) (n + 2 + 1) b twelve_ready (omega arith) (has_front arena (i + 3 + 1) (constant b) (operation ∷ []) rest.1) in
+      let last = has_back arena (i + 3 + 1) (constant b) (operation ∷ []) rest.1 in
+      let left : slice_index second.registers' 12 ≡ a = second.left ∙ same first.registers' 12 a (omega arith) first.ready in
+      let done = computes.by arena second.registers' printed (i + 3 + 1 + 3) (n + 2 + 1 + 2) a b (omega arith) left second.holds last.0 in
+      record {
+        registers' = slice_set second.registers' 10 (result a b);
+        comes = moved (i + 8) (n + 6) (omega arith) (omega arith) (and_on (and_on (and_on first.comes move) second.comes) done);
+        holds = same second.registers' 10 (result a b) (omega arith) second.ready;
+        ready = ready_set second.registers' 10 (result a b) (omega arith) second.ready;
+        first = other second.registers' 10 (result a b) 13 (omega arith) ∙ second.first ∙ other first.registers' 12 a 13 (omega arith) ∙ first.first;
+      };
 }
 
 pub sum_operand : (a b : ℕ) → a < 2 ^ 32 → Operand (between (constant a) move_12_from_10 (constant b) (add_12_and_10 ∷ [])) (sum32 a b) 6
@@ -205,22 +202,22 @@ truth_told comparison holds compares false arena registers printed i n a b ready
 compared : (comparison : ℕ) (holds : ℕ → ℕ → Bool) → Compares comparison holds → (so : Bool) (before : ℕ) (first second : List ℕ) (a b c d : ℕ) → Operand first a c → Operand second b d → a < 2 ^ 32 → holds a b ≡ so → Yields before (between first move_13_from_10 second (truth_code comparison)) [] (truth_word so) (c + 1 + d + truth_cost so)
 compared comparison holds compares so before first second a b c d o p small e = record {
   by = λ arena registers printed i n ready held room has.
-    let tail = second ++ truth_code comparison in
-    let l : length (first ++ move_13_from_10 ∷ tail) ≡ length first + suc (length second + 8) = length-append first (move_13_from_10 ∷ tail) ∙ ap (λ x. length first + suc x) (length-append second (truth_code comparison)) in
-    let one' = o.by arena registers printed i n ready (omega (arith, l)) (has_front arena i first (move_13_from_10 ∷ tail) has) in
-    let rest = has_back arena i first (move_13_from_10 ∷ tail) has in
-    let move = moved_to_13 arena one'.registers' printed (i + length first) (n + c) a (omega (arith, l)) one'.holds small rest.0 in
-    let thirteen : List ℕ = slice_set one'.registers' 13 a in
-    let two = p.by arena thirteen printed (i + length first + 1) (n + c + 1) (ready_set one'.registers' 13 a (omega arith) one'.ready) (omega (arith, l)) (has_front arena (i + length first + 1) second (truth_code comparison) rest.1) in
-    let last = has_back arena (i + length first + 1) second (truth_code comparison) rest.1 in
-    let truth = truth_told comparison holds compares so arena two.registers' printed (i + length first + 1 + length second) (n + c + 1 + d) a b two.ready (omega (arith, l)) (two.first ∙ same one'.registers' 13 a (omega arith) one'.ready) two.holds e last in
-    record {
-      registers' = truth.registers';
-      comes = subst (λ q. Comes (c + 1 + d + truth_cost so) (at arena i registers printed n) (at arena (i + length (first ++ move_13_from_10 ∷ tail)) truth.registers' q (n + (c + 1 + d + truth_cost so)))) (sym (append-nil printed))
-          (moved (i + length (first ++ move_13_from_10 ∷ tail)) (n + (c + 1 + d + truth_cost so)) (omega (arith, l)) (omega arith) (and_on (and_on (and_on one'.comes move) two.comes) truth.comes));
-      holds = truth.holds;
-      ready = truth.ready;
-    };
+      let tail = second ++ truth_code comparison in
+      let l : length (first ++ move_13_from_10 ∷ tail) ≡ length first + suc (length second + 8) = length-append first (move_13_from_10 ∷ tail) ∙ ap (λ x. length first + suc x) (length-append second (truth_code comparison)) in
+      let one' = o.by arena registers printed i n ready (omega (arith, l)) (has_front arena i first (move_13_from_10 ∷ tail) has) in
+      let rest = has_back arena i first (move_13_from_10 ∷ tail) has in
+      let move = moved_to_13 arena one'.registers' printed (i + length first) (n + c) a (omega (arith, l)) one'.holds small rest.0 in
+      let thirteen : List ℕ = slice_set one'.registers' 13 a in
+      let two = p.by arena thirteen printed (i + length first + 1) (n + c + 1) (ready_set one'.registers' 13 a (omega arith) one'.ready) (omega (arith, l)) (has_front arena (i + length first + 1) second (truth_code comparison) rest.1) in
+      let last = has_back arena (i + length first + 1) second (truth_code comparison) rest.1 in
+      let truth = truth_told comparison holds compares so arena two.registers' printed (i + length first + 1 + length second) (n + c + 1 + d) a b two.ready (omega (arith, l)) (two.first ∙ same one'.registers' 13 a (omega arith) one'.ready) two.holds e last in
+      record {
+        registers' = truth.registers';
+        comes = subst (λ q. Comes (c + 1 + d + truth_cost so) (at arena i registers printed n) (at arena (i + length (first ++ move_13_from_10 ∷ tail)) truth.registers' q (n + (c + 1 + d + truth_cost so)))) (sym (append-nil printed))
+            (moved (i + length (first ++ move_13_from_10 ∷ tail)) (n + (c + 1 + d + truth_cost so)) (omega (arith, l)) (omega arith) (and_on (and_on (and_on one'.comes move) two.comes) truth.comes));
+        holds = truth.holds;
+        ready = truth.ready;
+      };
 }
 
 pub same_yields : (so : Bool) (before : ℕ) (first second : List ℕ) (a b c d : ℕ) → Operand first a c → Operand second b d → a < 2 ^ 32 → (a == b) ≡ so → Yields before (between first move_13_from_10 second (truth_code over_four_if_same)) [] (truth_word so) (c + 1 + d + truth_cost so)

@@ -203,9 +203,9 @@ module _ (program : Program) (site i j : ℕ) (p q : Place) (a b : ℤ) (x : Wit
     cost = 6;
     means = sited_means (two_mean Add (integer (a +ℤ b)) (literal_means program i p (Int a) h) (literal_means program j q (Int b) k) (λ limit around z. rw (within_range (a +ℤ b) (sum_within a b x y)) refl));
     operand =
-      subst (λ v. Operand (between (constant v) move_12_from_10 (constant (row_word (slice_get program.literals j))) (add_12_and_10 ∷ [])) (integer_word (a +ℤ b)) 6) (sym (ap row_word h))
-          (subst (λ w. Operand (between (constant (integer_word a)) move_12_from_10 (constant w) (add_12_and_10 ∷ [])) (integer_word (a +ℤ b)) 6) (sym (ap row_word k))
-            (subst (λ w. Operand (between (constant (integer_word a)) move_12_from_10 (constant (integer_word b)) (add_12_and_10 ∷ [])) w 6) (sum_word a b x y) (sum_operand (integer_word a) (integer_word b) (small_word a))));
+        subst (λ v. Operand (between (constant v) move_12_from_10 (constant (row_word (slice_get program.literals j))) (add_12_and_10 ∷ [])) (integer_word (a +ℤ b)) 6) (sym (ap row_word h))
+        (subst (λ w. Operand (between (constant (integer_word a)) move_12_from_10 (constant w) (add_12_and_10 ∷ [])) (integer_word (a +ℤ b)) 6) (sym (ap row_word k))
+        (subst (λ w. Operand (between (constant (integer_word a)) move_12_from_10 (constant (integer_word b)) (add_12_and_10 ∷ [])) w 6) (sum_word a b x y) (sum_operand (integer_word a) (integer_word b) (small_word a))));
     cheap = omega arith;
     forward = omega arith;
   }
@@ -219,9 +219,9 @@ module _ (program : Program) (site i j : ℕ) (p q : Place) (a b : ℤ) (x : Wit
     cost = 6;
     means = sited_means (two_mean Subtract (integer (a -ℤ b)) (literal_means program i p (Int a) h) (literal_means program j q (Int b) k) (λ limit around z. rw (within_range (a -ℤ b) (difference_within a b x y)) refl));
     operand =
-      subst (λ v. Operand (between (constant v) move_12_from_10 (constant (row_word (slice_get program.literals j))) (subtract_10_from_12 ∷ [])) (integer_word (a -ℤ b)) 6) (sym (ap row_word h))
-          (subst (λ w. Operand (between (constant (integer_word a)) move_12_from_10 (constant w) (subtract_10_from_12 ∷ [])) (integer_word (a -ℤ b)) 6) (sym (ap row_word k))
-            (subst (λ w. Operand (between (constant (integer_word a)) move_12_from_10 (constant (integer_word b)) (subtract_10_from_12 ∷ [])) w 6) (difference_word a b x y) (difference_operand (integer_word a) (integer_word b) (small_word a))));
+        subst (λ v. Operand (between (constant v) move_12_from_10 (constant (row_word (slice_get program.literals j))) (subtract_10_from_12 ∷ [])) (integer_word (a -ℤ b)) 6) (sym (ap row_word h))
+        (subst (λ w. Operand (between (constant (integer_word a)) move_12_from_10 (constant w) (subtract_10_from_12 ∷ [])) (integer_word (a -ℤ b)) 6) (sym (ap row_word k))
+        (subst (λ w. Operand (between (constant (integer_word a)) move_12_from_10 (constant (integer_word b)) (subtract_10_from_12 ∷ [])) w 6) (difference_word a b x y) (difference_operand (integer_word a) (integer_word b) (small_word a))));
     cheap = omega arith;
     forward = omega arith;
   }
@@ -278,7 +278,7 @@ choice_simulated program id p f g h e test false b s r =
     let truth_there : constant (row_word (slice_get program.literals id)) ≡ constant t_word = ap (λ x. constant (row_word x)) e in
     let others : List ℕ = clause_code (constant (row_word (slice_get program.literals id))) (form_code program.literals h) (constant nil_word) in
     let second : Yields nil_word (clause_code (constant t_word) (form_code program.literals h) (constant nil_word)) r.bytes (word_of r.v) (2 + 3 + r.cost + 4) =
-        chosen_yields nil_word (constant t_word) (form_code program.literals h) (constant nil_word) r.bytes (word_of r.v) 2 r.cost (constant_yields nil_word t_word) (r.yields t_word) in
+    chosen_yields nil_word (constant t_word) (form_code program.literals h) (constant nil_word) r.bytes (word_of r.v) 2 r.cost (constant_yields nil_word t_word) (r.yields t_word) in
     record {
       v = r.v;
       bytes = r.bytes;
@@ -378,13 +378,13 @@ found_test_simulated : (program : Program) (x : TreeValue) (t : Tables) (f : For
 found_test_simulated program x t f t' e g =
     ⊎_elim
     (λ w.
-      let a = found_operand_simulated program (with_site w.p t) w.first w.middle w.one (grew_both (operand_grew w.middle w.second t' w.two) g) in
-      let b = found_operand_simulated program w.middle w.second t' w.two g in
-      subst (SimulatesTest program) (sym w.form) (equal_simulated program (next_site t) w.first w.second a b))
+    let a = found_operand_simulated program (with_site w.p t) w.first w.middle w.one (grew_both (operand_grew w.middle w.second t' w.two) g) in
+    let b = found_operand_simulated program w.middle w.second t' w.two g in
+    subst (SimulatesTest program) (sym w.form) (equal_simulated program (next_site t) w.first w.second a b))
     (λ w.
-      let a = found_operand_simulated program (with_site w.p t) w.first w.middle w.one (grew_both (operand_grew w.middle w.second t' w.two) g) in
-      let b = found_operand_simulated program w.middle w.second t' w.two g in
-      subst (SimulatesTest program) (sym w.form) (less_simulated program (next_site t) w.first w.second a b))
+    let a = found_operand_simulated program (with_site w.p t) w.first w.middle w.one (grew_both (operand_grew w.middle w.second t' w.two) g) in
+    let b = found_operand_simulated program w.middle w.second t' w.two g in
+    subst (SimulatesTest program) (sym w.form) (less_simulated program (next_site t) w.first w.second a b))
     (was_test x t f t' e)
 
 -- the parts of an `if`
@@ -409,6 +409,7 @@ was_if_form p x a b t f t' e =
 
 mutual
   unfolding form_of
+
   -- the rows of a form come behind the rows before it
   form_grew : (x : TreeValue) (t : Tables) (f : Form) (t' : Tables) → form_of x t ≡ Some (f, t') → Grew t.literals t'.literals
   form_grew (word p w) t f t' e = integer_grew t f t' (was_integer p w t f t' e)
@@ -416,7 +417,7 @@ mutual
   form_grew (list p (tree_and (list q us) ts)) t f t' e = absurd (cc)
   form_grew (list p (tree_and (word q w) ts)) t f t' e =
       elim (was_headed (head_of w) (progn_form t (forms_of ts (with_site p t))) (format_char_form p ts t) (if_form p ts t) (sum_form Add p ts t) (sum_form Subtract p ts t) f t' e) [
-        was_progn h ↦ let m = was_made (λ fs. sited (next_site t) (sequence fs)) (forms_of ts (with_site p t)) f t' h in forms_grew ts (with_site p t) m.part t' m.found
+        | was_progn h ↦ let m = was_made (λ fs. sited (next_site t) (sequence fs)) (forms_of ts (with_site p t)) f t' h in forms_grew ts (with_site p t) m.part t' m.found
         | was_format_char h ↦ put_grew t f t' (was_put p ts t f t' h)
         | was_if h ↦ if_grew p ts t f t' h
         | was_plus h ↦ sum_grew Add t f t' (was_sum Add p ts t f t' h)
@@ -445,14 +446,15 @@ single_simulated program f s = sequence_simulated program (form_and f no_form) (
 
 mutual
   unfolding form_of
+
   pub form_simulated : (program : Program) (x : TreeValue) (t : Tables) (f : Form) (t' : Tables) → form_of x t ≡ Some (f, t') → Grew t'.literals program.literals → Simulates program f
   form_simulated program (word p w) t f t' e g = operand_simulated program f (found_integer_simulated program t f t' (was_integer p w t f t' e) g)
   form_simulated program (list p no_tree) t f t' e g = absurd (cc)
   form_simulated program (list p (tree_and (list q us) ts)) t f t' e g = absurd (cc)
   form_simulated program (list p (tree_and (word q w) ts)) t f t' e g =
       elim (was_headed (head_of w) (progn_form t (forms_of ts (with_site p t))) (format_char_form p ts t) (if_form p ts t) (sum_form Add p ts t) (sum_form Subtract p ts t) f t' e) [
-        was_progn h ↦ let m = was_made (λ fs. sited (next_site t) (sequence fs)) (forms_of ts (with_site p t)) f t' h in
-          subst (Simulates program) m.made (sited_simulated program (next_site t) (sequence m.part) (sequence_simulated program m.part (forms_simulated program ts (with_site p t) m.part t' nil m.found g)))
+        | was_progn h ↦ let m = was_made (λ fs. sited (next_site t) (sequence fs)) (forms_of ts (with_site p t)) f t' h in
+            subst (Simulates program) m.made (sited_simulated program (next_site t) (sequence m.part) (sequence_simulated program m.part (forms_simulated program ts (with_site p t) m.part t' nil m.found g)))
         | was_format_char h ↦ found_put_simulated program t f t' (was_put p ts t f t' h) g
         | was_if h ↦ if_simulated program p ts t f t' h g
         | was_plus h ↦ operand_simulated program f (found_added_simulated program t f t' (was_sum Add p ts t f t' h) g)

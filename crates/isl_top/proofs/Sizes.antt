@@ -11,7 +11,7 @@ use Rattle.isl_top.specs.declared.token.Token.{Token}
 use Rattle.isl_top.specs.declared.token.Token.TheVariants.{Open, Close, Word}
 use Rattle.isl_top.specs.Tokens.{tokens, joined, is_blank, begins_word, place_after, first_place}
 use Rattle.isl_top.specs.Trees.{TreeValue, word, list, Trees, no_tree, tree_and, spelling, spellings}
-use Rattle.isl_top.specs.Shapes.{Tables, no_tables, with_site, with_truth, next_literal, next_site, Found, as_form, head_of, format_char_form, progn_form, sum_form, test_of, choice, if_form, form_of, forms_of, program_of, program_with, Spells}
+use Rattle.isl_top.specs.Shapes.{Tables, no_tables, with_site, with_truth, next_literal, next_site, Found, as_form, head_of, format_char_form, progn_form, sum_form, test_of, choice, if_form, form_of, forms_of, program_with, Spells}
 use Rattle.isl_top.specs.Code.{constant, nil_word, clause_code, truth_code, move_13_from_10, over_four_if_same, over_four_if_less, program_code, form_code, forms_code, choose_halt, environment}
 use Rattle.isl_meaning.specs.declared.primitive.Primitive.TheVariants.{Add, Subtract, NumberEqual, NumberLess}
 use Rattle.isl_top.proofs.ChoiceCode.{placed_length}
@@ -97,14 +97,15 @@ choice_short rows site id f g h =
 
 mutual
   unfolding form_of form_code spelling
+
   form_short : (rows : List LiteralRow) (x : TreeValue) (t : Tables) (f : Form) (t' : Tables) → form_of x t ≡ Some (f, t') → length (form_code rows f) ≤ 16 * length (spelling x)
   form_short rows (word p w) t f t' e = omega (arith, integer_short rows t f t' (was_integer p w t f t' e))
   form_short rows (list p no_tree) t f t' e = absurd (cc)
   form_short rows (list p (tree_and (list q us) ts)) t f t' e = absurd (cc)
   form_short rows (list p (tree_and (word q w) ts)) t f t' e =
       elim (was_headed (head_of w) (progn_form t (forms_of ts (with_site p t))) (format_char_form p ts t) (if_form p ts t) (sum_form Add p ts t) (sum_form Subtract p ts t) f t' e) [
-        was_progn h ↦ let m = was_made (λ fs. sited (next_site t) (sequence fs)) (forms_of ts (with_site p t)) f t' h in
-          subst (λ x. length (form_code rows x) ≤ 16 * length (spelling (list p (tree_and (word q w) ts)))) m.made
+        | was_progn h ↦ let m = was_made (λ fs. sited (next_site t) (sequence fs)) (forms_of ts (with_site p t)) f t' h in
+            subst (λ x. length (form_code rows x) ≤ 16 * length (spelling (list p (tree_and (word q w) ts)))) m.made
             (omega (arith, forms_short rows ts (with_site p t) m.part t' m.found, length-append (spellings ts) (Close ∷ [])))
         | was_format_char h ↦ omega (arith, put_short rows t f t' (was_put p ts t f t' h), length-append (spellings ts) (Close ∷ []))
         | was_if h ↦ omega (arith, if_short rows p ts t f t' h, length-append (spellings ts) (Close ∷ []))
@@ -128,7 +129,7 @@ mutual
       let a = was_and (form_of x t) (λ f after. as_form (λ gs. form_and f gs) (forms_of xs after)) fs t' e in
       let m = was_made (λ gs. form_and a.part gs) (forms_of xs a.tables) fs t' a.second in
       subst (λ x'. length (forms_code rows x') ≤ 16 * length (spelling x ++ spellings xs)) m.made
-        (omega (arith, form_short rows x t a.part a.tables a.first, forms_short rows xs a.tables m.part t' m.found, length-append (form_code rows a.part) (forms_code rows m.part), length-append (spelling x) (spellings xs)))
+      (omega (arith, form_short rows x t a.part a.tables a.first, forms_short rows xs a.tables m.part t' m.found, length-append (form_code rows a.part) (forms_code rows m.part), length-append (spelling x) (spellings xs)))
 
 found_small : (trees : Trees) (program : Program) (r : Found Forms) → forms_of trees no_tables ≡ r → program_with r ≡ Some program → length (spellings trees) ≤ 4096 → length (program_code program.literals (forms program.main)) ≤ 4194304
 found_small trees program None e h b = absurd (cc)
