@@ -23,10 +23,10 @@ const HEADER: [u32; 2] = [1, 116];
 // Where the code begins, in bytes.
 const ENTRY: u32 = 8;
 
-/// The image of a program of `progn` forms and of `format-char` forms with letters (ISO/IEC
-/// 13816:2007, 14.7 and 26.4): on each machine that it fits, it prints what the program's meaning
-/// prints, and halts with the word of the meaning's value. `NoMemory` also where the image would have
-/// more than 16,777,216 words, which no arena has. The program is unchanged.
+/// The image of a program of numbers, sums, tests and characters (ISO/IEC 13816:2007, 14.7, 19.2
+/// and 26.4): on each machine that it fits, it prints what the program's meaning prints, and halts
+/// with the word of the meaning's value. `NoMemory` also where the image would have more than
+/// 16,777,216 words, which no arena has. The program is unchanged.
 pub fn first_build(alloc: Global, program: &Program) -> Result<Image, NoMemory>
     requires first { IsFirstPath program.now }
     ensures compiled { IfOk result (λ image. Compiled program.now image.words image.entry) }
