@@ -2,8 +2,8 @@
 
 use crate::answer::Answer;
 use crate::given::Given;
+use crate::problem::Problem;
 use crate::text::append;
-use anyhow::{Context, Result, bail};
 use isl_base::{Bytes, CallList};
 use std::alloc::Global;
 
@@ -26,7 +26,7 @@ impl Case {
     }
 
     /// Takes a line of the case.
-    pub fn take(&mut self, key: &str, value: &str) -> Result<()> {
+    pub fn take(&mut self, key: &str, value: &str) -> Result<(), Problem> {
         match key {
             "case" => self.title.push_str(value)?,
             "status" => self.wanted.status = value.parse()?,
@@ -39,7 +39,7 @@ impl Case {
 }
 
 // Takes a line of what the call is given.
-fn take_given(given: &mut Given, key: &str, value: &str) -> Result<()> {
+fn take_given(given: &mut Given, key: &str, value: &str) -> Result<(), Problem> {
     match key {
         "word" => given.words.push(value)?,
         "text" => append(&mut given.text, value)?,
@@ -48,14 +48,14 @@ fn take_given(given: &mut Given, key: &str, value: &str) -> Result<()> {
         "shelf_fails" => add_call(&mut given.shelf_fails, value)?,
         "out_fails" => add_call(&mut given.out_fails, value)?,
         "err_fails" => add_call(&mut given.err_fails, value)?,
-        _ => bail!("no line begins with {key:?}"),
+        _ => return Err(Problem::Key),
     }
     Ok(())
 }
 
 // Appends a text so many times, as `64 (`.
-fn append_times(bytes: &mut Bytes, value: &str) -> Result<()> {
-    let (count, text) = value.split_once(' ').context("a number of times")?;
+fn append_times(bytes: &mut Bytes, value: &str) -> Result<(), Problem> {
+    let (count, text) = value.split_once(' ').ok_or(Problem::Key)?;
     for _ in 0..count.parse::<u32>()? {
         append(bytes, text)?;
     }
@@ -63,7 +63,7 @@ fn append_times(bytes: &mut Bytes, value: &str) -> Result<()> {
 }
 
 // One more number of a call.
-fn add_call(calls: &mut CallList, value: &str) -> Result<()> {
+fn add_call(calls: &mut CallList, value: &str) -> Result<(), Problem> {
     calls.push(value.parse()?)?;
     Ok(())
 }

@@ -1,7 +1,7 @@
 // The table: one case after another, each ended by a line `end`.
 
 use crate::case::Case;
-use anyhow::{Context, Result};
+use crate::problem::Problem;
 use std::mem;
 
 /// How many cases were put, and how many of them were answered otherwise than they want.
@@ -12,7 +12,7 @@ pub struct Tally {
 }
 
 /// Puts all cases of the table, and prints a line for each.
-pub fn put_all<R: Print + AllocGlobal>(rt: &R, table: &str) -> Result<Tally> {
+pub fn put_all<R: Print + AllocGlobal>(rt: &R, table: &str) -> Result<Tally, Problem> {
     let mut tally = Tally { cases: 0, wrong: 0 };
     let mut case = Case::new(rt.alloc());
     for line in table.lines() {
@@ -21,8 +21,7 @@ pub fn put_all<R: Print + AllocGlobal>(rt: &R, table: &str) -> Result<Tally> {
             let whole = mem::replace(&mut case, Case::new(rt.alloc()));
             tally = counted(tally, put(rt, whole)?);
         } else if !is_skipped(line) {
-            case.take(key, value)
-                .context(format_args!("in the line {line:?}"))?;
+            case.take(key, value)?;
         }
     }
     Ok(tally)
@@ -42,7 +41,7 @@ fn counted(tally: Tally, is_right: bool) -> Tally {
 }
 
 // Puts the case, prints its line, and answers whether its answer is the one that it wants.
-fn put<R: Print + AllocGlobal>(rt: &R, case: Case) -> Result<bool> {
+fn put<R: Print + AllocGlobal>(rt: &R, case: Case) -> Result<bool, Problem> {
     let Case {
         title,
         given,

@@ -1,0 +1,6 @@
+(if (= (- 10 13) -3) (format-char (standard-output) #\a) (format-char (standard-output) #\b))
+(if (< -1 (- 0 1))
+    (format-char (standard-output) #\c)
+    (if (= (+ 1 4) (+ 2 3))
+        (progn (format-char (standard-output) #\d) (format-char (standard-output) #\e))
+        0))
