@@ -1,6 +1,6 @@
 // What a call gives.
 
-ghost use Rattle.std.specs.Prelude.{◌≡◌, ◌↔◌, IsTrue};
+ghost use Rattle.std.specs.Prelude.{◌≡◌, ◌↔◌, [], IsTrue};
 
 use isl_base::Bytes;
 use std::alloc::Global;
@@ -16,7 +16,11 @@ pub struct Answer {
 
 impl Answer {
     /// Status 0, with nothing printed and no line.
-    pub fn silence(alloc: Global) -> Answer {
+    pub fn silence(alloc: Global) -> Answer
+        ensures status { result.status ≡ 0 }
+        ensures printed { result.printed ≡ [] }
+        ensures line { result.line ≡ [] }
+    {
         Answer {
             status: 0,
             printed: Bytes::new(alloc),
