@@ -3,11 +3,8 @@ use Rattle.std.proofs.Common.{◌≡◌, ℕ, ◌+◌, ◌-◌, ◌*◌, ◌%◌
 use Rattle.std.specs.Prelude.{slice_get, slice_index, slice_set}
 use Rattle.rv_machine.specs.declared.instruction.Instruction.TheVariants.{Add, Bne, Jalr}
 use Rattle.isl_top.specs.Code.{load_6, load_11, add_6_to_5, go_to_5, over_jump_unless_same, jump_over, second_constant, clause_code, nil_word, t_word}
-use Rattle.isl_top.proofs.Runs.{at, Comes, and_on, HasAt, one, linked, moved, loaded}
+use Rattle.isl_top.proofs.Runs.{at, Comes, and_on, HasAt, one, linked, moved, loaded, next_place}
 use Rattle.isl_top.proofs.Yields.{Ready, ready_set, same, other, has_front, has_back, Yields}
-
-next_place : (i : ℕ) → i < 2 ^ 25 → (4 * i + 4) % 2 ^ 32 ≡ 4 * (i + 1)
-next_place i b = omega arith
 
 -- register 10 is as before
 record Passes (steps : ℕ) (arena registers printed : List ℕ) (i n i' : ℕ) : Type 0 where

@@ -1,6 +1,6 @@
 -- What a form that was found is made of: the ways back from a result to its parts.
-use Rattle.std.proofs.Common.{◌≡◌, ℕ, ℤ, ⊎_elim, ◌+◌, ◌<◌, ◌≤◌, Bool, true, false, List, [], ◌∷◌, ◌++◌, refl, sym, ap, ◌∙◌, arith, Some, None, ◌⊎◌, inl, inr, append_assoc, append-nil, leb-true}
-use Rattle.std.specs.Prelude.{Option, nat_le, ◌&&◌, if◌then◌else◌, codes}
+use Rattle.std.proofs.Common.{◌≡◌, ℕ, ℤ, ⊎_elim, ◌+◌, ◌<◌, ◌≤◌, Bool, true, false, List, [], ◌∷◌, ◌++◌, length, refl, sym, ap, ◌∙◌, arith, Some, None, ◌⊎◌, inl, inr, append_assoc, append-nil, leb-true}
+use Rattle.std.specs.Prelude.{slice_get, Option, nat_le, ◌&&◌, if◌then◌else◌, codes}
 use Rattle.std.specs.Str.{bytes_eq}
 use Rattle.isl_base.specs.declared.place.Place.{Place}
 use Rattle.isl_base.specs.declared.datum.Kind.TheVariants.{Int, Char}
@@ -13,6 +13,11 @@ use Rattle.isl_meaning.specs.Form.{Form, literal, prim, sited}
 use Rattle.isl_meaning.specs.Form.{no_form, form_and}
 use Rattle.isl_top.specs.Trees.{TreeValue, word, list, Trees, no_tree, tree_and}
 use Rattle.isl_top.specs.Shapes.{Tables, with_literal, with_site, next_literal, next_site, Found, and_then, as_form, Head, progn_head, format_char_head, if_head, plus_head, minus_head, equal_head, less_head, other_head, head_of, letter_in, put_form, format_char_form, by_head, by_sum, by_test, integer_form, sum_of, sum_form, operand_of, comparison_form, test_of}
+
+-- an item stands behind those before it
+pub at_seam : {A : Type 0} (before more : List A) (x : A) → slice_get (before ++ x ∷ more) (length before) ≡ Some x
+at_seam [] more x = refl
+at_seam (y ∷ ys) more x = at_seam ys more x
 
 -- the rows of the tables behind begin with the rows before
 pub record Grew (before after : List LiteralRow) : Type 0 where

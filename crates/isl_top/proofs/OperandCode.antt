@@ -4,9 +4,9 @@ use Rattle.std.specs.Prelude.{slice_get, slice_index, slice_set, if◌then◌els
 use Rattle.rv_machine.specs.State.{sum32, difference32}
 use Rattle.rv_machine.specs.declared.instruction.Instruction.TheVariants.{Addi, Add, Sub, Beq, Blt, Jal}
 use Rattle.rv_machine.specs.Step.{less_signed}
-use Rattle.isl_top.specs.Code.{load_10, constant, nil_word, t_word, between, truth_code, move_12_from_10, move_13_from_10, add_12_and_10, subtract_10_from_12, over_four_if_same, over_four_if_less, over_three}
-use Rattle.isl_top.proofs.Runs.{at, Comes, and_on, HasAt, one, linked, moved, loaded}
-use Rattle.isl_top.proofs.Yields.{Ready, ready_set, same, other, has_front, has_back, Yields}
+use Rattle.isl_top.specs.Code.{constant, nil_word, t_word, between, truth_code, move_12_from_10, move_13_from_10, add_12_and_10, subtract_10_from_12, over_four_if_same, over_four_if_less, over_three}
+use Rattle.isl_top.proofs.Runs.{at, Comes, and_on, HasAt, one, moved, next_place}
+use Rattle.isl_top.proofs.Yields.{Ready, ready_set, same, other, has_front, has_back, Yields, constant_reached}
 
 -- where the code of an operand ends: register 13 is as before, and nothing was put
 pub record Kept (arena registers printed : List ℕ) (i n size word cost : ℕ) : Type 0 where
@@ -32,41 +32,12 @@ operand_yields {code} {word} {cost} before o = record {
       };
 }
 
--- a constant changes registers 5 and 10
-record Constant (arena registers printed : List ℕ) (i n word : ℕ) : Type 0 where
-  registers' : List ℕ
-  comes : Comes 2 (at arena i registers printed n) (at arena (i + 3) registers' printed (n + 2))
-  holds : slice_index registers' 10 ≡ word
-  ready : Ready registers'
-  first : slice_index registers' 13 ≡ slice_index registers 13
-  left : slice_index registers' 12 ≡ slice_index registers 12
-
-constant_reached : (arena registers printed : List ℕ) (i n word : ℕ) → Ready registers → i + 3 < 2 ^ 25 → HasAt arena i (constant word) → Constant arena registers printed i n word
-constant_reached arena registers printed i n word ready room has =
-    let five : List ℕ = slice_set registers 5 (4 * (i + 1)) in
-    let five_ready : Ready five = ready_set registers 5 (4 * (i + 1)) (omega arith) ready in
-    let j : i + 1 + 1 ≡ i + 2 = omega arith in
-    let load : slice_get arena (i + 2) ≡ Some load_10 = subst (λ x. slice_get arena x ≡ Some load_10) j has.1.1.0 in
-    let a = linked arena registers printed i n (omega arith) has.0 in
-    let b = loaded arena five printed (i + 2) (n + 1) load_10 10 (i + 1) word (omega arith) (omega arith) refl load (same registers 5 (4 * (i + 1)) (omega arith) ready) has.1.0 in
-    record {
-      registers' = slice_set five 10 word;
-      comes = moved (i + 3) (n + 2) (omega arith) (omega arith) (and_on a b);
-      holds = same five 10 word (omega arith) five_ready;
-      ready = ready_set five 10 word (omega arith) five_ready;
-      first = other five 10 word 13 (omega arith) ∙ other registers 5 (4 * (i + 1)) 13 (omega arith);
-      left = other five 10 word 12 (omega arith) ∙ other registers 5 (4 * (i + 1)) 12 (omega arith);
-    }
-
 pub constant_operand : (word : ℕ) → Operand (constant word) word 2
 constant_operand word = record {
   by = λ arena registers printed i n ready room has.
       let c = constant_reached arena registers printed i n word ready room has in
       record { registers' = c.registers'; comes = c.comes; holds = c.holds; ready = c.ready; first = c.first };
 }
-
-next_place : (i : ℕ) → i < 2 ^ 25 → (4 * i + 4) % 2 ^ 32 ≡ 4 * (i + 1)
-next_place i b = omega arith
 
 -- `addi rd, x10, 0`, for the two registers that hold first operands
 moved_to_12 : (arena registers printed : List ℕ) (i n word : ℕ) → i < 2 ^ 25 → slice_index registers 10 ≡ word → word < 2 ^ 32 → slice_get arena i ≡ Some move_12_from_10 → Comes 1 (at arena i registers printed n) (at arena (i + 1) (slice_set registers 12 word) printed (n + 1))

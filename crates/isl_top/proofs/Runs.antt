@@ -50,6 +50,10 @@ one arena registers printed i n w ins m' h d e = record {
       ∙ e (run_from k);
 }
 
+-- the place of the next word
+pub next_place : (i : ℕ) → i < 2 ^ 25 → (4 * i + 4) % 2 ^ 32 ≡ 4 * (i + 1)
+next_place i b = omega arith
+
 -- the jump over a constant leaves its address in x5
 pub linked : (arena registers printed : List ℕ) (i n : ℕ) → i < 2 ^ 25 → slice_get arena i ≡ Some link_5_over_word → Comes 1 (at arena i registers printed n) (at arena (i + 2) (slice_set registers 5 (4 * (i + 1))) printed (n + 1))
 linked arena registers printed i n b h =

@@ -24,7 +24,7 @@ use Rattle.isl_top.proofs.Integers.{Within, wider, sum_within, difference_within
 use Rattle.isl_top.proofs.Mains.{MeansMains, no_mains, main_and}
 use Rattle.isl_meaning.specs.View.{forms_list}
 use Rattle.isl_meaning.specs.declared.primitive.Primitive.{Primitive}
-use Rattle.isl_top.proofs.Founds.{Grew, grew_none, grew_both, was_made, was_and, was_headed, was_progn, was_format_char, was_if, was_plus, was_minus, was_put, WasPut, WasInteger, was_integer, WasSum, was_sum, WasOperand, was_number, was_added, was_subtracted, WasComparison, was_test}
+use Rattle.isl_top.proofs.Founds.{at_seam, Grew, grew_none, grew_both, was_made, was_and, was_headed, was_progn, was_format_char, was_if, was_plus, was_minus, was_put, WasPut, WasInteger, was_integer, WasSum, was_sum, WasOperand, was_number, was_added, was_subtracted, WasComparison, was_test}
 
 -- the word of a value
 abbrev pub word_of : Value → ℕ
@@ -290,11 +290,6 @@ choice_simulated program id p f g h e test false b s r =
       forward = omega (arith, test.forward, r.forward, clause_length (form_code program.literals f) (form_code program.literals g) others, clause_length (constant (row_word (slice_get program.literals id))) (form_code program.literals h) (constant nil_word));
       plain = r.plain;
     }
-
--- an item stands behind those before it
-at_seam : {A : Type 0} (before more : List A) (x : A) → slice_get (before ++ x ∷ more) (length before) ≡ Some x
-at_seam [] more x = refl
-at_seam (y ∷ ys) more x = at_seam ys more x
 
 -- a row that was added stands where its number says
 row_there : (before rows : List LiteralRow) (r : LiteralRow) → Grew (before ++ r ∷ []) rows → slice_get rows (length before) ≡ Some r

@@ -24,7 +24,7 @@ use Rattle.isl_top.proofs.Runs.{at, Comes, HasAt, one, fetch, and_on}
 use Rattle.isl_top.proofs.Yields.{Yields, Ready, has_front, has_back, same, other, constant_yields}
 use Rattle.isl_top.proofs.Yields.{and_then as yields_then}
 use Rattle.isl_top.proofs.Mains.{MeansMains, Went}
-use Rattle.isl_top.proofs.Founds.{Grew, grew_none}
+use Rattle.isl_top.proofs.Founds.{Grew, grew_none, at_seam}
 use Rattle.isl_top.proofs.Simulates.{IsPlain, word_of, SimulatesAll, forms_simulated}
 
 -- `addi x17, x0, 0` chooses the call that halts
@@ -71,11 +71,6 @@ module _ (arena : List ℕ) (code bytes : List ℕ) (word cost : ℕ) (y : Yield
       let b = ends_after a (halted arena chosen bytes (2 + length code + 1) (0 + cost + 1) (same r.registers' 17 0 (omega arith) r.ready) last.1.0) in
       let e : Ended = record { ending = Halt (slice_index chosen 10); at = at arena (2 + length code + 1) chosen bytes (0 + cost + 1 + 1) } in
       (e, record { by = λ n h. b.by n (omega (arith, h)) }, ap Halt ten, refl, refl)
-
--- an item stands behind those before it
-at_seam : {A : Type 0} (before more : List A) (x : A) → slice_get (before ++ x ∷ more) (length before) ≡ Some x
-at_seam [] more x = refl
-at_seam (y ∷ ys) more x = at_seam ys more x
 
 -- words stand in a list that has them
 has_in : (front ws tail : List ℕ) → HasAt (front ++ (ws ++ tail)) (length front) ws

@@ -4,7 +4,7 @@ use Rattle.std.specs.Prelude.{slice_get, slice_index, slice_set}
 use Rattle.std.proofs.lemmas.List.{get_or-set_same, get_or-set_other, length-set}
 use Rattle.rv_machine.specs.declared.instruction.Instruction.TheVariants.{Addi, Ecall}
 use Rattle.isl_top.specs.Code.{load_10, constant, put_code, nil_word, choose_put, environment}
-use Rattle.isl_top.proofs.Runs.{at, Comes, stays, and_on, HasAt, one, linked, moved, loaded}
+use Rattle.isl_top.proofs.Runs.{at, Comes, stays, and_on, HasAt, one, linked, moved, loaded, next_place}
 
 -- a value in the arena from which code is read
 pub has_front : (arena : List ℕ) (i : ℕ) (a b : List ℕ) → HasAt arena i (a ++ b) → HasAt arena i a
@@ -73,27 +73,44 @@ nothing before = record {
   };
 }
 
+-- a constant changes registers 5 and 10
+pub record Constant (arena registers printed : List ℕ) (i n word : ℕ) : Type 0 where
+  pub registers' : List ℕ
+  pub comes : Comes 2 (at arena i registers printed n) (at arena (i + 3) registers' printed (n + 2))
+  pub holds : slice_index registers' 10 ≡ word
+  pub ready : Ready registers'
+  pub first : slice_index registers' 13 ≡ slice_index registers 13
+  pub left : slice_index registers' 12 ≡ slice_index registers 12
+
+pub constant_reached : (arena registers printed : List ℕ) (i n word : ℕ) → Ready registers → i + 3 < 2 ^ 25 → HasAt arena i (constant word) → Constant arena registers printed i n word
+constant_reached arena registers printed i n word ready room has =
+    let five : List ℕ = slice_set registers 5 (4 * (i + 1)) in
+    let five_ready : Ready five = ready_set registers 5 (4 * (i + 1)) (omega arith) ready in
+    let j : i + 1 + 1 ≡ i + 2 = omega arith in
+    let load : slice_get arena (i + 2) ≡ Some load_10 = subst (λ x. slice_get arena x ≡ Some load_10) j has.1.1.0 in
+    let a = linked arena registers printed i n (omega arith) has.0 in
+    let b = loaded arena five printed (i + 2) (n + 1) load_10 10 (i + 1) word (omega arith) (omega arith) refl load (same registers 5 (4 * (i + 1)) (omega arith) ready) has.1.0 in
+    record {
+      registers' = slice_set five 10 word;
+      comes = moved (i + 3) (n + 2) (omega arith) (omega arith) (and_on a b);
+      holds = same five 10 word (omega arith) five_ready;
+      ready = ready_set five 10 word (omega arith) five_ready;
+      first = other five 10 word 13 (omega arith) ∙ other registers 5 (4 * (i + 1)) 13 (omega arith);
+      left = other five 10 word 12 (omega arith) ∙ other registers 5 (4 * (i + 1)) 12 (omega arith);
+    }
+
 -- a constant is loaded
 pub constant_yields : (before word : ℕ) → Yields before (constant word) [] word 2
 constant_yields before word = record {
   by = λ arena registers printed i n ready held room has.
-      let five : List ℕ = slice_set registers 5 (4 * (i + 1)) in
-      let five_ready : Ready five = ready_set registers 5 (4 * (i + 1)) (omega arith) ready in
-      let j : i + 1 + 1 ≡ i + 2 = omega arith in
-      let load : slice_get arena (i + 2) ≡ Some load_10 = subst (λ x. slice_get arena x ≡ Some load_10) j has.1.1.0 in
-      let a = linked arena registers printed i n (omega arith) has.0 in
-      let b = loaded arena five printed (i + 2) (n + 1) load_10 10 (i + 1) word (omega arith) (omega arith) refl load (same registers 5 (4 * (i + 1)) (omega arith) ready) has.1.0 in
+      let c = constant_reached arena registers printed i n word ready room has in
       record {
-        registers' = slice_set five 10 word;
-        comes = subst (λ p. Comes 2 (at arena i registers printed n) (at arena (i + 3) (slice_set five 10 word) p (n + 2))) (sym (append-nil printed)) (moved (i + 3) (n + 2) (omega arith) (omega arith) (and_on a b));
-        holds = same five 10 word (omega arith) five_ready;
-        ready = ready_set five 10 word (omega arith) five_ready;
+        registers' = c.registers';
+        comes = subst (λ p. Comes 2 (at arena i registers printed n) (at arena (i + 3) c.registers' p (n + 2))) (sym (append-nil printed)) c.comes;
+        holds = c.holds;
+        ready = c.ready;
       };
 }
-
--- the next place, in words
-next_place : (i : ℕ) → i < 2 ^ 25 → (4 * i + 4) % 2 ^ 32 ≡ 4 * (i + 1)
-next_place i b = omega arith
 
 -- `addi x17, x0, 1` chooses the call that puts a byte
 put_chosen : (arena registers printed : List ℕ) (i n : ℕ) → i < 2 ^ 25 → Ready registers → slice_get arena i ≡ Some choose_put → Comes 1 (at arena i registers printed n) (at arena (i + 1) (slice_set registers 17 1) printed (n + 1))

@@ -8,8 +8,8 @@ use isl_base::NoMemory;
 use isl_meaning::{Clause, ClauseList, Core, CoreList, LiteralId, SiteId};
 use std::alloc::Global;
 
-/// The form of `(cond (test consequent) (t alternative))` at that site, where `truth` is the literal
-/// of t: it is that of `(if test consequent alternative)`.
+/// The form of `(if test consequent alternative)` at that site, which is that of
+/// `(cond (test consequent) (t alternative))`; `truth` is the literal of t.
 pub(crate) fn choice(
     alloc: Global,
     site: SiteId,

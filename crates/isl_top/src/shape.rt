@@ -85,8 +85,8 @@ fn sequence_form(
     Ok(Some(Core::sited(alloc, site, Core::sequence(forms))?))
 }
 
-// The form of a list that begins with `if`; none where it is not `(if T F F)`. Its site comes first,
-// and the literal of `t` before the last form.
+// The form of a list that begins with `if`; none where it is not `(if T F F)`. Its site comes
+// first, and the literal of t before the last form.
 #[cycle(shape)]
 #[tactic(auto, using(crate::proofs::Choosing::item_smaller, crate::proofs::Choosing::branches))]
 fn if_form(
