@@ -38,24 +38,71 @@ impl Given {
 
     /// What the main call answers to it.
     pub fn put(self, alloc: Global) -> Result<Answer, NoMemory> {
-        let name = Bytes::from_slice(alloc, NAME.as_bytes())?;
-        let mut shelf = MemShelf::new(name, self.text, self.shelf_fails);
-        let mut input = MemSource::new(self.input, CallList::new(alloc));
-        let mut out = MemSink::new(alloc, ROOM, self.out_fails)?;
-        let mut err = MemSink::new(alloc, ROOM, self.err_fails)?;
+        let Given {
+            words,
+            text,
+            input,
+            shelf_fails,
+            out_fails,
+            err_fails,
+        } = self;
+        let mut shelf = shelf(alloc, text, shelf_fails)?;
+        let mut outputs = Outputs::new(alloc, out_fails, err_fails)?;
+        let mut input = MemSource::new(input, CallList::new(alloc));
+        let status = outputs.call(alloc, &words, &mut shelf, &mut input);
+        outputs.answer(alloc, status)
+    }
+}
+
+// The shelf that holds the one file.
+fn shelf(alloc: Global, text: Bytes, fails: CallList) -> Result<MemShelf, NoMemory> {
+    let name = Bytes::from_slice(alloc, NAME.as_bytes())?;
+    Ok(MemShelf::new(name, text, fails))
+}
+
+// The output and the error output.
+#[derive(Drop)]
+struct Outputs {
+    out: MemSink,
+    err: MemSink,
+}
+
+impl Outputs {
+    // Outputs to which nothing was written.
+    fn new(alloc: Global, out_fails: CallList, err_fails: CallList) -> Result<Outputs, NoMemory> {
+        let out = MemSink::new(alloc, ROOM, out_fails)?;
+        let err = MemSink::new(alloc, ROOM, err_fails)?;
+        Ok(Outputs { out, err })
+    }
+
+    // The exit status of the main call, whose image is not kept.
+    fn call(
+        &mut self,
+        alloc: Global,
+        words: &Words,
+        shelf: &mut MemShelf,
+        input: &mut MemSource,
+    ) -> u8 {
         let status = isl_main(
             alloc,
-            &self.words,
-            &mut shelf,
-            &mut input,
-            &mut out,
-            &mut err,
+            words,
+            shelf,
+            input,
+            &mut self.out,
+            &mut self.err,
             &mut Kept::new(),
         );
+        status.number()
+    }
+
+    // The answer of a call with that status.
+    fn answer(&self, alloc: Global, status: u8) -> Result<Answer, NoMemory> {
+        let printed = Bytes::from_slice(alloc, self.out.bytes())?;
+        let line = Bytes::from_slice(alloc, self.err.bytes())?;
         Ok(Answer {
-            status: status.number(),
-            printed: Bytes::from_slice(alloc, out.bytes())?,
-            line: Bytes::from_slice(alloc, err.bytes())?,
+            status,
+            printed,
+            line,
         })
     }
 }
