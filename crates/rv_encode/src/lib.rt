@@ -1,0 +1,8 @@
+// The instructions of RV32IM, and their words both ways.
+#![tactic(auto)]
+
+pub mod fields;
+pub mod instruction;
+
+pub use fields::{Bits4, Immediate12, Offset13, Offset21, Register, Shift5, Upper20};
+pub use instruction::Instr;
