@@ -4,6 +4,7 @@
 pub mod encoding;
 pub mod fields;
 mod formats;
+pub mod laws;
 pub mod instruction;
 mod opcodes;
 
