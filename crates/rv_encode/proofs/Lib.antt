@@ -1,2 +1,4 @@
+pub mod Decides
 pub mod Places
 pub mod Read
+pub mod Sound

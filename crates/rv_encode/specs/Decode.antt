@@ -164,15 +164,15 @@ decode_of word =
     else if opcode word == 0b0010111 then Some (Auipc (rd word) (immediate_u word))
     else if opcode word == 0b1101111 then Some (Jal (rd word) (immediate_j word))
     else if opcode word == 0b1100111 then
-        jump_to_register (funct3 word) (rd word) (rs1 word) (immediate_i word)
+    jump_to_register (funct3 word) (rd word) (rs1 word) (immediate_i word)
     else if opcode word == 0b1100011 then branch (funct3 word) (rs1 word) (rs2 word) (immediate_b word)
     else if opcode word == 0b0000011 then load (funct3 word) (rd word) (rs1 word) (immediate_i word)
     else if opcode word == 0b0100011 then store (funct3 word) (rs2 word) (rs1 word) (immediate_s word)
     else if opcode word == 0b0010011 then
-        immediate_operation (funct7 word) (funct3 word) (rd word) (rs1 word) (rs2 word) (immediate_i word)
+    immediate_operation (funct7 word) (funct3 word) (rd word) (rs1 word) (rs2 word) (immediate_i word)
     else if opcode word == 0b0110011 then
-        operation (funct7 word) (funct3 word) (rd word) (rs1 word) (rs2 word)
+    operation (funct7 word) (funct3 word) (rd word) (rs1 word) (rs2 word)
     else if opcode word == 0b0001111 then
-        fence (funct3 word) (rd word) (rs1 word) (mode word) (predecessor word) (successor word)
+    fence (funct3 word) (rd word) (rs1 word) (mode word) (predecessor word) (successor word)
     else if opcode word == 0b1110011 then system word
     else None

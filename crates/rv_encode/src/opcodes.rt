@@ -21,6 +21,8 @@ pub const JALR: u32 = 0b1100111;
 
 pub const JAL: u32 = 0b1101111;
 
+pub const SYSTEM: u32 = 0b1110011;
+
 pub const ECALL: u32 = 0x0000_0073;
 
 pub const EBREAK: u32 = 0x0010_0073;
