@@ -9,6 +9,8 @@ pub mod instruction;
 pub mod laws;
 mod opcodes;
 mod parts;
+#[cfg(test)]
+mod tests;
 
 pub use decoding::decode;
 pub use encoding::encode;
