@@ -1,5 +1,5 @@
 -- What is read of a word is exactly the instruction that it is.
-use Rattle.std.proofs.Common.{ℕ, ◌≡◌, ◌<◌, ◌^◌, ◌∙◌, ap, sym, refl, Some, None, Option, IfSome, MatchOption}
+use Rattle.std.proofs.Common.{ℕ, ◌≡◌, ◌<◌, ◌^◌, ◌∙◌, ap, subst, sym, refl, Some, None, Option, IfSome, MatchOption}
 use Rattle.rv_encode.specs.Encodes.{Encodes, word_of}
 use Rattle.rv_encode.specs.Decode.{decode_of}
 use Rattle.rv_encode.proofs.Read.{word_of-read}
@@ -20,3 +20,8 @@ pub decides :
     (w : ℕ) → w < 2 ^ 32
     → MatchOption (decode_of w) ((i : Instr) → Encodes i w → ⊥) (λ i. Encodes i w)
 decides w h = decides_at w (decode_of w) refl (decode_of-sound w h)
+
+-- what is read of a word is that word
+pub read-Encodes : (i : Instr) (w : ℕ) → w < 2 ^ 32 → decode_of w ≡ Some i → Encodes i w
+read-Encodes i w h e =
+    let P : Option Instr → Type 0 = λ o. IfSome o (λ i. Encodes i w) in subst P e (decode_of-sound w h)

@@ -1,3 +1,4 @@
 pub mod Formats
 pub mod Encodes
 pub mod Decode
+pub mod Signed

@@ -71,22 +71,22 @@ impl Model for Shift5 {
 
 impl Shift5 {
     /// The field of a number; none where the number is out of range.
-    pub fn new(number: u32) -> Option<Self>
-        ensures { SomeIff result (number < 32) number }
+    pub fn new(amount: u32) -> Option<Self>
+        ensures { SomeIff result (amount < 32) amount }
     {
-        if number < 32 {
-            Some(Shift5 { amount: number })
+        if amount < 32 {
+            Some(Shift5 { amount })
         } else {
             None
         }
     }
 
     /// The field of a number in range.
-    pub fn of(number: u32) -> Self
-        requires { number < 32 }
-        ensures { result ≡ number }
+    pub fn of(amount: u32) -> Self
+        requires { amount < 32 }
+        ensures { result ≡ amount }
     {
-        Shift5 { amount: number }
+        Shift5 { amount }
     }
 
     /// The number.
@@ -118,22 +118,22 @@ impl Model for Bits4 {
 
 impl Bits4 {
     /// The field of a number; none where the number is out of range.
-    pub fn new(number: u32) -> Option<Self>
-        ensures { SomeIff result (number < 16) number }
+    pub fn new(bits: u32) -> Option<Self>
+        ensures { SomeIff result (bits < 16) bits }
     {
-        if number < 16 {
-            Some(Bits4 { bits: number })
+        if bits < 16 {
+            Some(Bits4 { bits })
         } else {
             None
         }
     }
 
     /// The field of a number in range.
-    pub fn of(number: u32) -> Self
-        requires { number < 16 }
-        ensures { result ≡ number }
+    pub fn of(bits: u32) -> Self
+        requires { bits < 16 }
+        ensures { result ≡ bits }
     {
-        Bits4 { bits: number }
+        Bits4 { bits }
     }
 
     /// The number.
@@ -166,22 +166,22 @@ impl Model for Immediate12 {
 
 impl Immediate12 {
     /// The field of a number; none where the number is out of range.
-    pub fn new(number: u32) -> Option<Self>
-        ensures { SomeIff result (number < 4096) number }
+    pub fn new(bits: u32) -> Option<Self>
+        ensures { SomeIff result (bits < 4096) bits }
     {
-        if number < 4096 {
-            Some(Immediate12 { bits: number })
+        if bits < 4096 {
+            Some(Immediate12 { bits })
         } else {
             None
         }
     }
 
     /// The field of a number in range.
-    pub fn of(number: u32) -> Self
-        requires { number < 4096 }
-        ensures { result ≡ number }
+    pub fn of(bits: u32) -> Self
+        requires { bits < 4096 }
+        ensures { result ≡ bits }
     {
-        Immediate12 { bits: number }
+        Immediate12 { bits }
     }
 
     /// The number.
@@ -213,22 +213,22 @@ impl Model for Upper20 {
 
 impl Upper20 {
     /// The field of a number; none where the number is out of range.
-    pub fn new(number: u32) -> Option<Self>
-        ensures { SomeIff result (number < 1048576) number }
+    pub fn new(bits: u32) -> Option<Self>
+        ensures { SomeIff result (bits < 1048576) bits }
     {
-        if number < 1048576 {
-            Some(Upper20 { bits: number })
+        if bits < 1048576 {
+            Some(Upper20 { bits })
         } else {
             None
         }
     }
 
     /// The field of a number in range.
-    pub fn of(number: u32) -> Self
-        requires { number < 1048576 }
-        ensures { result ≡ number }
+    pub fn of(bits: u32) -> Self
+        requires { bits < 1048576 }
+        ensures { result ≡ bits }
     {
-        Upper20 { bits: number }
+        Upper20 { bits }
     }
 
     /// The number.
@@ -261,22 +261,22 @@ impl Model for Offset13 {
 
 impl Offset13 {
     /// The field of a number; none where the number is out of range.
-    pub fn new(number: u32) -> Option<Self>
-        ensures { SomeIff result ((number < 8192) × (number % 2 ≡ 0)) number }
+    pub fn new(bits: u32) -> Option<Self>
+        ensures { SomeIff result ((bits < 8192) × (bits % 2 ≡ 0)) bits }
     {
-        if number < 8192 && number % 2 == 0 {
-            Some(Offset13 { bits: number })
+        if bits < 8192 && bits % 2 == 0 {
+            Some(Offset13 { bits })
         } else {
             None
         }
     }
 
     /// The field of a number in range.
-    pub fn of(number: u32) -> Self
-        requires { (number < 8192) × (number % 2 ≡ 0) }
-        ensures { result ≡ number }
+    pub fn of(bits: u32) -> Self
+        requires { (bits < 8192) × (bits % 2 ≡ 0) }
+        ensures { result ≡ bits }
     {
-        Offset13 { bits: number }
+        Offset13 { bits }
     }
 
     /// The number.
@@ -309,22 +309,22 @@ impl Model for Offset21 {
 
 impl Offset21 {
     /// The field of a number; none where the number is out of range.
-    pub fn new(number: u32) -> Option<Self>
-        ensures { SomeIff result ((number < 2097152) × (number % 2 ≡ 0)) number }
+    pub fn new(bits: u32) -> Option<Self>
+        ensures { SomeIff result ((bits < 2097152) × (bits % 2 ≡ 0)) bits }
     {
-        if number < 2097152 && number % 2 == 0 {
-            Some(Offset21 { bits: number })
+        if bits < 2097152 && bits % 2 == 0 {
+            Some(Offset21 { bits })
         } else {
             None
         }
     }
 
     /// The field of a number in range.
-    pub fn of(number: u32) -> Self
-        requires { (number < 2097152) × (number % 2 ≡ 0) }
-        ensures { result ≡ number }
+    pub fn of(bits: u32) -> Self
+        requires { (bits < 2097152) × (bits % 2 ≡ 0) }
+        ensures { result ≡ bits }
     {
-        Offset21 { bits: number }
+        Offset21 { bits }
     }
 
     /// The number.

@@ -9,6 +9,7 @@ pub mod instruction;
 pub mod laws;
 mod opcodes;
 mod parts;
+mod signed;
 #[cfg(test)]
 mod tests;
 
@@ -16,4 +17,4 @@ pub use decoding::decode;
 pub use encoding::encode;
 pub use fields::{Bits4, Immediate12, Offset13, Offset21, Register, Shift5, Upper20};
 pub use instruction::Instr;
-pub use laws::law_one_word;
+pub use laws::{law_one_word, law_read};

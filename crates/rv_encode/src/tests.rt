@@ -4,7 +4,7 @@ mod table;
 
 use crate::{
     Bits4, Immediate12, Instr, Offset13, Offset21, Register, Shift5, Upper20, decode, encode,
-    law_one_word,
+    law_one_word, law_read,
 };
 use std::test::Fail;
 use table::{
@@ -139,14 +139,22 @@ fn of_fence(fields: [u32; 5]) -> Option<Instr> {
 #[test]
 fn assembled_registers(rt: HostRuntime) -> Result<(), Fail> {
     for (mnemonic, fields, word) in REGISTERS {
+        assert_eq!(rt;
+            decode(word),
+            of_registers(mnemonic, fields),
+            "{mnemonic} {word:x}"
+        );
         let instr = of_registers(mnemonic, fields).ok_or(mnemonic)?;
         assert_eq!(rt; encode(instr), word, "{mnemonic} {word:x}");
-        assert_eq!(rt; decode(word), Some(instr), "{mnemonic} {word:x}");
     }
     for (mnemonic, fields, word) in SHIFTS {
+        assert_eq!(rt;
+            decode(word),
+            of_shift(mnemonic, fields),
+            "{mnemonic} {word:x}"
+        );
         let instr = of_shift(mnemonic, fields).ok_or(mnemonic)?;
         assert_eq!(rt; encode(instr), word, "{mnemonic} {word:x}");
-        assert_eq!(rt; decode(word), Some(instr), "{mnemonic} {word:x}");
     }
     Ok(())
 }
@@ -154,14 +162,22 @@ fn assembled_registers(rt: HostRuntime) -> Result<(), Fail> {
 #[test]
 fn assembled_immediates(rt: HostRuntime) -> Result<(), Fail> {
     for (mnemonic, fields, word) in IMMEDIATES {
+        assert_eq!(rt;
+            decode(word),
+            of_immediate(mnemonic, fields),
+            "{mnemonic} {word:x}"
+        );
         let instr = of_immediate(mnemonic, fields).ok_or(mnemonic)?;
         assert_eq!(rt; encode(instr), word, "{mnemonic} {word:x}");
-        assert_eq!(rt; decode(word), Some(instr), "{mnemonic} {word:x}");
     }
     for (mnemonic, fields, word) in LOADS {
+        assert_eq!(rt;
+            decode(word),
+            of_load(mnemonic, fields),
+            "{mnemonic} {word:x}"
+        );
         let instr = of_load(mnemonic, fields).ok_or(mnemonic)?;
         assert_eq!(rt; encode(instr), word, "{mnemonic} {word:x}");
-        assert_eq!(rt; decode(word), Some(instr), "{mnemonic} {word:x}");
     }
     Ok(())
 }
@@ -169,14 +185,22 @@ fn assembled_immediates(rt: HostRuntime) -> Result<(), Fail> {
 #[test]
 fn assembled_stores_and_branches(rt: HostRuntime) -> Result<(), Fail> {
     for (mnemonic, fields, word) in STORES {
+        assert_eq!(rt;
+            decode(word),
+            of_store(mnemonic, fields),
+            "{mnemonic} {word:x}"
+        );
         let instr = of_store(mnemonic, fields).ok_or(mnemonic)?;
         assert_eq!(rt; encode(instr), word, "{mnemonic} {word:x}");
-        assert_eq!(rt; decode(word), Some(instr), "{mnemonic} {word:x}");
     }
     for (mnemonic, fields, word) in BRANCHES {
+        assert_eq!(rt;
+            decode(word),
+            of_branch(mnemonic, fields),
+            "{mnemonic} {word:x}"
+        );
         let instr = of_branch(mnemonic, fields).ok_or(mnemonic)?;
         assert_eq!(rt; encode(instr), word, "{mnemonic} {word:x}");
-        assert_eq!(rt; decode(word), Some(instr), "{mnemonic} {word:x}");
     }
     Ok(())
 }
@@ -184,9 +208,13 @@ fn assembled_stores_and_branches(rt: HostRuntime) -> Result<(), Fail> {
 #[test]
 fn assembled_uppers_and_jumps(rt: HostRuntime) -> Result<(), Fail> {
     for (mnemonic, fields, word) in UPPERS {
+        assert_eq!(rt;
+            decode(word),
+            of_upper(mnemonic, fields),
+            "{mnemonic} {word:x}"
+        );
         let instr = of_upper(mnemonic, fields).ok_or(mnemonic)?;
         assert_eq!(rt; encode(instr), word, "{mnemonic} {word:x}");
-        assert_eq!(rt; decode(word), Some(instr), "{mnemonic} {word:x}");
     }
     Ok(())
 }
@@ -194,14 +222,14 @@ fn assembled_uppers_and_jumps(rt: HostRuntime) -> Result<(), Fail> {
 #[test]
 fn assembled_fences_and_system(rt: HostRuntime) -> Result<(), Fail> {
     for (fields, word) in FENCES {
+        assert_eq!(rt; decode(word), of_fence(fields));
         let instr = of_fence(fields).ok_or("fence")?;
         assert_eq!(rt; encode(instr), word);
-        assert_eq!(rt; decode(word), Some(instr));
     }
-    for (instr, word) in [(Instr::Ecall, 0x0000_0073), (Instr::Ebreak, 0x0010_0073)] {
-        assert_eq!(rt; encode(instr), word);
-        assert_eq!(rt; decode(word), Some(instr));
-    }
+    assert_eq!(rt; encode(Instr::Ecall), 0x0000_0073);
+    assert_eq!(rt; decode(0x0000_0073), Some(Instr::Ecall));
+    assert_eq!(rt; encode(Instr::Ebreak), 0x0010_0073);
+    assert_eq!(rt; decode(0x0010_0073), Some(Instr::Ebreak));
     Ok(())
 }
 
@@ -215,6 +243,7 @@ fn no_instructions(rt: HostRuntime) {
 #[test]
 fn written_by_hand(rt: HostRuntime) {
     law_one_word();
+    law_read();
     let x0 = Register::of(0);
     let x1 = Register::of(1);
     let x2 = Register::of(2);
@@ -300,7 +329,7 @@ fn written_by_hand(rt: HostRuntime) {
         ),
     ];
     for (instr, word) in rows {
-        assert_eq!(rt; encode(instr), word);
+        assert_eq!(rt; decode(word).map(encode), Some(word));
         assert_eq!(rt; decode(word), Some(instr));
     }
 }
@@ -315,4 +344,21 @@ fn out_of_range(rt: HostRuntime) {
     assert_eq!(rt; Offset13::new(3), None);
     assert_eq!(rt; Offset21::new(0x20_0000), None);
     assert_eq!(rt; Offset21::of(0x1f_fffe).value(), 0x1f_fffe);
+}
+
+#[test]
+fn signed_numbers(rt: HostRuntime) -> Result<(), Fail> {
+    for (number, bits) in [(-2048, 0x800), (-4, 0xffc), (0, 0), (2047, 0x7ff)] {
+        let immediate = Immediate12::from_signed(number).ok_or("immediate")?;
+        assert_eq!(rt; immediate.value(), bits);
+        assert_eq!(rt; immediate.signed(), number);
+    }
+    assert_eq!(rt; Immediate12::from_signed(2048), None);
+    assert_eq!(rt; Offset13::from_signed(-2), Some(Offset13::of(0x1ffe)));
+    assert_eq!(rt; Offset13::of(0x1000).signed(), -4096);
+    assert_eq!(rt; Offset13::from_signed(5), None);
+    assert_eq!(rt; Offset21::from_signed(-4), Some(Offset21::of(0x1f_fffc)));
+    assert_eq!(rt; Offset21::of(0x10_0000).signed(), -1_048_576);
+    assert_eq!(rt; Offset21::from_signed(1_048_576), None);
+    Ok(())
 }
