@@ -1,6 +1,6 @@
 -- What is read of a word is exactly the instruction that it is.
-use Rattle.std.proofs.Common.{ℕ, ◌≡◌, ◌<◌, ◌^◌, ◌∙◌, ap, subst, sym, refl, Some, None, Option, IfSome, MatchOption}
-use Rattle.rv_encode.specs.Encodes.{Encodes, word_of}
+use Rattle.std.proofs.Common.{ℕ, ◌≡◌, ◌<◌, ◌^◌, ◌∙◌, ap, subst, refl, Some, None, Option, IfSome, MatchOption}
+use Rattle.rv_encode.specs.Encodes.{Encodes}
 use Rattle.rv_encode.specs.Decode.{decode_of}
 use Rattle.rv_encode.proofs.Read.{word_of-read}
 use Rattle.rv_encode.proofs.Sound.{decode_of-sound}

@@ -1,6 +1,6 @@
 -- The word of an instruction is a number of 32 bits.
-use Rattle.std.proofs.Common.{ℕ, ◌≡◌, ◌+◌, ◌*◌, ◌<◌, ◌^◌, ◌/◌, ◌%◌, lit<, arith}
-use Rattle.rv_encode.specs.Formats.{bits, r_word, i_word, s_word, b_word, u_word, j_word, fence_word}
+use Rattle.std.proofs.Common.{ℕ, ◌<◌, ◌^◌, lit<, arith}
+use Rattle.rv_encode.specs.Formats.{r_word, i_word, s_word, b_word, u_word, j_word, fence_word}
 use Rattle.rv_encode.specs.Encodes.{IsInstr, IsRegister, IsEvenBelow, word_of}
 use Rattle.rv_encode.specs.declared.instruction.Instr.{Instr}
 use Rattle.rv_encode.specs.declared.instruction.Instr.TheVariants.{Lui, Auipc, Jal, Jalr, Beq, Bne, Blt, Bge, Bltu, Bgeu, Lb, Lh, Lw, Lbu, Lhu, Sb, Sh, Sw, Addi, Slti, Sltiu, Xori, Ori, Andi, Slli, Srli, Srai, Add, Sub, Sll, Slt, Sltu, Xor, Srl, Sra, Or, And, Mul, Mulh, Mulhsu, Mulhu, Div, Divu, Rem, Remu, Fence, Ecall, Ebreak}

@@ -1,7 +1,7 @@
 -- The fields of a word that is a sum of fields, and a word as the sum of its fields.
-use Rattle.std.proofs.Common.{ℕ, ◌≡◌, ◌+◌, ◌*◌, ◌<◌, ◌^◌, ◌/◌, ◌%◌, arith}
-use Rattle.rv_encode.specs.Formats.{bits, r_word, i_word, s_word, b_word, u_word, j_word, fence_word}
-use Rattle.rv_encode.specs.Encodes.{IsRegister, IsEvenBelow}
+use Rattle.std.proofs.Common.{ℕ, ◌≡◌, ◌<◌, ◌^◌, arith}
+use Rattle.rv_encode.specs.Formats.{r_word, i_word, s_word, b_word, u_word, j_word, fence_word}
+use Rattle.rv_encode.specs.Encodes.{IsEvenBelow}
 use Rattle.rv_encode.specs.Decode.{opcode, rd, funct3, rs1, rs2, funct7, mode, predecessor, successor, immediate_i, immediate_s, immediate_b, immediate_u, immediate_j}
 
 pub record HasR (word f7 r2 r1 f3 r op : ℕ) : Type 0 where

@@ -1,8 +1,7 @@
 -- The word of an instruction is read as that instruction.
-use Rattle.std.proofs.Common.{ℕ, ◌≡◌, ◌+◌, ◌*◌, ◌<◌, ◌^◌, ◌/◌, ◌%◌, lit<, refl, Some, Option, arith}
-use Rattle.rv_encode.specs.Formats.{bits, r_word, i_word, s_word, b_word, u_word, j_word, fence_word}
-use Rattle.rv_encode.specs.Encodes.{IsInstr, IsRegister, IsEvenBelow, word_of}
-use Rattle.rv_encode.specs.Decode.{opcode, rd, funct3, rs1, rs2, funct7, mode, predecessor, successor, immediate_i, immediate_s, immediate_b, immediate_u, immediate_j, branch, load, store, right_shift, immediate, base_operation, other_operation, multiplication, immediate_operation, operation, jump_to_register, fence, system, decode_of}
+use Rattle.std.proofs.Common.{ℕ, ◌≡◌, lit<, refl, Some}
+use Rattle.rv_encode.specs.Encodes.{IsInstr, word_of}
+use Rattle.rv_encode.specs.Decode.{rd, rs1, rs2, funct7, mode, predecessor, successor, immediate_i, branch, load, store, right_shift, immediate, base_operation, other_operation, multiplication, immediate_operation, operation, jump_to_register, fence, system, decode_of}
 use Rattle.rv_encode.proofs.Places.{HasR, HasI, HasS, HasB, HasU, HasJ, HasFence, r_word-has, i_word-has, s_word-has, b_word-has, u_word-has, j_word-has, fence_word-has}
 use Rattle.rv_encode.specs.declared.instruction.Instr.{Instr}
 use Rattle.rv_encode.specs.declared.instruction.Instr.TheVariants.{Lui, Auipc, Jal, Jalr, Beq, Bne, Blt, Bge, Bltu, Bgeu, Lb, Lh, Lw, Lbu, Lhu, Sb, Sh, Sw, Addi, Slti, Sltiu, Xori, Ori, Andi, Slli, Srli, Srai, Add, Sub, Sll, Slt, Sltu, Xor, Srl, Sra, Or, And, Mul, Mulh, Mulhsu, Mulhu, Div, Divu, Rem, Remu, Fence, Ecall, Ebreak}

@@ -1,11 +1,11 @@
 -- The instruction that is read of a word is that word.
-use Rattle.std.proofs.Common.{ℕ, ◌≡◌, ◌+◌, ◌*◌, ◌<◌, ◌^◌, ◌/◌, ◌%◌, ◌==◌, Bool, true, false, if◌then◌else◌, subst, Some, None, Option, IfSome, eqb-true, refl, arith}
-use Rattle.rv_encode.specs.Formats.{bits, r_word, i_word, s_word, b_word, u_word, j_word, fence_word}
-use Rattle.rv_encode.specs.Encodes.{IsInstr, IsRegister, IsEvenBelow, word_of, Encodes}
+use Rattle.std.proofs.Common.{ℕ, ◌≡◌, ◌<◌, ◌^◌, ◌==◌, Bool, true, false, if◌then◌else◌, subst, Some, None, Option, IfSome, eqb-true, refl, arith}
+use Rattle.rv_encode.specs.Formats.{r_word, i_word, s_word, b_word, u_word, j_word, fence_word}
+use Rattle.rv_encode.specs.Encodes.{IsRegister, IsEvenBelow, Encodes}
 use Rattle.rv_encode.specs.Decode.{opcode, rd, funct3, rs1, rs2, funct7, mode, predecessor, successor, immediate_i, immediate_s, immediate_b, immediate_u, immediate_j, branch, load, store, right_shift, immediate, base_operation, other_operation, multiplication, immediate_operation, operation, jump_to_register, fence, system, decode_of}
 use Rattle.rv_encode.proofs.Places.{whole_r, whole_i, whole_s, whole_b, whole_u, whole_j, whole_fence}
 use Rattle.rv_encode.specs.declared.instruction.Instr.{Instr}
-use Rattle.rv_encode.specs.declared.instruction.Instr.TheVariants.{Lui, Auipc, Jal, Jalr, Beq, Bne, Blt, Bge, Bltu, Bgeu, Lb, Lh, Lw, Lbu, Lhu, Sb, Sh, Sw, Addi, Slti, Sltiu, Xori, Ori, Andi, Slli, Srli, Srai, Add, Sub, Sll, Slt, Sltu, Xor, Srl, Sra, Or, And, Mul, Mulh, Mulhsu, Mulhu, Div, Divu, Rem, Remu, Fence, Ecall, Ebreak}
+use Rattle.rv_encode.specs.declared.instruction.Instr.TheVariants.{Slli}
 
 -- what is read is the word, if anything is
 abbrev Fits : ℕ → Option Instr → Type 0

@@ -1,5 +1,5 @@
--- Which word an instruction is (RISC-V Unprivileged ISA, chapter 2 and chapter "M"; opcodes as in the
--- chapter "RV32/64G Instruction Set Listings").
+-- Which word an instruction is (RISC-V Unprivileged ISA, 2.2 to 2.8, the M extension, and the chapter
+-- "RV32/64G Instruction Set Listings", whose tables these are).
 use Rattle.std.specs.Prelude.{ℕ, ◌≡◌, ◌<◌, ◌%◌, ◌^◌}
 use Rattle.rv_encode.specs.Formats.{r_word, i_word, s_word, b_word, u_word, j_word, fence_word}
 use Rattle.rv_encode.specs.declared.instruction.Instr.{Instr}
@@ -11,7 +11,7 @@ IsRegister number = number < 32
 abbrev pub IsEvenBelow : ℕ → ℕ → Type 0
 IsEvenBelow limit number = (number < limit) × (number % 2 ≡ 0)
 
--- the fields are in range; every instruction of the program is, by the types of its fields
+-- the fields are in range; those of every value of the type are, by the types of the fields
 abbrev pub IsInstr : Instr → Type 0
 IsInstr (Lui rd imm) = IsRegister rd × (imm < 2 ^ 20)
 IsInstr (Auipc rd imm) = IsRegister rd × (imm < 2 ^ 20)
@@ -58,7 +58,8 @@ IsInstr (Div rd rs1 rs2) = IsRegister rd × IsRegister rs1 × IsRegister rs2
 IsInstr (Divu rd rs1 rs2) = IsRegister rd × IsRegister rs1 × IsRegister rs2
 IsInstr (Rem rd rs1 rs2) = IsRegister rd × IsRegister rs1 × IsRegister rs2
 IsInstr (Remu rd rs1 rs2) = IsRegister rd × IsRegister rs1 × IsRegister rs2
-IsInstr (Fence rd rs1 mode predecessor successor) = IsRegister rd × IsRegister rs1 × (mode < 16) × (predecessor < 16) × (successor < 16)
+IsInstr (Fence rd rs1 mode predecessor successor) =
+    IsRegister rd × IsRegister rs1 × (mode < 16) × (predecessor < 16) × (successor < 16)
 IsInstr Ecall = Unit {0}
 IsInstr Ebreak = Unit {0}
 
@@ -109,7 +110,8 @@ word_of (Div rd rs1 rs2) = r_word 0b0000001 rs2 rs1 0b100 rd 0b0110011
 word_of (Divu rd rs1 rs2) = r_word 0b0000001 rs2 rs1 0b101 rd 0b0110011
 word_of (Rem rd rs1 rs2) = r_word 0b0000001 rs2 rs1 0b110 rd 0b0110011
 word_of (Remu rd rs1 rs2) = r_word 0b0000001 rs2 rs1 0b111 rd 0b0110011
-word_of (Fence rd rs1 mode predecessor successor) = fence_word mode predecessor successor rs1 0b000 rd 0b0001111
+word_of (Fence rd rs1 mode predecessor successor) =
+    fence_word mode predecessor successor rs1 0b000 rd 0b0001111
 word_of Ecall = 0x73
 word_of Ebreak = 0x100073
 

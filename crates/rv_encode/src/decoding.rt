@@ -20,6 +20,7 @@ pub fn decode(word: u32) -> Option<Instr>
     by_opcode(word)
 }
 
+// What `decode_of` reads, opcode by opcode.
 #[tactic(auto, unfolding(crate::specs::Decode::decode_of))]
 fn by_opcode(word: u32) -> Option<Instr>
     ensures { result ≡ decode_of word }
@@ -50,9 +51,11 @@ fn by_opcode(word: u32) -> Option<Instr>
     }
 }
 
+// JALR, of one funct3.
 #[tactic(auto, unfolding(crate::specs::Decode::jump_to_register))]
 fn jump_to_register(word: u32) -> Option<Instr>
-    ensures { result ≡ jump_to_register_of (funct3_of word) (rd_of word) (rs1_of word) (immediate_i_of word) }
+    ensures { result ≡ jump_to_register_of (funct3_of word) (rd_of word) (rs1_of word)
+        (immediate_i_of word) }
 {
     let rd = parts::rd(word);
     let rs1 = parts::rs1(word);
@@ -63,6 +66,7 @@ fn jump_to_register(word: u32) -> Option<Instr>
     }
 }
 
+// BRANCH, by funct3.
 #[tactic(auto, unfolding(crate::specs::Decode::branch))]
 fn branch(word: u32) -> Option<Instr>
     ensures { result ≡ branch_of (funct3_of word) (rs1_of word) (rs2_of word) (immediate_b_of word) }
@@ -81,6 +85,7 @@ fn branch(word: u32) -> Option<Instr>
     }
 }
 
+// LOAD, by funct3.
 #[tactic(auto, unfolding(crate::specs::Decode::load))]
 fn load(word: u32) -> Option<Instr>
     ensures { result ≡ load_of (funct3_of word) (rd_of word) (rs1_of word) (immediate_i_of word) }
@@ -98,6 +103,7 @@ fn load(word: u32) -> Option<Instr>
     }
 }
 
+// STORE, by funct3.
 #[tactic(auto, unfolding(crate::specs::Decode::store))]
 fn store(word: u32) -> Option<Instr>
     ensures { result ≡ store_of (funct3_of word) (rs2_of word) (rs1_of word) (immediate_s_of word) }
@@ -113,6 +119,7 @@ fn store(word: u32) -> Option<Instr>
     }
 }
 
+// OP-IMM: the shifts have a funct7 in the place of the immediate.
 #[tactic(auto, unfolding(crate::specs::Decode::immediate_operation))]
 fn immediate_operation(word: u32) -> Option<Instr>
     ensures { result ≡ immediate_operation_of (funct7_of word) (funct3_of word) (rd_of word)
@@ -130,6 +137,7 @@ fn immediate_operation(word: u32) -> Option<Instr>
     }
 }
 
+// OP-IMM with funct3 101, by funct7.
 #[tactic(auto, unfolding(crate::specs::Decode::right_shift))]
 fn right_shift(word: u32) -> Option<Instr>
     ensures { result ≡ right_shift_of (funct7_of word) (rd_of word) (rs1_of word) (rs2_of word) }
@@ -144,9 +152,11 @@ fn right_shift(word: u32) -> Option<Instr>
     }
 }
 
+// OP-IMM with an immediate, by funct3.
 #[tactic(auto, unfolding(crate::specs::Decode::immediate))]
 fn immediate(word: u32) -> Option<Instr>
-    ensures { result ≡ immediate_of (funct3_of word) (rd_of word) (rs1_of word) (immediate_i_of word) }
+    ensures { result ≡ immediate_of (funct3_of word) (rd_of word) (rs1_of word)
+        (immediate_i_of word) }
 {
     let rd = parts::rd(word);
     let rs1 = parts::rs1(word);
@@ -162,6 +172,7 @@ fn immediate(word: u32) -> Option<Instr>
     }
 }
 
+// OP, by funct7.
 #[tactic(auto, unfolding(crate::specs::Decode::operation))]
 fn operation(word: u32) -> Option<Instr>
     ensures { result ≡ operation_of (funct7_of word) (funct3_of word) (rd_of word) (rs1_of word)
@@ -175,6 +186,7 @@ fn operation(word: u32) -> Option<Instr>
     }
 }
 
+// OP with funct7 0000000, by funct3.
 #[tactic(auto, unfolding(crate::specs::Decode::base_operation))]
 fn base_operation(word: u32) -> Option<Instr>
     ensures { result ≡ base_operation_of (funct3_of word) (rd_of word) (rs1_of word) (rs2_of word) }
@@ -195,6 +207,7 @@ fn base_operation(word: u32) -> Option<Instr>
     }
 }
 
+// OP with funct7 0100000, by funct3.
 #[tactic(auto, unfolding(crate::specs::Decode::other_operation))]
 fn other_operation(word: u32) -> Option<Instr>
     ensures { result ≡ other_operation_of (funct3_of word) (rd_of word) (rs1_of word) (rs2_of word) }
@@ -209,6 +222,7 @@ fn other_operation(word: u32) -> Option<Instr>
     }
 }
 
+// OP with funct7 0000001, the M extension, by funct3.
 #[tactic(auto, unfolding(crate::specs::Decode::multiplication))]
 fn multiplication(word: u32) -> Option<Instr>
     ensures { result ≡ multiplication_of (funct3_of word) (rd_of word) (rs1_of word) (rs2_of word) }
@@ -229,6 +243,7 @@ fn multiplication(word: u32) -> Option<Instr>
     }
 }
 
+// MISC-MEM: FENCE alone.
 #[tactic(auto, unfolding(crate::specs::Decode::fence))]
 fn fence(word: u32) -> Option<Instr>
     ensures { result ≡ fence_of (funct3_of word) (rd_of word) (rs1_of word) (mode_of word)
@@ -246,6 +261,7 @@ fn fence(word: u32) -> Option<Instr>
     }
 }
 
+// SYSTEM: two words alone.
 #[tactic(auto, unfolding(crate::specs::Decode::system))]
 fn system(word: u32) -> Option<Instr>
     ensures { result ≡ system_of word }

@@ -2,7 +2,9 @@
 
 use crate::fields::{Bits4, Immediate12, Offset13, Offset21, Register, Shift5, Upper20};
 
-/// An instruction of RV32IM, with its fields. Each field is in range by its type.
+/// An instruction of RV32IM under its mnemonic, with its fields. Each field is in range by its type.
+/// `offset` is the immediate of a jump, a branch, a load or a store; of a jump and a branch it counts
+/// from the instruction's own address.
 #[derive(Clone, Copy, Debug, PartialEq, Eq)]
 pub enum Instr {
     Lui {

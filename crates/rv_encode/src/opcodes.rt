@@ -23,6 +23,7 @@ pub const JAL: u32 = 0b1101111;
 
 pub const SYSTEM: u32 = 0b1110011;
 
+// The two words of SYSTEM.
 pub const ECALL: u32 = 0x0000_0073;
 
 pub const EBREAK: u32 = 0x0010_0073;
