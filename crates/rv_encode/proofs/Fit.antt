@@ -63,27 +63,49 @@ word_of-fits (Sltiu rd rs1 imm) h = i_word-fits imm rs1 0b011 rd 0b0010011 h (li
 word_of-fits (Xori rd rs1 imm) h = i_word-fits imm rs1 0b100 rd 0b0010011 h (lit< tt) (lit< tt)
 word_of-fits (Ori rd rs1 imm) h = i_word-fits imm rs1 0b110 rd 0b0010011 h (lit< tt) (lit< tt)
 word_of-fits (Andi rd rs1 imm) h = i_word-fits imm rs1 0b111 rd 0b0010011 h (lit< tt) (lit< tt)
-word_of-fits (Slli rd rs1 shift) h = r_word-fits 0b0000000 shift rs1 0b001 rd 0b0010011 (lit< tt) h (lit< tt) (lit< tt)
-word_of-fits (Srli rd rs1 shift) h = r_word-fits 0b0000000 shift rs1 0b101 rd 0b0010011 (lit< tt) h (lit< tt) (lit< tt)
-word_of-fits (Srai rd rs1 shift) h = r_word-fits 0b0100000 shift rs1 0b101 rd 0b0010011 (lit< tt) h (lit< tt) (lit< tt)
-word_of-fits (Add rd rs1 rs2) h = r_word-fits 0b0000000 rs2 rs1 0b000 rd 0b0110011 (lit< tt) h (lit< tt) (lit< tt)
-word_of-fits (Sub rd rs1 rs2) h = r_word-fits 0b0100000 rs2 rs1 0b000 rd 0b0110011 (lit< tt) h (lit< tt) (lit< tt)
-word_of-fits (Sll rd rs1 rs2) h = r_word-fits 0b0000000 rs2 rs1 0b001 rd 0b0110011 (lit< tt) h (lit< tt) (lit< tt)
-word_of-fits (Slt rd rs1 rs2) h = r_word-fits 0b0000000 rs2 rs1 0b010 rd 0b0110011 (lit< tt) h (lit< tt) (lit< tt)
-word_of-fits (Sltu rd rs1 rs2) h = r_word-fits 0b0000000 rs2 rs1 0b011 rd 0b0110011 (lit< tt) h (lit< tt) (lit< tt)
-word_of-fits (Xor rd rs1 rs2) h = r_word-fits 0b0000000 rs2 rs1 0b100 rd 0b0110011 (lit< tt) h (lit< tt) (lit< tt)
-word_of-fits (Srl rd rs1 rs2) h = r_word-fits 0b0000000 rs2 rs1 0b101 rd 0b0110011 (lit< tt) h (lit< tt) (lit< tt)
-word_of-fits (Sra rd rs1 rs2) h = r_word-fits 0b0100000 rs2 rs1 0b101 rd 0b0110011 (lit< tt) h (lit< tt) (lit< tt)
-word_of-fits (Or rd rs1 rs2) h = r_word-fits 0b0000000 rs2 rs1 0b110 rd 0b0110011 (lit< tt) h (lit< tt) (lit< tt)
-word_of-fits (And rd rs1 rs2) h = r_word-fits 0b0000000 rs2 rs1 0b111 rd 0b0110011 (lit< tt) h (lit< tt) (lit< tt)
-word_of-fits (Mul rd rs1 rs2) h = r_word-fits 0b0000001 rs2 rs1 0b000 rd 0b0110011 (lit< tt) h (lit< tt) (lit< tt)
-word_of-fits (Mulh rd rs1 rs2) h = r_word-fits 0b0000001 rs2 rs1 0b001 rd 0b0110011 (lit< tt) h (lit< tt) (lit< tt)
-word_of-fits (Mulhsu rd rs1 rs2) h = r_word-fits 0b0000001 rs2 rs1 0b010 rd 0b0110011 (lit< tt) h (lit< tt) (lit< tt)
-word_of-fits (Mulhu rd rs1 rs2) h = r_word-fits 0b0000001 rs2 rs1 0b011 rd 0b0110011 (lit< tt) h (lit< tt) (lit< tt)
-word_of-fits (Div rd rs1 rs2) h = r_word-fits 0b0000001 rs2 rs1 0b100 rd 0b0110011 (lit< tt) h (lit< tt) (lit< tt)
-word_of-fits (Divu rd rs1 rs2) h = r_word-fits 0b0000001 rs2 rs1 0b101 rd 0b0110011 (lit< tt) h (lit< tt) (lit< tt)
-word_of-fits (Rem rd rs1 rs2) h = r_word-fits 0b0000001 rs2 rs1 0b110 rd 0b0110011 (lit< tt) h (lit< tt) (lit< tt)
-word_of-fits (Remu rd rs1 rs2) h = r_word-fits 0b0000001 rs2 rs1 0b111 rd 0b0110011 (lit< tt) h (lit< tt) (lit< tt)
-word_of-fits (Fence rd rs1 mode predecessor successor) h = fence_word-fits mode predecessor successor rs1 0b000 rd 0b0001111 h (lit< tt) (lit< tt)
+word_of-fits (Slli rd rs1 shift) h =
+    r_word-fits 0b0000000 shift rs1 0b001 rd 0b0010011 (lit< tt) h (lit< tt) (lit< tt)
+word_of-fits (Srli rd rs1 shift) h =
+    r_word-fits 0b0000000 shift rs1 0b101 rd 0b0010011 (lit< tt) h (lit< tt) (lit< tt)
+word_of-fits (Srai rd rs1 shift) h =
+    r_word-fits 0b0100000 shift rs1 0b101 rd 0b0010011 (lit< tt) h (lit< tt) (lit< tt)
+word_of-fits (Add rd rs1 rs2) h =
+    r_word-fits 0b0000000 rs2 rs1 0b000 rd 0b0110011 (lit< tt) h (lit< tt) (lit< tt)
+word_of-fits (Sub rd rs1 rs2) h =
+    r_word-fits 0b0100000 rs2 rs1 0b000 rd 0b0110011 (lit< tt) h (lit< tt) (lit< tt)
+word_of-fits (Sll rd rs1 rs2) h =
+    r_word-fits 0b0000000 rs2 rs1 0b001 rd 0b0110011 (lit< tt) h (lit< tt) (lit< tt)
+word_of-fits (Slt rd rs1 rs2) h =
+    r_word-fits 0b0000000 rs2 rs1 0b010 rd 0b0110011 (lit< tt) h (lit< tt) (lit< tt)
+word_of-fits (Sltu rd rs1 rs2) h =
+    r_word-fits 0b0000000 rs2 rs1 0b011 rd 0b0110011 (lit< tt) h (lit< tt) (lit< tt)
+word_of-fits (Xor rd rs1 rs2) h =
+    r_word-fits 0b0000000 rs2 rs1 0b100 rd 0b0110011 (lit< tt) h (lit< tt) (lit< tt)
+word_of-fits (Srl rd rs1 rs2) h =
+    r_word-fits 0b0000000 rs2 rs1 0b101 rd 0b0110011 (lit< tt) h (lit< tt) (lit< tt)
+word_of-fits (Sra rd rs1 rs2) h =
+    r_word-fits 0b0100000 rs2 rs1 0b101 rd 0b0110011 (lit< tt) h (lit< tt) (lit< tt)
+word_of-fits (Or rd rs1 rs2) h =
+    r_word-fits 0b0000000 rs2 rs1 0b110 rd 0b0110011 (lit< tt) h (lit< tt) (lit< tt)
+word_of-fits (And rd rs1 rs2) h =
+    r_word-fits 0b0000000 rs2 rs1 0b111 rd 0b0110011 (lit< tt) h (lit< tt) (lit< tt)
+word_of-fits (Mul rd rs1 rs2) h =
+    r_word-fits 0b0000001 rs2 rs1 0b000 rd 0b0110011 (lit< tt) h (lit< tt) (lit< tt)
+word_of-fits (Mulh rd rs1 rs2) h =
+    r_word-fits 0b0000001 rs2 rs1 0b001 rd 0b0110011 (lit< tt) h (lit< tt) (lit< tt)
+word_of-fits (Mulhsu rd rs1 rs2) h =
+    r_word-fits 0b0000001 rs2 rs1 0b010 rd 0b0110011 (lit< tt) h (lit< tt) (lit< tt)
+word_of-fits (Mulhu rd rs1 rs2) h =
+    r_word-fits 0b0000001 rs2 rs1 0b011 rd 0b0110011 (lit< tt) h (lit< tt) (lit< tt)
+word_of-fits (Div rd rs1 rs2) h =
+    r_word-fits 0b0000001 rs2 rs1 0b100 rd 0b0110011 (lit< tt) h (lit< tt) (lit< tt)
+word_of-fits (Divu rd rs1 rs2) h =
+    r_word-fits 0b0000001 rs2 rs1 0b101 rd 0b0110011 (lit< tt) h (lit< tt) (lit< tt)
+word_of-fits (Rem rd rs1 rs2) h =
+    r_word-fits 0b0000001 rs2 rs1 0b110 rd 0b0110011 (lit< tt) h (lit< tt) (lit< tt)
+word_of-fits (Remu rd rs1 rs2) h =
+    r_word-fits 0b0000001 rs2 rs1 0b111 rd 0b0110011 (lit< tt) h (lit< tt) (lit< tt)
+word_of-fits (Fence rd rs1 mode predecessor successor) h =
+    fence_word-fits mode predecessor successor rs1 0b000 rd 0b0001111 h (lit< tt) (lit< tt)
 word_of-fits Ecall h = lit< tt
 word_of-fits Ebreak h = lit< tt

@@ -27,12 +27,14 @@ branch-sound :
     → w ≡ b_word imm r2 r1 f3 0b1100011 → Fits w (branch f3 r1 r2 imm)
 unfolding branch
 branch-sound w f3 r1 r2 imm h1 h2 hi h =
-    if_equal (Fits w) f3 0b000 (λ e. ((h1, h2, hi), let Q : ℕ → Type 0 = λ k. w ≡ b_word imm r2 r1 k 0b1100011 in subst Q e h))
-    (if_equal (Fits w) f3 0b001 (λ e. ((h1, h2, hi), let Q : ℕ → Type 0 = λ k. w ≡ b_word imm r2 r1 k 0b1100011 in subst Q e h))
-    (if_equal (Fits w) f3 0b100 (λ e. ((h1, h2, hi), let Q : ℕ → Type 0 = λ k. w ≡ b_word imm r2 r1 k 0b1100011 in subst Q e h))
-    (if_equal (Fits w) f3 0b101 (λ e. ((h1, h2, hi), let Q : ℕ → Type 0 = λ k. w ≡ b_word imm r2 r1 k 0b1100011 in subst Q e h))
-    (if_equal (Fits w) f3 0b110 (λ e. ((h1, h2, hi), let Q : ℕ → Type 0 = λ k. w ≡ b_word imm r2 r1 k 0b1100011 in subst Q e h))
-    (if_equal (Fits w) f3 0b111 (λ e. ((h1, h2, hi), let Q : ℕ → Type 0 = λ k. w ≡ b_word imm r2 r1 k 0b1100011 in subst Q e h))
+    let Q : ℕ → Type 0 = λ k. w ≡ b_word imm r2 r1 k 0b1100011 in
+    let at : (k : ℕ) → f3 ≡ k → Q k = λ k e. subst Q e h in
+    if_equal (Fits w) f3 0b000 (λ e. ((h1, h2, hi), at 0b000 e))
+    (if_equal (Fits w) f3 0b001 (λ e. ((h1, h2, hi), at 0b001 e))
+    (if_equal (Fits w) f3 0b100 (λ e. ((h1, h2, hi), at 0b100 e))
+    (if_equal (Fits w) f3 0b101 (λ e. ((h1, h2, hi), at 0b101 e))
+    (if_equal (Fits w) f3 0b110 (λ e. ((h1, h2, hi), at 0b110 e))
+    (if_equal (Fits w) f3 0b111 (λ e. ((h1, h2, hi), at 0b111 e))
     tt)))))
 
 load-sound :
@@ -40,11 +42,13 @@ load-sound :
     → w ≡ i_word imm r1 f3 r 0b0000011 → Fits w (load f3 r r1 imm)
 unfolding load
 load-sound w f3 r r1 imm hr h1 hi h =
-    if_equal (Fits w) f3 0b000 (λ e. ((hr, h1, hi), let Q : ℕ → Type 0 = λ k. w ≡ i_word imm r1 k r 0b0000011 in subst Q e h))
-    (if_equal (Fits w) f3 0b001 (λ e. ((hr, h1, hi), let Q : ℕ → Type 0 = λ k. w ≡ i_word imm r1 k r 0b0000011 in subst Q e h))
-    (if_equal (Fits w) f3 0b010 (λ e. ((hr, h1, hi), let Q : ℕ → Type 0 = λ k. w ≡ i_word imm r1 k r 0b0000011 in subst Q e h))
-    (if_equal (Fits w) f3 0b100 (λ e. ((hr, h1, hi), let Q : ℕ → Type 0 = λ k. w ≡ i_word imm r1 k r 0b0000011 in subst Q e h))
-    (if_equal (Fits w) f3 0b101 (λ e. ((hr, h1, hi), let Q : ℕ → Type 0 = λ k. w ≡ i_word imm r1 k r 0b0000011 in subst Q e h))
+    let Q : ℕ → Type 0 = λ k. w ≡ i_word imm r1 k r 0b0000011 in
+    let at : (k : ℕ) → f3 ≡ k → Q k = λ k e. subst Q e h in
+    if_equal (Fits w) f3 0b000 (λ e. ((hr, h1, hi), at 0b000 e))
+    (if_equal (Fits w) f3 0b001 (λ e. ((hr, h1, hi), at 0b001 e))
+    (if_equal (Fits w) f3 0b010 (λ e. ((hr, h1, hi), at 0b010 e))
+    (if_equal (Fits w) f3 0b100 (λ e. ((hr, h1, hi), at 0b100 e))
+    (if_equal (Fits w) f3 0b101 (λ e. ((hr, h1, hi), at 0b101 e))
     tt))))
 
 jump_to_register-sound :
@@ -52,7 +56,9 @@ jump_to_register-sound :
     → w ≡ i_word imm r1 f3 r 0b1100111 → Fits w (jump_to_register f3 r r1 imm)
 unfolding jump_to_register
 jump_to_register-sound w f3 r r1 imm hr h1 hi h =
-    if_equal (Fits w) f3 0b000 (λ e. ((hr, h1, hi), let Q : ℕ → Type 0 = λ k. w ≡ i_word imm r1 k r 0b1100111 in subst Q e h))
+    let Q : ℕ → Type 0 = λ k. w ≡ i_word imm r1 k r 0b1100111 in
+    let at : (k : ℕ) → f3 ≡ k → Q k = λ k e. subst Q e h in
+    if_equal (Fits w) f3 0b000 (λ e. ((hr, h1, hi), at 0b000 e))
     tt
 
 immediate-sound :
@@ -60,12 +66,14 @@ immediate-sound :
     → w ≡ i_word imm r1 f3 r 0b0010011 → Fits w (immediate f3 r r1 imm)
 unfolding immediate
 immediate-sound w f3 r r1 imm hr h1 hi h =
-    if_equal (Fits w) f3 0b000 (λ e. ((hr, h1, hi), let Q : ℕ → Type 0 = λ k. w ≡ i_word imm r1 k r 0b0010011 in subst Q e h))
-    (if_equal (Fits w) f3 0b010 (λ e. ((hr, h1, hi), let Q : ℕ → Type 0 = λ k. w ≡ i_word imm r1 k r 0b0010011 in subst Q e h))
-    (if_equal (Fits w) f3 0b011 (λ e. ((hr, h1, hi), let Q : ℕ → Type 0 = λ k. w ≡ i_word imm r1 k r 0b0010011 in subst Q e h))
-    (if_equal (Fits w) f3 0b100 (λ e. ((hr, h1, hi), let Q : ℕ → Type 0 = λ k. w ≡ i_word imm r1 k r 0b0010011 in subst Q e h))
-    (if_equal (Fits w) f3 0b110 (λ e. ((hr, h1, hi), let Q : ℕ → Type 0 = λ k. w ≡ i_word imm r1 k r 0b0010011 in subst Q e h))
-    (if_equal (Fits w) f3 0b111 (λ e. ((hr, h1, hi), let Q : ℕ → Type 0 = λ k. w ≡ i_word imm r1 k r 0b0010011 in subst Q e h))
+    let Q : ℕ → Type 0 = λ k. w ≡ i_word imm r1 k r 0b0010011 in
+    let at : (k : ℕ) → f3 ≡ k → Q k = λ k e. subst Q e h in
+    if_equal (Fits w) f3 0b000 (λ e. ((hr, h1, hi), at 0b000 e))
+    (if_equal (Fits w) f3 0b010 (λ e. ((hr, h1, hi), at 0b010 e))
+    (if_equal (Fits w) f3 0b011 (λ e. ((hr, h1, hi), at 0b011 e))
+    (if_equal (Fits w) f3 0b100 (λ e. ((hr, h1, hi), at 0b100 e))
+    (if_equal (Fits w) f3 0b110 (λ e. ((hr, h1, hi), at 0b110 e))
+    (if_equal (Fits w) f3 0b111 (λ e. ((hr, h1, hi), at 0b111 e))
     tt)))))
 
 store-sound :
@@ -73,9 +81,11 @@ store-sound :
     → w ≡ s_word imm r2 r1 f3 0b0100011 → Fits w (store f3 r2 r1 imm)
 unfolding store
 store-sound w f3 r2 r1 imm h2 h1 hi h =
-    if_equal (Fits w) f3 0b000 (λ e. ((h2, h1, hi), let Q : ℕ → Type 0 = λ k. w ≡ s_word imm r2 r1 k 0b0100011 in subst Q e h))
-    (if_equal (Fits w) f3 0b001 (λ e. ((h2, h1, hi), let Q : ℕ → Type 0 = λ k. w ≡ s_word imm r2 r1 k 0b0100011 in subst Q e h))
-    (if_equal (Fits w) f3 0b010 (λ e. ((h2, h1, hi), let Q : ℕ → Type 0 = λ k. w ≡ s_word imm r2 r1 k 0b0100011 in subst Q e h))
+    let Q : ℕ → Type 0 = λ k. w ≡ s_word imm r2 r1 k 0b0100011 in
+    let at : (k : ℕ) → f3 ≡ k → Q k = λ k e. subst Q e h in
+    if_equal (Fits w) f3 0b000 (λ e. ((h2, h1, hi), at 0b000 e))
+    (if_equal (Fits w) f3 0b001 (λ e. ((h2, h1, hi), at 0b001 e))
+    (if_equal (Fits w) f3 0b010 (λ e. ((h2, h1, hi), at 0b010 e))
     tt))
 
 base_operation-sound :
@@ -83,14 +93,16 @@ base_operation-sound :
     → w ≡ r_word 0b0000000 r2 r1 f3 r 0b0110011 → Fits w (base_operation f3 r r1 r2)
 unfolding base_operation
 base_operation-sound w f3 r r1 r2 hr h1 h2 h =
-    if_equal (Fits w) f3 0b000 (λ e. ((hr, h1, h2), let Q : ℕ → Type 0 = λ k. w ≡ r_word 0b0000000 r2 r1 k r 0b0110011 in subst Q e h))
-    (if_equal (Fits w) f3 0b001 (λ e. ((hr, h1, h2), let Q : ℕ → Type 0 = λ k. w ≡ r_word 0b0000000 r2 r1 k r 0b0110011 in subst Q e h))
-    (if_equal (Fits w) f3 0b010 (λ e. ((hr, h1, h2), let Q : ℕ → Type 0 = λ k. w ≡ r_word 0b0000000 r2 r1 k r 0b0110011 in subst Q e h))
-    (if_equal (Fits w) f3 0b011 (λ e. ((hr, h1, h2), let Q : ℕ → Type 0 = λ k. w ≡ r_word 0b0000000 r2 r1 k r 0b0110011 in subst Q e h))
-    (if_equal (Fits w) f3 0b100 (λ e. ((hr, h1, h2), let Q : ℕ → Type 0 = λ k. w ≡ r_word 0b0000000 r2 r1 k r 0b0110011 in subst Q e h))
-    (if_equal (Fits w) f3 0b101 (λ e. ((hr, h1, h2), let Q : ℕ → Type 0 = λ k. w ≡ r_word 0b0000000 r2 r1 k r 0b0110011 in subst Q e h))
-    (if_equal (Fits w) f3 0b110 (λ e. ((hr, h1, h2), let Q : ℕ → Type 0 = λ k. w ≡ r_word 0b0000000 r2 r1 k r 0b0110011 in subst Q e h))
-    (if_equal (Fits w) f3 0b111 (λ e. ((hr, h1, h2), let Q : ℕ → Type 0 = λ k. w ≡ r_word 0b0000000 r2 r1 k r 0b0110011 in subst Q e h))
+    let Q : ℕ → Type 0 = λ k. w ≡ r_word 0b0000000 r2 r1 k r 0b0110011 in
+    let at : (k : ℕ) → f3 ≡ k → Q k = λ k e. subst Q e h in
+    if_equal (Fits w) f3 0b000 (λ e. ((hr, h1, h2), at 0b000 e))
+    (if_equal (Fits w) f3 0b001 (λ e. ((hr, h1, h2), at 0b001 e))
+    (if_equal (Fits w) f3 0b010 (λ e. ((hr, h1, h2), at 0b010 e))
+    (if_equal (Fits w) f3 0b011 (λ e. ((hr, h1, h2), at 0b011 e))
+    (if_equal (Fits w) f3 0b100 (λ e. ((hr, h1, h2), at 0b100 e))
+    (if_equal (Fits w) f3 0b101 (λ e. ((hr, h1, h2), at 0b101 e))
+    (if_equal (Fits w) f3 0b110 (λ e. ((hr, h1, h2), at 0b110 e))
+    (if_equal (Fits w) f3 0b111 (λ e. ((hr, h1, h2), at 0b111 e))
     tt)))))))
 
 other_operation-sound :
@@ -98,8 +110,10 @@ other_operation-sound :
     → w ≡ r_word 0b0100000 r2 r1 f3 r 0b0110011 → Fits w (other_operation f3 r r1 r2)
 unfolding other_operation
 other_operation-sound w f3 r r1 r2 hr h1 h2 h =
-    if_equal (Fits w) f3 0b000 (λ e. ((hr, h1, h2), let Q : ℕ → Type 0 = λ k. w ≡ r_word 0b0100000 r2 r1 k r 0b0110011 in subst Q e h))
-    (if_equal (Fits w) f3 0b101 (λ e. ((hr, h1, h2), let Q : ℕ → Type 0 = λ k. w ≡ r_word 0b0100000 r2 r1 k r 0b0110011 in subst Q e h))
+    let Q : ℕ → Type 0 = λ k. w ≡ r_word 0b0100000 r2 r1 k r 0b0110011 in
+    let at : (k : ℕ) → f3 ≡ k → Q k = λ k e. subst Q e h in
+    if_equal (Fits w) f3 0b000 (λ e. ((hr, h1, h2), at 0b000 e))
+    (if_equal (Fits w) f3 0b101 (λ e. ((hr, h1, h2), at 0b101 e))
     tt)
 
 multiplication-sound :
@@ -107,14 +121,16 @@ multiplication-sound :
     → w ≡ r_word 0b0000001 r2 r1 f3 r 0b0110011 → Fits w (multiplication f3 r r1 r2)
 unfolding multiplication
 multiplication-sound w f3 r r1 r2 hr h1 h2 h =
-    if_equal (Fits w) f3 0b000 (λ e. ((hr, h1, h2), let Q : ℕ → Type 0 = λ k. w ≡ r_word 0b0000001 r2 r1 k r 0b0110011 in subst Q e h))
-    (if_equal (Fits w) f3 0b001 (λ e. ((hr, h1, h2), let Q : ℕ → Type 0 = λ k. w ≡ r_word 0b0000001 r2 r1 k r 0b0110011 in subst Q e h))
-    (if_equal (Fits w) f3 0b010 (λ e. ((hr, h1, h2), let Q : ℕ → Type 0 = λ k. w ≡ r_word 0b0000001 r2 r1 k r 0b0110011 in subst Q e h))
-    (if_equal (Fits w) f3 0b011 (λ e. ((hr, h1, h2), let Q : ℕ → Type 0 = λ k. w ≡ r_word 0b0000001 r2 r1 k r 0b0110011 in subst Q e h))
-    (if_equal (Fits w) f3 0b100 (λ e. ((hr, h1, h2), let Q : ℕ → Type 0 = λ k. w ≡ r_word 0b0000001 r2 r1 k r 0b0110011 in subst Q e h))
-    (if_equal (Fits w) f3 0b101 (λ e. ((hr, h1, h2), let Q : ℕ → Type 0 = λ k. w ≡ r_word 0b0000001 r2 r1 k r 0b0110011 in subst Q e h))
-    (if_equal (Fits w) f3 0b110 (λ e. ((hr, h1, h2), let Q : ℕ → Type 0 = λ k. w ≡ r_word 0b0000001 r2 r1 k r 0b0110011 in subst Q e h))
-    (if_equal (Fits w) f3 0b111 (λ e. ((hr, h1, h2), let Q : ℕ → Type 0 = λ k. w ≡ r_word 0b0000001 r2 r1 k r 0b0110011 in subst Q e h))
+    let Q : ℕ → Type 0 = λ k. w ≡ r_word 0b0000001 r2 r1 k r 0b0110011 in
+    let at : (k : ℕ) → f3 ≡ k → Q k = λ k e. subst Q e h in
+    if_equal (Fits w) f3 0b000 (λ e. ((hr, h1, h2), at 0b000 e))
+    (if_equal (Fits w) f3 0b001 (λ e. ((hr, h1, h2), at 0b001 e))
+    (if_equal (Fits w) f3 0b010 (λ e. ((hr, h1, h2), at 0b010 e))
+    (if_equal (Fits w) f3 0b011 (λ e. ((hr, h1, h2), at 0b011 e))
+    (if_equal (Fits w) f3 0b100 (λ e. ((hr, h1, h2), at 0b100 e))
+    (if_equal (Fits w) f3 0b101 (λ e. ((hr, h1, h2), at 0b101 e))
+    (if_equal (Fits w) f3 0b110 (λ e. ((hr, h1, h2), at 0b110 e))
+    (if_equal (Fits w) f3 0b111 (λ e. ((hr, h1, h2), at 0b111 e))
     tt)))))))
 
 right_shift-sound :
@@ -122,8 +138,10 @@ right_shift-sound :
     → w ≡ r_word f7 r2 r1 0b101 r 0b0010011 → Fits w (right_shift f7 r r1 r2)
 unfolding right_shift
 right_shift-sound w f7 r r1 r2 hr h1 h2 h =
-    if_equal (Fits w) f7 0b0000000 (λ e. ((hr, h1, h2), let Q : ℕ → Type 0 = λ k. w ≡ r_word k r2 r1 0b101 r 0b0010011 in subst Q e h))
-    (if_equal (Fits w) f7 0b0100000 (λ e. ((hr, h1, h2), let Q : ℕ → Type 0 = λ k. w ≡ r_word k r2 r1 0b101 r 0b0010011 in subst Q e h))
+    let Q : ℕ → Type 0 = λ k. w ≡ r_word k r2 r1 0b101 r 0b0010011 in
+    let at : (k : ℕ) → f7 ≡ k → Q k = λ k e. subst Q e h in
+    if_equal (Fits w) f7 0b0000000 (λ e. ((hr, h1, h2), at 0b0000000 e))
+    (if_equal (Fits w) f7 0b0100000 (λ e. ((hr, h1, h2), at 0b0100000 e))
     tt)
 
 operation-sound :
@@ -131,9 +149,11 @@ operation-sound :
     → w ≡ r_word f7 r2 r1 f3 r 0b0110011 → Fits w (operation f7 f3 r r1 r2)
 unfolding operation
 operation-sound w f7 f3 r r1 r2 hr h1 h2 h =
-    if_equal (Fits w) f7 0b0000000 (λ e. base_operation-sound w f3 r r1 r2 hr h1 h2 (let Q : ℕ → Type 0 = λ k. w ≡ r_word k r2 r1 f3 r 0b0110011 in subst Q e h))
-    (if_equal (Fits w) f7 0b0100000 (λ e. other_operation-sound w f3 r r1 r2 hr h1 h2 (let Q : ℕ → Type 0 = λ k. w ≡ r_word k r2 r1 f3 r 0b0110011 in subst Q e h))
-    (if_equal (Fits w) f7 0b0000001 (λ e. multiplication-sound w f3 r r1 r2 hr h1 h2 (let Q : ℕ → Type 0 = λ k. w ≡ r_word k r2 r1 f3 r 0b0110011 in subst Q e h))
+    let Q : ℕ → Type 0 = λ k. w ≡ r_word k r2 r1 f3 r 0b0110011 in
+    let at : (k : ℕ) → f7 ≡ k → Q k = λ k e. subst Q e h in
+    if_equal (Fits w) f7 0b0000000 (λ e. base_operation-sound w f3 r r1 r2 hr h1 h2 (at 0b0000000 e))
+    (if_equal (Fits w) f7 0b0100000 (λ e. other_operation-sound w f3 r r1 r2 hr h1 h2 (at 0b0100000 e))
+    (if_equal (Fits w) f7 0b0000001 (λ e. multiplication-sound w f3 r r1 r2 hr h1 h2 (at 0b0000001 e))
     tt))
 
 slli-sound :
@@ -141,8 +161,8 @@ slli-sound :
     → w ≡ r_word f7 r2 r1 0b001 r 0b0010011
     → Fits w (if f7 == 0b0000000 then Some (Slli r r1 r2) else None)
 slli-sound w f7 r r1 r2 hr h1 h2 h =
-    if_equal (Fits w) f7 0b0000000
-    (λ e. ((hr, h1, h2), let Q : ℕ → Type 0 = λ k. w ≡ r_word k r2 r1 0b001 r 0b0010011 in subst Q e h)) tt
+    let Q : ℕ → Type 0 = λ k. w ≡ r_word k r2 r1 0b001 r 0b0010011 in
+    if_equal (Fits w) f7 0b0000000 (λ e. ((hr, h1, h2), subst Q e h)) tt
 
 immediate_operation-sound :
     (w f7 f3 r r1 r2 imm : ℕ) → IsRegister r → IsRegister r1 → IsRegister r2 → imm < 4096
@@ -160,8 +180,8 @@ fence-sound :
     → w ≡ fence_word m p s r1 f3 r 0b0001111 → Fits w (fence f3 r r1 m p s)
 unfolding fence
 fence-sound w f3 r r1 m p s hr h1 hm hp hs h =
-    if_equal (Fits w) f3 0b000
-    (λ e. ((hr, h1, hm, hp, hs), let Q : ℕ → Type 0 = λ k. w ≡ fence_word m p s r1 k r 0b0001111 in subst Q e h)) tt
+    let Q : ℕ → Type 0 = λ k. w ≡ fence_word m p s r1 k r 0b0001111 in
+    if_equal (Fits w) f3 0b000 (λ e. ((hr, h1, hm, hp, hs), subst Q e h)) tt
 
 system-sound : (w : ℕ) → Fits w (system w)
 unfolding system
@@ -197,23 +217,27 @@ decode_of-sound w h =
     let OfS : ℕ → Type 0 = λ k. w ≡ s_word (immediate_s w) (rs2 w) (rs1 w) (funct3 w) k in
     let OfB : ℕ → Type 0 = λ k. w ≡ b_word (immediate_b w) (rs2 w) (rs1 w) (funct3 w) k in
     let OfR : ℕ → Type 0 = λ k. w ≡ r_word (funct7 w) (rs2 w) (rs1 w) (funct3 w) (rd w) k in
-    let OfFence : ℕ → Type 0 = λ k. w ≡ fence_word (mode w) (predecessor w) (successor w) (rs1 w) (funct3 w) (rd w) k in
+    let OfFence : ℕ → Type 0 =
+    λ k. w ≡ fence_word (mode w) (predecessor w) (successor w) (rs1 w) (funct3 w) (rd w) k in
     if_equal (Fits w) (opcode w) 0b0110111 (λ e. ((d, u), subst OfU e (whole_u w h)))
     (if_equal (Fits w) (opcode w) 0b0010111 (λ e. ((d, u), subst OfU e (whole_u w h)))
     (if_equal (Fits w) (opcode w) 0b1101111 (λ e. ((d, even_j w), subst OfJ e (whole_j w h)))
     (if_equal (Fits w) (opcode w) 0b1100111
-    (λ e. jump_to_register-sound w (funct3 w) (rd w) (rs1 w) (immediate_i w) d s i (subst OfI e (whole_i w h)))
+    (λ e. jump_to_register-sound w (funct3 w) (rd w) (rs1 w) (immediate_i w) d s i
+    (subst OfI e (whole_i w h)))
     (if_equal (Fits w) (opcode w) 0b1100011
-    (λ e. branch-sound w (funct3 w) (rs1 w) (rs2 w) (immediate_b w) s t (even_b w) (subst OfB e (whole_b w h)))
+    (λ e. branch-sound w (funct3 w) (rs1 w) (rs2 w) (immediate_b w) s t (even_b w)
+    (subst OfB e (whole_b w h)))
     (if_equal (Fits w) (opcode w) 0b0000011
     (λ e. load-sound w (funct3 w) (rd w) (rs1 w) (immediate_i w) d s i (subst OfI e (whole_i w h)))
     (if_equal (Fits w) (opcode w) 0b0100011
     (λ e. store-sound w (funct3 w) (rs2 w) (rs1 w) (immediate_s w) t s v (subst OfS e (whole_s w h)))
     (if_equal (Fits w) (opcode w) 0b0010011
-    (λ e. immediate_operation-sound w (funct7 w) (funct3 w) (rd w) (rs1 w) (rs2 w) (immediate_i w) d s t i
-    (subst OfR e (whole_r w h)) (subst OfI e (whole_i w h)))
+    (λ e. immediate_operation-sound w (funct7 w) (funct3 w) (rd w) (rs1 w) (rs2 w) (immediate_i w)
+    d s t i (subst OfR e (whole_r w h)) (subst OfI e (whole_i w h)))
     (if_equal (Fits w) (opcode w) 0b0110011
-    (λ e. operation-sound w (funct7 w) (funct3 w) (rd w) (rs1 w) (rs2 w) d s t (subst OfR e (whole_r w h)))
+    (λ e. operation-sound w (funct7 w) (funct3 w) (rd w) (rs1 w) (rs2 w) d s t
+    (subst OfR e (whole_r w h)))
     (if_equal (Fits w) (opcode w) 0b0001111
     (λ e. fence-sound w (funct3 w) (rd w) (rs1 w) (mode w) (predecessor w) (successor w) d s
     (omega arith) (omega arith) (omega arith) (subst OfFence e (whole_fence w h)))

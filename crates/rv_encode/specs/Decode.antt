@@ -1,5 +1,5 @@
--- How a word is read: its fields, and the instruction of its opcode, funct3 and funct7. That these are
--- the instructions of `Encodes`, no more and no fewer, is what `decode` ensures.
+-- How a word is read: its fields, and the instruction of its opcode, funct3 and funct7. That these
+-- are the instructions of `Encodes`, no more and no fewer, is what `decode` ensures.
 use Rattle.std.specs.Prelude.{ℕ, ◌+◌, ◌*◌, ◌^◌, ◌==◌, if◌then◌else◌, Option, Some, None}
 use Rattle.rv_encode.specs.Formats.{bits}
 use Rattle.rv_encode.specs.declared.instruction.Instr.{Instr}

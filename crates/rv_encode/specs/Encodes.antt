@@ -1,5 +1,5 @@
--- Which word an instruction is (RISC-V Unprivileged ISA, 2.2 to 2.8, the M extension, and the chapter
--- "RV32/64G Instruction Set Listings", whose tables these are).
+-- Which word an instruction is (RISC-V Unprivileged ISA, 2.2 to 2.8, the M extension, and the
+-- chapter "RV32/64G Instruction Set Listings", whose tables these are).
 use Rattle.std.specs.Prelude.{ℕ, ◌≡◌, ◌<◌, ◌%◌, ◌^◌}
 use Rattle.rv_encode.specs.Formats.{r_word, i_word, s_word, b_word, u_word, j_word, fence_word}
 use Rattle.rv_encode.specs.declared.instruction.Instr.{Instr}

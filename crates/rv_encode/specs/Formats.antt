@@ -1,4 +1,5 @@
--- The formats of a word (RISC-V Unprivileged ISA, 2.2 and 2.3): the sum of the fields at their places.
+-- The formats of a word (RISC-V Unprivileged ISA, 2.2 and 2.3): the sum of its fields at their
+-- places.
 use Rattle.std.specs.Prelude.{ℕ, ◌+◌, ◌-◌, ◌*◌, ◌/◌, ◌%◌, ◌^◌}
 
 -- n[high:low]

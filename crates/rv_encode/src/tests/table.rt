@@ -1,4 +1,4 @@
-// Words that GNU as 2.40 (`-march=rv32im -mno-relax`) makes of the text beside them, format by format:
+// Words that GNU as 2.40 (`-march=rv32im -mno-relax`) makes of the text beside them, by format:
 // the mnemonic, the fields, the word. An immediate or an offset is written as its bits; `.` is the
 // address of the instruction.
 
