@@ -1,0 +1,4 @@
+pub mod Formats
+pub mod Encodes
+pub mod Decode
+pub mod Signed
