@@ -4,3 +4,12 @@ pub mod Calls
 pub mod Memory
 pub mod Sure
 pub mod formers
+pub mod Data
+pub mod DataCode
+pub mod DataView
+pub mod DataFalls
+pub mod DataSizes
+pub mod DataRest
+pub mod DataMeasures
+pub mod Names
+pub mod NameNumbers

@@ -1,6 +1,6 @@
 // The list that contracts see as the list of its items.
 
-ghost use Rattle.std.specs.Prelude.{◌≡◌, ◌≤◌, List, [], ◌∷◌, ◌++◌, length, slice_get, Some, OnOk, OnErr, IfOk, MatchOption};
+ghost use Rattle.std.specs.Prelude.{◌≡◌, ◌≤◌, List, [], ◌∷◌, ◌++◌, length, take, slice_get, Some, OnOk, OnErr, IfOk, MatchOption};
 
 use crate::faults::NoMemory;
 use crate::place::Place;
@@ -61,6 +61,29 @@ impl<T: Drop> ItemList<T> {
         ensures err { OnErr result (self.new ≡ self.old) }
     {
         match self.items.push(item) {
+            Ok(()) => Ok(()),
+            Err(_) => Err(NoMemory),
+        }
+    }
+
+    /// Its first `len` items stay; takes no memory.
+    pub fn cut(&mut self, len: usize)
+        requires { len ≤ length self.old }
+        ensures { self.new ≡ take len self.old }
+    {
+        self.items.truncate(len);
+    }
+}
+
+impl<T: Drop> ItemList<T> {
+    /// Appends all items of another list. After `NoMemory` the list is unchanged and those items are
+    /// dropped.
+    pub fn append_list(&mut self, more: ItemList<T>) -> Result<(), NoMemory>
+        ensures ok { OnOk result (self.new ≡ self.old ++ more) }
+        ensures err { OnErr result (self.new ≡ self.old) }
+    {
+        let mut items = more.items;
+        match self.items.append(&mut items) {
             Ok(()) => Ok(()),
             Err(_) => Err(NoMemory),
         }

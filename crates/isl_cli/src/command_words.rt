@@ -2,39 +2,39 @@
 
 ghost use Rattle.std.specs.Prelude.{◌≡◌, ◌⊎◌, drop, map, string_bytes, IfOk, IfErr};
 ghost use Rattle.std.specs.Vec.Iter.{into_iter_items};
-ghost use Rattle.isl_top.specs.declared.status.Status.TheVariants.{Usage, NoMemory as WantsMemory};
+ghost use Rattle.isl_top.specs.declared.status.Answer.TheVariants.{Usage, NoMemory as WantsMemory};
 
 use isl_base::Words;
-use isl_top::Status;
+use isl_top::Answer;
 use std::alloc::Global;
 use std::env;
 use std::env::Args;
 use std::io::ErrorKind;
 use std::rt::Env;
 
-/// The words behind the program's name. Else the status of the call: `Usage` where one of them, or
+/// The words behind the program's name. Else the answer of the call: `Usage` where one of them, or
 /// the name, is not UTF-8; `NoMemory` where memory is wanting.
-pub fn command_words<R: Env + AllocGlobal>(rt: &R) -> Result<Words, Status>
-    ensures { IfErr result (λ status. (status ≡ Usage) ⊎ (status ≡ WantsMemory)) }
+pub fn command_words<R: Env + AllocGlobal>(rt: &R) -> Result<Words, Answer>
+    ensures { IfErr result (λ answer. (answer ≡ Usage) ⊎ (answer ≡ WantsMemory)) }
 {
     match env::args(rt) {
         Ok(args) => words_behind_name(rt.alloc(), args),
-        Err(e) if e.kind() == ErrorKind::OutOfMemory => Err(Status::NoMemory),
-        Err(_) => Err(Status::Usage),
+        Err(e) if e.kind() == ErrorKind::OutOfMemory => Err(Answer::NoMemory),
+        Err(_) => Err(Answer::Usage),
     }
 }
 
 // All arguments but the first, as words.
-fn words_behind_name(alloc: Global, mut args: Args) -> Result<Words, Status>
+fn words_behind_name(alloc: Global, mut args: Args) -> Result<Words, Answer>
     ensures words { IfOk result (λ words.
         words ≡ map (λ s. string_bytes s) (drop 1 (into_iter_items args))) }
-    ensures memory { IfErr result (λ status. status ≡ WantsMemory) }
+    ensures memory { IfErr result (λ answer. answer ≡ WantsMemory) }
 {
     let mut words = Words::new(alloc);
     let _ = args.next();
     for word in args {
         if words.push(word.as_str()).is_err() {
-            return Err(Status::NoMemory);
+            return Err(Answer::NoMemory);
         }
     }
     Ok(words)

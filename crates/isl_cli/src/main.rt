@@ -3,8 +3,9 @@
 
 ghost use Rattle.std.specs.Prelude.{◌≡◌, ◌≢◌, ◌⊎◌, None};
 ghost use Rattle.std.specs.Process.{exit_status};
-ghost use Rattle.isl_top.specs.Command.{asked_file};
-ghost use Rattle.isl_top.specs.Lines.{WasGiven, line_of, number_of};
+ghost use Rattle.isl_top.specs.Command.{asked};
+ghost use Rattle.isl_top.specs.Lines.{WasGiven, line_of, number_of, status_of as status_of_answer};
+ghost use Rattle.isl_top.specs.declared.status.Answer.{Answer as AnswerValue};
 ghost use Rattle.isl_top.specs.declared.status.Status.TheVariants.{Usage, WriteFault};
 
 mod command_words;
@@ -26,16 +27,17 @@ fn main(rt: HostRuntime) -> ExitCode {
     let mut err = StdSink::new(rt.stderr());
     let status = match command_words(&rt) {
         Ok(words) => status_of(&rt, &words, &mut err),
-        Err(status) => end_with(&mut err, status),
+        Err(answer) => end_with(&mut err, answer),
     };
     exit_code(status)
 }
 
 // The status of a call with these words.
 fn status_of<E: Sink>(rt: &HostRuntime, words: &Words, err: &mut E) -> Status
-    ensures usage { result ≡ Usage → asked_file words.now ≡ None }
-    ensures words_first { asked_file words.now ≡ None → (result ≡ Usage) ⊎ (result ≡ WriteFault) }
-    ensures line { result ≢ WriteFault → WasGiven (E.given err.old) (line_of result) (E.given err.new) }
+    ensures usage { result ≡ Usage → asked words.now ≡ None }
+    ensures words_first { asked words.now ≡ None → (result ≡ Usage) ⊎ (result ≡ WriteFault) }
+    ensures line { result ≢ WriteFault → (answer : AnswerValue) × ((result ≡ status_of_answer answer)
+        × WasGiven (E.given err.old) (line_of answer) (E.given err.new)) }
 {
     let mut shelf = FileShelf::new(rt);
     let mut input = StdSource::new(rt.stdin());

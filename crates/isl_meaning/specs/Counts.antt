@@ -1,6 +1,8 @@
--- Nodes of core forms: one a form, and besides one an argument and one a clause. Sites count nothing.
-use Rattle.std.specs.Prelude.{ℕ, ◌+◌, ◌*◌}
-use Rattle.isl_meaning.specs.Form.{Form, literal, clauses, sequence, prim, sited, Forms, no_form, form_and, ClauseForms, no_clause, clause_and, MaybeForm, no_body, with_body}
+-- Nodes, depth and the words of an application: the measures by which this profile bounds and charges programs.
+use Rattle.std.specs.Prelude.{ℕ, ◌+◌, ◌-◌, ◌*◌, max, length}
+use Rattle.isl_meaning.specs.Form.{Form, literal, local, set_local, global, set_global, def_global, clauses, sequence, let_form, lambda, call, call_value, apply, prim, while_form, block, return_from, tagbody, go, catch_form, throw, unwind, dynamic_let, dynamic, set_dynamic, def_dynamic, with_handler, signal_form, continue_form, next_method, has_next, sited}
+use Rattle.isl_meaning.specs.Form.{Forms, no_form, form_and, ClauseForms, no_clause, clause_and, MaybeForm, no_body, with_body}
+use Rattle.isl_meaning.specs.Form.{BindingForms, no_binding, binding_and, DynamicForms, no_dynamic, dynamic_and}
 
 abbrev pub count_forms : Forms → ℕ
 count_forms no_form = 0
@@ -10,13 +12,50 @@ abbrev pub count_clauses : ClauseForms → ℕ
 count_clauses no_clause = 0
 count_clauses (clause_and test body cs) = count_clauses cs + 1
 
+abbrev pub count_bindings : BindingForms → ℕ
+count_bindings no_binding = 0
+count_bindings (binding_and v f bs) = count_bindings bs + 1
+
+abbrev pub count_dynamics : DynamicForms → ℕ
+count_dynamics no_dynamic = 0
+count_dynamics (dynamic_and n f bs) = count_dynamics bs + 1
+
+-- nodes: one a form, and besides one an argument, binding, clause, tag, captured part and name of it. The
+-- first part of a call of a value is no argument. Sites count nothing.
 abbrev mutual
   pub nodes : Form → ℕ
   nodes (literal i) = 1
-  nodes (clauses cs) = 1 + nodes_of_clauses cs + count_clauses cs
+  nodes (local v) = 1
+  nodes (set_local v f) = 1 + nodes f
+  nodes (global n) = 2
+  nodes (set_global n f) = 2 + nodes f
+  nodes (def_global n f) = 2 + nodes f
+  nodes (clauses fs) = 1 + nodes_of_clauses fs + count_clauses fs
   nodes (sequence fs) = 1 + nodes_of_forms fs
+  nodes (let_form bs body) = 1 + nodes_of_bindings bs + nodes body + count_bindings bs
+  nodes (lambda p ps) = 1 + length ps
+  nodes (call n fs) = 2 + nodes_of_forms fs + count_forms fs
+  nodes (call_value fs) = 1 + nodes_of_forms fs + (count_forms fs - 1)
+  nodes (apply function fs) = 1 + nodes function + nodes fs
   nodes (prim p fs) = 1 + nodes_of_forms fs + count_forms fs
-  nodes (sited s f) = nodes f
+  nodes (while_form test body) = 1 + nodes test + nodes body
+  nodes (block x body) = 1 + nodes body
+  nodes (return_from x f) = 1 + nodes f
+  nodes (tagbody x ss) = 1 + nodes_of_forms ss + (count_forms ss - 1)
+  nodes (go x segment) = 1
+  nodes (catch_form tag body) = 1 + nodes tag + nodes body
+  nodes (throw tag f) = 1 + nodes tag + nodes f
+  nodes (unwind form cleanup) = 1 + nodes form + nodes cleanup
+  nodes (dynamic_let bs body) = 1 + nodes_of_dynamics bs + nodes body + count_dynamics bs
+  nodes (dynamic n) = 2
+  nodes (set_dynamic n f) = 2 + nodes f
+  nodes (def_dynamic n f) = 2 + nodes f
+  nodes (with_handler handler body) = 1 + nodes handler + nodes body
+  nodes (signal_form condition continuable) = 1 + nodes condition + nodes continuable
+  nodes (continue_form condition f) = 1 + nodes condition + nodes f
+  nodes next_method = 1
+  nodes has_next = 1
+  nodes (sited s inner) = nodes inner
 
   pub nodes_of_forms : Forms → ℕ
   nodes_of_forms no_form = 0
@@ -29,6 +68,70 @@ abbrev mutual
   pub nodes_of_body : MaybeForm → ℕ
   nodes_of_body no_body = 0
   nodes_of_body (with_body f) = nodes f
+
+  pub nodes_of_bindings : BindingForms → ℕ
+  nodes_of_bindings no_binding = 0
+  nodes_of_bindings (binding_and v f bs) = nodes f + nodes_of_bindings bs
+
+  pub nodes_of_dynamics : DynamicForms → ℕ
+  nodes_of_dynamics no_dynamic = 0
+  nodes_of_dynamics (dynamic_and n f bs) = nodes f + nodes_of_dynamics bs
+
+-- the greatest number of forms inside one another; a `lambda` counts one, and sites count nothing
+abbrev mutual
+  pub depth : Form → ℕ
+  depth (literal i) = 1
+  depth (local v) = 1
+  depth (set_local v f) = depth f + 1
+  depth (global n) = 1
+  depth (set_global n f) = depth f + 1
+  depth (def_global n f) = depth f + 1
+  depth (clauses fs) = depth_of_clauses fs + 1
+  depth (sequence fs) = depth_of_forms fs + 1
+  depth (let_form bs body) = max (depth_of_bindings bs) (depth body) + 1
+  depth (lambda p ps) = 1
+  depth (call n fs) = depth_of_forms fs + 1
+  depth (call_value fs) = depth_of_forms fs + 1
+  depth (apply function fs) = max (depth function) (depth fs) + 1
+  depth (prim p fs) = depth_of_forms fs + 1
+  depth (while_form test body) = max (depth test) (depth body) + 1
+  depth (block x body) = depth body + 1
+  depth (return_from x f) = depth f + 1
+  depth (tagbody x ss) = depth_of_forms ss + 1
+  depth (go x segment) = 1
+  depth (catch_form tag body) = max (depth tag) (depth body) + 1
+  depth (throw tag f) = max (depth tag) (depth f) + 1
+  depth (unwind form cleanup) = max (depth form) (depth cleanup) + 1
+  depth (dynamic_let bs body) = max (depth_of_dynamics bs) (depth body) + 1
+  depth (dynamic n) = 1
+  depth (set_dynamic n f) = depth f + 1
+  depth (def_dynamic n f) = depth f + 1
+  depth (with_handler handler body) = max (depth handler) (depth body) + 1
+  depth (signal_form condition continuable) = max (depth condition) (depth continuable) + 1
+  depth (continue_form condition f) = max (depth condition) (depth f) + 1
+  depth next_method = 1
+  depth has_next = 1
+  depth (sited s inner) = depth inner
+
+  pub depth_of_forms : Forms → ℕ
+  depth_of_forms no_form = 0
+  depth_of_forms (form_and f fs) = max (depth f) (depth_of_forms fs)
+
+  pub depth_of_clauses : ClauseForms → ℕ
+  depth_of_clauses no_clause = 0
+  depth_of_clauses (clause_and test body cs) = max (max (depth test) (depth_of_body body)) (depth_of_clauses cs)
+
+  pub depth_of_body : MaybeForm → ℕ
+  depth_of_body no_body = 0
+  depth_of_body (with_body f) = depth f
+
+  pub depth_of_bindings : BindingForms → ℕ
+  depth_of_bindings no_binding = 0
+  depth_of_bindings (binding_and v f bs) = max (depth f) (depth_of_bindings bs)
+
+  pub depth_of_dynamics : DynamicForms → ℕ
+  depth_of_dynamics no_dynamic = 0
+  depth_of_dynamics (dynamic_and n f bs) = max (depth f) (depth_of_dynamics bs)
 
 -- the stack words of an active application whose body has so many nodes
 abbrev pub application_words : ℕ → ℕ

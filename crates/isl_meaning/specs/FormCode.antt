@@ -2,24 +2,89 @@
 use Rattle.std.specs.Prelude.{◌≡◌, ◌≤◌, ℕ, zero, suc, List, [], ◌∷◌, get_or, refl}
 use Rattle.std.specs.Coded.{Coded, code_by, coded_list, coded_ℕ}
 use Rattle.std.proofs.Common.{ap, arith}
-use Rattle.isl_meaning.specs.Form.{Form, literal, clauses, sequence, prim, sited, Forms, no_form, form_and}
-use Rattle.isl_meaning.specs.Form.{ClauseForms, no_clause, clause_and, MaybeForm, no_body, with_body}
-use Rattle.isl_meaning.specs.Form.{form_size, forms_size, clauses_size, maybe_size}
+use Rattle.isl_meaning.specs.Form.{Form, literal, local, set_local, global, set_global, def_global, clauses, sequence, let_form, lambda, call, call_value, apply, prim, while_form, block, return_from, tagbody, go, catch_form, throw, unwind, dynamic_let, dynamic, set_dynamic, def_dynamic, with_handler, signal_form, continue_form, next_method, has_next, sited}
+use Rattle.isl_meaning.specs.Form.{Forms, no_form, form_and, ClauseForms, no_clause, clause_and, MaybeForm, no_body, with_body}
+use Rattle.isl_meaning.specs.Form.{BindingForms, no_binding, binding_and, DynamicForms, no_dynamic, dynamic_and}
+use Rattle.isl_meaning.specs.Form.{parts_size, form_size, forms_size, clauses_size, maybe_size, bindings_size, dynamics_size}
+use Rattle.isl_meaning.specs.declared.part.Part.{Part}
+use Rattle.isl_meaning.specs.declared.part.Part.TheVariants.{Variable, Exit, Method}
 use Rattle.isl_meaning.specs.declared.primitive.Primitive.{Primitive}
-use Rattle.isl_meaning.specs.declared.primitive.Primitive.TheVariants.{Add, Subtract, NumberEqual, NumberLess, StandardOutput, PutChar}
+use Rattle.isl_meaning.specs.declared.primitive.Primitive.TheVariants.{Add, Subtract, Multiply, Divide, Modulo, NumberEqual, NumberNotEqual, NumberLess, NumberAtMost, NumberGreater, NumberAtLeast, Same, IsNull, IsCons, IsInteger, IsSymbol, IsCharacter, IsString, IsVector, IsFunction, IsGeneric, Cons, Car, Cdr, SetCar, SetCdr, MakeString, MakeVector, StringLength, VectorLength, CharAt, VectorRef, SetCharAt, SetVectorRef, CharCode, CodeChar, SymbolName, SymbolSerial, Gensym, ClassOf, ClassName, IsSubclass, IsInstance, Allocate, SlotCount, SlotPlace, SlotRef, SlotSet, SlotBound, SlotInitargs, SlotInitform, Continuable, StandardInput, StandardOutput, PutChar, IsFreshLine, GetByte, PeekByte}
 
 -- the number of a primitive
 abbrev pub primitive_number : Primitive → ℕ
 primitive_number Add = 0
 primitive_number Subtract = 1
-primitive_number NumberEqual = 2
-primitive_number NumberLess = 3
-primitive_number StandardOutput = 4
-primitive_number PutChar = 5
+primitive_number Multiply = 2
+primitive_number Divide = 3
+primitive_number Modulo = 4
+primitive_number NumberEqual = 5
+primitive_number NumberNotEqual = 6
+primitive_number NumberLess = 7
+primitive_number NumberAtMost = 8
+primitive_number NumberGreater = 9
+primitive_number NumberAtLeast = 10
+primitive_number Same = 11
+primitive_number IsNull = 12
+primitive_number IsCons = 13
+primitive_number IsInteger = 14
+primitive_number IsSymbol = 15
+primitive_number IsCharacter = 16
+primitive_number IsString = 17
+primitive_number IsVector = 18
+primitive_number IsFunction = 19
+primitive_number IsGeneric = 20
+primitive_number Cons = 21
+primitive_number Car = 22
+primitive_number Cdr = 23
+primitive_number SetCar = 24
+primitive_number SetCdr = 25
+primitive_number MakeString = 26
+primitive_number MakeVector = 27
+primitive_number StringLength = 28
+primitive_number VectorLength = 29
+primitive_number CharAt = 30
+primitive_number VectorRef = 31
+primitive_number SetCharAt = 32
+primitive_number SetVectorRef = 33
+primitive_number CharCode = 34
+primitive_number CodeChar = 35
+primitive_number SymbolName = 36
+primitive_number SymbolSerial = 37
+primitive_number Gensym = 38
+primitive_number ClassOf = 39
+primitive_number ClassName = 40
+primitive_number IsSubclass = 41
+primitive_number IsInstance = 42
+primitive_number Allocate = 43
+primitive_number SlotCount = 44
+primitive_number SlotPlace = 45
+primitive_number SlotRef = 46
+primitive_number SlotSet = 47
+primitive_number SlotBound = 48
+primitive_number SlotInitargs = 49
+primitive_number SlotInitform = 50
+primitive_number Continuable = 51
+primitive_number StandardInput = 52
+primitive_number StandardOutput = 53
+primitive_number PutChar = 54
+primitive_number IsFreshLine = 55
+primitive_number GetByte = 56
+primitive_number PeekByte = 57
 
 -- the primitives, each at its number
 abbrev primitives : List Primitive
-primitives = Add ∷ Subtract ∷ NumberEqual ∷ NumberLess ∷ StandardOutput ∷ PutChar ∷ []
+primitives =
+    Add ∷ Subtract ∷ Multiply ∷ Divide ∷ Modulo ∷ NumberEqual ∷
+    NumberNotEqual ∷ NumberLess ∷ NumberAtMost ∷ NumberGreater ∷ NumberAtLeast ∷ Same ∷
+    IsNull ∷ IsCons ∷ IsInteger ∷ IsSymbol ∷ IsCharacter ∷ IsString ∷
+    IsVector ∷ IsFunction ∷ IsGeneric ∷ Cons ∷ Car ∷ Cdr ∷
+    SetCar ∷ SetCdr ∷ MakeString ∷ MakeVector ∷ StringLength ∷ VectorLength ∷
+    CharAt ∷ VectorRef ∷ SetCharAt ∷ SetVectorRef ∷ CharCode ∷ CodeChar ∷
+    SymbolName ∷ SymbolSerial ∷ Gensym ∷ ClassOf ∷ ClassName ∷ IsSubclass ∷
+    IsInstance ∷ Allocate ∷ SlotCount ∷ SlotPlace ∷ SlotRef ∷ SlotSet ∷
+    SlotBound ∷ SlotInitargs ∷ SlotInitform ∷ Continuable ∷ StandardInput ∷ StandardOutput ∷
+    PutChar ∷ IsFreshLine ∷ GetByte ∷ PeekByte ∷ []
 
 abbrev primitive_at : ℕ → Primitive
 primitive_at n = get_or primitives n Add
@@ -27,19 +92,105 @@ primitive_at n = get_or primitives n Add
 primitive_back : (p : Primitive) → primitive_at (primitive_number p) ≡ p
 primitive_back Add = refl
 primitive_back Subtract = refl
+primitive_back Multiply = refl
+primitive_back Divide = refl
+primitive_back Modulo = refl
 primitive_back NumberEqual = refl
+primitive_back NumberNotEqual = refl
 primitive_back NumberLess = refl
+primitive_back NumberAtMost = refl
+primitive_back NumberGreater = refl
+primitive_back NumberAtLeast = refl
+primitive_back Same = refl
+primitive_back IsNull = refl
+primitive_back IsCons = refl
+primitive_back IsInteger = refl
+primitive_back IsSymbol = refl
+primitive_back IsCharacter = refl
+primitive_back IsString = refl
+primitive_back IsVector = refl
+primitive_back IsFunction = refl
+primitive_back IsGeneric = refl
+primitive_back Cons = refl
+primitive_back Car = refl
+primitive_back Cdr = refl
+primitive_back SetCar = refl
+primitive_back SetCdr = refl
+primitive_back MakeString = refl
+primitive_back MakeVector = refl
+primitive_back StringLength = refl
+primitive_back VectorLength = refl
+primitive_back CharAt = refl
+primitive_back VectorRef = refl
+primitive_back SetCharAt = refl
+primitive_back SetVectorRef = refl
+primitive_back CharCode = refl
+primitive_back CodeChar = refl
+primitive_back SymbolName = refl
+primitive_back SymbolSerial = refl
+primitive_back Gensym = refl
+primitive_back ClassOf = refl
+primitive_back ClassName = refl
+primitive_back IsSubclass = refl
+primitive_back IsInstance = refl
+primitive_back Allocate = refl
+primitive_back SlotCount = refl
+primitive_back SlotPlace = refl
+primitive_back SlotRef = refl
+primitive_back SlotSet = refl
+primitive_back SlotBound = refl
+primitive_back SlotInitargs = refl
+primitive_back SlotInitform = refl
+primitive_back Continuable = refl
+primitive_back StandardInput = refl
 primitive_back StandardOutput = refl
 primitive_back PutChar = refl
+primitive_back IsFreshLine = refl
+primitive_back GetByte = refl
+primitive_back PeekByte = refl
+
+-- the numbers of captured parts, before those that follow them
+abbrev write_parts : List Part → List ℕ → List ℕ
+write_parts [] rest = 0 ∷ rest
+write_parts (Variable v ∷ ps) rest = 1 ∷ v ∷ write_parts ps rest
+write_parts (Exit x ∷ ps) rest = 2 ∷ x ∷ write_parts ps rest
+write_parts (Method ∷ ps) rest = 3 ∷ write_parts ps rest
 
 -- the numbers of a form, before those that follow it
 abbrev mutual
   write_form : Form → List ℕ → List ℕ
   write_form (literal i) rest = 0 ∷ i ∷ rest
-  write_form (clauses cs) rest = 1 ∷ write_clauses cs rest
-  write_form (sequence fs) rest = 2 ∷ write_forms fs rest
-  write_form (prim p fs) rest = 3 ∷ primitive_number p ∷ write_forms fs rest
-  write_form (sited s f) rest = 4 ∷ s ∷ write_form f rest
+  write_form (local v) rest = 1 ∷ v ∷ rest
+  write_form (set_local v f) rest = 2 ∷ v ∷ write_form f rest
+  write_form (global n) rest = 3 ∷ n ∷ rest
+  write_form (set_global n f) rest = 4 ∷ n ∷ write_form f rest
+  write_form (def_global n f) rest = 5 ∷ n ∷ write_form f rest
+  write_form (clauses fs) rest = 6 ∷ write_clauses fs rest
+  write_form (sequence fs) rest = 7 ∷ write_forms fs rest
+  write_form (let_form bs body) rest = 8 ∷ write_bindings bs (write_form body rest)
+  write_form (lambda p ps) rest = 9 ∷ p ∷ write_parts ps rest
+  write_form (call n fs) rest = 10 ∷ n ∷ write_forms fs rest
+  write_form (call_value fs) rest = 11 ∷ write_forms fs rest
+  write_form (apply function fs) rest = 12 ∷ write_form function (write_form fs rest)
+  write_form (prim p fs) rest = 13 ∷ primitive_number p ∷ write_forms fs rest
+  write_form (while_form test body) rest = 14 ∷ write_form test (write_form body rest)
+  write_form (block x body) rest = 15 ∷ x ∷ write_form body rest
+  write_form (return_from x f) rest = 16 ∷ x ∷ write_form f rest
+  write_form (tagbody x ss) rest = 17 ∷ x ∷ write_forms ss rest
+  write_form (go x segment) rest = 18 ∷ x ∷ segment ∷ rest
+  write_form (catch_form tag body) rest = 19 ∷ write_form tag (write_form body rest)
+  write_form (throw tag f) rest = 20 ∷ write_form tag (write_form f rest)
+  write_form (unwind form cleanup) rest = 21 ∷ write_form form (write_form cleanup rest)
+  write_form (dynamic_let bs body) rest = 22 ∷ write_dynamics bs (write_form body rest)
+  write_form (dynamic n) rest = 23 ∷ n ∷ rest
+  write_form (set_dynamic n f) rest = 24 ∷ n ∷ write_form f rest
+  write_form (def_dynamic n f) rest = 25 ∷ n ∷ write_form f rest
+  write_form (with_handler handler body) rest = 26 ∷ write_form handler (write_form body rest)
+  write_form (signal_form condition continuable) rest = 27 ∷ write_form condition (write_form continuable rest)
+  write_form (continue_form condition f) rest = 28 ∷ write_form condition (write_form f rest)
+  write_form next_method rest = 29 ∷ rest
+  write_form has_next rest = 30 ∷ rest
+  write_form (sited s inner) rest = 31 ∷ s ∷ write_form inner rest
 
   write_forms : Forms → List ℕ → List ℕ
   write_forms no_form rest = 0 ∷ rest
@@ -52,6 +203,14 @@ abbrev mutual
   write_maybe : MaybeForm → List ℕ → List ℕ
   write_maybe no_body rest = 0 ∷ rest
   write_maybe (with_body f) rest = 1 ∷ write_form f rest
+
+  write_bindings : BindingForms → List ℕ → List ℕ
+  write_bindings no_binding rest = 0 ∷ rest
+  write_bindings (binding_and v f bs) rest = 1 ∷ v ∷ write_form f (write_bindings bs rest)
+
+  write_dynamics : DynamicForms → List ℕ → List ℕ
+  write_dynamics no_dynamic rest = 0 ∷ rest
+  write_dynamics (dynamic_and n f bs) rest = 1 ∷ n ∷ write_form f (write_dynamics bs rest)
 
 -- what was read, with its last part put under another
 abbrev under : {A B : Type 0} → (A → B) → A × List ℕ → B × List ℕ
@@ -67,17 +226,50 @@ after [] = []
 after (x ∷ xs) = xs
 
 -- what the numbers give, read to that depth, with the numbers left
+abbrev read_parts : ℕ → List ℕ → List Part × List ℕ
+read_parts zero xs = ([], xs)
+read_parts (suc k) [] = ([], [])
+read_parts (suc k) (zero ∷ xs) = ([], xs)
+read_parts (suc k) (suc zero ∷ xs) = under (λ ps. Variable (first xs) ∷ ps) (read_parts k (after xs))
+read_parts (suc k) (suc (suc zero) ∷ xs) = under (λ ps. Exit (first xs) ∷ ps) (read_parts k (after xs))
+read_parts (suc k) (suc (suc (suc n)) ∷ xs) = under (λ ps. Method ∷ ps) (read_parts k xs)
+
 abbrev mutual
   read_form : ℕ → List ℕ → Form × List ℕ
   read_form zero xs = (literal 0, xs)
   read_form (suc k) [] = (literal 0, [])
   read_form (suc k) (zero ∷ xs) = (literal (first xs), after xs)
-  read_form (suc k) (suc zero ∷ xs) = under clauses (read_clauses k xs)
-  read_form (suc k) (suc (suc zero) ∷ xs) = under sequence (read_forms k xs)
-  read_form (suc k) (suc (suc (suc zero)) ∷ xs) =
-      under (prim (primitive_at (first xs))) (read_forms k (after xs))
-  read_form (suc k) (suc (suc (suc (suc n))) ∷ xs) =
-      under (sited (first xs)) (read_form k (after xs))
+  read_form (suc k) (suc zero ∷ xs) = (local (first xs), after xs)
+  read_form (suc k) (suc (suc zero) ∷ xs) = under (set_local (first xs)) (read_form k (after xs))
+  read_form (suc k) (suc (suc (suc zero)) ∷ xs) = (global (first xs), after xs)
+  read_form (suc k) (suc (suc (suc (suc zero))) ∷ xs) = under (set_global (first xs)) (read_form k (after xs))
+  read_form (suc k) (suc (suc (suc (suc (suc zero)))) ∷ xs) = under (def_global (first xs)) (read_form k (after xs))
+  read_form (suc k) (suc (suc (suc (suc (suc (suc zero))))) ∷ xs) = under clauses (read_clauses k xs)
+  read_form (suc k) (suc (suc (suc (suc (suc (suc (suc zero)))))) ∷ xs) = under sequence (read_forms k xs)
+  read_form (suc k) (suc (suc (suc (suc (suc (suc (suc (suc zero))))))) ∷ xs) = let part = read_bindings k xs in under (let_form part.0) (read_form k part.1)
+  read_form (suc k) (suc (suc (suc (suc (suc (suc (suc (suc (suc zero)))))))) ∷ xs) = under (lambda (first xs)) (read_parts k (after xs))
+  read_form (suc k) (suc (suc (suc (suc (suc (suc (suc (suc (suc (suc zero))))))))) ∷ xs) = under (call (first xs)) (read_forms k (after xs))
+  read_form (suc k) (suc (suc (suc (suc (suc (suc (suc (suc (suc (suc (suc zero)))))))))) ∷ xs) = under call_value (read_forms k xs)
+  read_form (suc k) (suc (suc (suc (suc (suc (suc (suc (suc (suc (suc (suc (suc zero))))))))))) ∷ xs) = let part = read_form k xs in under (apply part.0) (read_form k part.1)
+  read_form (suc k) (suc (suc (suc (suc (suc (suc (suc (suc (suc (suc (suc (suc (suc zero)))))))))))) ∷ xs) = under (prim (primitive_at (first xs))) (read_forms k (after xs))
+  read_form (suc k) (suc (suc (suc (suc (suc (suc (suc (suc (suc (suc (suc (suc (suc (suc zero))))))))))))) ∷ xs) = let part = read_form k xs in under (while_form part.0) (read_form k part.1)
+  read_form (suc k) (suc (suc (suc (suc (suc (suc (suc (suc (suc (suc (suc (suc (suc (suc (suc zero)))))))))))))) ∷ xs) = under (block (first xs)) (read_form k (after xs))
+  read_form (suc k) (suc (suc (suc (suc (suc (suc (suc (suc (suc (suc (suc (suc (suc (suc (suc (suc zero))))))))))))))) ∷ xs) = under (return_from (first xs)) (read_form k (after xs))
+  read_form (suc k) (suc (suc (suc (suc (suc (suc (suc (suc (suc (suc (suc (suc (suc (suc (suc (suc (suc zero)))))))))))))))) ∷ xs) = under (tagbody (first xs)) (read_forms k (after xs))
+  read_form (suc k) (suc (suc (suc (suc (suc (suc (suc (suc (suc (suc (suc (suc (suc (suc (suc (suc (suc (suc zero))))))))))))))))) ∷ xs) = (go (first xs) (first (after xs)), after (after xs))
+  read_form (suc k) (suc (suc (suc (suc (suc (suc (suc (suc (suc (suc (suc (suc (suc (suc (suc (suc (suc (suc (suc zero)))))))))))))))))) ∷ xs) = let part = read_form k xs in under (catch_form part.0) (read_form k part.1)
+  read_form (suc k) (suc (suc (suc (suc (suc (suc (suc (suc (suc (suc (suc (suc (suc (suc (suc (suc (suc (suc (suc (suc zero))))))))))))))))))) ∷ xs) = let part = read_form k xs in under (throw part.0) (read_form k part.1)
+  read_form (suc k) (suc (suc (suc (suc (suc (suc (suc (suc (suc (suc (suc (suc (suc (suc (suc (suc (suc (suc (suc (suc (suc zero)))))))))))))))))))) ∷ xs) = let part = read_form k xs in under (unwind part.0) (read_form k part.1)
+  read_form (suc k) (suc (suc (suc (suc (suc (suc (suc (suc (suc (suc (suc (suc (suc (suc (suc (suc (suc (suc (suc (suc (suc (suc zero))))))))))))))))))))) ∷ xs) = let part = read_dynamics k xs in under (dynamic_let part.0) (read_form k part.1)
+  read_form (suc k) (suc (suc (suc (suc (suc (suc (suc (suc (suc (suc (suc (suc (suc (suc (suc (suc (suc (suc (suc (suc (suc (suc (suc zero)))))))))))))))))))))) ∷ xs) = (dynamic (first xs), after xs)
+  read_form (suc k) (suc (suc (suc (suc (suc (suc (suc (suc (suc (suc (suc (suc (suc (suc (suc (suc (suc (suc (suc (suc (suc (suc (suc (suc zero))))))))))))))))))))))) ∷ xs) = under (set_dynamic (first xs)) (read_form k (after xs))
+  read_form (suc k) (suc (suc (suc (suc (suc (suc (suc (suc (suc (suc (suc (suc (suc (suc (suc (suc (suc (suc (suc (suc (suc (suc (suc (suc (suc zero)))))))))))))))))))))))) ∷ xs) = under (def_dynamic (first xs)) (read_form k (after xs))
+  read_form (suc k) (suc (suc (suc (suc (suc (suc (suc (suc (suc (suc (suc (suc (suc (suc (suc (suc (suc (suc (suc (suc (suc (suc (suc (suc (suc (suc zero))))))))))))))))))))))))) ∷ xs) = let part = read_form k xs in under (with_handler part.0) (read_form k part.1)
+  read_form (suc k) (suc (suc (suc (suc (suc (suc (suc (suc (suc (suc (suc (suc (suc (suc (suc (suc (suc (suc (suc (suc (suc (suc (suc (suc (suc (suc (suc zero)))))))))))))))))))))))))) ∷ xs) = let part = read_form k xs in under (signal_form part.0) (read_form k part.1)
+  read_form (suc k) (suc (suc (suc (suc (suc (suc (suc (suc (suc (suc (suc (suc (suc (suc (suc (suc (suc (suc (suc (suc (suc (suc (suc (suc (suc (suc (suc (suc zero))))))))))))))))))))))))))) ∷ xs) = let part = read_form k xs in under (continue_form part.0) (read_form k part.1)
+  read_form (suc k) (suc (suc (suc (suc (suc (suc (suc (suc (suc (suc (suc (suc (suc (suc (suc (suc (suc (suc (suc (suc (suc (suc (suc (suc (suc (suc (suc (suc (suc zero)))))))))))))))))))))))))))) ∷ xs) = (next_method, xs)
+  read_form (suc k) (suc (suc (suc (suc (suc (suc (suc (suc (suc (suc (suc (suc (suc (suc (suc (suc (suc (suc (suc (suc (suc (suc (suc (suc (suc (suc (suc (suc (suc (suc zero))))))))))))))))))))))))))))) ∷ xs) = (has_next, xs)
+  read_form (suc k) (suc (suc (suc (suc (suc (suc (suc (suc (suc (suc (suc (suc (suc (suc (suc (suc (suc (suc (suc (suc (suc (suc (suc (suc (suc (suc (suc (suc (suc (suc (suc n)))))))))))))))))))))))))))))) ∷ xs) = under (sited (first xs)) (read_form k (after xs))
 
   read_forms : ℕ → List ℕ → Forms × List ℕ
   read_forms zero xs = (no_form, xs)
@@ -101,21 +293,103 @@ abbrev mutual
   read_maybe (suc k) (zero ∷ xs) = (no_body, xs)
   read_maybe (suc k) (suc n ∷ xs) = under with_body (read_form k xs)
 
+  read_bindings : ℕ → List ℕ → BindingForms × List ℕ
+  read_bindings zero xs = (no_binding, xs)
+  read_bindings (suc k) [] = (no_binding, [])
+  read_bindings (suc k) (zero ∷ xs) = (no_binding, xs)
+  read_bindings (suc k) (suc n ∷ xs) =
+      let value = read_form k (after xs) in
+      under (binding_and (first xs) value.0) (read_bindings k value.1)
+
+  read_dynamics : ℕ → List ℕ → DynamicForms × List ℕ
+  read_dynamics zero xs = (no_dynamic, xs)
+  read_dynamics (suc k) [] = (no_dynamic, [])
+  read_dynamics (suc k) (zero ∷ xs) = (no_dynamic, xs)
+  read_dynamics (suc k) (suc n ∷ xs) =
+      let value = read_form k (after xs) in
+      under (dynamic_and (first xs) value.0) (read_dynamics k value.1)
+
+parts_back : (k : ℕ) (ps : List Part) (rest : List ℕ) → parts_size ps ≤ k
+    → read_parts k (write_parts ps rest) ≡ (ps, rest)
+parts_back zero [] rest h = absurd (omega arith)
+parts_back zero (p ∷ ps) rest h = absurd (omega arith)
+parts_back (suc k) [] rest h = refl
+parts_back (suc k) (Variable v ∷ ps) rest h = ap (under (λ qs. Variable v ∷ qs)) (parts_back k ps rest (omega arith))
+parts_back (suc k) (Exit x ∷ ps) rest h = ap (under (λ qs. Exit x ∷ qs)) (parts_back k ps rest (omega arith))
+parts_back (suc k) (Method ∷ ps) rest h = ap (under (λ qs. Method ∷ qs)) (parts_back k ps rest (omega arith))
+
+-- a form has a size
+form_above : (f : Form) → 1 ≤ form_size f
+form_above (literal i) = omega arith
+form_above (local v) = omega arith
+form_above (set_local v f) = omega arith
+form_above (global n) = omega arith
+form_above (set_global n f) = omega arith
+form_above (def_global n f) = omega arith
+form_above (clauses fs) = omega arith
+form_above (sequence fs) = omega arith
+form_above (let_form bs body) = omega arith
+form_above (lambda p ps) = omega arith
+form_above (call n fs) = omega arith
+form_above (call_value fs) = omega arith
+form_above (apply function fs) = omega arith
+form_above (prim p fs) = omega arith
+form_above (while_form test body) = omega arith
+form_above (block x body) = omega arith
+form_above (return_from x f) = omega arith
+form_above (tagbody x ss) = omega arith
+form_above (go x segment) = omega arith
+form_above (catch_form tag body) = omega arith
+form_above (throw tag f) = omega arith
+form_above (unwind form cleanup) = omega arith
+form_above (dynamic_let bs body) = omega arith
+form_above (dynamic n) = omega arith
+form_above (set_dynamic n f) = omega arith
+form_above (def_dynamic n f) = omega arith
+form_above (with_handler handler body) = omega arith
+form_above (signal_form condition continuable) = omega arith
+form_above (continue_form condition f) = omega arith
+form_above next_method = omega arith
+form_above has_next = omega arith
+form_above (sited s inner) = omega arith
+
 -- to the depth of its size, a form is read back from its numbers
 mutual
   form_back : (k : ℕ) (f : Form) (rest : List ℕ) → form_size f ≤ k
       → read_form k (write_form f rest) ≡ (f, rest)
-  form_back zero (literal i) rest h = absurd (omega arith)
-  form_back zero (clauses cs) rest h = absurd (omega arith)
-  form_back zero (sequence fs) rest h = absurd (omega arith)
-  form_back zero (prim p fs) rest h = absurd (omega arith)
-  form_back zero (sited s f) rest h = absurd (omega arith)
+  form_back zero f rest h = absurd (omega (arith, form_above f))
   form_back (suc k) (literal i) rest h = refl
-  form_back (suc k) (clauses cs) rest h = ap (under clauses) (clauses_back k cs rest (omega arith))
+  form_back (suc k) (local v) rest h = refl
+  form_back (suc k) (set_local v f) rest h = ap (under (set_local v)) (form_back k f rest (omega arith))
+  form_back (suc k) (global n) rest h = refl
+  form_back (suc k) (set_global n f) rest h = ap (under (set_global n)) (form_back k f rest (omega arith))
+  form_back (suc k) (def_global n f) rest h = ap (under (def_global n)) (form_back k f rest (omega arith))
+  form_back (suc k) (clauses fs) rest h = ap (under clauses) (clauses_back k fs rest (omega arith))
   form_back (suc k) (sequence fs) rest h = ap (under sequence) (forms_back k fs rest (omega arith))
-  form_back (suc k) (prim p fs) rest h =
-      rw (primitive_back p) (ap (under (prim p)) (forms_back k fs rest (omega arith)))
-  form_back (suc k) (sited s f) rest h = ap (under (sited s)) (form_back k f rest (omega arith))
+  form_back (suc k) (let_form bs body) rest h = rw (bindings_back k bs (write_form body rest) (omega arith)) (ap (under (let_form bs)) (form_back k body rest (omega arith)))
+  form_back (suc k) (lambda p ps) rest h = ap (under (lambda p)) (parts_back k ps rest (omega arith))
+  form_back (suc k) (call n fs) rest h = ap (under (call n)) (forms_back k fs rest (omega arith))
+  form_back (suc k) (call_value fs) rest h = ap (under call_value) (forms_back k fs rest (omega arith))
+  form_back (suc k) (apply function fs) rest h = rw (form_back k function (write_form fs rest) (omega arith)) (ap (under (apply function)) (form_back k fs rest (omega arith)))
+  form_back (suc k) (prim p fs) rest h = rw (primitive_back p) (ap (under (prim p)) (forms_back k fs rest (omega arith)))
+  form_back (suc k) (while_form test body) rest h = rw (form_back k test (write_form body rest) (omega arith)) (ap (under (while_form test)) (form_back k body rest (omega arith)))
+  form_back (suc k) (block x body) rest h = ap (under (block x)) (form_back k body rest (omega arith))
+  form_back (suc k) (return_from x f) rest h = ap (under (return_from x)) (form_back k f rest (omega arith))
+  form_back (suc k) (tagbody x ss) rest h = ap (under (tagbody x)) (forms_back k ss rest (omega arith))
+  form_back (suc k) (go x segment) rest h = refl
+  form_back (suc k) (catch_form tag body) rest h = rw (form_back k tag (write_form body rest) (omega arith)) (ap (under (catch_form tag)) (form_back k body rest (omega arith)))
+  form_back (suc k) (throw tag f) rest h = rw (form_back k tag (write_form f rest) (omega arith)) (ap (under (throw tag)) (form_back k f rest (omega arith)))
+  form_back (suc k) (unwind form cleanup) rest h = rw (form_back k form (write_form cleanup rest) (omega arith)) (ap (under (unwind form)) (form_back k cleanup rest (omega arith)))
+  form_back (suc k) (dynamic_let bs body) rest h = rw (dynamics_back k bs (write_form body rest) (omega arith)) (ap (under (dynamic_let bs)) (form_back k body rest (omega arith)))
+  form_back (suc k) (dynamic n) rest h = refl
+  form_back (suc k) (set_dynamic n f) rest h = ap (under (set_dynamic n)) (form_back k f rest (omega arith))
+  form_back (suc k) (def_dynamic n f) rest h = ap (under (def_dynamic n)) (form_back k f rest (omega arith))
+  form_back (suc k) (with_handler handler body) rest h = rw (form_back k handler (write_form body rest) (omega arith)) (ap (under (with_handler handler)) (form_back k body rest (omega arith)))
+  form_back (suc k) (signal_form condition continuable) rest h = rw (form_back k condition (write_form continuable rest) (omega arith)) (ap (under (signal_form condition)) (form_back k continuable rest (omega arith)))
+  form_back (suc k) (continue_form condition f) rest h = rw (form_back k condition (write_form f rest) (omega arith)) (ap (under (continue_form condition)) (form_back k f rest (omega arith)))
+  form_back (suc k) next_method rest h = refl
+  form_back (suc k) has_next rest h = refl
+  form_back (suc k) (sited s inner) rest h = ap (under (sited s)) (form_back k inner rest (omega arith))
 
   forms_back : (k : ℕ) (fs : Forms) (rest : List ℕ) → forms_size fs ≤ k
       → read_forms k (write_forms fs rest) ≡ (fs, rest)
@@ -142,6 +416,24 @@ mutual
   maybe_back zero (with_body f) rest h = absurd (omega arith)
   maybe_back (suc k) no_body rest h = refl
   maybe_back (suc k) (with_body f) rest h = ap (under with_body) (form_back k f rest (omega arith))
+
+  bindings_back : (k : ℕ) (bs : BindingForms) (rest : List ℕ) → bindings_size bs ≤ k
+      → read_bindings k (write_bindings bs rest) ≡ (bs, rest)
+  bindings_back zero no_binding rest h = absurd (omega arith)
+  bindings_back zero (binding_and v f bs) rest h = absurd (omega arith)
+  bindings_back (suc k) no_binding rest h = refl
+  bindings_back (suc k) (binding_and v f bs) rest h =
+      rw (form_back k f (write_bindings bs rest) (omega arith))
+      (ap (under (binding_and v f)) (bindings_back k bs rest (omega arith)))
+
+  dynamics_back : (k : ℕ) (bs : DynamicForms) (rest : List ℕ) → dynamics_size bs ≤ k
+      → read_dynamics k (write_dynamics bs rest) ≡ (bs, rest)
+  dynamics_back zero no_dynamic rest h = absurd (omega arith)
+  dynamics_back zero (dynamic_and n f bs) rest h = absurd (omega arith)
+  dynamics_back (suc k) no_dynamic rest h = refl
+  dynamics_back (suc k) (dynamic_and n f bs) rest h =
+      rw (form_back k f (write_dynamics bs rest) (omega arith))
+      (ap (under (dynamic_and n f)) (dynamics_back k bs rest (omega arith)))
 
 -- the size of a form, and then its numbers
 abbrev pub form_numbers : Form → List ℕ

@@ -1,36 +1,22 @@
--- What a core form and a program mean.
-use Rattle.std.specs.Prelude.{ℕ, zero, suc, ◌+◌, ◌-◌, List, [], ◌∷◌, ◌++◌, Option, Some, None, slice_get, slice_index_or}
+-- What a core form and a program mean (ISO/IEC 13816:2007, 12 and 14). Levels, units and words are this profile's
+-- own: they bound a run, and no program can tell them.
+use Rattle.std.specs.Prelude.{ℕ, zero, suc, ◌+◌, ◌-◌, Bool, true, false, List, [], ◌∷◌, ◌++◌, Option, Some, None, length, slice_get, slice_index_or, if◌then◌else◌}
 use Rattle.isl_base.specs.declared.place.Place.{Place}
-use Rattle.isl_base.specs.declared.datum.Kind.{Kind}
-use Rattle.isl_base.specs.declared.datum.Kind.TheVariants.{Int, Char, Sym, Nil}
-use Rattle.isl_base.specs.declared.datum.Symbol.TheVariants.{Named}
 use Rattle.isl_meaning.specs.declared.program.LiteralRow.{LiteralRow}
 use Rattle.isl_meaning.specs.declared.program.LiteralRow.TheVariants as row
 use Rattle.isl_meaning.specs.declared.program.Program.{Program}
-use Rattle.isl_meaning.specs.Form.{Form, literal, clauses, sequence, prim, sited, Forms, no_form, form_and, ClauseForms, no_clause, clause_and, MaybeForm, no_body, with_body}
-use Rattle.isl_meaning.specs.Counts.{count_forms, count_clauses, nodes, application_words}
-use Rattle.isl_meaning.specs.Values.{Value, integer, character, symbol, named, nil, object}
-use Rattle.isl_meaning.specs.State.{State, first_state, Surroundings, main_surroundings, Environment, no_environment, no_place, Outcome, value, exit, full, more, at_segment, at_site, Evaluated, gives, go_on, Limit, request, charged}
-use Rattle.isl_meaning.specs.Primitives.{primitive}
-
--- what is evaluated one level below: in this part of the language, a form
-pub data Task : Type 0 where
-  form : Form → Task
-
--- an evaluation from an environment, surroundings and a state
-abbrev pub Evaluation : Type 0
-Evaluation = Environment → Surroundings → State → Evaluated
-
--- the value of a literal's datum, where names are the texts of the program's names
-abbrev pub value_of_kind : List (List ℕ) → Kind → Value
-value_of_kind names (Int n) = integer n
-value_of_kind names (Char c) = character c
-value_of_kind names (Sym (Named name)) = symbol (named (slice_index_or names name.0 []))
-value_of_kind names Nil = nil
-
-abbrev pub value_of_row : List (List ℕ) → Option LiteralRow → Value
-value_of_row names (Some (row.Datum d)) = value_of_kind names d.kind
-value_of_row names None = nil
+use Rattle.isl_meaning.specs.Form.{Form, literal, local, set_local, global, set_global, def_global, clauses, sequence, let_form, lambda, call, call_value, apply, prim, while_form, block, return_from, tagbody, go, catch_form, throw, unwind, dynamic_let, dynamic, set_dynamic, def_dynamic, with_handler, signal_form, continue_form, next_method, has_next, sited}
+use Rattle.isl_meaning.specs.Form.{Forms, no_form, form_and, ClauseForms, no_clause, clause_and, MaybeForm, no_body, with_body}
+use Rattle.isl_meaning.specs.Form.{BindingForms, no_binding, binding_and, DynamicForms, no_dynamic, dynamic_and}
+use Rattle.isl_meaning.specs.Counts.{count_forms, count_clauses, count_bindings, count_dynamics, nodes, application_words}
+use Rattle.isl_meaning.specs.Values.{Value, symbol, named, nil, object, truth, is_true, same_text}
+use Rattle.isl_meaning.specs.Objects.{Called, Environment, no_environment, Object, cons, function, function_class, list_class, serious_condition_class, control_error_class, domain_error_class}
+use Rattle.isl_meaning.specs.State.{State, first_state, Surroundings, main_surroundings, no_place, block_exit, tagbody_exit, catch_exit, Landing, at_segment, at_site, Outcome, value, exit, full, more, Evaluated, gives, Act, go_on, landed, caught, cleaned, inside, exit_made, Limit, request, charged, make}
+use Rattle.isl_meaning.specs.Lookup.{text, is_in, under_text, under_number, value_at, set_at, numbered, with_variables, with_values, with_exit}
+use Rattle.isl_meaning.specs.Classes.{class_of_object, fetch, is_condition}
+use Rattle.isl_meaning.specs.Literals.{lay, lays, laid_before, first_literal, class_value, function_row, function_value, objects_at_start}
+use Rattle.isl_meaning.specs.Primitives.{primitive, is_function}
+use Rattle.isl_meaning.specs.Signals.{Task, nothing, form, turn, methods, Evaluation, with_some, run_chain, apply_value, apply_row, undefined_function, unbound_variable, signal_under, signal, answered, search, transfer, throw_to, continue_with, with_cells}
 
 -- the place of a site, counted from 1
 abbrev pub place_of_site : List Place → ℕ → Place
@@ -38,22 +24,216 @@ place_of_site sites site = slice_index_or sites (site - 1) no_place
 
 -- the test's value where it is not nil, else what follows
 abbrev pub unless_nil : Value → Evaluated → Evaluated → Evaluated
-unless_nil nil then_do else_do = else_do
-unless_nil (integer n) then_do else_do = then_do
-unless_nil (character c) then_do else_do = then_do
-unless_nil (symbol s) then_do else_do = then_do
-unless_nil (object i) then_do else_do = then_do
+unless_nil v then_do else_do = if is_true v then then_do else else_do
+
+-- the segments from one on
+abbrev pub from_segment : ℕ → Forms → Forms
+from_segment zero fs = fs
+from_segment (suc n) no_form = no_form
+from_segment (suc n) (form_and f fs) = from_segment n fs
+
+abbrev pub segment_of : Landing → ℕ
+segment_of (at_segment i) = i
+segment_of (at_site place) = 0
+
+-- the exit of a tagbody in front
+abbrev pub with_turns : ℕ → Surroundings → Surroundings
+with_turns e around = record around { exits = record { number = e; kind = tagbody_exit } ∷ around.exits }
+
+-- the variables of bindings, and the texts of dynamic ones
+abbrev pub bound_variables : BindingForms → List ℕ
+bound_variables no_binding = []
+bound_variables (binding_and v f bs) = v ∷ bound_variables bs
+
+abbrev pub bound_names : List (List ℕ) → DynamicForms → List (List ℕ)
+bound_names names no_dynamic = []
+bound_names names (dynamic_and n f bs) = text names n ∷ bound_names names bs
+
+-- the elements of a list, from cons to cons, each cons once; and whether the list is a proper one
+pub record Spread : Type 0 where
+  pub elements : List Value
+  pub proper : Bool
+
+abbrev pub spread_at : (ℕ → Value → Spread) → List ℕ → Value → Option Object → Spread
+spread_at others seen nil o = record { elements = []; proper = true }
+spread_at others seen (object i) (Some (cons a d)) =
+    if is_in i seen then record { elements = []; proper = false }
+    else record { elements = a ∷ (others i d).elements; proper = (others i d).proper }
+spread_at others seen v o = record { elements = []; proper = false }
+
+abbrev pub spread : ℕ → State → List ℕ → Value → Spread
+spread zero z seen v = record { elements = []; proper = false }
+spread (suc n) z seen v = spread_at (λ i d. spread n z (i ∷ seen) d) seen v (fetch z v)
 
 -- a program with the texts of its names, the words there are, and the meaning one level below
 module _ (names : List (List ℕ)) (program : Program) (limit : Limit) (below : Task → Evaluation) where
+  -- the signal of a condition, as rules and primitives do it
+  abbrev pub wrong : ℕ → List Value → Act
+  wrong = signal names program limit below
+
+  -- a literal: an object that is there from the start; a name without a function is undefined
+  abbrev pub mean_literal : ℕ → Option LiteralRow → Act
+  mean_literal id None around z = gives nil z
+  mean_literal id (Some (row.Datum d)) around z =
+      gives (lay names d (first_literal program + laid_before id (lays names program))).value z
+  mean_literal id (Some (row.Class c)) around z = gives (class_value c) z
+  mean_literal id (Some (row.Function name)) around z =
+      with_some (function_row names program.functions (text names name.0))
+      (undefined_function names program limit below wrong (text names name.0))
+      (λ f a y. gives (function_value names program (text names name.0)) y)
+      around z
+
+  -- a global variable (ISO/IEC 13816:2007, 14.2) has no value before its definition has run
+  abbrev pub mean_global : List ℕ → Act
+  mean_global name around z =
+      with_some (under_text name z.globals) (unbound_variable names program limit below wrong name)
+      (λ v a y. gives v y) around z
+
+  abbrev pub set_global_to : List ℕ → Value → Act
+  set_global_to name v around z =
+      with_some (under_text name z.globals) (unbound_variable names program limit below wrong name)
+      (λ old a y. gives v (record y { globals = (name, v) ∷ y.globals })) around z
+
+  -- a dynamic variable (ISO/IEC 13816:2007, 14.3): the innermost binding, else the outermost value
+  abbrev pub mean_dynamic : List ℕ → Act
+  mean_dynamic name around z =
+      search names program limit below (λ (b : List ℕ × ℕ). same_text name b.0) (λ b y. gives (value_at (Some b.1) y) y)
+      (λ y. with_some (under_text name y.dynamics) (unbound_variable names program limit below wrong name)
+      (λ v a x. gives v x) around y)
+      around.bindings z
+
+  abbrev pub set_dynamic_to : List ℕ → Value → Act
+  set_dynamic_to name v around z =
+      search names program limit below (λ (b : List ℕ × ℕ). same_text name b.0) (λ b y. gives v (set_at (Some b.1) v y))
+      (λ y. with_some (under_text name y.dynamics) (unbound_variable names program limit below wrong name)
+      (λ old a x. gives v (record x { dynamics = (name, v) ∷ x.dynamics })) around y)
+      around.bindings z
+
+  -- a function is applied to the elements of a list; the function is judged first, then the list
+  abbrev pub mean_apply : Value → Value → Act
+  mean_apply f list around z =
+      if is_function (fetch z f) then
+      (let s = spread (length z.store + 1) z [] list in
+      if s.proper then apply_value names program limit below wrong f s.elements around (charged (length s.elements) z)
+      else wrong domain_error_class (list ∷ class_value list_class ∷ []) around (charged (length s.elements) z))
+      else wrong domain_error_class (f ∷ class_value function_class ∷ []) around z
+
+  -- the first value is applied to the others
+  abbrev pub mean_call_value : List Value → Act
+  mean_call_value [] around z = gives nil z
+  mean_call_value (f ∷ vs) around z = apply_value names program limit below wrong f vs around z
+
+  -- a condition is signalled; what is no condition is a domain error
+  abbrev pub mean_signal : Value → Value → Act
+  mean_signal c mark around z =
+      if is_condition program z c then signal_under names program limit below around.handlers c mark around z
+      else wrong domain_error_class (c ∷ class_value serious_condition_class ∷ []) around z
+
+  -- a body with a handler in front, which is to be a function
+  abbrev pub with_handler_value : Value → (Act) → Act
+  with_handler_value h body around z =
+      if is_function (fetch z h) then body (record around { handlers = h ∷ around.handlers }) z
+      else wrong domain_error_class (h ∷ class_value function_class ∷ []) around z
+
+  -- the rest of the chain of the method around, with the arguments of this one
+  abbrev pub mean_next : Option Called → Act
+  mean_next None = wrong control_error_class []
+  mean_next (Some called) = run_chain names program limit below wrong called.rest called.arguments
+
+  abbrev pub is_next : Option Called → Bool
+  is_next None = false
+  is_next (Some called) = by called.rest.primary
+    where
+      by : List ℕ → Bool
+      by [] = false
+      by (p ∷ ps) = true
+
+  -- the segments of a tagbody, whose exit is in front while they run: a transfer to it goes on from a segment,
+  -- one level below
+  abbrev pub turned : ℕ → Forms → Environment → Surroundings → Evaluated → Evaluated
+  turned e all env around r =
+      landed e (λ v landing z. below (turn e (from_segment (segment_of landing) all) all) env around z)
+      (go_on r (λ v after. gives nil after))
+
   unfoldable mutual
-    -- the meaning of a form: one unit for it and one for each argument and clause
+    -- the meaning of a form: one unit for it and one for each argument, binding, clause, tag, captured part and
+    -- name of it
     pub mean : Form → Evaluation
-    mean (literal id) env around z = gives (value_of_row names (slice_get program.literals id)) (charged 1 z)
+    mean (literal id) env around z = mean_literal id (slice_get program.literals id) around (charged 1 z)
+    mean (local v) env around z = gives (value_at (under_number v env.variables) z) (charged 1 z)
+    mean (set_local v f) env around z =
+        go_on (mean f env around (charged 1 z)) (λ x after. gives x (set_at (under_number v env.variables) x after))
+    mean (global n) env around z = mean_global (text names n) around (charged 2 z)
+    mean (set_global n f) env around z =
+        go_on (mean f env around (charged 2 z)) (λ x after. set_global_to (text names n) x around after)
+    mean (def_global n f) env around z =
+        go_on (mean f env around (charged 2 z)) (λ x after.
+        gives (symbol (named (text names n))) (record after { globals = (text names n, x) ∷ after.globals }))
     mean (clauses cs) env around z = mean_clauses cs env around (charged (1 + count_clauses cs) z)
     mean (sequence fs) env around z = mean_sequence nil fs env around (charged 1 z)
+    mean (let_form bs body) env around z =
+        mean_bindings bs [] env around (charged (1 + count_bindings bs) z) (λ vs after.
+        with_cells names program limit below (bound_variables bs) body after (λ ready.
+        mean body (with_variables (bound_variables bs) ready env) around (with_values vs ready)))
+    mean (lambda p parts) env around z =
+        make limit (2 + length parts) 0 (function p env) (charged (1 + length parts) z) (λ v after. gives v after)
+    mean (call n fs) env around z =
+        mean_arguments fs [] env around (charged (2 + count_forms fs) z) (λ vs after.
+        apply_row names program limit below wrong (text names n) (function_row names program.functions (text names n)) vs around after)
+    mean (call_value fs) env around z =
+        mean_arguments fs [] env around (charged (1 + (count_forms fs - 1)) z) (λ vs after. mean_call_value vs around after)
+    mean (apply f list) env around z =
+        go_on (mean f env around (charged 1 z)) (λ function after.
+        go_on (mean list env around after) (λ v ready. mean_apply function v around ready))
     mean (prim which fs) env around z =
-        mean_arguments fs [] env around (charged (1 + count_forms fs) z) (λ vs after. primitive limit which vs around after)
+        mean_arguments fs [] env around (charged (1 + count_forms fs) z) (λ vs after.
+        answered names program limit below (primitive names program which vs after) around after)
+    mean (while_form test body) env around z =
+        go_on (mean test env around (charged 1 z)) (λ v after.
+        unless_nil v
+        (go_on (mean body env around after) (λ ignored again. below (form (while_form test body)) env around again))
+        (gives nil after))
+    mean (block x body) env around z =
+        caught z.exits (mean body (with_exit x z env) (inside block_exit around z) (exit_made (charged 1 z)))
+    mean (return_from x f) env around z =
+        go_on (mean f env around (charged 1 z)) (λ v after.
+        transfer names program limit below (under_number x env.exits) v (at_segment 0) around after)
+    mean (tagbody x segments) env around z =
+        turned z.exits segments (with_exit x z env) around
+        (mean_sequence nil segments (with_exit x z env) (with_turns z.exits around)
+        (exit_made (charged (1 + (count_forms segments - 1)) z)))
+    mean (go x segment) env around z =
+        transfer names program limit below (under_number x env.exits) nil (at_segment segment) around (charged 1 z)
+    mean (catch_form tag body) env around z =
+        go_on (mean tag env around (charged 1 z)) (λ v after.
+        caught after.exits (mean body env (inside (catch_exit v) around after) (exit_made after)))
+    mean (throw tag f) env around z =
+        go_on (mean tag env around (charged 1 z)) (λ v after.
+        go_on (mean f env around after) (λ x ready. throw_to names program limit below v x around ready))
+    mean (unwind f cleanup) env around z =
+        cleaned (λ within after. mean cleanup env within after) around (mean f env around (charged 1 z))
+    mean (dynamic_let bs body) env around z =
+        mean_dynamics bs [] env around (charged (1 + count_dynamics bs) z) (λ vs after.
+        mean body env
+        (record around { bindings = numbered (bound_names names bs) (length after.variables) ++ around.bindings })
+        (with_values vs after))
+    mean (dynamic n) env around z = mean_dynamic (text names n) around (charged 2 z)
+    mean (set_dynamic n f) env around z =
+        go_on (mean f env around (charged 2 z)) (λ x after. set_dynamic_to (text names n) x around after)
+    mean (def_dynamic n f) env around z =
+        go_on (mean f env around (charged 2 z)) (λ x after.
+        gives (symbol (named (text names n))) (record after { dynamics = (text names n, x) ∷ after.dynamics }))
+    mean (with_handler handler body) env around z =
+        go_on (mean handler env around (charged 1 z)) (λ h after.
+        with_handler_value h (λ within ready. mean body env within ready) around after)
+    mean (signal_form condition continuable) env around z =
+        go_on (mean condition env around (charged 1 z)) (λ c after.
+        go_on (mean continuable env around after) (λ mark ready. mean_signal c mark around ready))
+    mean (continue_form condition f) env around z =
+        go_on (mean condition env around (charged 1 z)) (λ c after.
+        go_on (mean f env around after) (λ v ready. continue_with names program limit below c v around ready))
+    mean next_method env around z = mean_next env.method around (charged 1 z)
+    mean has_next env around z = gives (truth (is_next env.method)) (charged 1 z)
     mean (sited site f) env around z =
         mean f env (record around { site = place_of_site program.sites site }) z
 
@@ -73,11 +253,31 @@ module _ (names : List (List ℕ)) (program : Program) (limit : Limit) (below : 
     pub mean_clauses : ClauseForms → Evaluation
     mean_clauses no_clause env around z = gives nil z
     mean_clauses (clause_and test body cs) env around z =
-        go_on (mean test env around z) (λ v after. unless_nil v (mean_body v body env around after) (mean_clauses cs env around after))
+        go_on (mean test env around z) (λ v after.
+        unless_nil v (mean_body v body env around after) (mean_clauses cs env around after))
 
     pub mean_body : Value → MaybeForm → Evaluation
     mean_body v no_body env around z = gives v z
     mean_body v (with_body f) env around z = mean f env around z
+
+    -- the values of bindings, behind those already evaluated
+    pub mean_bindings : BindingForms → List Value → Environment → Surroundings → State → (List Value → State → Evaluated) → Evaluated
+    mean_bindings no_binding vs env around z next = next vs z
+    mean_bindings (binding_and x f bs) vs env around z next =
+        go_on (mean f env around z) (λ v after. mean_bindings bs (vs ++ v ∷ []) env around after next)
+
+    pub mean_dynamics : DynamicForms → List Value → Environment → Surroundings → State → (List Value → State → Evaluated) → Evaluated
+    mean_dynamics no_dynamic vs env around z next = next vs z
+    mean_dynamics (dynamic_and n f bs) vs env around z next =
+        go_on (mean f env around z) (λ v after. mean_dynamics bs (vs ++ v ∷ []) env around after next)
+
+  -- a task with the meaning one level below
+  abbrev pub mean_task : Task → Evaluation
+  mean_task nothing env around z = gives nil z
+  mean_task (form f) env around z = mean f env around z
+  mean_task (turn e rest all) env around z =
+      turned e all env around (mean_sequence nil rest env (with_turns e around) z)
+  mean_task (methods c vs) env around z = run_chain names program limit below wrong c vs around z
 
 -- below the last level there is no meaning
 abbrev pub none_below : Task → Evaluation
@@ -85,8 +285,8 @@ none_below task env around z = record { outcome = more; state = z }
 
 -- the meaning with so many levels
 unfoldable pub meaning_at : List (List ℕ) → Program → Limit → ℕ → Task → Evaluation
-meaning_at names program limit zero (form f) = mean names program limit none_below f
-meaning_at names program limit (suc k) (form f) = mean names program limit (meaning_at names program limit k) f
+meaning_at names program limit zero = mean_task names program limit none_below
+meaning_at names program limit (suc k) = mean_task names program limit (meaning_at names program limit k)
 
 -- a main form is charged as the body of an application without arguments, and takes no level
 abbrev pub mean_main : List (List ℕ) → Program → Limit → ℕ → Form → State → Evaluated
@@ -116,12 +316,14 @@ end_of (exit e v (at_segment segment)) = ended_unhandled v no_place
 end_of (full asked left) = ended_full asked left
 end_of more = ended_more
 
--- what a program does: the bytes printed, the units, the peak of words, and the end
+-- what a program does: the end, the bytes printed, the units, the peak of words, and the store, which says
+-- what the objects are
 pub record Meant : Type 0 where
   pub end : End
   pub printed : List ℕ
   pub units : ℕ
   pub peak : ℕ
+  pub store : List Object
 
 abbrev pub meant : Evaluated → Meant
 meant r = record {
@@ -129,8 +331,27 @@ meant r = record {
   printed = r.state.printed;
   units = r.state.units;
   peak = r.state.peak;
+  store = r.state.store;
 }
+
+-- how it ended, by the class of the condition where it is unhandled
+pub data Ending : Type 0 where
+  with_value : Value → Ending
+  by_class : (class : ℕ) → Place → Ending
+  for_words : (asked left : ℕ) → Ending
+  for_levels : Ending
+
+abbrev pub class_in : List Object → Value → ℕ
+class_in store (object i) = class_of_object (slice_get store i)
+class_in store v = 0
+
+abbrev pub ending_of : End → List Object → Ending
+ending_of (ended_value v) store = with_value v
+ending_of (ended_unhandled c place) store = by_class (class_in store c) place
+ending_of (ended_full asked left) store = for_words asked left
+ending_of ended_more store = for_levels
 
 -- the meaning of a program with an input, at k levels and with so many words
 unfoldable pub meaning : List (List ℕ) → Program → List ℕ → ℕ → Limit → Meant
-meaning names program input k limit = meant (mean_mains names program limit k program.main nil (first_state input))
+meaning names program input k limit =
+    meant (mean_mains names program limit k program.main nil (first_state (objects_at_start names program) input))

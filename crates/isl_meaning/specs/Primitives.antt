@@ -1,95 +1,357 @@
--- What the primitives give, and which condition they signal.
-use Rattle.std.specs.Prelude.{ℕ, ◌+◌, Bool, ℤ, true, false, ◌+ℤ◌, ◌-ℤ◌, int_lt, int_le, ◌&&◌, ◌==◌, List, [], ◌∷◌, ◌++◌, length, map, Option, Some, None, slice_get, if◌then◌else◌}
+-- What the primitives give (ISO/IEC 13816:2007, 13, 15 and 18 to 27), and which condition they signal: one row
+-- each. Which class of condition an error has is this profile's choice, `<integer-overflow>` among them, and
+-- `<program-error>` for a bad index or an unbound slot. The classes of the arguments are checked first, from left
+-- to right.
+use Rattle.std.specs.Prelude.{ℕ, zero, suc, ◌+◌, ◌/◌, ◌%◌, ◌==◌, ℤ, pos, negsuc, ◌+ℤ◌, ◌-ℤ◌, ◌*ℤ◌, int_lt, int_le, Bool, true, false, not, ◌&&◌, ◌||◌, nat_le, nat_lt, List, [], ◌∷◌, ◌++◌, length, replicate, Option, Some, None, slice_get, slice_set, slice_index_or, if◌then◌else◌, is_some}
 use Rattle.isl_meaning.specs.declared.primitive.Primitive.{Primitive}
-use Rattle.isl_meaning.specs.declared.primitive.Primitive.TheVariants.{Add, Subtract, NumberEqual, NumberLess, StandardOutput, PutChar}
-use Rattle.isl_meaning.specs.Values.{Value, integer, character, symbol, nil, object, truth, in_range, Object, instance, class_object, input_stream, output_stream, class_number, standard_output, character_class, integer_class, stream_class, integer_overflow_class, domain_error_class}
-use Rattle.isl_meaning.specs.State.{State, Surroundings, Evaluated, gives, unhandled, Limit, request, charged}
+use Rattle.isl_meaning.specs.declared.primitive.Primitive.TheVariants.{Add, Subtract, Multiply, Divide, Modulo, NumberEqual, NumberNotEqual, NumberLess, NumberAtMost, NumberGreater, NumberAtLeast, Same, IsNull, IsCons, IsInteger, IsSymbol, IsCharacter, IsString, IsVector, IsFunction, IsGeneric, Cons, Car, Cdr, SetCar, SetCdr, MakeString, MakeVector, StringLength, VectorLength, CharAt, VectorRef, SetCharAt, SetVectorRef, CharCode, CodeChar, SymbolName, SymbolSerial, Gensym, ClassOf, ClassName, IsSubclass, IsInstance, Allocate, SlotCount, SlotPlace, SlotRef, SlotSet, SlotBound, SlotInitargs, SlotInitform, Continuable, StandardInput, StandardOutput, PutChar, IsFreshLine, GetByte, PeekByte}
+use Rattle.isl_meaning.specs.declared.program.Program.{Program}
+use Rattle.isl_meaning.specs.declared.program.ClassRow.{ClassRow}
+use Rattle.isl_meaning.specs.declared.program.SlotRow.{SlotRow}
+use Rattle.isl_meaning.specs.Values.{named, unnamed, Value, integer, character, symbol, nil, object, truth, in_range, int_equal, same, same_text}
+use Rattle.isl_meaning.specs.Objects.{Object, cons, string, vector, instance, function, generic_function, class_object, input_stream, output_stream, fresh_symbol, standard_input, standard_output, built_in_classes}
+use Rattle.isl_meaning.specs.Objects.{vector_class, string_class, character_class, cons_class, symbol_class, integer_class, stream_class, standard_class_class, standard_object_class, serious_condition_class, program_error_class, division_by_zero_class, integer_overflow_class, domain_error_class}
+use Rattle.isl_meaning.specs.State.{State, charged, changed}
+use Rattle.isl_meaning.specs.Lookup.{text, place_in, passed}
+use Rattle.isl_meaning.specs.Classes.{class_of, fetch, precedence, slots, is_below, is_condition}
+use Rattle.isl_meaning.specs.Literals.{class_value, initargs_value, initform_value}
 
--- a condition is made and signalled (ISO/IEC 13816:2007, 29.1). It is an instance with its slots filled and
--- one word besides for its mark. A fresh exit of kind signal is put in front. The surroundings of this
--- part of the language have no handler, so the outcome is the transfer to exit 0 with the site.
-abbrev pub signal : Limit → ℕ → List Value → Surroundings → State → Evaluated
-signal limit class slots around z =
-    request limit (3 + length slots) 0 z (λ made. record {
-      outcome = unhandled (object (length made.store)) around.site;
-      state = record (charged (3 + length slots) made) {
-        store = made.store ++ instance class (map Some slots) nil ∷ [];
-        exits = made.exits + 1;
-      };
-    })
+-- what a primitive answers: a value, an object to be made of so many words and with so many units besides,
+-- or the class and the slots of a condition to signal
+pub data Answer : Type 0 where
+  result : Value → State → Answer
+  makes : (size besides : ℕ) → Object → State → Answer
+  fails : (class : ℕ) → List Value → State → Answer
 
--- an argument of a wrong class: the object and the expected class (ISO/IEC 13816:2007, 29.3.2)
-abbrev pub domain_error : Limit → Value → ℕ → Surroundings → State → Evaluated
-domain_error limit v expected = signal limit domain_error_class (v ∷ class_number expected ∷ [])
+-- an argument of a wrong class: the object and the expected class (ISO/IEC 13816:2007, 29.3)
+abbrev pub domain_error : Value → ℕ → State → Answer
+domain_error v expected = fails domain_error_class (v ∷ class_value expected ∷ [])
+
+abbrev pub program_error : State → Answer
+program_error = fails program_error_class []
+
+-- arguments as what they are to be
+abbrev pub needs : {X : Type 0} → Option X → Answer → (X → Answer) → Answer
+needs None otherwise next = otherwise
+needs (Some x) otherwise next = next x
+
+abbrev pub as_integer : Value → Option ℤ
+as_integer (integer n) = Some n
+as_integer v = None
+
+abbrev pub as_character : Value → Option ℕ
+as_character (character c) = Some c
+as_character v = None
+
+abbrev pub as_cons : Option Object → Option (Value × Value)
+as_cons (Some (cons a d)) = Some (a, d)
+as_cons o = None
+
+abbrev pub as_string : Option Object → Option (List ℕ)
+as_string (Some (string bytes)) = Some bytes
+as_string o = None
+
+abbrev pub as_vector : Option Object → Option (List Value)
+as_vector (Some (vector vs)) = Some vs
+as_vector o = None
+
+abbrev pub as_class : Option Object → Option ℕ
+as_class (Some (class_object c)) = Some c
+as_class o = None
+
+-- the class, the slots and the mark of an instance
+abbrev pub as_instance : Option Object → Option (ℕ × List (Option Value) × Value)
+as_instance (Some (instance c vs mark)) = Some (c, vs, mark)
+as_instance o = None
+
+-- whether a stream is the standard output
+abbrev pub as_stream : Option Object → Option Bool
+as_stream (Some input_stream) = Some false
+as_stream (Some output_stream) = Some true
+as_stream o = None
+
+-- a symbol: nil is one (ISO/IEC 13816:2007, 13.2)
+pub data Spelt : Type 0 where
+  by_name : List ℕ → Spelt
+  by_serial : ℕ → Spelt
+
+abbrev pub fresh_in : Option Object → Option Spelt
+fresh_in (Some (fresh_symbol s)) = Some (by_serial s)
+fresh_in o = None
+
+abbrev pub as_symbol : State → Value → Option Spelt
+as_symbol z (symbol (named name)) = Some (by_name name)
+as_symbol z (symbol (unnamed expansion serial)) = Some (by_serial serial)
+as_symbol z nil = Some (by_name (110 ∷ 105 ∷ 108 ∷ []))
+as_symbol z (object i) = fresh_in (slice_get z.store i)
+as_symbol z v = None
+
+abbrev pub an_integer : Value → State → (ℤ → Answer) → Answer
+an_integer v z = needs (as_integer v) (domain_error v integer_class z)
+
+abbrev pub a_character : Value → State → (ℕ → Answer) → Answer
+a_character v z = needs (as_character v) (domain_error v character_class z)
+
+abbrev pub a_cons : Value → State → (Value × Value → Answer) → Answer
+a_cons v z = needs (as_cons (fetch z v)) (domain_error v cons_class z)
+
+abbrev pub a_string : Value → State → (List ℕ → Answer) → Answer
+a_string v z = needs (as_string (fetch z v)) (domain_error v string_class z)
+
+abbrev pub a_vector : Value → State → (List Value → Answer) → Answer
+a_vector v z = needs (as_vector (fetch z v)) (domain_error v vector_class z)
+
+abbrev pub a_class : Value → State → (ℕ → Answer) → Answer
+a_class v z = needs (as_class (fetch z v)) (domain_error v standard_class_class z)
+
+abbrev pub an_instance : Value → State → (ℕ × List (Option Value) × Value → Answer) → Answer
+an_instance v z = needs (as_instance (fetch z v)) (domain_error v standard_object_class z)
+
+abbrev pub a_symbol : Value → State → (Spelt → Answer) → Answer
+a_symbol v z = needs (as_symbol z v) (domain_error v symbol_class z)
 
 -- an integer, unless it is out of range
-abbrev pub integer_result : Limit → ℤ → Surroundings → State → Evaluated
-integer_result limit n around z =
-    if in_range n then gives (integer n) z else signal limit integer_overflow_class [] around z
+abbrev pub integer_result : ℤ → State → Answer
+integer_result n z = if in_range n then result (integer n) z else fails integer_overflow_class [] z
 
--- two integers; the classes of the arguments are checked from left to right
-abbrev pub on_integers : Limit → (ℤ → ℤ → Surroundings → State → Evaluated) → Value → Value → Surroundings → State → Evaluated
-on_integers limit f (integer a) (integer b) = f a b
-on_integers limit f (integer a) (character c) = domain_error limit (character c) integer_class
-on_integers limit f (integer a) (symbol s) = domain_error limit (symbol s) integer_class
-on_integers limit f (integer a) nil = domain_error limit nil integer_class
-on_integers limit f (integer a) (object i) = domain_error limit (object i) integer_class
-on_integers limit f (character c) w = domain_error limit (character c) integer_class
-on_integers limit f (symbol s) w = domain_error limit (symbol s) integer_class
-on_integers limit f nil w = domain_error limit nil integer_class
-on_integers limit f (object i) w = domain_error limit (object i) integer_class
+-- the quotient, rounded towards minus infinity, and the remainder with the divisor's sign
+abbrev pub floor_quotient : ℤ → ℤ → ℤ
+floor_quotient (pos a) (pos b) = pos (a / b)
+floor_quotient (negsuc a) (pos b) = negsuc (a / b)
+floor_quotient (pos zero) (negsuc b) = pos 0
+floor_quotient (pos (suc a)) (negsuc b) = negsuc (a / (b + 1))
+floor_quotient (negsuc a) (negsuc b) = pos ((a + 1) / (b + 1))
 
--- whether two integers are equal
-abbrev pub int_equal : ℤ → ℤ → Bool
-int_equal a b = int_le a b && int_le b a
+abbrev pub floor_remainder : ℤ → ℤ → ℤ
+floor_remainder a b = a -ℤ b *ℤ floor_quotient a b
 
--- whether an object of the store is a stream
-abbrev pub is_stream : Option Object → Bool
-is_stream (Some input_stream) = true
-is_stream (Some output_stream) = true
-is_stream (Some (instance class slots mark)) = false
-is_stream (Some (class_object class)) = false
-is_stream None = false
+abbrev pub division : (ℤ → ℤ → ℤ) → ℤ → ℤ → State → Answer
+division f a b z = if int_equal b (pos 0) then fails division_by_zero_class [] z else integer_result (f a b) z
 
--- the byte of a character goes to the standard output, and to no other stream
-abbrev pub put_on : Limit → ℕ → ℕ → Surroundings → State → Evaluated
-put_on limit stream c around z =
-    if object_is_output stream then gives nil (record z { printed = z.printed ++ c ∷ [] })
-    else domain_error limit (object stream) stream_class around z
+-- an index of a list, where it is one
+abbrev pub index_of : ℤ → ℕ → Option ℕ
+index_of (pos i) n = if nat_lt i n then Some i else None
+index_of (negsuc i) n = None
+
+abbrev pub an_index : ℤ → ℕ → State → (ℕ → Answer) → Answer
+an_index n count z = needs (index_of n count) (program_error z)
+
+-- a length: a negative one is a domain error
+abbrev pub length_of : ℤ → Option ℕ
+length_of (pos n) = Some n
+length_of (negsuc n) = None
+
+-- a byte
+abbrev pub byte_of : ℤ → Option ℕ
+byte_of n = needs_byte (length_of n)
   where
-    object_is_output : ℕ → Bool
-    object_is_output i = i == 35
+    needs_byte : Option ℕ → Option ℕ
+    needs_byte (Some c) = if nat_le c 255 then Some c else None
+    needs_byte None = None
 
--- the second argument is a character
-abbrev pub with_character : Limit → ℕ → Value → Surroundings → State → Evaluated
-with_character limit stream (character c) = put_on limit stream c
-with_character limit stream (integer n) = domain_error limit (integer n) character_class
-with_character limit stream (symbol s) = domain_error limit (symbol s) character_class
-with_character limit stream nil = domain_error limit nil character_class
-with_character limit stream (object i) = domain_error limit (object i) character_class
+-- new strings and vectors
+abbrev pub makes_string : List ℕ → State → Answer
+makes_string bytes = makes (2 + (length bytes + 3) / 4) (length bytes) (string bytes)
 
--- the first argument is a stream
-abbrev pub put_char : Limit → Value → Value → Surroundings → State → Evaluated
-put_char limit (object stream) v around z =
-    if is_stream (slice_get z.store stream) then with_character limit stream v around z
-    else domain_error limit (object stream) stream_class around z
-put_char limit (integer n) v around z = domain_error limit (integer n) stream_class around z
-put_char limit (character c) v around z = domain_error limit (character c) stream_class around z
-put_char limit (symbol s) v around z = domain_error limit (symbol s) stream_class around z
-put_char limit nil v around z = domain_error limit nil stream_class around z
+abbrev pub makes_vector : List Value → State → Answer
+makes_vector vs = makes (2 + length vs) 0 (vector vs)
 
--- two arguments; in a program each primitive has as many as it takes
-abbrev pub of_two : (Value → Value → Surroundings → State → Evaluated) → List Value → Surroundings → State → Evaluated
-of_two f (v ∷ w ∷ []) around z = f v w around z
-of_two f [] around z = gives nil z
-of_two f (v ∷ []) around z = gives nil z
-of_two f (v ∷ w ∷ u ∷ us) around z = gives nil z
+-- the words of an instance: a condition has one more, for its mark
+abbrev pub instance_words : Program → ℕ → ℕ → ℕ
+instance_words program c n = 2 + n + (if is_below program c serious_condition_class then 1 else 0)
 
--- the value of a primitive at the values of its arguments
-abbrev pub primitive : Limit → Primitive → List Value → Surroundings → State → Evaluated
-primitive limit Add = of_two (on_integers limit (λ a b. integer_result limit (a +ℤ b)))
-primitive limit Subtract = of_two (on_integers limit (λ a b. integer_result limit (a -ℤ b)))
-primitive limit NumberEqual = of_two (on_integers limit (λ a b around z. gives (truth (int_equal a b)) z))
-primitive limit NumberLess = of_two (on_integers limit (λ a b around z. gives (truth (int_lt a b)) z))
-primitive limit StandardOutput = λ vs around z. gives standard_output z
-primitive limit PutChar = of_two (put_char limit)
+-- a change of an object that is there
+abbrev pub change : Value → Object → State → State
+change (object i) now z = changed i now z
+change v now z = z
+
+abbrev pub is_function : Option Object → Bool
+is_function (Some (function p env)) = true
+is_function (Some (generic_function g)) = true
+is_function o = false
+
+abbrev pub is_generic : Option Object → Bool
+is_generic (Some (generic_function g)) = true
+is_generic o = false
+
+-- the bytes left, and the first of them
+abbrev pub first_byte : List ℕ → Value
+first_byte [] = integer (negsuc 0)
+first_byte (b ∷ bs) = integer (pos b)
+
+abbrev pub other_bytes : List ℕ → List ℕ
+other_bytes [] = []
+other_bytes (b ∷ bs) = bs
+
+-- whether nothing was put, or the last byte put is a newline
+abbrev pub is_fresh_line : List ℕ → Bool
+is_fresh_line [] = true
+is_fresh_line (b ∷ []) = b == 10
+is_fresh_line (b ∷ c ∷ cs) = is_fresh_line (c ∷ cs)
+
+-- the name of a class
+abbrev pub class_name : List (List ℕ) → Option ClassRow → List ℕ
+class_name names (Some row) = text names row.name.0
+class_name names None = []
+
+abbrev pub is_abstract : Option ClassRow → Bool
+is_abstract (Some row) = row.abstract_class
+is_abstract None = true
+
+-- instances of a class can be made where it is not abstract, and is the file's own or a condition class
+abbrev pub can_be_made : Program → ℕ → Bool
+can_be_made program c =
+    not (is_abstract (slice_get program.classes c))
+    && (nat_le built_in_classes c || is_below program c serious_condition_class)
+
+-- the slots of an instance, searched for a name from the first one on
+abbrev pub is_slot : List (List ℕ) → Spelt → SlotRow → Bool
+is_slot names (by_name name) s = same_text name (text names s.name.0)
+is_slot names (by_serial serial) s = false
+
+abbrev pub slot_place : List SlotRow → (SlotRow → Bool) → State → Answer
+slot_place rows p z =
+    needs (index_of (pos (place_in p rows)) (length rows)) (program_error (charged (length rows) z))
+    (λ i. result (integer (pos i)) (charged (i + 1) z))
+
+-- the value of a slot that has one
+abbrev pub slot_value : Option (Option Value) → State → Answer
+slot_value (Some (Some v)) z = result v z
+slot_value (Some None) z = program_error z
+slot_value None z = program_error z
+
+abbrev pub has_value : Option (Option Value) → Bool
+has_value (Some (Some v)) = true
+has_value (Some None) = false
+has_value None = false
+
+-- a place of an instance's slots
+abbrev pub a_slot : Value → Value → State → (ℕ × List (Option Value) × Value → ℕ → Answer) → Answer
+a_slot v place z next =
+    an_instance v z (λ i. an_integer place z (λ n. an_index n (length i.1) z (λ at. next i at)))
+
+-- one, two or three arguments; in a program each primitive has as many as it takes
+abbrev pub of_none : (State → Answer) → List Value → State → Answer
+of_none f [] = f
+of_none f (v ∷ vs) = result nil
+
+abbrev pub of_one : (Value → State → Answer) → List Value → State → Answer
+of_one f (v ∷ []) = f v
+of_one f vs = result nil
+
+abbrev pub of_two : (Value → Value → State → Answer) → List Value → State → Answer
+of_two f (v ∷ w ∷ []) = f v w
+of_two f vs = result nil
+
+abbrev pub of_three : (Value → Value → Value → State → Answer) → List Value → State → Answer
+of_three f (v ∷ w ∷ u ∷ []) = f v w u
+of_three f vs = result nil
+
+abbrev pub of_integers : (ℤ → ℤ → State → Answer) → List Value → State → Answer
+of_integers f = of_two (λ v w z. an_integer v z (λ a. an_integer w z (λ b. f a b z)))
+
+-- t or nil
+abbrev pub says : Bool → State → Answer
+says b = result (truth b)
+
+-- the answer of a primitive at the values of its arguments
+abbrev pub primitive : List (List ℕ) → Program → Primitive → List Value → State → Answer
+primitive names program Add = of_integers (λ a b. integer_result (a +ℤ b))
+primitive names program Subtract = of_integers (λ a b. integer_result (a -ℤ b))
+primitive names program Multiply = of_integers (λ a b. integer_result (a *ℤ b))
+primitive names program Divide = of_integers (division floor_quotient)
+primitive names program Modulo = of_integers (division floor_remainder)
+primitive names program NumberEqual = of_integers (λ a b. says (int_equal a b))
+primitive names program NumberNotEqual = of_integers (λ a b. says (not (int_equal a b)))
+primitive names program NumberLess = of_integers (λ a b. says (int_lt a b))
+primitive names program NumberAtMost = of_integers (λ a b. says (int_le a b))
+primitive names program NumberGreater = of_integers (λ a b. says (int_lt b a))
+primitive names program NumberAtLeast = of_integers (λ a b. says (int_le b a))
+primitive names program Same = of_two (λ v w. says (same v w))
+primitive names program IsNull = of_one (λ v. says (same v nil))
+primitive names program IsCons = of_one (λ v z. says (is_some (as_cons (fetch z v))) z)
+primitive names program IsInteger = of_one (λ v. says (is_some (as_integer v)))
+primitive names program IsSymbol = of_one (λ v z. says (is_some (as_symbol z v)) z)
+primitive names program IsCharacter = of_one (λ v. says (is_some (as_character v)))
+primitive names program IsString = of_one (λ v z. says (is_some (as_string (fetch z v))) z)
+primitive names program IsVector = of_one (λ v z. says (is_some (as_vector (fetch z v))) z)
+primitive names program IsFunction = of_one (λ v z. says (is_function (fetch z v)) z)
+primitive names program IsGeneric = of_one (λ v z. says (is_generic (fetch z v)) z)
+primitive names program Cons = of_two (λ v w. makes 2 0 (cons v w))
+primitive names program Car = of_one (λ v z. a_cons v z (λ c. result c.0 z))
+primitive names program Cdr = of_one (λ v z. a_cons v z (λ c. result c.1 z))
+primitive names program SetCar = of_two (λ v w z. a_cons w z (λ c. result v (change w (cons v c.1) z)))
+primitive names program SetCdr = of_two (λ v w z. a_cons w z (λ c. result v (change w (cons c.0 v) z)))
+primitive names program MakeString = of_two (λ v w z.
+    an_integer v z (λ n. a_character w z (λ c.
+    needs (length_of n) (domain_error v integer_class z) (λ count. makes_string (replicate count c) z))))
+primitive names program MakeVector = of_two (λ v w z.
+    an_integer v z (λ n.
+    needs (length_of n) (domain_error v integer_class z) (λ count. makes_vector (replicate count w) z)))
+primitive names program StringLength = of_one (λ v z. a_string v z (λ bytes. result (integer (pos (length bytes))) z))
+primitive names program VectorLength = of_one (λ v z. a_vector v z (λ vs. result (integer (pos (length vs))) z))
+primitive names program CharAt = of_two (λ v w z.
+    a_string v z (λ bytes. an_integer w z (λ n.
+    an_index n (length bytes) z (λ i. result (character (slice_index_or bytes i 0)) z))))
+primitive names program VectorRef = of_two (λ v w z.
+    a_vector v z (λ vs. an_integer w z (λ n.
+    an_index n (length vs) z (λ i. result (slice_index_or vs i nil) z))))
+primitive names program SetCharAt = of_three (λ v w u z.
+    a_character v z (λ c. a_string w z (λ bytes. an_integer u z (λ n.
+    an_index n (length bytes) z (λ i. result v (change w (string (slice_set bytes i c)) z))))))
+primitive names program SetVectorRef = of_three (λ v w u z.
+    a_vector w z (λ vs. an_integer u z (λ n.
+    an_index n (length vs) z (λ i. result v (change w (vector (slice_set vs i v)) z)))))
+primitive names program CharCode = of_one (λ v z. a_character v z (λ c. result (integer (pos c)) z))
+primitive names program CodeChar = of_one (λ v z.
+    an_integer v z (λ n. needs (byte_of n) (domain_error v integer_class z) (λ c. result (character c) z)))
+primitive names program SymbolName = of_one (λ v z. a_symbol v z (λ s. makes_string (name_of s) z))
+  where
+    name_of : Spelt → List ℕ
+    name_of (by_name name) = name
+    name_of (by_serial serial) = []
+primitive names program SymbolSerial = of_one (λ v z. a_symbol v z (λ s. result (serial_of s) z))
+  where
+    serial_of : Spelt → Value
+    serial_of (by_name name) = nil
+    serial_of (by_serial serial) = integer (pos (serial % 536870912))
+primitive names program Gensym = of_none (λ z. makes 2 0 (fresh_symbol z.symbols) (record z { symbols = z.symbols + 1 }))
+primitive names program ClassOf = of_one (λ v z. result (class_value (class_of z v)) z)
+primitive names program ClassName = of_one (λ v z.
+    a_class v z (λ c. result (symbol (named (class_name names (slice_get program.classes c)))) z))
+primitive names program IsSubclass = of_two (λ v w z.
+    a_class v z (λ c. a_class w z (λ d. below c d z)))
+  where
+    below : ℕ → ℕ → State → Answer
+    below c d z = says (is_below program c d) (charged (passed (λ e. d == e) (precedence program c)) z)
+primitive names program IsInstance = of_two (λ v w z. a_class w z (λ d. below (class_of z v) d z))
+  where
+    below : ℕ → ℕ → State → Answer
+    below c d z = says (is_below program c d) (charged (passed (λ e. d == e) (precedence program c)) z)
+primitive names program Allocate = of_one (λ v z. a_class v z (λ c.
+    if can_be_made program c then
+    makes (instance_words program c (length (slots program c))) 0
+    (instance c (replicate (length (slots program c)) None) nil) z
+    else program_error z))
+primitive names program SlotCount = of_one (λ v z. an_instance v z (λ i. result (integer (pos (length i.1))) z))
+primitive names program SlotPlace = of_two (λ v w z.
+    an_instance v z (λ i. a_symbol w z (λ s. slot_place (slots program i.0) (is_slot names s) z)))
+primitive names program SlotRef = of_two (λ v w z. a_slot v w z (λ i at. slot_value (slice_get i.1 at) z))
+primitive names program SlotSet = of_three (λ v w u z.
+    a_slot w u z (λ i at. result v (change w (instance i.0 (slice_set i.1 at (Some v)) i.2) z)))
+primitive names program SlotBound = of_two (λ v w z. a_slot v w z (λ i at. says (has_value (slice_get i.1 at)) z))
+primitive names program SlotInitargs = of_two (λ v w z. a_slot v w z (λ i at. result (initargs_value names program i.0 at) z))
+primitive names program SlotInitform = of_two (λ v w z. a_slot v w z (λ i at. result (initform_value names program i.0 at) z))
+primitive names program Continuable = of_one (λ v z.
+    if is_condition program z v then an_instance v z (λ i. result i.2 z)
+    else domain_error v serious_condition_class z)
+primitive names program StandardInput = of_none (result standard_input)
+primitive names program StandardOutput = of_none (result standard_output)
+primitive names program PutChar = of_two (λ v w z.
+    needs (as_stream (fetch z v)) (domain_error v stream_class z) (λ is_output.
+    a_character w z (λ c.
+    if is_output then result nil (record z { printed = z.printed ++ c ∷ [] })
+    else domain_error v stream_class z)))
+primitive names program IsFreshLine = of_none (λ z. says (is_fresh_line z.printed) z)
+primitive names program GetByte = of_none (λ z. result (first_byte z.input) (record z { input = other_bytes z.input }))
+primitive names program PeekByte = of_none (λ z. result (first_byte z.input) z)

@@ -1,9 +1,11 @@
 -- What is left of a list from an item on: the turns of a loop over the list.
 use Rattle.std.specs.Prelude.{◌≡◌, ℕ, zero, suc, ◌+◌, List, [], ◌∷◌, Some, slice_get, drop}
 use Rattle.std.proofs.Common.{◌∙◌, ap, add-one}
-use Rattle.isl_meaning.specs.Form.{Form, form_and, clause_and}
-use Rattle.isl_meaning.specs.View.{forms, clauses_of, maybe_form}
+use Rattle.isl_meaning.specs.Form.{Form, form_and, clause_and, binding_and, dynamic_and}
+use Rattle.isl_meaning.specs.View.{forms, clauses_of, maybe_form, bindings_of, dynamics_of}
 use Rattle.isl_meaning.specs.declared.core_form.Clause.{Clause}
+use Rattle.isl_meaning.specs.declared.core_form.Binding.{Binding}
+use Rattle.isl_meaning.specs.declared.core_form.DynBinding.{DynBinding}
 
 -- the item, and then what is left after it
 pub rest_at : {X : Type 0} (xs : List X) (i : ℕ) (x : X) → slice_get xs i ≡ Some x
@@ -20,3 +22,11 @@ forms_at xs i x h = ap forms (rest_at xs i x h)
 pub clauses_at : (cs : List Clause) (i : ℕ) (c : Clause) → slice_get cs i ≡ Some c
     → clauses_of (drop i cs) ≡ clause_and c.test (maybe_form c.body) (clauses_of (drop (i + 1) cs))
 clauses_at cs i c h = ap clauses_of (rest_at cs i c h)
+
+pub bindings_at : (bs : List Binding) (i : ℕ) (b : Binding) → slice_get bs i ≡ Some b
+    → bindings_of (drop i bs) ≡ binding_and b.var b.value (bindings_of (drop (i + 1) bs))
+bindings_at bs i b h = ap bindings_of (rest_at bs i b h)
+
+pub dynamics_at : (bs : List DynBinding) (i : ℕ) (b : DynBinding) → slice_get bs i ≡ Some b
+    → dynamics_of (drop i bs) ≡ dynamic_and b.name.0 b.value (dynamics_of (drop (i + 1) bs))
+dynamics_at bs i b h = ap dynamics_of (rest_at bs i b h)

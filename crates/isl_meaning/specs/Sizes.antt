@@ -1,9 +1,11 @@
 -- What stands in a list of a core form is smaller than the list: a recursion over forms ends.
 use Rattle.std.specs.Prelude.{◌≡◌, ℕ, zero, suc, ◌+◌, ◌<◌, List, [], ◌∷◌, Some, slice_get}
 use Rattle.std.proofs.Common.{arith, ap, subst}
-use Rattle.isl_meaning.specs.Form.{Form, form_size, forms_size, clauses_size, maybe_size}
-use Rattle.isl_meaning.specs.View.{forms, clauses_of, maybe_form}
+use Rattle.isl_meaning.specs.Form.{Form, form_size, forms_size, clauses_size, maybe_size, bindings_size, dynamics_size}
+use Rattle.isl_meaning.specs.View.{forms, clauses_of, maybe_form, bindings_of, dynamics_of}
 use Rattle.isl_meaning.specs.declared.core_form.Clause.{Clause}
+use Rattle.isl_meaning.specs.declared.core_form.Binding.{Binding}
+use Rattle.isl_meaning.specs.declared.core_form.DynBinding.{DynBinding}
 
 -- a size is never nothing
 forms_size_above : (xs : List Form) → 0 < forms_size (forms xs)
@@ -48,3 +50,23 @@ body_form_in_smaller cs i c f h e =
     let s : maybe_size (maybe_form c.body) ≡ form_size f + 1 =
     ap (λ b. maybe_size (maybe_form b)) e in
     omega (arith, clause_in_smaller cs i c h)
+
+-- the value of a binding is smaller than the bindings
+pub binding_in_smaller : (bs : List Binding) (i : ℕ) (b : Binding) → slice_get bs i ≡ Some b
+    → form_size b.value < bindings_size (bindings_of bs)
+binding_in_smaller [] i b h = absurd (cc)
+binding_in_smaller (c ∷ cs) zero b h =
+    let e : c ≡ b = cc in
+    let P : Binding → Type 0 = λ a. form_size a.value < bindings_size (bindings_of (c ∷ cs)) in
+    subst P e (omega arith)
+binding_in_smaller (c ∷ cs) (suc i) b h = omega (arith, binding_in_smaller cs i b h)
+
+-- the value of a dynamic binding is smaller than the bindings
+pub dynamic_in_smaller : (bs : List DynBinding) (i : ℕ) (b : DynBinding) → slice_get bs i ≡ Some b
+    → form_size b.value < dynamics_size (dynamics_of bs)
+dynamic_in_smaller [] i b h = absurd (cc)
+dynamic_in_smaller (c ∷ cs) zero b h =
+    let e : c ≡ b = cc in
+    let P : DynBinding → Type 0 = λ a. form_size a.value < dynamics_size (dynamics_of (c ∷ cs)) in
+    subst P e (omega arith)
+dynamic_in_smaller (c ∷ cs) (suc i) b h = omega (arith, dynamic_in_smaller cs i b h)

@@ -1,10 +1,25 @@
--- Values and objects (ISO/IEC 13816:2007, 10 and 11): a value is an integer, a character, a symbol, nil,
--- or the number of an object in the store.
-use Rattle.std.specs.Prelude.{ℕ, zero, suc, ◌+◌, ℤ, pos, negsuc, Bool, ◌&&◌, int_le, List, [], ◌∷◌, ◌++◌, Option, map, if◌then◌else◌}
+-- Values (ISO/IEC 13816:2007, 13): an integer, a character, a symbol, nil, or the number of an object in
+-- the store.
+use Rattle.std.specs.Prelude.{ℕ, ℤ, pos, negsuc, Bool, true, false, ◌&&◌, ◌==◌, int_le, List, [], ◌∷◌, if◌then◌else◌}
 
--- a symbol that a text names, by its name
+-- whether two texts are the same bytes
+abbrev pub same_text : List ℕ → List ℕ → Bool
+same_text [] [] = true
+same_text [] (y ∷ ys) = false
+same_text (x ∷ xs) [] = false
+same_text (x ∷ xs) (y ∷ ys) = x == y && same_text xs ys
+
+-- a symbol that a text names, by its name, or one that an expansion made and no text names; those that a
+-- program makes while it runs are objects
 pub data SymbolValue : Type 0 where
   named : List ℕ → SymbolValue
+  unnamed : (expansion serial : ℕ) → SymbolValue
+
+abbrev pub same_symbol : SymbolValue → SymbolValue → Bool
+same_symbol (named a) (named b) = same_text a b
+same_symbol (named a) (unnamed x s) = false
+same_symbol (unnamed x s) (named b) = false
+same_symbol (unnamed x s) (unnamed y r) = x == y && s == r
 
 pub data Value : Type 0 where
   integer : ℤ → Value
@@ -21,46 +36,32 @@ t = symbol (named (116 ∷ []))
 abbrev pub truth : Bool → Value
 truth b = if b then t else nil
 
--- the integers of this profile
+-- whether a value is true: all but nil is
+abbrev pub is_true : Value → Bool
+is_true nil = false
+is_true (integer n) = true
+is_true (character c) = true
+is_true (symbol s) = true
+is_true (object i) = true
+
+-- the integers of this profile: they have 30 bits
 abbrev pub in_range : ℤ → Bool
 in_range n = int_le (negsuc 536870911) n && int_le n (pos 536870911)
 
-pub data Object : Type 0 where
-  -- an instance of a class: its slots, which hold a value or nothing, and a condition's mark
-  instance : (class : ℕ) → (slots : List (Option Value)) → (mark : Value) → Object
-  -- a class, by its number
-  class_object : ℕ → Object
-  input_stream : Object
-  output_stream : Object
+-- whether two integers are equal
+abbrev pub int_equal : ℤ → ℤ → Bool
+int_equal a b = int_le a b && int_le b a
 
--- the numbers from a first one on
-abbrev pub count_up : ℕ → ℕ → List ℕ
-count_up first zero = []
-count_up first (suc n) = first ∷ count_up (first + 1) n
-
--- the objects that are there from the start: each built-in class once, and the two streams
-abbrev pub first_objects : List Object
-first_objects = map class_object (count_up 0 34) ++ input_stream ∷ output_stream ∷ []
-
--- the number of a built-in class's object, and of the standard output's
-abbrev pub class_number : ℕ → Value
-class_number class = object class
-
-abbrev pub standard_output : Value
-standard_output = object 35
-
--- built-in classes that the primitives name, by their numbers
-abbrev pub character_class : ℕ
-character_class = 5
-
-abbrev pub integer_class : ℕ
-integer_class = 13
-
-abbrev pub stream_class : ℕ
-stream_class = 14
-
-abbrev pub integer_overflow_class : ℕ
-integer_overflow_class = 28
-
-abbrev pub domain_error_class : ℕ
-domain_error_class = 29
+-- `eq` and `eql`, which are one relation in this profile (ISO/IEC 13816:2007, 13.3): integers, characters
+-- and symbols by value, objects by identity
+abbrev pub same : Value → Value → Bool
+same (integer a) (integer b) = int_equal a b
+same (character a) (character b) = a == b
+same (symbol a) (symbol b) = same_symbol a b
+same nil nil = true
+same (object a) (object b) = a == b
+same (integer a) w = false
+same (character a) w = false
+same (symbol a) w = false
+same nil w = false
+same (object a) w = false

@@ -1,78 +1,72 @@
--- What lists of trees by their lengths are to the definitions that look at their items.
-use Rattle.std.proofs.Common.{◌≡◌, ◌≢◌, ℕ, List, [], ◌∷◌, length, get_or, drop, Option, Some, None, Bool, true, false, refl, if◌then◌else◌, arith}
+-- The arguments of format-char, one at a time and both.
+use Rattle.std.proofs.Common.{◌≡◌, ◌≢◌, ℕ, ◌<◌, List as Seq, [], ◌∷◌, length, get_or, drop, Option, Some, None, Bool, refl, ap, sym, ◌∙◌, if◌then◌else◌, arith}
 use Rattle.std.specs.Prelude.{codes}
 use Rattle.std.specs.Str.{bytes_eq}
 use Rattle.isl_base.specs.declared.place.Place.{Place}
-use Rattle.isl_top.specs.Arguments.{stream_in, letter_of, placed_letter, put_of}
-use Rattle.isl_top.specs.Shapes.{Tables, letter_in, put_form, format_char_form}
-use Rattle.isl_top.specs.Trees.{TreeValue, word, list, Trees, no_tree, tree_and}
-use Rattle.isl_top.specs.TreeView.{trees}
+use Rattle.isl_base.specs.Data.{Item, item, integer, character, symbol, string, vector, nil, list, Items, no_item, item_and, items_of, items_list, no_tail, dotted, place_of}
+use Rattle.isl_base.specs.DataView.{items_of-items_list}
+use Rattle.isl_top.specs.Heads.{list_in}
+use Rattle.isl_top.specs.Shapes.{Tables, word_of, is_text, stream_of, letter_of, put_form, format_char_form}
 
--- a stream is a list of one tree
-pub stream_in_other : (q : Place) (ts : List TreeValue) → length ts ≢ 1 → stream_in (list q (trees ts)) ≡ None
-stream_in_other q [] h = refl
-stream_in_other q (word p w ∷ []) h = absurd (h refl)
-stream_in_other q (list p us ∷ []) h = absurd (h refl)
-stream_in_other q (word p w ∷ t ∷ ts) h = refl
-stream_in_other q (list p us ∷ t ∷ ts) h = refl
+-- a stream is a proper list of one word
+pub stream_of_other : (texts : Seq (Seq ℕ)) (d : Item) → list_in d ≡ None → stream_of texts d ≡ None
+stream_of_other texts (item p (integer n)) e = refl
+stream_of_other texts (item p (character c)) e = refl
+stream_of_other texts (item p (symbol s)) e = refl
+stream_of_other texts (item p (string b)) e = refl
+stream_of_other texts (item p (vector is)) e = refl
+stream_of_other texts (item p nil) e = refl
+stream_of_other texts (item p (list no_item s)) e = refl
+stream_of_other texts (item p (list (item_and h is) no_tail)) e = absurd (cc)
+stream_of_other texts (item p (list (item_and h no_item) (dotted s))) e = refl
+stream_of_other texts (item p (list (item_and h (item_and i is)) (dotted s))) e = refl
 
-pub stream_in_one : (q : Place) (ts : List TreeValue) (t : TreeValue) (r : Place) (w : List ℕ) (b : Bool) → length ts ≡ 1 → t ≡ get_or ts 0 t → word r w ≡ t → b ≡ bytes_eq w (codes "standard-output") → (if b then Some q else None) ≡ stream_in (list q (trees ts))
-stream_in_one q [] t r w b h e f g = absurd (omega (arith, h))
-stream_in_one q (u ∷ []) t r w b h e f g = rw (g, ← e, ← f) refl
-stream_in_one q (u ∷ v ∷ ts) t r w b h e f g = absurd (omega (arith, h))
+pub stream_of_items : (texts : Seq (Seq ℕ)) (d : Item) (ds : Seq Item) → list_in d ≡ Some ds → length ds ≢ 1 → stream_of texts d ≡ None
+stream_of_items texts (item p (integer n)) ds e h = absurd (cc)
+stream_of_items texts (item p (character c)) ds e h = absurd (cc)
+stream_of_items texts (item p (symbol s)) ds e h = absurd (cc)
+stream_of_items texts (item p (string b)) ds e h = absurd (cc)
+stream_of_items texts (item p (vector is)) ds e h = absurd (cc)
+stream_of_items texts (item p nil) ds e h = absurd (cc)
+stream_of_items texts (item p (list no_item s)) ds e h = absurd (cc)
+stream_of_items texts (item p (list (item_and x no_item) no_tail)) ds e h =
+    let same : ds ≡ x ∷ [] = cc in
+    absurd (h (ap length same))
+stream_of_items texts (item p (list (item_and x (item_and y is)) no_tail)) ds e h = refl
+stream_of_items texts (item p (list (item_and x is) (dotted s))) ds e h = absurd (cc)
 
-pub ruleset one_word = (stream_in_other, stream_in_one)
+pub stream_of_one : (texts : Seq (Seq ℕ)) (d x : Item) (ds : Seq Item) → list_in d ≡ Some ds → length ds ≡ 1 → x ≡ get_or ds 0 x → stream_of texts d ≡ (if is_text (codes "standard-output") (word_of texts x) then Some (place_of d) else None)
+stream_of_one texts (item p (integer n)) x ds e h g = absurd (cc)
+stream_of_one texts (item p (character c)) x ds e h g = absurd (cc)
+stream_of_one texts (item p (symbol s)) x ds e h g = absurd (cc)
+stream_of_one texts (item p (string b)) x ds e h g = absurd (cc)
+stream_of_one texts (item p (vector is)) x ds e h g = absurd (cc)
+stream_of_one texts (item p nil) x ds e h g = absurd (cc)
+stream_of_one texts (item p (list no_item s)) x ds e h g = absurd (cc)
+stream_of_one texts (item p (list (item_and y no_item) no_tail)) x ds e h g =
+    let same : ds ≡ y ∷ [] = cc in
+    let one : x ≡ y = rw same at g in
+    ap (λ z. if is_text (codes "standard-output") (word_of texts z) then Some p else None) (sym one)
+stream_of_one texts (item p (list (item_and y (item_and z is)) no_tail)) x ds e h g =
+    let same : ds ≡ y ∷ (z ∷ items_list is) = cc in
+    absurd (omega (arith, h, ap length same))
+stream_of_one texts (item p (list (item_and y is) (dotted s))) x ds e h g = absurd (cc)
 
--- too few arguments of format-char, and too many
-one_argument : (p : Place) (a : TreeValue) (t : Tables) → format_char_form p (tree_and a no_tree) t ≡ None
-one_argument p (word q w) t = refl
-one_argument p (list q no_tree) t = refl
-one_argument p (list q (tree_and (list r us) ts)) t = refl
-one_argument p (list q (tree_and (word r w) no_tree)) t = refl
-one_argument p (list q (tree_and (word r w) (tree_and u us))) t = refl
+pub ruleset one_word = (stream_of_other, stream_of_items, stream_of_one)
 
-three_arguments : (p : Place) (a b c : TreeValue) (ts : Trees) (t : Tables) → format_char_form p (tree_and a (tree_and b (tree_and c ts))) t ≡ None
-three_arguments p (word q w) b c us t = refl
-three_arguments p (list q no_tree) b c us t = refl
-three_arguments p (list q (tree_and (list r vs) ts)) b c us t = refl
-three_arguments p (list q (tree_and (word r w) (tree_and u vs))) b c us t = refl
-three_arguments p (list q (tree_and (word r w) no_tree)) (word s v) c us t = refl
-three_arguments p (list q (tree_and (word r w) no_tree)) (list s ts) c us t = refl
+-- behind a first item: no two arguments, and two
+pub format_char_form_other : (texts : Seq (Seq ℕ)) (p : Place) (ds : Seq Item) (t : Tables) → length ds ≢ 3 → format_char_form texts p (items_of (drop 1 ds)) t ≡ None
+format_char_form_other texts p [] t h = refl
+format_char_form_other texts p (x ∷ []) t h = refl
+format_char_form_other texts p (x ∷ a ∷ []) t h = refl
+format_char_form_other texts p (x ∷ a ∷ b ∷ []) t h = absurd (h refl)
+format_char_form_other texts p (x ∷ a ∷ b ∷ c ∷ ds) t h = refl
 
--- the arguments of format-char, by what each of them is
-placed : (p q r : Place) (o : Option ℕ) (t : Tables) → put_form p q r o t ≡ put_of p (Some q) (placed_letter r o) t
-placed p q r None t = refl
-placed p q r (Some c) t = refl
-
-both_arguments : (p : Place) (a b : TreeValue) (t : Tables) → format_char_form p (tree_and a (tree_and b no_tree)) t ≡ put_of p (stream_in a) (letter_of b) t
-both_arguments p (word q w) b t = refl
-both_arguments p (list q no_tree) b t = refl
-both_arguments p (list q (tree_and (list r us) ts)) b t = refl
-both_arguments p (list q (tree_and (word r w) (tree_and u us))) b t = refl
-both_arguments p (list q (tree_and (word r w) no_tree)) (list s ts) t =
-    elim (bytes_eq w (codes "standard-output")) as (λ b. None ≡ put_of p (if b then Some q else None) None t) [
-      | true ↦ refl
-      | false ↦ refl
-    ]
-both_arguments p (list q (tree_and (word r w) no_tree)) (word s c) t =
-    elim (bytes_eq w (codes "standard-output")) as (λ b. (if b then put_form p q s (letter_in c) t else None) ≡ put_of p (if b then Some q else None) (placed_letter s (letter_in c)) t) [
-      | true ↦ placed p q s (letter_in c) t
-      | false ↦ refl
-    ]
-
--- the same for a list with its first word
-pub format_char_form_other : (p : Place) (ts : List TreeValue) (t : Tables) → length ts ≢ 3 → format_char_form p (trees (drop 1 ts)) t ≡ None
-format_char_form_other p [] t h = refl
-format_char_form_other p (x ∷ []) t h = refl
-format_char_form_other p (x ∷ a ∷ []) t h = one_argument p a t
-format_char_form_other p (x ∷ a ∷ b ∷ []) t h = absurd (h refl)
-format_char_form_other p (x ∷ a ∷ b ∷ c ∷ ts) t h = three_arguments p a b c (trees ts) t
-
-pub format_char_form_both : (p : Place) (ts : List TreeValue) (a b : TreeValue) (t : Tables) → length ts ≡ 3 → a ≡ get_or ts 1 a → b ≡ get_or ts 2 b → format_char_form p (trees (drop 1 ts)) t ≡ put_of p (stream_in a) (letter_of b) t
-format_char_form_both p [] a b t h e f = absurd (omega (arith, h))
-format_char_form_both p (x ∷ []) a b t h e f = absurd (omega (arith, h))
-format_char_form_both p (x ∷ y ∷ []) a b t h e f = absurd (omega (arith, h))
-format_char_form_both p (x ∷ y ∷ z ∷ []) a b t h e f = rw (← e, ← f) (both_arguments p a b t)
-format_char_form_both p (x ∷ y ∷ z ∷ u ∷ ts) a b t h e f = absurd (omega (arith, h))
+pub format_char_form_both : (texts : Seq (Seq ℕ)) (p : Place) (ds : Seq Item) (a b : Item) (t : Tables) → length ds ≡ 3 → a ≡ get_or ds 1 a → b ≡ get_or ds 2 b → format_char_form texts p (items_of (drop 1 ds)) t ≡ put_form p (stream_of texts a) (letter_of b) t
+format_char_form_both texts p [] a b t h e f = absurd (omega (arith, h))
+format_char_form_both texts p (x ∷ []) a b t h e f = absurd (omega (arith, h))
+format_char_form_both texts p (x ∷ y ∷ []) a b t h e f = absurd (omega (arith, h))
+format_char_form_both texts p (x ∷ y ∷ z ∷ []) a b t h e f = rw (← e, ← f) refl
+format_char_form_both texts p (x ∷ y ∷ z ∷ u ∷ ds) a b t h e f = absurd (omega (arith, h))
 
 pub ruleset two_arguments = (format_char_form_other, format_char_form_both)

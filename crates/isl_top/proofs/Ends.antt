@@ -1,21 +1,84 @@
--- How the status that is answered comes from the status of the file's run.
-use Rattle.std.proofs.Common.{◌≡◌, ◌≢◌, [], refl, sym, ◌∙◌, ◌⊎◌, inl, inr}
+-- How the status that is answered comes from the answer of the file's run.
+use Rattle.std.proofs.Common.{◌≡◌, ◌≢◌, ℕ, [], refl, sym, ◌∙◌, ◌⊎◌, inl, inr}
+use Rattle.isl_base.specs.declared.reason.Refusal.{Refusal}
 use Rattle.isl_top.specs.declared.status.Status.{Status}
-use Rattle.isl_top.specs.declared.status.Status.TheVariants.{Done, Usage, Refused, FileFault, WriteFault, NoMemory}
-use Rattle.isl_top.specs.Lines.{line_of}
+use Rattle.isl_top.specs.declared.status.Status.TheVariants.{Done, Usage, Refused, Budget, FileFault, WriteFault, NoMemory}
+use Rattle.isl_top.specs.declared.status.Answer.{Answer}
+use Rattle.isl_top.specs.declared.status.Answer.TheVariants as answer
+use Rattle.isl_top.specs.Lines.{line_of, status_of}
 
--- a write fault is one of a line, with nothing given before it, or one of the run
-pub by_status : (Rises Same Cut : Type 0) (s r : Status) → r ≡ WriteFault → (r ≡ WriteFault → s ≢ WriteFault → Rises) → (line_of s ≡ [] → r ≡ s) → (s ≡ Refused → Same) → (s ≡ FileFault → Same) → (s ≡ NoMemory → Same) → (s ≢ Usage) → (s ≡ WriteFault → Cut) → (Rises × Same) ⊎ Cut
-by_status Rises Same Cut Done r e fault quiet refused file memory usage cut = absurd (done_is_none (sym (quiet refl) ∙ e))
+-- the answer that a status is of
+pub was_done : (a : Answer) → status_of a ≡ Done → a ≡ answer.Done
+was_done answer.Done e = refl
+was_done answer.Usage e = absurd (cc)
+was_done (answer.Refused r) e = absurd (cc)
+was_done (answer.Budget n) e = absurd (cc)
+was_done answer.FileFault e = absurd (cc)
+was_done answer.WriteFault e = absurd (cc)
+was_done answer.NoMemory e = absurd (cc)
+
+pub was_budget : (a : Answer) → status_of a ≡ Budget → (n : ℕ) × (a ≡ answer.Budget n)
+was_budget answer.Done e = absurd (cc)
+was_budget answer.Usage e = absurd (cc)
+was_budget (answer.Refused r) e = absurd (cc)
+was_budget (answer.Budget n) e = (n, refl)
+was_budget answer.FileFault e = absurd (cc)
+was_budget answer.WriteFault e = absurd (cc)
+was_budget answer.NoMemory e = absurd (cc)
+
+pub was_refused : (a : Answer) → status_of a ≡ Refused → (r : Refusal) × (a ≡ answer.Refused r)
+was_refused answer.Done e = absurd (cc)
+was_refused answer.Usage e = absurd (cc)
+was_refused (answer.Refused r) e = (r, refl)
+was_refused (answer.Budget n) e = absurd (cc)
+was_refused answer.FileFault e = absurd (cc)
+was_refused answer.WriteFault e = absurd (cc)
+was_refused answer.NoMemory e = absurd (cc)
+
+pub was_usage : (a : Answer) → status_of a ≡ Usage → a ≡ answer.Usage
+was_usage answer.Done e = absurd (cc)
+was_usage answer.Usage e = refl
+was_usage (answer.Refused r) e = absurd (cc)
+was_usage (answer.Budget n) e = absurd (cc)
+was_usage answer.FileFault e = absurd (cc)
+was_usage answer.WriteFault e = absurd (cc)
+was_usage answer.NoMemory e = absurd (cc)
+
+pub was_file_fault : (a : Answer) → status_of a ≡ FileFault → a ≡ answer.FileFault
+was_file_fault answer.Done e = absurd (cc)
+was_file_fault answer.Usage e = absurd (cc)
+was_file_fault (answer.Refused r) e = absurd (cc)
+was_file_fault (answer.Budget n) e = absurd (cc)
+was_file_fault answer.FileFault e = refl
+was_file_fault answer.WriteFault e = absurd (cc)
+was_file_fault answer.NoMemory e = absurd (cc)
+
+pub was_no_memory : (a : Answer) → status_of a ≡ NoMemory → a ≡ answer.NoMemory
+was_no_memory answer.Done e = absurd (cc)
+was_no_memory answer.Usage e = absurd (cc)
+was_no_memory (answer.Refused r) e = absurd (cc)
+was_no_memory (answer.Budget n) e = absurd (cc)
+was_no_memory answer.FileFault e = absurd (cc)
+was_no_memory answer.WriteFault e = absurd (cc)
+was_no_memory answer.NoMemory e = refl
+
+-- an answer that is no write fault is the status of the run
+pub same_status : (a : Answer) (r t : Status) → (r ≢ WriteFault → r ≡ status_of a) → r ≡ t → t ≢ WriteFault → status_of a ≡ t
+same_status a r t written e other = sym (written (λ h. other (sym e ∙ h))) ∙ e
+
+-- a write fault is one of a line with nothing given before it, one of the run, or one of the line of a run
+-- that was spent
+pub by_answer : (Rises Same Cut Spent : Type 0) (a : Answer) (r : Status) → r ≡ WriteFault
+    → (r ≡ WriteFault → status_of a ≢ WriteFault → Rises) → (line_of a ≡ [] → r ≡ status_of a)
+    → ((x : Refusal) → a ≡ answer.Refused x → Same) → (a ≡ answer.FileFault → Same) → (a ≡ answer.NoMemory → Same) → (a ≢ answer.Usage)
+    → (a ≡ answer.WriteFault → Cut) → ((n : ℕ) → a ≡ answer.Budget n → Spent) → (Rises × Same) ⊎ (Cut ⊎ (Rises × Spent))
+by_answer Rises Same Cut Spent answer.Done r e fault quiet refused file memory usage cut spent = absurd (done_is_none (sym (quiet refl) ∙ e))
   where
     done_is_none : Done ≡ WriteFault → ⊥
     done_is_none h = cc
-by_status Rises Same Cut Usage r e fault quiet refused file memory usage cut = absurd (usage refl)
-by_status Rises Same Cut Refused r e fault quiet refused file memory usage cut = inl (fault e (λ h. cc), refused refl)
-by_status Rises Same Cut FileFault r e fault quiet refused file memory usage cut = inl (fault e (λ h. cc), file refl)
-by_status Rises Same Cut WriteFault r e fault quiet refused file memory usage cut = inr (cut refl)
-by_status Rises Same Cut NoMemory r e fault quiet refused file memory usage cut = inl (fault e (λ h. cc), memory refl)
-
--- an answer that is no write fault is the status of the run
-pub same_status : (s r t : Status) → (r ≢ WriteFault → r ≡ s) → r ≡ t → t ≢ WriteFault → s ≡ t
-same_status s r t written e other = sym (written (λ h. other (sym e ∙ h))) ∙ e
+by_answer Rises Same Cut Spent answer.Usage r e fault quiet refused file memory usage cut spent = absurd (usage refl)
+by_answer Rises Same Cut Spent (answer.Refused x) r e fault quiet refused file memory usage cut spent = inl (fault e (λ h. cc), refused x refl)
+by_answer Rises Same Cut Spent (answer.Budget n) r e fault quiet refused file memory usage cut spent = inr (inr (fault e (λ h. cc), spent n refl))
+by_answer Rises Same Cut Spent answer.FileFault r e fault quiet refused file memory usage cut spent = inl (fault e (λ h. cc), file refl)
+by_answer Rises Same Cut Spent answer.WriteFault r e fault quiet refused file memory usage cut spent = inr (inl (cut refl))
+by_answer Rises Same Cut Spent answer.NoMemory r e fault quiet refused file memory usage cut spent = inl (fault e (λ h. cc), memory refl)

@@ -1,18 +1,19 @@
 -- What a form that was found is made of: the ways back from a result to its parts.
-use Rattle.std.proofs.Common.{◌≡◌, ℕ, ℤ, ⊎_elim, ◌+◌, ◌<◌, ◌≤◌, Bool, true, false, List, [], ◌∷◌, ◌++◌, length, refl, sym, ap, ◌∙◌, arith, Some, None, ◌⊎◌, inl, inr, append_assoc, append-nil, leb-true}
-use Rattle.std.specs.Prelude.{slice_get, Option, nat_le, ◌&&◌, if◌then◌else◌, codes}
-use Rattle.std.specs.Str.{bytes_eq}
+use Rattle.std.proofs.Common.{◌≡◌, ℕ, ℤ, ⊎_elim, ◌+◌, ◌<◌, ◌≤◌, Bool, true, false, List, [], ◌∷◌, ◌++◌, length, refl, sym, ap, ◌∙◌, arith, Some, None, ◌⊎◌, inl, inr, append_assoc, append-nil, subst}
+use Rattle.std.specs.Prelude.{slice_get, Option, nat_lt, if◌then◌else◌}
+use Rattle.std.proofs.lemmas.Bool.{ltb-true}
 use Rattle.isl_base.specs.declared.place.Place.{Place}
-use Rattle.isl_base.specs.declared.datum.Kind.TheVariants.{Int, Char}
+use Rattle.isl_base.specs.Data as datum
 use Rattle.isl_meaning.specs.declared.program.LiteralRow.{LiteralRow}
 use Rattle.isl_meaning.specs.declared.primitive.Primitive.TheVariants.{Add, Subtract, NumberEqual, NumberLess, StandardOutput, PutChar}
 use Rattle.isl_meaning.specs.declared.primitive.Primitive.{Primitive}
-use Rattle.isl_top.specs.Numbers.{number_in}
-use Rattle.isl_top.proofs.Integers.{Within, number_within}
+use Rattle.isl_top.specs.declared.operands.Number.{Number}
+use Rattle.isl_top.specs.declared.format_char.Letter.{Letter}
+use Rattle.isl_top.proofs.Integers.{Within, small_within}
 use Rattle.isl_meaning.specs.Form.{Form, literal, prim, sited}
 use Rattle.isl_meaning.specs.Form.{no_form, form_and}
-use Rattle.isl_top.specs.Trees.{TreeValue, word, list, Trees, no_tree, tree_and}
-use Rattle.isl_top.specs.Shapes.{Tables, with_literal, with_site, next_literal, next_site, Found, and_then, as_form, Head, progn_head, format_char_head, if_head, plus_head, minus_head, equal_head, less_head, other_head, head_of, letter_in, put_form, format_char_form, by_head, by_sum, by_test, integer_form, sum_of, sum_form, operand_of, comparison_form, test_of}
+use Rattle.isl_base.specs.Data.{Item, item, integer, character, symbol, string, vector, nil, list, Items, no_item, item_and, no_tail, dotted}
+use Rattle.isl_top.specs.Shapes.{Tables, with_literal, with_site, next_literal, next_site, Found, and_then, as_form, Head, progn_head, format_char_head, if_head, plus_head, minus_head, equal_head, less_head, other_head, head_of, is_small, number_of, letter_of, stream_of, put_form, format_char_form, by_head, by_sum, by_test, integer_form, sum_of, sum_form, operand_of, comparison_form, test_of}
 
 -- an item stands behind those before it
 pub at_seam : {A : Type 0} (before more : List A) (x : A) → slice_get (before ++ x ∷ more) (length before) ≡ Some x
@@ -97,16 +98,27 @@ pub record WasInteger (t : Tables) (f : Form) (t' : Tables) : Type 0 where
   pub n : ℤ
   pub small : Within 99999999 n
   pub form : f ≡ literal (next_literal t)
-  pub tables : t' ≡ with_literal p (Int n) t
+  pub tables : t' ≡ with_literal p (datum.integer n) t
 
-integer_with : (p : Place) (w : List ℕ) (o : Option ℤ) (t : Tables) (f : Form) (t' : Tables) → number_in w ≡ o → integer_form p o t ≡ Some (f, t') → WasInteger t f t'
-integer_with p w None t f t' l e = absurd (cc)
-integer_with p w (Some n) t f t' l e =
-    let h : ◌≡◌ {A = Form × Tables} (literal (next_literal t), with_literal p (Int n) t) (f, t') = cc in
-    record { p = p; n = n; small = number_within w n l; form = sym (ap (λ x. x.0) h); tables = sym (ap (λ x. x.1) h) }
+-- a number that a datum names is small
+within_if : (b : Bool) (p : Place) (n : ℤ) (m : Number) → is_small n ≡ b → (if b then Some (record { place = p; value = n }) else None) ≡ Some m → Within 99999999 m.value
+within_if true p n m s e =
+    let h : record { place = p; value = n } ≡ m = cc in
+    subst (Within 99999999) (ap (λ x. x.value) h) (small_within n s)
+within_if false p n m s e = absurd (cc)
 
-pub was_integer : (p : Place) (w : List ℕ) (t : Tables) (f : Form) (t' : Tables) → integer_form p (number_in w) t ≡ Some (f, t') → WasInteger t f t'
-was_integer p w t f t' e = integer_with p w (number_in w) t f t' refl e
+number_within : (d : Item) (m : Number) → number_of d ≡ Some m → Within 99999999 m.value
+number_within (item p (integer n)) m e = within_if (is_small n) p n m refl e
+number_within (item p _) m e = absurd (cc)
+
+integer_with : (o : Option Number) (t : Tables) (f : Form) (t' : Tables) → ((m : Number) → o ≡ Some m → Within 99999999 m.value) → integer_form o t ≡ Some (f, t') → WasInteger t f t'
+integer_with None t f t' l e = absurd (cc)
+integer_with (Some n) t f t' l e =
+    let h : ◌≡◌ {A = Form × Tables} (literal (next_literal t), with_literal n.place (datum.integer n.value) t) (f, t') = cc in
+    record { p = n.place; n = n.value; small = l n refl; form = sym (ap (λ x. x.0) h); tables = sym (ap (λ x. x.1) h) }
+
+pub was_integer : (d : Item) (t : Tables) (f : Form) (t' : Tables) → integer_form (number_of d) t ≡ Some (f, t') → WasInteger t f t'
+was_integer d t f t' e = integer_with (number_of d) t f t' (number_within d) e
 
 -- a sum or a difference of two numbers
 pub record WasSum (which : Primitive) (t : Tables) (f : Form) (t' : Tables) : Type 0 where
@@ -118,17 +130,17 @@ pub record WasSum (which : Primitive) (t : Tables) (f : Form) (t' : Tables) : Ty
   pub first : Within 99999999 a
   pub second : Within 99999999 b
   pub form : f ≡ sited (next_site t) (prim which (form_and (literal (next_literal t)) (form_and (literal (next_literal t + 1)) no_form)))
-  pub tables : t' ≡ with_literal r (Int b) (with_literal q (Int a) (with_site p t))
+  pub tables : t' ≡ with_literal r (datum.integer b) (with_literal q (datum.integer a) (with_site p t))
 
-sum_with : (which : Primitive) (p q r : Place) (v w : List ℕ) (a b : Option ℤ) (t : Tables) (f : Form) (t' : Tables) → number_in v ≡ a → number_in w ≡ b → sum_of which p q r a b t ≡ Some (f, t') → WasSum which t f t'
-sum_with which p q r v w None b t f t' l m e = absurd (cc)
-sum_with which p q r v w (Some a) None t f t' l m e = absurd (cc)
-sum_with which p q r v w (Some a) (Some b) t f t' l m e =
-    let h : ◌≡◌ {A = Form × Tables} (sited (next_site t) (prim which (form_and (literal (next_literal t)) (form_and (literal (next_literal t + 1)) no_form))), with_literal r (Int b) (with_literal q (Int a) (with_site p t))) (f, t') = cc in
-    record { p = p; q = q; r = r; a = a; b = b; first = number_within v a l; second = number_within w b m; form = sym (ap (λ x. x.0) h); tables = sym (ap (λ x. x.1) h) }
+sum_with : (which : Primitive) (p : Place) (a b : Option Number) (t : Tables) (f : Form) (t' : Tables) → ((m : Number) → a ≡ Some m → Within 99999999 m.value) → ((m : Number) → b ≡ Some m → Within 99999999 m.value) → sum_of which p a b t ≡ Some (f, t') → WasSum which t f t'
+sum_with which p None b t f t' l m e = absurd (cc)
+sum_with which p (Some a) None t f t' l m e = absurd (cc)
+sum_with which p (Some a) (Some b) t f t' l m e =
+    let h : ◌≡◌ {A = Form × Tables} (sited (next_site t) (prim which (form_and (literal (next_literal t)) (form_and (literal (next_literal t + 1)) no_form))), with_literal b.place (datum.integer b.value) (with_literal a.place (datum.integer a.value) (with_site p t))) (f, t') = cc in
+    record { p = p; q = a.place; r = b.place; a = a.value; b = b.value; first = l a refl; second = m b refl; form = sym (ap (λ x. x.0) h); tables = sym (ap (λ x. x.1) h) }
 
-pub was_sum : (which : Primitive) (p : Place) (ts : Trees) (t : Tables) (f : Form) (t' : Tables) → sum_form which p ts t ≡ Some (f, t') → WasSum which t f t'
-was_sum which p (tree_and (word q v) (tree_and (word r w) no_tree)) t f t' e = sum_with which p q r v w (number_in v) (number_in w) t f t' refl refl e
+pub was_sum : (which : Primitive) (p : Place) (ds : Items) (t : Tables) (f : Form) (t' : Tables) → sum_form which p ds t ≡ Some (f, t') → WasSum which t f t'
+was_sum which p (item_and x (item_and y no_item)) t f t' e = sum_with which p (number_of x) (number_of y) t f t' (number_within x) (number_within y) e
 was_sum which p _ t f t' e = absurd (cc)
 
 -- an operand
@@ -137,15 +149,13 @@ pub data WasOperand (t : Tables) (f : Form) (t' : Tables) : Type 0 where
   was_added : WasSum Add t f t' → WasOperand t f t'
   was_subtracted : WasSum Subtract t f t' → WasOperand t f t'
 
-pub was_operand : (x : TreeValue) (t : Tables) (f : Form) (t' : Tables) → operand_of x t ≡ Some (f, t') → WasOperand t f t'
-was_operand (word p w) t f t' e = was_number (was_integer p w t f t' e)
-was_operand (list p no_tree) t f t' e = absurd (cc)
-was_operand (list p (tree_and (list q us) ts)) t f t' e = absurd (cc)
-was_operand (list p (tree_and (word q w) ts)) t f t' e =
+pub was_operand : (texts : List (List ℕ)) (d : Item) (t : Tables) (f : Form) (t' : Tables) → operand_of texts d t ≡ Some (f, t') → WasOperand t f t'
+was_operand texts (item p (list (item_and h ds) no_tail)) t f t' e =
     ⊎_elim
-    (λ h. was_added (was_sum Add p ts t f t' h))
-    (λ h. was_subtracted (was_sum Subtract p ts t f t' h))
-    (was_summed (head_of w) (sum_form Add p ts t) (sum_form Subtract p ts t) f t' e)
+    (λ k. was_added (was_sum Add p ds t f t' k))
+    (λ k. was_subtracted (was_sum Subtract p ds t f t' k))
+    (was_summed (head_of texts h) (sum_form Add p ds t) (sum_form Subtract p ds t) f t' e)
+was_operand texts (item p c) t f t' e = was_number (was_integer (item p c) t f t' e)
 
 -- a comparison of two operands
 pub record WasComparison (which : Primitive) (t : Tables) (f : Form) (t' : Tables) : Type 0 where
@@ -157,24 +167,22 @@ pub record WasComparison (which : Primitive) (t : Tables) (f : Form) (t' : Table
   pub two : WasOperand middle second t'
   pub form : f ≡ sited (next_site t) (prim which (form_and first (form_and second no_form)))
 
-pub was_comparison : (which : Primitive) (p : Place) (ts : Trees) (t : Tables) (f : Form) (t' : Tables) → comparison_form which p ts t ≡ Some (f, t') → WasComparison which t f t'
-was_comparison which p (tree_and x (tree_and y no_tree)) t f t' e =
-    let a = was_and (operand_of x (with_site p t)) (λ g after. as_form (λ h. sited (next_site t) (prim which (form_and g (form_and h no_form)))) (operand_of y after)) f t' e in
-    let m = was_made (λ h. sited (next_site t) (prim which (form_and a.part (form_and h no_form)))) (operand_of y a.tables) f t' a.second in
-    record { p = p; first = a.part; second = m.part; middle = a.tables; one = was_operand x (with_site p t) a.part a.tables a.first; two = was_operand y a.tables m.part t' m.found; form = sym m.made }
-was_comparison which p no_tree t f t' e = absurd (cc)
-was_comparison which p (tree_and x no_tree) t f t' e = absurd (cc)
-was_comparison which p (tree_and x (tree_and y (tree_and z zs))) t f t' e = absurd (cc)
+pub was_comparison : (texts : List (List ℕ)) (which : Primitive) (p : Place) (ds : Items) (t : Tables) (f : Form) (t' : Tables) → comparison_form texts which p ds t ≡ Some (f, t') → WasComparison which t f t'
+was_comparison texts which p (item_and x (item_and y no_item)) t f t' e =
+    let a = was_and (operand_of texts x (with_site p t)) (λ g after. as_form (λ h. sited (next_site t) (prim which (form_and g (form_and h no_form)))) (operand_of texts y after)) f t' e in
+    let m = was_made (λ h. sited (next_site t) (prim which (form_and a.part (form_and h no_form)))) (operand_of texts y a.tables) f t' a.second in
+    record { p = p; first = a.part; second = m.part; middle = a.tables; one = was_operand texts x (with_site p t) a.part a.tables a.first; two = was_operand texts y a.tables m.part t' m.found; form = sym m.made }
+was_comparison texts which p no_item t f t' e = absurd (cc)
+was_comparison texts which p (item_and x no_item) t f t' e = absurd (cc)
+was_comparison texts which p (item_and x (item_and y (item_and z zs))) t f t' e = absurd (cc)
 
-pub was_test : (x : TreeValue) (t : Tables) (f : Form) (t' : Tables) → test_of x t ≡ Some (f, t') → WasComparison NumberEqual t f t' ⊎ WasComparison NumberLess t f t'
-was_test (word p w) t f t' e = absurd (cc)
-was_test (list p no_tree) t f t' e = absurd (cc)
-was_test (list p (tree_and (list q us) ts)) t f t' e = absurd (cc)
-was_test (list p (tree_and (word q w) ts)) t f t' e =
+pub was_test : (texts : List (List ℕ)) (d : Item) (t : Tables) (f : Form) (t' : Tables) → test_of texts d t ≡ Some (f, t') → WasComparison NumberEqual t f t' ⊎ WasComparison NumberLess t f t'
+was_test texts (item p (list (item_and h ds) no_tail)) t f t' e =
     ⊎_elim
-    (λ h. inl (was_comparison NumberEqual p ts t f t' h))
-    (λ h. inr (was_comparison NumberLess p ts t f t' h))
-    (was_tested (head_of w) (comparison_form NumberEqual p ts t) (comparison_form NumberLess p ts t) f t' e)
+    (λ k. inl (was_comparison texts NumberEqual p ds t f t' k))
+    (λ k. inr (was_comparison texts NumberLess p ds t f t' k))
+    (was_tested (head_of texts h) (comparison_form texts NumberEqual p ds t) (comparison_form texts NumberLess p ds t) f t' e)
+was_test texts (item p _) t f t' e = absurd (cc)
 
 -- a form that puts a character
 pub record WasPut (t : Tables) (f : Form) (t' : Tables) : Type 0 where
@@ -184,40 +192,26 @@ pub record WasPut (t : Tables) (f : Form) (t' : Tables) : Type 0 where
   pub c : ℕ
   pub byte : c < 256
   pub form : f ≡ sited (next_site t) (prim PutChar (form_and (sited (next_site t + 1) (prim StandardOutput no_form)) (form_and (literal (next_literal t)) no_form)))
-  pub tables : t' ≡ with_literal r (Char c) (with_site q (with_site p t))
+  pub tables : t' ≡ with_literal r (datum.character c) (with_site q (with_site p t))
 
--- a test that chose something held
-chosen : (b : Bool) (c d : ℕ) → (if b then Some c else None) ≡ Some d → (b ≡ true) × (c ≡ d)
-chosen false c d e = absurd (cc)
-chosen true c d e = (refl, cc)
+-- a character is a byte
+byte_if : (b : Bool) (p : Place) (c : ℕ) (l : Letter) → nat_lt c 256 ≡ b → (if b then Some (record { place = p; byte = c }) else None) ≡ Some l → l.byte < 256
+byte_if true p c l s e =
+    let h : record { place = p; byte = c } ≡ l = cc in
+    subst (λ x. x < 256) (ap (λ x. x.byte) h) (ltb-true c 256 s)
+byte_if false p c l s e = absurd (cc)
 
-both : (a b c : Bool) → (a && (b && c)) ≡ true → c ≡ true
-both true true c e = e
-both true false c e = absurd (cc)
-both false b c e = absurd (cc)
+letter_below : (d : Item) (l : Letter) → letter_of d ≡ Some l → l.byte < 256
+letter_below (item p (character c)) l e = byte_if (nat_lt c 256) p c l refl e
+letter_below (item p _) l e = absurd (cc)
 
--- a letter is a byte
-pub letter_below : (w : List ℕ) (c : ℕ) → letter_in w ≡ Some c → c < 256
-letter_below [] c e = absurd (cc)
-letter_below (a ∷ []) c e = absurd (cc)
-letter_below (a ∷ b ∷ []) c e = absurd (cc)
-letter_below (a ∷ b ∷ d ∷ []) c e =
-    let h = chosen (bytes_eq (a ∷ b ∷ []) (codes "#\\") && (nat_le 97 d && nat_le d 122)) d c e in
-    let le : d ≤ 122 = leb-true d 122 (both (bytes_eq (a ∷ b ∷ []) (codes "#\\")) (nat_le 97 d) (nat_le d 122) h.0) in
-    omega (arith, h.1)
-letter_below (a ∷ b ∷ d ∷ x ∷ xs) c e = absurd (cc)
+put_with : (p : Place) (q : Option Place) (o : Option Letter) (t : Tables) (f : Form) (t' : Tables) → ((l : Letter) → o ≡ Some l → l.byte < 256) → put_form p q o t ≡ Some (f, t') → WasPut t f t'
+put_with p None o t f t' b e = absurd (cc)
+put_with p (Some q) None t f t' b e = absurd (cc)
+put_with p (Some q) (Some l) t f t' b e =
+    let h : ◌≡◌ {A = Form × Tables} (sited (next_site t) (prim PutChar (form_and (sited (next_site t + 1) (prim StandardOutput no_form)) (form_and (literal (next_literal t)) no_form))), with_literal l.place (datum.character l.byte) (with_site q (with_site p t))) (f, t') = cc in
+    record { p = p; q = q; r = l.place; c = l.byte; byte = b l refl; form = sym (ap (λ x. x.0) h); tables = sym (ap (λ x. x.1) h) }
 
-put_with : (p q r : Place) (w : List ℕ) (o : Option ℕ) (t : Tables) (f : Form) (t' : Tables) → letter_in w ≡ o → put_form p q r o t ≡ Some (f, t') → WasPut t f t'
-put_with p q r w None t f t' l e = absurd (cc)
-put_with p q r w (Some c) t f t' l e =
-    let h : ◌≡◌ {A = Form × Tables} (sited (next_site t) (prim PutChar (form_and (sited (next_site t + 1) (prim StandardOutput no_form)) (form_and (literal (next_literal t)) no_form))), with_literal r (Char c) (with_site q (with_site p t))) (f, t') = cc in
-    record { p = p; q = q; r = r; c = c; byte = letter_below w c l; form = sym (ap (λ x. x.0) h); tables = sym (ap (λ x. x.1) h) }
-
-put_if : (b : Bool) (p q r : Place) (w : List ℕ) (t : Tables) (f : Form) (t' : Tables) → (if b then put_form p q r (letter_in w) t else None) ≡ Some (f, t') → WasPut t f t'
-put_if true p q r w t f t' e = put_with p q r w (letter_in w) t f t' refl e
-put_if false p q r w t f t' e = absurd (cc)
-
-pub was_put : (p : Place) (ts : Trees) (t : Tables) (f : Form) (t' : Tables) → format_char_form p ts t ≡ Some (f, t') → WasPut t f t'
-was_put p (tree_and (list q (tree_and (word x w) no_tree)) (tree_and (word r c) no_tree)) t f t' e =
-    put_if (bytes_eq w (codes "standard-output")) p q r c t f t' e
-was_put p _ t f t' e = absurd (cc)
+pub was_put : (texts : List (List ℕ)) (p : Place) (ds : Items) (t : Tables) (f : Form) (t' : Tables) → format_char_form texts p ds t ≡ Some (f, t') → WasPut t f t'
+was_put texts p (item_and x (item_and y no_item)) t f t' e = put_with p (stream_of texts x) (letter_of y) t f t' (letter_below y) e
+was_put texts p _ t f t' e = absurd (cc)

@@ -7,12 +7,10 @@ use Rattle.std.proofs.lemmas.Int.{ints, to_z_pos}
 use Rattle.std.specs.Prelude.{int_lt, ◌&&◌, if◌then◌else◌, nat_le}
 use Rattle.std.specs.Int.{cast_signed, w32}
 use lib.IntN.{sub_ℕ}
-use Rattle.isl_meaning.specs.Primitives.{int_equal}
-use Rattle.isl_meaning.specs.Values.{in_range}
-use Rattle.rv_machine.specs.State.{sum32, difference32}
-use Rattle.rv_machine.specs.Step.{less_signed}
+use Rattle.isl_meaning.specs.Values.{in_range, int_equal}
+use Rattle.rv_machine.specs.Arithmetic.{sum32, difference32, less_signed}
 use Rattle.isl_top.specs.Code.{integer_word}
-use Rattle.isl_top.specs.Numbers.{is_digit, decimal_from, natural_in, positive, negative, number_in}
+use Rattle.isl_top.specs.Shapes.{is_small}
 
 -- the absolute value of a number is at most a bound
 pub record Within (bound : ℕ) (n : ℤ) : Type 0 where
@@ -43,45 +41,10 @@ pub within_range : (n : ℤ) → Within 199999998 n → in_range n ≡ true
 within_range (pos n) h = le-leb n 536870911 (omega (arith, h.size))
 within_range (negsuc n) h = and_from _ _ (le-leb n 536870911 (omega (arith, h.size))) refl
 
--- ---- the numbers that words name
-digit_behind : (sum b : ℕ) → b ≤ 57 → sum * 10 + (b - 48) + 1 ≤ (sum + 1) * 10
-digit_behind sum b h = omega arith
-
-one_more : (n digits : ℕ) → n * 10 ^ suc digits ≡ n * 10 * 10 ^ digits
-one_more n digits = ap (λ p. n * p) (pow-suc 10 digits ∙ mul_comm (10 ^ digits) 10) ∙ sym (mul_assoc n 10 (10 ^ digits))
-
--- a natural number of so many digits, behind those already read
-decimal_below : (w : List ℕ) (sum n : ℕ) → decimal_from sum w ≡ Some n → n < (sum + 1) * 10 ^ length w
-decimal_below [] sum n h = omega (arith, same_Some sum n h)
-decimal_below (b ∷ bs) sum n h = next (decimal_below bs (sum * 10 + (b - 48)) n) (is_digit b) refl h
-  where
-    next : (decimal_from (sum * 10 + (b - 48)) bs ≡ Some n → n < (sum * 10 + (b - 48) + 1) * 10 ^ length bs) → (t : Bool) → is_digit b ≡ t → (if t then decimal_from (sum * 10 + (b - 48)) bs else None) ≡ Some n → n < (sum + 1) * 10 ^ suc (length bs)
-    next below false e k = absurd (none-some n k)
-    next below true e k =
-        omega (arith, below k, one_more (sum + 1) (length bs), mul-le-mul_right (10 ^ length bs) (digit_behind sum b (leb-true b 57 ((and_parts (nat_le 48 b) (nat_le b 57) e).1))))
-
-natural_below : (w : List ℕ) (n : ℕ) → natural_in w ≡ Some n → n ≤ 99999999
-natural_below w n h = within (nat_le 1 (length w) && nat_le (length w) 8) refl h
-  where
-    within : (t : Bool) → (nat_le 1 (length w) && nat_le (length w) 8) ≡ t → (if t then decimal_from 0 w else None) ≡ Some n → n ≤ 99999999
-    within false e k = absurd (none-some n k)
-    within true e k = omega (arith, decimal_below w 0 n k, pow-le-pow_right (zero-lt-suc 9) (leb-true (length w) 8 ((and_parts (nat_le 1 (length w)) (nat_le (length w) 8) e).1)))
-
-positive_within : (o : Option ℕ) (n : ℤ) → ((k : ℕ) → o ≡ Some k → k ≤ 99999999) → positive o ≡ Some n → Within 99999999 n
-positive_within None n h e = absurd (none-some n e)
-positive_within (Some k) n h e = subst (Within 99999999) (same_Some (pos k) n e) (record { size = h k refl })
-
-negative_within : (o : Option ℕ) (n : ℤ) → ((k : ℕ) → o ≡ Some k → k ≤ 99999999) → negative o ≡ Some n → Within 99999999 n
-negative_within None n h e = absurd (none-some n e)
-negative_within (Some k) n h e = subst (Within 99999999) (same_Some (neg_ℤ (pos k)) n e) (record { size = omega (arith, h k refl, size_negative (pos k)) })
-
-pub number_within : (w : List ℕ) (n : ℤ) → number_in w ≡ Some n → Within 99999999 n
-number_within [] n h = absurd (none-some n h)
-number_within (b ∷ bs) n h = signed (b == 45) h
-  where
-    signed : (t : Bool) → (if t then negative (natural_in bs) else positive (natural_in (b ∷ bs))) ≡ Some n → Within 99999999 n
-    signed true e = negative_within (natural_in bs) n (natural_below bs) e
-    signed false e = positive_within (natural_in (b ∷ bs)) n (natural_below (b ∷ bs)) e
+-- ---- the numbers that forms name
+pub small_within : (n : ℤ) → is_small n ≡ true → Within 99999999 n
+small_within (pos n) e = record { size = leb-true n 99999999 e }
+small_within (negsuc n) e = record { size = omega (arith, leb-true n 99999998 ((and_parts (nat_le n 99999998) true e).0)) }
 
 -- ---- the words of small numbers
 word_natural : (n : ℕ) → n ≤ 199999998 → integer_word (pos n) ≡ 4 * n

@@ -1,6 +1,5 @@
-mod Cutting
-mod Reading
 pub mod Integers
+pub mod Instructions
 pub mod Runs
 pub mod Yields
 pub mod OperandCode
@@ -11,14 +10,19 @@ pub mod Mains
 pub mod Simulates
 pub mod Whole
 pub mod Sizes
-pub mod Programs
-pub mod Ends
-pub mod Ran
 pub mod Written
 pub mod Loading
+pub mod Lists
 pub mod Arguments
 pub mod Forming
-pub mod Digits
 pub mod Sums
 pub mod Comparing
 pub mod Choosing
+pub mod Steps
+pub mod Decimals
+pub mod LaterNames
+pub mod LaterForms
+pub mod Spans
+pub mod Judging
+pub mod Ran
+pub mod Ends

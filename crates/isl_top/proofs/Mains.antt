@@ -3,19 +3,21 @@ use Rattle.std.proofs.Common.{◌≡◌, ℕ, zero, suc, ◌+◌, Bool, true, fa
 use Rattle.isl_meaning.specs.declared.program.Program.{Program}
 use Rattle.isl_meaning.specs.Form.{Form}
 use Rattle.isl_meaning.specs.Counts.{nodes, application_words}
-use Rattle.isl_meaning.specs.Values.{Value, first_objects}
-use Rattle.isl_meaning.specs.State.{State, Evaluated, full, gives, go_on, Limit, words, unlimited, has_room, room_left, with_words, no_environment, main_surroundings}
-use Rattle.isl_meaning.specs.Meaning.{form, meaning_at, mean_main, mean_mains, none_below}
+use Rattle.isl_meaning.specs.Values.{Value}
+use Rattle.isl_meaning.specs.Objects.{no_environment}
+use Rattle.isl_meaning.specs.State.{State, Evaluated, full, gives, go_on, Limit, words, unlimited, has_room, room_left, with_words, main_surroundings}
+use Rattle.isl_meaning.specs.Signals.{form}
+use Rattle.isl_meaning.specs.Meaning.{meaning_at, mean_main, mean_mains, none_below}
 use Rattle.isl_top.specs.Shapes.{names}
-use Rattle.isl_top.proofs.Means.{Means, after}
+use Rattle.isl_top.proofs.Means.{Means, HasOutput, after}
 
--- a value with these bytes and units more, and no object made
+-- a value with these bytes and units more, and the standard output still there
 pub record Went (z : State) (v : Value) (bytes : List ℕ) (units : ℕ) (r : Evaluated) : Type 0 where
   pub state : State
   pub is : r ≡ gives v state
   pub printed : state.printed ≡ z.printed ++ bytes
   pub counted : state.units ≡ z.units + units
-  pub stored : state.store ≡ first_objects
+  pub stored : HasOutput state
 
 pub record WantsWords (r : Evaluated) : Type 0 where
   pub asked : ℕ
@@ -24,11 +26,11 @@ pub record WantsWords (r : Evaluated) : Type 0 where
 
 -- the main forms under any limit: a value, or Full; never Full without a limit
 pub record MeansMains (program : Program) (last : Value) (fs : List Form) (v : Value) (bytes : List ℕ) (units : ℕ) : Type 0 where
-  pub limited : (w k : ℕ) (z : State) → z.store ≡ first_objects → WantsWords (mean_mains names program (words w) k fs last z) ⊎ Went z v bytes units (mean_mains names program (words w) k fs last z)
-  pub free : (k : ℕ) (z : State) → z.store ≡ first_objects → Went z v bytes units (mean_mains names program unlimited k fs last z)
+  pub limited : (w k : ℕ) (z : State) → HasOutput z → WantsWords (mean_mains names program (words w) k fs last z) ⊎ Went z v bytes units (mean_mains names program (words w) k fs last z)
+  pub free : (k : ℕ) (z : State) → HasOutput z → Went z v bytes units (mean_mains names program unlimited k fs last z)
 
 -- at any number of levels a form means what it means with some meaning below
-at_levels : (program : Program) (f : Form) (v : Value) (bytes : List ℕ) (units : ℕ) → Means program f v bytes units → (limit : Limit) (k : ℕ) (z : State) → z.store ≡ first_objects → meaning_at names program limit k (form f) no_environment main_surroundings z ≡ gives v (after bytes units z)
+at_levels : (program : Program) (f : Form) (v : Value) (bytes : List ℕ) (units : ℕ) → Means program f v bytes units → (limit : Limit) (k : ℕ) (z : State) → HasOutput z → meaning_at names program limit k (form f) no_environment main_surroundings z ≡ gives v (after bytes units z)
 unfolding meaning_at
 at_levels program f v bytes units m limit zero z s = m.by limit none_below no_environment main_surroundings z s
 at_levels program f v bytes units m limit (suc k) z s = m.by limit (meaning_at names program limit k) no_environment main_surroundings z s
@@ -38,7 +40,7 @@ abbrev behind : Form → List ℕ → ℕ → State → State
 behind f bytes units z = record (after bytes units (with_words 0 (application_words (nodes f)) z)) { stack = z.stack }
 
 -- a main form whose words there are
-main_value : (program : Program) (f : Form) (v : Value) (bytes : List ℕ) (units : ℕ) → Means program f v bytes units → (limit : Limit) (k : ℕ) (z : State) → z.store ≡ first_objects → has_room limit (z.heap + z.stack + 0 + application_words (nodes f)) ≡ true → mean_main names program limit k f z ≡ gives v (behind f bytes units z)
+main_value : (program : Program) (f : Form) (v : Value) (bytes : List ℕ) (units : ℕ) → Means program f v bytes units → (limit : Limit) (k : ℕ) (z : State) → HasOutput z → has_room limit (z.heap + z.stack + 0 + application_words (nodes f)) ≡ true → mean_main names program limit k f z ≡ gives v (behind f bytes units z)
 main_value program f v bytes units m limit k z s room =
     let entered = with_words 0 (application_words (nodes f)) z in
     rw room (ap (λ r. go_on r (λ x q. gives x (record q { stack = z.stack }))) (at_levels program f v bytes units m limit k entered s))
@@ -57,7 +59,7 @@ went_on bytes units {z} {z'} {v} {more} {others} {r} p u w = record {
 
 pub no_mains : (program : Program) (last : Value) → MeansMains program last [] last [] 0
 no_mains program last =
-    let w : (z : State) → z.store ≡ first_objects → Went z last [] 0 (gives last z) = λ z s. record { state = z; is = refl; printed = sym (append-nil z.printed); counted = omega arith; stored = s } in
+    let w : (z : State) → HasOutput z → Went z last [] 0 (gives last z) = λ z s. record { state = z; is = refl; printed = sym (append-nil z.printed); counted = omega arith; stored = s } in
     record { limited = λ w' k z s. inr (w z s); free = λ k z s. w z s }
 
 pub main_and : (program : Program) (last v w : Value) (f : Form) (fs : List Form) (bytes more : List ℕ) (units others : ℕ) → Means program f v bytes units → MeansMains program v fs w more others → MeansMains program last (f ∷ fs) w (bytes ++ more) (units + others)
@@ -69,7 +71,7 @@ main_and program last v w f fs bytes more units others m ms = record {
       subst (Went z w (bytes ++ more) (units + others)) (sym e) (went_on bytes units refl refl (ms.free k (behind f bytes units z) s));
 }
   where
-    with_room : (l k : ℕ) (z : State) → z.store ≡ first_objects → (b : Bool) → has_room (words l) (z.heap + z.stack + 0 + application_words (nodes f)) ≡ b → WantsWords (mean_mains names program (words l) k (f ∷ fs) last z) ⊎ Went z w (bytes ++ more) (units + others) (mean_mains names program (words l) k (f ∷ fs) last z)
+    with_room : (l k : ℕ) (z : State) → HasOutput z → (b : Bool) → has_room (words l) (z.heap + z.stack + 0 + application_words (nodes f)) ≡ b → WantsWords (mean_mains names program (words l) k (f ∷ fs) last z) ⊎ Went z w (bytes ++ more) (units + others) (mean_mains names program (words l) k (f ∷ fs) last z)
     with_room l k z s false b =
         let e = ap (λ r. go_on r (λ x q. mean_mains names program (words l) k fs x q)) (no_room program f (words l) k z b) in
         inl (record { asked = 0 + application_words (nodes f); left = room_left (words l) (z.heap + z.stack); is = ap (λ r. r.outcome) e })

@@ -1,8 +1,8 @@
 -- What a form of the first path means, told without the evaluation: a value, bytes and units.
 use Rattle.std.proofs.Common.{◌≡◌, ℕ, ◌+◌, List, [], ◌∷◌, ◌++◌, refl, sym, ap, ◌∙◌, arith, Some, append_assoc, append-nil, add_assoc}
 use Rattle.std.specs.Prelude.{slice_get}
-use Rattle.isl_base.specs.declared.datum.Kind.{Kind}
-use Rattle.isl_base.specs.declared.datum.Kind.TheVariants.{Char}
+use Rattle.isl_base.specs.Data.{Content}
+use Rattle.isl_base.specs.Data as datum
 use Rattle.isl_base.specs.declared.place.Place.{Place}
 use Rattle.isl_meaning.specs.declared.program.LiteralRow.TheVariants as row
 use Rattle.isl_meaning.specs.declared.program.Program.{Program}
@@ -10,11 +10,18 @@ use Rattle.isl_meaning.specs.declared.primitive.Primitive.TheVariants.{StandardO
 use Rattle.isl_meaning.specs.declared.primitive.Primitive.{Primitive}
 use Rattle.isl_meaning.specs.Form.{Form, literal, clauses, sequence, prim, sited, no_clause, clause_and, with_body}
 use Rattle.isl_meaning.specs.Form.{Forms, no_form, form_and}
-use Rattle.isl_meaning.specs.Values.{Value, t, nil, first_objects}
-use Rattle.isl_meaning.specs.Primitives.{primitive}
-use Rattle.isl_meaning.specs.State.{State, Surroundings, Environment, gives, go_on, Limit, charged}
-use Rattle.isl_meaning.specs.Meaning.{Task, Evaluation, value_of_kind, unless_nil, mean, mean_sequence, mean_arguments, mean_clauses}
+use Rattle.isl_meaning.specs.Values.{Value, t, nil}
+use Rattle.isl_meaning.specs.Objects.{Environment, output_stream}
+use Rattle.isl_meaning.specs.Literals.{lay_content, lays, laid_before, first_literal}
+use Rattle.isl_meaning.specs.Primitives.{primitive, result}
+use Rattle.isl_meaning.specs.State.{State, Surroundings, gives, go_on, Limit, charged}
+use Rattle.isl_meaning.specs.Signals.{Task, Evaluation, answered}
+use Rattle.isl_meaning.specs.Meaning.{unless_nil, mean, mean_sequence, mean_arguments, mean_clauses}
 use Rattle.isl_top.specs.Shapes.{names}
+
+-- the standard output has its number among the objects
+abbrev pub HasOutput : State → Type 0
+HasOutput z = slice_get z.store 35 ≡ Some output_stream
 
 -- the state after these bytes and units
 abbrev pub after : List ℕ → ℕ → State → State
@@ -25,12 +32,12 @@ after_both bytes more units others z =
     ap (λ p. record z { printed = p; units = z.units + units + others }) (append_assoc z.printed bytes more)
     ∙ ap (λ u. record z { printed = z.printed ++ (bytes ++ more); units = u }) (add_assoc z.units units others)
 
--- under any limit and with anything below, where no object was made, the form has this value
+-- under any limit and with anything below, where the standard output is there, the form has this value
 pub record Means (program : Program) (f : Form) (v : Value) (bytes : List ℕ) (units : ℕ) : Type 0 where
-  pub by : (limit : Limit) (below : Task → Evaluation) (env : Environment) (around : Surroundings) (z : State) → z.store ≡ first_objects → mean names program limit below f env around z ≡ gives v (after bytes units z)
+  pub by : (limit : Limit) (below : Task → Evaluation) (env : Environment) (around : Surroundings) (z : State) → HasOutput z → mean names program limit below f env around z ≡ gives v (after bytes units z)
 
 pub record MeansSequence (program : Program) (last : Value) (fs : Forms) (v : Value) (bytes : List ℕ) (units : ℕ) : Type 0 where
-  pub by : (limit : Limit) (below : Task → Evaluation) (env : Environment) (around : Surroundings) (z : State) → z.store ≡ first_objects → mean_sequence names program limit below last fs env around z ≡ gives v (after bytes units z)
+  pub by : (limit : Limit) (below : Task → Evaluation) (env : Environment) (around : Surroundings) (z : State) → HasOutput z → mean_sequence names program limit below last fs env around z ≡ gives v (after bytes units z)
 
 pub no_forms_mean : (program : Program) (last : Value) → MeansSequence program last no_form last [] 0
 unfolding mean
@@ -62,7 +69,7 @@ unfolding mean
 sited_means m = record { by = λ limit below env around z e. m.by limit below env _ z e }
 
 -- the character of a literal is put on the standard output
-pub put_means : (program : Program) (site id c : ℕ) (p : Place) → slice_get program.literals id ≡ Some (row.Datum (record { place = p; kind = Char c })) → Means program (prim PutChar (form_and (sited site (prim StandardOutput no_form)) (form_and (literal id) no_form))) nil (c ∷ []) 5
+pub put_means : (program : Program) (site id c : ℕ) (p : Place) → slice_get program.literals id ≡ Some (row.Datum (datum.item p (datum.character c))) → Means program (prim PutChar (form_and (sited site (prim StandardOutput no_form)) (form_and (literal id) no_form))) nil (c ∷ []) 5
 unfolding mean
 put_means program site id c p h = record {
   by = λ limit below env around z e.
@@ -71,23 +78,23 @@ put_means program site id c p h = record {
 }
 
 -- a literal
-pub literal_means : (program : Program) (id : ℕ) (p : Place) (kind : Kind) → slice_get program.literals id ≡ Some (row.Datum (record { place = p; kind = kind })) → Means program (literal id) (value_of_kind names kind) [] 1
+pub literal_means : (program : Program) (id : ℕ) (p : Place) (content : Content) (v : Value) → ((n : ℕ) → (lay_content names content n).value ≡ v) → slice_get program.literals id ≡ Some (row.Datum (datum.item p content)) → Means program (literal id) v [] 1
 unfolding mean
-literal_means program id p kind h = record {
+literal_means program id p content v laid h = record {
   by = λ limit below env around z e.
-      rw h (ap (λ q. gives (value_of_kind names kind) (record z { printed = q; units = z.units + 1 })) (sym (append-nil z.printed)));
+      rw h (ap (λ x. gives x (charged 1 z)) (laid (first_literal program + laid_before id (lays names program))) ∙ ap (λ q. gives v (record z { printed = q; units = z.units + 1 })) (sym (append-nil z.printed)));
 }
 
 -- a primitive of two arguments that put nothing, where it has this value at theirs
-pub two_mean : {program : Program} {f g : Form} {x y : Value} {u w : ℕ} (which : Primitive) (v : Value) → Means program f x [] u → Means program g y [] w → ((limit : Limit) (around : Surroundings) (z : State) → primitive limit which (x ∷ y ∷ []) around z ≡ gives v z) → Means program (prim which (form_and f (form_and g no_form))) v [] (3 + u + w)
+pub two_mean : {program : Program} {f g : Form} {x y : Value} {u w : ℕ} (which : Primitive) (v : Value) → Means program f x [] u → Means program g y [] w → ((z : State) → primitive names program which (x ∷ y ∷ []) z ≡ result v z) → Means program (prim which (form_and f (form_and g no_form))) v [] (3 + u + w)
 unfolding mean
 two_mean {program} {f} {g} {x} {y} {u} {w} which v m n e = record {
   by = λ limit below env around z s.
       let first = charged 3 z in
       let second = after [] u first in
-      ap (λ r. go_on r (λ a q. mean_arguments names program limit below (form_and g no_form) (a ∷ []) env around q (λ vs q'. primitive limit which vs around q'))) (m.by limit below env around first s)
-      ∙ ap (λ r. go_on r (λ a q. mean_arguments names program limit below no_form (x ∷ a ∷ []) env around q (λ vs q'. primitive limit which vs around q'))) (n.by limit below env around second s)
-      ∙ e limit around (after [] w second)
+      ap (λ r. go_on r (λ a q. mean_arguments names program limit below (form_and g no_form) (a ∷ []) env around q (λ vs q'. answered names program limit below (primitive names program which vs q') around q'))) (m.by limit below env around first s)
+      ∙ ap (λ r. go_on r (λ a q. mean_arguments names program limit below no_form (x ∷ a ∷ []) env around q (λ vs q'. answered names program limit below (primitive names program which vs q') around q'))) (n.by limit below env around second s)
+      ∙ ap (λ a. answered names program limit below a around (after [] w second)) (e (after [] w second))
       ∙ ap (gives v) (after_both [] [] u w first)
       ∙ ap (λ k. gives v (record z { printed = z.printed ++ []; units = k })) (sum_of_three z.units u w);
 }

@@ -1,11 +1,11 @@
 -- What the code of operands and of comparisons yields.
 use Rattle.std.proofs.Common.{◌≡◌, ℕ, suc, ◌+◌, ◌*◌, ◌%◌, ◌^◌, ◌<◌, Bool, true, false, List, [], ◌∷◌, ◌++◌, length, refl, sym, ap, subst, ◌∙◌, arith, Some, append-nil, length-append}
-use Rattle.std.specs.Prelude.{slice_get, slice_index, slice_set, if◌then◌else◌, ◌==◌}
-use Rattle.rv_machine.specs.State.{sum32, difference32}
-use Rattle.rv_machine.specs.declared.instruction.Instruction.TheVariants.{Addi, Add, Sub, Beq, Blt, Jal}
-use Rattle.rv_machine.specs.Step.{less_signed}
+use Rattle.std.specs.Prelude.{slice_index, slice_set, if◌then◌else◌, ◌==◌}
+use Rattle.rv_machine.specs.Arithmetic.{sum32, difference32, less_signed}
+use Rattle.rv_encode.specs.declared.instruction.Instr.TheVariants.{Addi, Add, Sub, Beq, Blt, Jal}
 use Rattle.isl_top.specs.Code.{constant, nil_word, t_word, between, truth_code, move_12_from_10, move_13_from_10, add_12_and_10, subtract_10_from_12, over_four_if_same, over_four_if_less, over_three}
-use Rattle.isl_top.proofs.Runs.{at, Comes, and_on, HasAt, one, moved, next_place}
+use Rattle.isl_top.proofs.Instructions.{is_add_12_and_10, is_move_12_from_10, is_move_13_from_10, is_over_four_if_less, is_over_four_if_same, is_over_three, is_subtract_10_from_12}
+use Rattle.isl_top.proofs.Runs.{at, word_in, Comes, and_on, HasAt, one, moved, next_place}
 use Rattle.isl_top.proofs.Yields.{Ready, ready_set, same, other, has_front, has_back, Yields, constant_reached}
 
 -- where the code of an operand ends: register 13 is as before, and nothing was put
@@ -40,34 +40,34 @@ constant_operand word = record {
 }
 
 -- `addi rd, x10, 0`, for the two registers that hold first operands
-moved_to_12 : (arena registers printed : List ℕ) (i n word : ℕ) → i < 2 ^ 25 → slice_index registers 10 ≡ word → word < 2 ^ 32 → slice_get arena i ≡ Some move_12_from_10 → Comes 1 (at arena i registers printed n) (at arena (i + 1) (slice_set registers 12 word) printed (n + 1))
+moved_to_12 : (arena registers printed : List ℕ) (i n word : ℕ) → i < 2 ^ 25 → slice_index registers 10 ≡ word → word < 2 ^ 32 → word_in arena i ≡ Some move_12_from_10 → Comes 1 (at arena i registers printed n) (at arena (i + 1) (slice_set registers 12 word) printed (n + 1))
 moved_to_12 arena registers printed i n word b held small h =
     let v : (slice_index registers 10 + 0) % 2 ^ 32 ≡ word = omega (arith, held) in
-    one arena registers printed i n move_12_from_10 (Addi 12 10 0) (at arena (i + 1) (slice_set registers 12 word) printed (n + 1)) h refl
-    (λ go_on. rw (v, next_place i b) refl)
+    one arena registers printed i n move_12_from_10 (Addi 12 10 0) (at arena (i + 1) (slice_set registers 12 word) printed (n + 1)) h is_move_12_from_10
+    (λ input go_on. rw (v, next_place i b) refl)
 
-moved_to_13 : (arena registers printed : List ℕ) (i n word : ℕ) → i < 2 ^ 25 → slice_index registers 10 ≡ word → word < 2 ^ 32 → slice_get arena i ≡ Some move_13_from_10 → Comes 1 (at arena i registers printed n) (at arena (i + 1) (slice_set registers 13 word) printed (n + 1))
+moved_to_13 : (arena registers printed : List ℕ) (i n word : ℕ) → i < 2 ^ 25 → slice_index registers 10 ≡ word → word < 2 ^ 32 → word_in arena i ≡ Some move_13_from_10 → Comes 1 (at arena i registers printed n) (at arena (i + 1) (slice_set registers 13 word) printed (n + 1))
 moved_to_13 arena registers printed i n word b held small h =
     let v : (slice_index registers 10 + 0) % 2 ^ 32 ≡ word = omega (arith, held) in
-    one arena registers printed i n move_13_from_10 (Addi 13 10 0) (at arena (i + 1) (slice_set registers 13 word) printed (n + 1)) h refl
-    (λ go_on. rw (v, next_place i b) refl)
+    one arena registers printed i n move_13_from_10 (Addi 13 10 0) (at arena (i + 1) (slice_set registers 13 word) printed (n + 1)) h is_move_13_from_10
+    (λ input go_on. rw (v, next_place i b) refl)
 
 -- an operation on registers 12 and 10
 record Computes (operation : ℕ) (result : ℕ → ℕ → ℕ) : Type 0 where
-  by : (arena registers printed : List ℕ) (i n a b : ℕ) → i < 2 ^ 25 → slice_index registers 12 ≡ a → slice_index registers 10 ≡ b → slice_get arena i ≡ Some operation → Comes 1 (at arena i registers printed n) (at arena (i + 1) (slice_set registers 10 (result a b)) printed (n + 1))
+  by : (arena registers printed : List ℕ) (i n a b : ℕ) → i < 2 ^ 25 → slice_index registers 12 ≡ a → slice_index registers 10 ≡ b → word_in arena i ≡ Some operation → Comes 1 (at arena i registers printed n) (at arena (i + 1) (slice_set registers 10 (result a b)) printed (n + 1))
 
 adds : Computes add_12_and_10 sum32
 adds = record {
   by = λ arena registers printed i n a b room left right h.
-      one arena registers printed i n add_12_and_10 (Add 10 12 10) (at arena (i + 1) (slice_set registers 10 (sum32 a b)) printed (n + 1)) h refl
-      (λ go_on. rw (left, right, next_place i room) refl);
+      one arena registers printed i n add_12_and_10 (Add 10 12 10) (at arena (i + 1) (slice_set registers 10 (sum32 a b)) printed (n + 1)) h is_add_12_and_10
+      (λ input go_on. rw (left, right, next_place i room) refl);
 }
 
 subtracts : Computes subtract_10_from_12 difference32
 subtracts = record {
   by = λ arena registers printed i n a b room left right h.
-      one arena registers printed i n subtract_10_from_12 (Sub 10 12 10) (at arena (i + 1) (slice_set registers 10 (difference32 a b)) printed (n + 1)) h refl
-      (λ go_on. rw (left, right, next_place i room) refl);
+      one arena registers printed i n subtract_10_from_12 (Sub 10 12 10) (at arena (i + 1) (slice_set registers 10 (difference32 a b)) printed (n + 1)) h is_subtract_10_from_12
+      (λ input go_on. rw (left, right, next_place i room) refl);
 }
 
 computed : (operation : ℕ) (result : ℕ → ℕ → ℕ) → Computes operation result → (a b : ℕ) → a < 2 ^ 32 → Operand (between (constant a) move_12_from_10 (constant b) (operation ∷ [])) (result a b) 6
@@ -99,7 +99,7 @@ difference_operand = computed subtract_10_from_12 difference32 subtracts
 
 -- a comparison of registers 13 and 10, which passes four words where it holds
 record Compares (comparison : ℕ) (holds : ℕ → ℕ → Bool) : Type 0 where
-  by : (arena registers printed : List ℕ) (i n a b : ℕ) (so : Bool) → i + 5 < 2 ^ 25 → slice_index registers 13 ≡ a → slice_index registers 10 ≡ b → holds a b ≡ so → slice_get arena i ≡ Some comparison → Comes 1 (at arena i registers printed n) (at arena (i + (if so then 5 else 1)) registers printed (n + 1))
+  by : (arena registers printed : List ℕ) (i n a b : ℕ) (so : Bool) → i + 5 < 2 ^ 25 → slice_index registers 13 ≡ a → slice_index registers 10 ≡ b → holds a b ≡ so → word_in arena i ≡ Some comparison → Comes 1 (at arena i registers printed n) (at arena (i + (if so then 5 else 1)) registers printed (n + 1))
 
 far_place : (i : ℕ) → i + 5 < 2 ^ 25 → (4 * i + 20) % 2 ^ 32 ≡ 4 * (i + 5)
 far_place i b = omega arith
@@ -109,28 +109,28 @@ compares_same = record {
   by = λ arena registers printed i n a b so room left right e h. by_case arena registers printed i n a b so room left right e h;
 }
   where
-    by_case : (arena registers printed : List ℕ) (i n a b : ℕ) (so : Bool) → i + 5 < 2 ^ 25 → slice_index registers 13 ≡ a → slice_index registers 10 ≡ b → (a == b) ≡ so → slice_get arena i ≡ Some over_four_if_same → Comes 1 (at arena i registers printed n) (at arena (i + (if so then 5 else 1)) registers printed (n + 1))
+    by_case : (arena registers printed : List ℕ) (i n a b : ℕ) (so : Bool) → i + 5 < 2 ^ 25 → slice_index registers 13 ≡ a → slice_index registers 10 ≡ b → (a == b) ≡ so → word_in arena i ≡ Some over_four_if_same → Comes 1 (at arena i registers printed n) (at arena (i + (if so then 5 else 1)) registers printed (n + 1))
     by_case arena registers printed i n a b true room left right e h =
-        one arena registers printed i n over_four_if_same (Beq 13 10 20) (at arena (i + 5) registers printed (n + 1)) h refl (λ go_on. rw (left, right, e, far_place i room) refl)
+        one arena registers printed i n over_four_if_same (Beq 13 10 20) (at arena (i + 5) registers printed (n + 1)) h is_over_four_if_same (λ input go_on. rw (left, right, e, far_place i room) refl)
     by_case arena registers printed i n a b false room left right e h =
-        one arena registers printed i n over_four_if_same (Beq 13 10 20) (at arena (i + 1) registers printed (n + 1)) h refl (λ go_on. rw (left, right, e, next_place i (omega arith)) refl)
+        one arena registers printed i n over_four_if_same (Beq 13 10 20) (at arena (i + 1) registers printed (n + 1)) h is_over_four_if_same (λ input go_on. rw (left, right, e, next_place i (omega arith)) refl)
 
 compares_less : Compares over_four_if_less less_signed
 compares_less = record {
   by = λ arena registers printed i n a b so room left right e h. by_case arena registers printed i n a b so room left right e h;
 }
   where
-    by_case : (arena registers printed : List ℕ) (i n a b : ℕ) (so : Bool) → i + 5 < 2 ^ 25 → slice_index registers 13 ≡ a → slice_index registers 10 ≡ b → less_signed a b ≡ so → slice_get arena i ≡ Some over_four_if_less → Comes 1 (at arena i registers printed n) (at arena (i + (if so then 5 else 1)) registers printed (n + 1))
+    by_case : (arena registers printed : List ℕ) (i n a b : ℕ) (so : Bool) → i + 5 < 2 ^ 25 → slice_index registers 13 ≡ a → slice_index registers 10 ≡ b → less_signed a b ≡ so → word_in arena i ≡ Some over_four_if_less → Comes 1 (at arena i registers printed n) (at arena (i + (if so then 5 else 1)) registers printed (n + 1))
     by_case arena registers printed i n a b true room left right e h =
-        one arena registers printed i n over_four_if_less (Blt 13 10 20) (at arena (i + 5) registers printed (n + 1)) h refl (λ go_on. rw (left, right, e, far_place i room) refl)
+        one arena registers printed i n over_four_if_less (Blt 13 10 20) (at arena (i + 5) registers printed (n + 1)) h is_over_four_if_less (λ input go_on. rw (left, right, e, far_place i room) refl)
     by_case arena registers printed i n a b false room left right e h =
-        one arena registers printed i n over_four_if_less (Blt 13 10 20) (at arena (i + 1) registers printed (n + 1)) h refl (λ go_on. rw (left, right, e, next_place i (omega arith)) refl)
+        one arena registers printed i n over_four_if_less (Blt 13 10 20) (at arena (i + 1) registers printed (n + 1)) h is_over_four_if_less (λ input go_on. rw (left, right, e, next_place i (omega arith)) refl)
 
 -- `jal x0, 16` passes three words
-passed_three : (arena registers printed : List ℕ) (i n : ℕ) → i + 4 < 2 ^ 25 → slice_get arena i ≡ Some over_three → Comes 1 (at arena i registers printed n) (at arena (i + 4) registers printed (n + 1))
+passed_three : (arena registers printed : List ℕ) (i n : ℕ) → i + 4 < 2 ^ 25 → word_in arena i ≡ Some over_three → Comes 1 (at arena i registers printed n) (at arena (i + 4) registers printed (n + 1))
 passed_three arena registers printed i n room h =
     let p : (4 * i + 16) % 2 ^ 32 ≡ 4 * (i + 4) = omega arith in
-    one arena registers printed i n over_three (Jal 0 16) (at arena (i + 4) registers printed (n + 1)) h refl (λ go_on. rw p refl)
+    one arena registers printed i n over_three (Jal 0 16) (at arena (i + 4) registers printed (n + 1)) h is_over_three (λ input go_on. rw p refl)
 
 -- the word of a truth, and how many instructions it takes
 abbrev pub truth_word : Bool → ℕ

@@ -1,47 +1,111 @@
 -- From what the machine's run says to what a run of the program says.
-use Rattle.std.proofs.Common.{◌≡◌, ℕ, ◌≤◌, List, ◌++◌, length, refl, subst, arith, Some, None}
+use Rattle.std.proofs.Common.{◌≡◌, ℕ, ◌+◌, ◌≤◌, List, [], ◌++◌, length, refl, sym, ap, ◌∙◌, subst, arith, inr, Some, None}
 use Rattle.std.specs.Prelude.{Option, IfSome}
 use Rattle.rv_machine.specs.declared.image.Image.{Image}
+use Rattle.std.proofs.Common.{⊎_elim, ◌⊎◌}
+use Rattle.rv_machine.specs.declared.ending.Ending.{Ending}
+use Rattle.rv_machine.specs.declared.ending.Ending.TheVariants.{Halt, Unhandled, Full, Budget, Trap, ReadFault, WriteFault}
 use Rattle.rv_machine.specs.State.{State, Counted, start}
-use Rattle.rv_machine.specs.Run.{Moment, run_from, first, Gave, CutOff}
+use Rattle.rv_machine.specs.Step.{Result, environment_call, step_of}
+use Rattle.rv_machine.specs.Run.{Moment, Ended, act, stop, run_from, first, Feeds, Outside, IsNoFault, Gave, CutOff}
 use Rattle.isl_meaning.specs.declared.program.Program.{Program}
 use Rattle.isl_top.specs.Claims.{IsPrefixOf, Compiled}
-use Rattle.isl_top.specs.Answers.{arena_words, most_instructions, the_run, Ran, GivenAll, GivenFront}
+use Rattle.isl_top.specs.Answers.{arena_words, the_run, Built, Halts, Spends, GivenAll, GivenFront}
 
--- an image that is the program's and fits the arena has run as it must
-pub ran : (program : Program) (image : Image) → Compiled program image.words image.entry → length image.words ≤ arena_words → Ran program (Some image)
-ran program image compiled fits = record {
-  image = image;
-  is_kept = refl;
-  compiled = compiled;
-  fits = fits;
-  carries = λ input.
-      let f = compiled arena_words most_instructions input fits (omega arith) in
-      let h = f.forward (omega arith) in
-      f.halt h.0 h.1;
-}
+-- the laws of runs that the machine's crate proves
+pub record Laws : Type 0 where
+  pub printed : (j n : ℕ) (m : Moment) → j ≤ n → (rest : List ℕ) × ((run_from j m).at.printed ++ rest ≡ (run_from n m).at.printed)
+  pub split : (j k : ℕ) (m : Moment) → (run_from j m).ending ≡ Budget → run_from (j + k) m ≡ run_from k (run_from j m).at
 
--- what was given in the run of a machine at the image's start
-pub given_all : (image : Image) (state : State) (told told' : Option (List ℕ)) (writes writes' : ℕ) → state ≡ start image.words image.entry arena_words → IfSome told' (λ after. Gave told writes (run_from most_instructions (first state)).at.printed after writes') → IfSome told' (λ after. Gave told writes (the_run image).at.printed after writes')
-given_all image state told told' writes writes' e g =
-    let P : State → Type 0 = λ s. IfSome told' (λ after. Gave told writes (run_from most_instructions (first s)).at.printed after writes') in
-    subst P e g
+-- an image that is the program's and fits the arena is kept
+pub built : (program : Program) (image : Image) → Compiled program image.words image.entry → length image.words ≤ arena_words → Built program (Some image)
+built program image compiled fits = record { image = image; is_kept = refl; compiled = compiled; fits = fits }
 
 with_front : (told told' : Option (List ℕ)) (writes writes' : ℕ) (front whole : List ℕ) → IsPrefixOf front whole → IfSome told' (λ after. Gave told writes front after writes') → IfSome told' (λ after. (f : List ℕ) × IsPrefixOf f whole × Gave told writes f after writes')
 with_front told None writes writes' front whole p g = tt
 with_front told (Some after) writes writes' front whole p g = (front, p, g)
 
-pub given_front : (image : Image) (old new : Counted) (told told' : Option (List ℕ)) (writes writes' : ℕ) → ((j n : ℕ) (m : Moment) → j ≤ n → (rest : List ℕ) × ((run_from j m).at.printed ++ rest ≡ (run_from n m).at.printed)) → old.state ≡ start image.words image.entry arena_words → CutOff most_instructions old new told writes told' writes' → IfSome told' (λ after. (front : List ℕ) × IsPrefixOf front (the_run image).at.printed × Gave told writes front after writes')
-given_front image old new told told' writes writes' law e c =
-    let p = law c.turns most_instructions (first old.state) (omega (arith, c.below)) in
-    let P : State → Type 0 = λ s. IsPrefixOf (run_from c.turns (first old.state)).at.printed (run_from most_instructions (first s)).at.printed in
-    with_front told told' writes writes' (run_from c.turns (first old.state)).at.printed (the_run image).at.printed (subst P e p) c.stands.given
+after_get : (r : Result) (m : Moment) → r ≡ environment_call 2 → (act stop r m).at.gets ≡ m.gets + 1
+after_get r m e = rw e refl
 
--- a run that was written whole, and one that a write cut off
-pub ran_whole : (program : Program) (image : Image) (state : State) (told told' : Option (List ℕ)) (writes writes' : ℕ) → Compiled program image.words image.entry → length image.words ≤ arena_words → state ≡ start image.words image.entry arena_words → IfSome told' (λ after. Gave told writes (run_from most_instructions (first state)).at.printed after writes') → (r : Ran program (Some image)) × GivenAll r told writes told' writes'
-unfolding ran
-ran_whole program image state told told' writes writes' compiled fits e g = (ran program image compiled fits, given_all image state told told' writes writes' e g)
+one_more : (m : Moment) → step_of m.state ≡ environment_call 2 → (run_from 1 m).at.gets ≡ m.gets + 1
+unfolding run_from
+one_more m e = after_get (step_of m.state) m e
 
-pub ran_cut_off : (program : Program) (image : Image) (old new : Counted) (told told' : Option (List ℕ)) (writes writes' : ℕ) → Compiled program image.words image.entry → length image.words ≤ arena_words → ((j n : ℕ) (m : Moment) → j ≤ n → (rest : List ℕ) × ((run_from j m).at.printed ++ rest ≡ (run_from n m).at.printed)) → old.state ≡ start image.words image.entry arena_words → CutOff most_instructions old new told writes told' writes' → (r : Ran program (Some image)) × GivenFront r told writes told' writes'
-unfolding ran
-ran_cut_off program image old new told told' writes writes' compiled fits law e c = (ran program image compiled fits, given_front image old new told told' writes writes' law e c)
+-- an image that is the program's, in a machine at its start
+module _ (program : Program) (image : Image) (compiled : Compiled program image.words image.entry) (fits : length image.words ≤ arena_words) (state : State) (begin : state ≡ start image.words image.entry arena_words) where
+  -- it reads nothing
+  pub unread : (n : ℕ) (input : List ℕ) → (run_from n (first state input)).at.gets ≡ 0
+  unread n input =
+      let f = compiled arena_words n input fits (omega arith) in
+      subst (λ s. (run_from n (first s input)).at.gets ≡ 0) (sym begin) f.unread
+
+  -- so any input feeds it
+  pub fed : (told : Option (List ℕ)) (n : ℕ) (input : List ℕ) → Feeds told input (run_from n (first state input))
+  fed told n input = inr (unread n input)
+
+  -- and it does not stop before a get-byte
+  pub no_read_fault : (laws : Laws) (steps : ℕ) (old new : Counted) (o o' : Outside) (Other : Moment → Type 0) → old.state ≡ state → CutOff 2 steps old new o o' Other → ⊥
+  no_read_fault laws steps old new o o' Other here c =
+      let m : Moment = first state [] in
+      let same : run_from c.turns (first old.state []) ≡ run_from c.turns m = ap (λ s. run_from c.turns (first s [])) here in
+      let feeds : Feeds o.left [] (run_from c.turns (first old.state [])) = subst (λ (s : State). Feeds o.left [] (run_from c.turns (first s []))) (sym here) (fed o.left c.turns []) in
+      let stood = c.stands [] feeds in
+      let goes_on : (run_from c.turns m).ending ≡ Budget = sym (ap (λ (e : Ended). e.ending) same) ∙ stood.0 in
+      let at_state : new.state ≡ (run_from c.turns m).at.state = stood.1.state ∙ ap (λ (e : Ended). e.at.state) same in
+      let call : step_of (run_from c.turns m).at.state ≡ environment_call 2 = subst (λ s. step_of s ≡ environment_call 2) at_state c.before in
+      let longer = ap (λ (e : Ended). e.at.gets) (laws.split c.turns 1 m goes_on) ∙ one_more (run_from c.turns m).at call in
+      let none = unread (c.turns + 1) [] in
+      absurd (omega arith)
+
+  -- the whole run: what was given, how it ended where it halted, and where it was spent
+  pub whole : (steps : ℕ) (told told' : Option (List ℕ)) (writes writes' : ℕ) → ((input : List ℕ) → IfSome told' (λ after. Gave told writes (run_from steps (first state input)).at.printed after writes')) → GivenAll (built program image compiled fits) steps told writes told' writes'
+  unfolding built
+  whole steps told told' writes writes' g =
+      λ input. subst (λ (s : State). IfSome told' (λ after. Gave told writes (run_from steps (first s input)).at.printed after writes')) begin (g input)
+
+  pub halted : (steps word : ℕ) → ((input : List ℕ) → Halt word ≡ (run_from steps (first state input)).ending) → Halts (built program image compiled fits) steps
+  unfolding built
+  halted steps word h =
+      λ input. (compiled arena_words steps input fits (omega arith)).halt word (sym (subst (λ (s : State). Halt word ≡ (run_from steps (first s input)).ending) begin (h input)))
+
+  pub spent : (steps : ℕ) → ((input : List ℕ) → Budget ≡ (run_from steps (first state input)).ending) → Spends (built program image compiled fits) steps
+  unfolding built
+  spent steps h =
+      λ input. sym (subst (λ (s : State). Budget ≡ (run_from steps (first s input)).ending) begin (h input))
+
+  -- it ends in no other way
+  pub only : (steps : ℕ) (e : Ending) → ((input : List ℕ) → e ≡ (run_from steps (first state input)).ending) → ((w : ℕ) → e ≡ Halt w → ⊥) → (e ≡ Budget → ⊥) → ⊥
+  only steps e h no_halt no_budget =
+      let same = subst (λ (s : State). e ≡ (run_from steps (first s [])).ending) begin (h []) in
+      ⊎_elim
+      (λ b. no_budget (same ∙ b))
+      (λ p. no_halt p.0 (same ∙ p.1))
+      (compiled arena_words steps [] fits (omega arith)).only
+
+  -- the front that was given where a write cut it off
+  pub cut_off : (laws : Laws) (steps : ℕ) (old new : Counted) (o o' : Outside) (Other : Moment → Type 0) → old.state ≡ state → CutOff 1 steps old new o o' Other → GivenFront (built program image compiled fits) steps o.given o.writes o'.given o'.writes
+  unfolding built
+  cut_off laws steps old new o o' Other here c =
+      λ input.
+      let feeds : Feeds o.left input (run_from c.turns (first old.state input)) = subst (λ (s : State). Feeds o.left input (run_from c.turns (first s input))) (sym here) (fed o.left c.turns input) in
+      let stood = c.stands input feeds in
+      let p = laws.printed c.turns steps (first old.state input) (omega (arith, c.below)) in
+      let whole = subst (λ (s : State). IsPrefixOf (run_from c.turns (first old.state input)).at.printed (run_from steps (first s input)).at.printed) (here ∙ begin) p in
+      with_front o.given o'.given o.writes o'.writes (run_from c.turns (first old.state input)).at.printed (the_run image steps input).at.printed whole stood.1.given
+
+  -- what a cut run says of the source where nothing was read
+  pub cut_other : (steps : ℕ) (old new : Counted) (o o' : Outside) (Same : Type 0) → old.state ≡ state → CutOff 1 steps old new o o' (λ m. m.gets ≡ 0 → Same) → Same
+  cut_other steps old new o o' Same here c =
+      let none : (run_from c.turns (first old.state [])).at.gets ≡ 0 = subst (λ (s : State). (run_from c.turns (first s [])).at.gets ≡ 0) (sym here) (unread c.turns []) in
+      (c.stands [] (inr none)).2 none
+
+-- an ending that is neither fault
+pub no_fault : (e : Ending) → (e ≡ ReadFault → ⊥) → (e ≡ WriteFault → ⊥) → IsNoFault e
+no_fault (Halt code) r w = tt
+no_fault (Unhandled class) r w = tt
+no_fault (Full asked left) r w = tt
+no_fault Budget r w = tt
+no_fault (Trap kind address) r w = tt
+no_fault ReadFault r w = r refl
+no_fault WriteFault r w = w refl

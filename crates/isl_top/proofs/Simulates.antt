@@ -2,7 +2,7 @@
 use Rattle.std.proofs.Common.{◌≡◌, ℕ, ℤ, ◌+ℤ◌, ◌-ℤ◌, Bool, true, false, ◌+◌, ◌*◌, ◌%◌, ◌<◌, ◌≤◌, List, [], ◌∷◌, ◌++◌, length, refl, sym, ap, subst, arith, Some, ⊎_elim, append_assoc, length-append}
 use Rattle.std.specs.Prelude.{slice_get, int_lt}
 use Rattle.isl_base.specs.declared.place.Place.{Place}
-use Rattle.isl_base.specs.declared.datum.Kind.TheVariants.{Int, Char, Sym}
+use Rattle.isl_base.specs.Data as datum
 use Rattle.isl_base.specs.declared.datum.Symbol.TheVariants.{Named}
 use Rattle.isl_meaning.specs.declared.program.LiteralRow.{LiteralRow}
 use Rattle.isl_meaning.specs.declared.program.LiteralRow.TheVariants as row
@@ -10,9 +10,8 @@ use Rattle.isl_meaning.specs.declared.program.Program.{Program}
 use Rattle.isl_meaning.specs.declared.primitive.Primitive.TheVariants.{Add, Subtract, NumberEqual, NumberLess, StandardOutput, PutChar}
 use Rattle.isl_meaning.specs.Form.{Form, literal, clauses, sequence, prim, sited, no_clause, clause_and, with_body}
 use Rattle.isl_meaning.specs.Form.{Forms, no_form, form_and}
-use Rattle.isl_meaning.specs.Values.{Value, integer, character, symbol, nil, object, truth}
-use Rattle.isl_meaning.specs.Primitives.{int_equal}
-use Rattle.isl_top.specs.Trees.{TreeValue, word, list, Trees, no_tree, tree_and}
+use Rattle.isl_meaning.specs.Values.{t as true_value, Value, integer, character, symbol, nil, object, truth, int_equal}
+use Rattle.isl_base.specs.Data.{Item, item, list, Items, no_item, item_and, no_tail}
 use Rattle.isl_top.specs.Shapes.{Tables, with_site, with_truth, next_literal, next_site, and_then, as_form, head_of, format_char_form, progn_form, sum_form, test_of, choice, if_form, form_of, forms_of}
 use Rattle.isl_top.specs.Code.{integer_word, character_word, nil_word, t_word, stream_word, constant, put_code, row_word, row_byte, between, truth_code, clause_code, move_12_from_10, move_13_from_10, add_12_and_10, subtract_10_from_12, over_four_if_same, over_four_if_less, form_code, forms_code}
 use Rattle.isl_top.proofs.Yields.{Yields, nothing, constant_yields, put_yields}
@@ -125,7 +124,7 @@ sited_simulated program site f s = record {
   plain = s.plain;
 }
 
-put_simulated : (program : Program) (site inner id c : ℕ) (p : Place) → c < 256 → slice_get program.literals id ≡ Some (row.Datum (record { place = p; kind = Char c })) → Simulates program (sited site (prim PutChar (form_and (sited inner (prim StandardOutput no_form)) (form_and (literal id) no_form))))
+put_simulated : (program : Program) (site inner id c : ℕ) (p : Place) → c < 256 → slice_get program.literals id ≡ Some (row.Datum (datum.item p (datum.character c))) → Simulates program (sited site (prim PutChar (form_and (sited inner (prim StandardOutput no_form)) (form_and (literal id) no_form))))
 unfolding form_code
 put_simulated program site inner id c p b h = record {
   v = nil;
@@ -179,21 +178,21 @@ operand_simulated program f o = record {
   plain = tt;
 }
 
-integer_simulated : (program : Program) (id : ℕ) (p : Place) (n : ℤ) → Within 99999999 n → slice_get program.literals id ≡ Some (row.Datum (record { place = p; kind = Int n })) → SimulatesOperand program (literal id)
+integer_simulated : (program : Program) (id : ℕ) (p : Place) (n : ℤ) → Within 99999999 n → slice_get program.literals id ≡ Some (row.Datum (datum.item p (datum.integer n))) → SimulatesOperand program (literal id)
 unfolding form_code
 integer_simulated program id p n small h = record {
   n = n;
   within = wider n small;
   units = 1;
   cost = 2;
-  means = literal_means program id p (Int n) h;
+  means = literal_means program id p (datum.integer n) (integer n) (λ m. refl) h;
   operand = subst (λ w. Operand (constant w) (integer_word n) 2) (sym (ap row_word h)) (constant_operand (integer_word n));
   cheap = omega arith;
   forward = omega arith;
 }
 
 -- a sum or a difference under a site
-module _ (program : Program) (site i j : ℕ) (p q : Place) (a b : ℤ) (x : Within 99999999 a) (y : Within 99999999 b) (h : slice_get program.literals i ≡ Some (row.Datum (record { place = p; kind = Int a }))) (k : slice_get program.literals j ≡ Some (row.Datum (record { place = q; kind = Int b }))) where
+module _ (program : Program) (site i j : ℕ) (p q : Place) (a b : ℤ) (x : Within 99999999 a) (y : Within 99999999 b) (h : slice_get program.literals i ≡ Some (row.Datum (datum.item p (datum.integer a)))) (k : slice_get program.literals j ≡ Some (row.Datum (datum.item q (datum.integer b)))) where
   added_simulated : SimulatesOperand program (sited site (prim Add (form_and (literal i) (form_and (literal j) no_form))))
   unfolding form_code
   added_simulated = record {
@@ -201,7 +200,7 @@ module _ (program : Program) (site i j : ℕ) (p q : Place) (a b : ℤ) (x : Wit
     within = sum_within a b x y;
     units = 5;
     cost = 6;
-    means = sited_means (two_mean Add (integer (a +ℤ b)) (literal_means program i p (Int a) h) (literal_means program j q (Int b) k) (λ limit around z. rw (within_range (a +ℤ b) (sum_within a b x y)) refl));
+    means = sited_means (two_mean Add (integer (a +ℤ b)) (literal_means program i p (datum.integer a) (integer a) (λ n. refl) h) (literal_means program j q (datum.integer b) (integer b) (λ n. refl) k) (λ z. rw (within_range (a +ℤ b) (sum_within a b x y)) refl));
     operand =
         subst (λ v. Operand (between (constant v) move_12_from_10 (constant (row_word (slice_get program.literals j))) (add_12_and_10 ∷ [])) (integer_word (a +ℤ b)) 6) (sym (ap row_word h))
         (subst (λ w. Operand (between (constant (integer_word a)) move_12_from_10 (constant w) (add_12_and_10 ∷ [])) (integer_word (a +ℤ b)) 6) (sym (ap row_word k))
@@ -217,7 +216,7 @@ module _ (program : Program) (site i j : ℕ) (p q : Place) (a b : ℤ) (x : Wit
     within = difference_within a b x y;
     units = 5;
     cost = 6;
-    means = sited_means (two_mean Subtract (integer (a -ℤ b)) (literal_means program i p (Int a) h) (literal_means program j q (Int b) k) (λ limit around z. rw (within_range (a -ℤ b) (difference_within a b x y)) refl));
+    means = sited_means (two_mean Subtract (integer (a -ℤ b)) (literal_means program i p (datum.integer a) (integer a) (λ n. refl) h) (literal_means program j q (datum.integer b) (integer b) (λ n. refl) k) (λ z. rw (within_range (a -ℤ b) (difference_within a b x y)) refl));
     operand =
         subst (λ v. Operand (between (constant v) move_12_from_10 (constant (row_word (slice_get program.literals j))) (subtract_10_from_12 ∷ [])) (integer_word (a -ℤ b)) 6) (sym (ap row_word h))
         (subst (λ w. Operand (between (constant (integer_word a)) move_12_from_10 (constant w) (subtract_10_from_12 ∷ [])) (integer_word (a -ℤ b)) 6) (sym (ap row_word k))
@@ -239,7 +238,7 @@ module _ (program : Program) (site : ℕ) (f g : Form) (o : SimulatesOperand pro
     so = int_equal o.n p.n;
     units = 3 + o.units + p.units;
     cost = o.cost + 1 + p.cost + truth_cost (int_equal o.n p.n);
-    means = sited_means (two_mean NumberEqual (truth (int_equal o.n p.n)) o.means p.means (λ limit around z. refl));
+    means = sited_means (two_mean NumberEqual (truth (int_equal o.n p.n)) o.means p.means (λ z. refl));
     yields = λ before. same_yields (int_equal o.n p.n) before _ _ (integer_word o.n) (integer_word p.n) o.cost p.cost o.operand p.operand (small_word o.n) (same_word o.n p.n o.within p.within);
     cheap = omega (arith, o.cheap, p.cheap, truth_short (int_equal o.n p.n));
     forward = omega (arith, o.forward, p.forward, truth_short (int_equal o.n p.n), length-append (form_code program.literals f) (move_13_from_10 ∷ (form_code program.literals g ++ truth_code over_four_if_same)), length-append (form_code program.literals g) (truth_code over_four_if_same));
@@ -251,7 +250,7 @@ module _ (program : Program) (site : ℕ) (f g : Form) (o : SimulatesOperand pro
     so = int_lt o.n p.n;
     units = 3 + o.units + p.units;
     cost = o.cost + 1 + p.cost + truth_cost (int_lt o.n p.n);
-    means = sited_means (two_mean NumberLess (truth (int_lt o.n p.n)) o.means p.means (λ limit around z. refl));
+    means = sited_means (two_mean NumberLess (truth (int_lt o.n p.n)) o.means p.means (λ z. refl));
     yields = λ before. less_yields (int_lt o.n p.n) before _ _ (integer_word o.n) (integer_word p.n) o.cost p.cost o.operand p.operand (small_word o.n) (less_word o.n p.n o.within p.within);
     cheap = omega (arith, o.cheap, p.cheap, truth_short (int_lt o.n p.n));
     forward = omega (arith, o.forward, p.forward, truth_short (int_lt o.n p.n), length-append (form_code program.literals f) (move_13_from_10 ∷ (form_code program.literals g ++ truth_code over_four_if_less)), length-append (form_code program.literals g) (truth_code over_four_if_less));
@@ -261,7 +260,7 @@ module _ (program : Program) (site : ℕ) (f g : Form) (o : SimulatesOperand pro
 clause_length : (test body others : List ℕ) → length (clause_code test body others) ≡ length test + 14 + length body + length others
 clause_length test body others = placed_length test body others
 
-choice_simulated : (program : Program) (id : ℕ) (p : Place) (f g h : Form) → slice_get program.literals id ≡ Some (row.Datum (record { place = p; kind = Sym (Named (record { 0 = 0 })) })) → (test : SimulatesTest program f) → (so : Bool) → test.so ≡ so → Simulates program g → Simulates program h → Simulates program (clauses (clause_and f (with_body g) (clause_and (literal id) (with_body h) no_clause)))
+choice_simulated : (program : Program) (id : ℕ) (p : Place) (f g h : Form) → slice_get program.literals id ≡ Some (row.Datum (datum.item p (datum.symbol (Named (record { 0 = 0 }))))) → (test : SimulatesTest program f) → (so : Bool) → test.so ≡ so → Simulates program g → Simulates program h → Simulates program (clauses (clause_and f (with_body g) (clause_and (literal id) (with_body h) no_clause)))
 unfolding form_code
 choice_simulated program id p f g h e test true b s r = record {
   v = s.v;
@@ -284,7 +283,7 @@ choice_simulated program id p f g h e test false b s r =
       bytes = r.bytes;
       units = 3 + test.units + (1 + r.units);
       cost = test.cost + 3 + 4 + (2 + 3 + r.cost + 4);
-      means = passed_means id (subst (λ x. Means program f (truth x) [] test.units) b test.means) (literal_means program id p (Sym (Named (record { 0 = 0 }))) e) r.means;
+      means = passed_means id (subst (λ x. Means program f (truth x) [] test.units) b test.means) (literal_means program id p (datum.symbol (Named (record { 0 = 0 }))) true_value (λ n. refl) e) r.means;
       yields = λ before. passed_yields before (form_code program.literals f) (form_code program.literals g) others r.bytes (word_of r.v) test.cost (2 + 3 + r.cost + 4) (subst (λ x. Yields before (form_code program.literals f) [] (truth_word x) test.cost) b (test.yields before)) (subst (λ x. Yields nil_word (clause_code x (form_code program.literals h) (constant nil_word)) r.bytes (word_of r.v) (2 + 3 + r.cost + 4)) (sym truth_there) second);
       cheap = omega (arith, test.cheap, r.cheap);
       forward = omega (arith, test.forward, r.forward, clause_length (form_code program.literals f) (form_code program.literals g) others, clause_length (constant (row_word (slice_get program.literals id))) (form_code program.literals h) (constant nil_word));
@@ -304,15 +303,15 @@ grew_tables : (t u t' : Tables) → t' ≡ u → Grew t.literals u.literals → 
 grew_tables t u t' e g = subst (λ x. Grew t.literals x.literals) (sym e) g
 
 put_grew : (t : Tables) (f : Form) (t' : Tables) → WasPut t f t' → Grew t.literals t'.literals
-put_grew t f t' w = grew_tables t _ t' w.tables (grew_one t.literals (row.Datum (record { place = w.r; kind = Char w.c })))
+put_grew t f t' w = grew_tables t _ t' w.tables (grew_one t.literals (row.Datum (datum.item w.r (datum.character w.c))))
 
 integer_grew : (t : Tables) (f : Form) (t' : Tables) → WasInteger t f t' → Grew t.literals t'.literals
-integer_grew t f t' w = grew_tables t _ t' w.tables (grew_one t.literals (row.Datum (record { place = w.p; kind = Int w.n })))
+integer_grew t f t' w = grew_tables t _ t' w.tables (grew_one t.literals (row.Datum (datum.item w.p (datum.integer w.n))))
 
 sum_grew : (which : Primitive) (t : Tables) (f : Form) (t' : Tables) → WasSum which t f t' → Grew t.literals t'.literals
 sum_grew which t f t' w =
-    let a : LiteralRow = row.Datum (record { place = w.q; kind = Int w.a }) in
-    let b : LiteralRow = row.Datum (record { place = w.r; kind = Int w.b }) in
+    let a : LiteralRow = row.Datum (datum.item w.q (datum.integer w.a)) in
+    let b : LiteralRow = row.Datum (datum.item w.r (datum.integer w.b)) in
     grew_tables t _ t' w.tables (grew_both (grew_one t.literals a) (grew_one (t.literals ++ a ∷ []) b))
 
 operand_grew : (t : Tables) (f : Form) (t' : Tables) → WasOperand t f t' → Grew t.literals t'.literals
@@ -323,30 +322,30 @@ operand_grew t f t' (was_subtracted w) = sum_grew Subtract t f t' w
 comparison_grew : (which : Primitive) (t : Tables) (f : Form) (t' : Tables) → WasComparison which t f t' → Grew t.literals t'.literals
 comparison_grew which t f t' w = grew_both (operand_grew (with_site w.p t) w.first w.middle w.one) (operand_grew w.middle w.second t' w.two)
 
-test_grew : (x : TreeValue) (t : Tables) (f : Form) (t' : Tables) → test_of x t ≡ Some (f, t') → Grew t.literals t'.literals
-test_grew x t f t' e = ⊎_elim (λ w. comparison_grew NumberEqual t f t' w) (λ w. comparison_grew NumberLess t f t' w) (was_test x t f t' e)
+test_grew : (texts : List (List ℕ)) (x : Item) (t : Tables) (f : Form) (t' : Tables) → test_of texts x t ≡ Some (f, t') → Grew t.literals t'.literals
+test_grew texts x t f t' e = ⊎_elim (λ w. comparison_grew NumberEqual t f t' w) (λ w. comparison_grew NumberLess t f t' w) (was_test texts x t f t' e)
 
 -- forms that were found are simulated, in every program whose rows go on from theirs
 found_put_simulated : (program : Program) (t : Tables) (f : Form) (t' : Tables) → WasPut t f t' → Grew t'.literals program.literals → Simulates program f
 found_put_simulated program t f t' w g =
-    let g' : Grew (t.literals ++ row.Datum (record { place = w.r; kind = Char w.c }) ∷ []) program.literals = subst (λ x. Grew x.literals program.literals) w.tables g in
-    subst (Simulates program) (sym w.form) (put_simulated program (next_site t) (next_site t + 1) (next_literal t) w.c w.r w.byte (row_there t.literals program.literals (row.Datum (record { place = w.r; kind = Char w.c })) g'))
+    let g' : Grew (t.literals ++ row.Datum (datum.item w.r (datum.character w.c)) ∷ []) program.literals = subst (λ x. Grew x.literals program.literals) w.tables g in
+    subst (Simulates program) (sym w.form) (put_simulated program (next_site t) (next_site t + 1) (next_literal t) w.c w.r w.byte (row_there t.literals program.literals (row.Datum (datum.item w.r (datum.character w.c))) g'))
 
 found_integer_simulated : (program : Program) (t : Tables) (f : Form) (t' : Tables) → WasInteger t f t' → Grew t'.literals program.literals → SimulatesOperand program f
 found_integer_simulated program t f t' w g =
-    let r : LiteralRow = row.Datum (record { place = w.p; kind = Int w.n }) in
+    let r : LiteralRow = row.Datum (datum.item w.p (datum.integer w.n)) in
     let g' : Grew (t.literals ++ r ∷ []) program.literals = subst (λ x. Grew x.literals program.literals) w.tables g in
     subst (SimulatesOperand program) (sym w.form) (integer_simulated program (next_literal t) w.p w.n w.small (row_there t.literals program.literals r g'))
 
 -- where the two rows of a sum stand
 record BothRows (program : Program) (t : Tables) (q r : Place) (a b : ℤ) : Type 0 where
-  left : slice_get program.literals (next_literal t) ≡ Some (row.Datum (record { place = q; kind = Int a }))
-  right : slice_get program.literals (next_literal t + 1) ≡ Some (row.Datum (record { place = r; kind = Int b }))
+  left : slice_get program.literals (next_literal t) ≡ Some (row.Datum (datum.item q (datum.integer a)))
+  right : slice_get program.literals (next_literal t + 1) ≡ Some (row.Datum (datum.item r (datum.integer b)))
 
 both_rows : (which : Primitive) (program : Program) (t : Tables) (f : Form) (t' : Tables) (w : WasSum which t f t') → Grew t'.literals program.literals → BothRows program t w.q w.r w.a w.b
 both_rows which program t f t' w g =
-    let a : LiteralRow = row.Datum (record { place = w.q; kind = Int w.a }) in
-    let b : LiteralRow = row.Datum (record { place = w.r; kind = Int w.b }) in
+    let a : LiteralRow = row.Datum (datum.item w.q (datum.integer w.a)) in
+    let b : LiteralRow = row.Datum (datum.item w.r (datum.integer w.b)) in
     let g' : Grew (t.literals ++ a ∷ [] ++ b ∷ []) program.literals = subst (λ x. Grew x.literals program.literals) w.tables g in
     let l : length (t.literals ++ a ∷ []) ≡ length t.literals + 1 = length-append t.literals (a ∷ []) in
     record {
@@ -369,8 +368,8 @@ found_operand_simulated program t f t' (was_number w) g = found_integer_simulate
 found_operand_simulated program t f t' (was_added w) g = found_added_simulated program t f t' w g
 found_operand_simulated program t f t' (was_subtracted w) g = found_subtracted_simulated program t f t' w g
 
-found_test_simulated : (program : Program) (x : TreeValue) (t : Tables) (f : Form) (t' : Tables) → test_of x t ≡ Some (f, t') → Grew t'.literals program.literals → SimulatesTest program f
-found_test_simulated program x t f t' e g =
+found_test_simulated : (texts : List (List ℕ)) (program : Program) (x : Item) (t : Tables) (f : Form) (t' : Tables) → test_of texts x t ≡ Some (f, t') → Grew t'.literals program.literals → SimulatesTest program f
+found_test_simulated texts program x t f t' e g =
     ⊎_elim
     (λ w.
     let a = found_operand_simulated program (with_site w.p t) w.first w.middle w.one (grew_both (operand_grew w.middle w.second t' w.two) g) in
@@ -380,60 +379,58 @@ found_test_simulated program x t f t' e g =
     let a = found_operand_simulated program (with_site w.p t) w.first w.middle w.one (grew_both (operand_grew w.middle w.second t' w.two) g) in
     let b = found_operand_simulated program w.middle w.second t' w.two g in
     subst (SimulatesTest program) (sym w.form) (less_simulated program (next_site t) w.first w.second a b))
-    (was_test x t f t' e)
+    (was_test texts x t f t' e)
 
 -- the parts of an `if`
-pub record WasIf (p : Place) (x a b : TreeValue) (t : Tables) (f : Form) (t' : Tables) : Type 0 where
+pub record WasIf (texts : List (List ℕ)) (p : Place) (x a b : Item) (t : Tables) (f : Form) (t' : Tables) : Type 0 where
   pub test : Form
   pub one : Form
   pub two : Form
   pub u : Tables
   pub v : Tables
-  pub tested : test_of x (with_site p t) ≡ Some (test, u)
-  pub first : form_of a u ≡ Some (one, v)
-  pub second : form_of b (with_truth p v) ≡ Some (two, t')
+  pub tested : test_of texts x (with_site p t) ≡ Some (test, u)
+  pub first : form_of texts a u ≡ Some (one, v)
+  pub second : form_of texts b (with_truth p v) ≡ Some (two, t')
   pub made : choice (next_site t) (next_literal v) test one two ≡ f
 
-pub was_if_form : (p : Place) (x a b : TreeValue) (t : Tables) (f : Form) (t' : Tables) → if_form p (tree_and x (tree_and a (tree_and b no_tree))) t ≡ Some (f, t') → WasIf p x a b t f t'
+pub was_if_form : (texts : List (List ℕ)) (p : Place) (x a b : Item) (t : Tables) (f : Form) (t' : Tables) → if_form texts p (item_and x (item_and a (item_and b no_item))) t ≡ Some (f, t') → WasIf texts p x a b t f t'
 unfolding form_of
-was_if_form p x a b t f t' e =
-    let k = was_and (test_of x (with_site p t)) (λ g u. and_then (form_of a u) (λ h v. as_form (λ l. choice (next_site t) (next_literal v) g h l) (form_of b (with_truth p v)))) f t' e in
-    let m = was_and (form_of a k.tables) (λ h v. as_form (λ l. choice (next_site t) (next_literal v) k.part h l) (form_of b (with_truth p v))) f t' k.second in
-    let n = was_made (λ l. choice (next_site t) (next_literal m.tables) k.part m.part l) (form_of b (with_truth p m.tables)) f t' m.second in
+was_if_form texts p x a b t f t' e =
+    let k = was_and (test_of texts x (with_site p t)) (λ g u. and_then (form_of texts a u) (λ h v. as_form (λ l. choice (next_site t) (next_literal v) g h l) (form_of texts b (with_truth p v)))) f t' e in
+    let m = was_and (form_of texts a k.tables) (λ h v. as_form (λ l. choice (next_site t) (next_literal v) k.part h l) (form_of texts b (with_truth p v))) f t' k.second in
+    let n = was_made (λ l. choice (next_site t) (next_literal m.tables) k.part m.part l) (form_of texts b (with_truth p m.tables)) f t' m.second in
     record { test = k.part; one = m.part; two = n.part; u = k.tables; v = m.tables; tested = k.first; first = m.first; second = n.found; made = n.made }
 
 mutual
   unfolding form_of
 
   -- the rows of a form come behind the rows before it
-  form_grew : (x : TreeValue) (t : Tables) (f : Form) (t' : Tables) → form_of x t ≡ Some (f, t') → Grew t.literals t'.literals
-  form_grew (word p w) t f t' e = integer_grew t f t' (was_integer p w t f t' e)
-  form_grew (list p no_tree) t f t' e = absurd (cc)
-  form_grew (list p (tree_and (list q us) ts)) t f t' e = absurd (cc)
-  form_grew (list p (tree_and (word q w) ts)) t f t' e =
-      elim (was_headed (head_of w) (progn_form t (forms_of ts (with_site p t))) (format_char_form p ts t) (if_form p ts t) (sum_form Add p ts t) (sum_form Subtract p ts t) f t' e) [
-        | was_progn h ↦ let m = was_made (λ fs. sited (next_site t) (sequence fs)) (forms_of ts (with_site p t)) f t' h in forms_grew ts (with_site p t) m.part t' m.found
-        | was_format_char h ↦ put_grew t f t' (was_put p ts t f t' h)
-        | was_if h ↦ if_grew p ts t f t' h
-        | was_plus h ↦ sum_grew Add t f t' (was_sum Add p ts t f t' h)
-        | was_minus h ↦ sum_grew Subtract t f t' (was_sum Subtract p ts t f t' h)
+  form_grew : (texts : List (List ℕ)) (x : Item) (t : Tables) (f : Form) (t' : Tables) → form_of texts x t ≡ Some (f, t') → Grew t.literals t'.literals
+  form_grew texts (item p (list (item_and h ts) no_tail)) t f t' e =
+      elim (was_headed (head_of texts h) (progn_form t (forms_of texts ts (with_site p t))) (format_char_form texts p ts t) (if_form texts p ts t) (sum_form Add p ts t) (sum_form Subtract p ts t) f t' e) [
+        | was_progn k ↦ let m = was_made (λ fs. sited (next_site t) (sequence fs)) (forms_of texts ts (with_site p t)) f t' k in forms_grew texts ts (with_site p t) m.part t' m.found
+        | was_format_char k ↦ put_grew t f t' (was_put texts p ts t f t' k)
+        | was_if k ↦ if_grew texts p ts t f t' k
+        | was_plus k ↦ sum_grew Add t f t' (was_sum Add p ts t f t' k)
+        | was_minus k ↦ sum_grew Subtract t f t' (was_sum Subtract p ts t f t' k)
       ]
+  form_grew texts (item p c) t f t' e = integer_grew t f t' (was_integer (item p c) t f t' e)
 
-  if_grew : (p : Place) (ts : Trees) (t : Tables) (f : Form) (t' : Tables) → if_form p ts t ≡ Some (f, t') → Grew t.literals t'.literals
-  if_grew p no_tree t f t' e = absurd (cc)
-  if_grew p (tree_and x no_tree) t f t' e = absurd (cc)
-  if_grew p (tree_and x (tree_and a no_tree)) t f t' e = absurd (cc)
-  if_grew p (tree_and x (tree_and a (tree_and b no_tree))) t f t' e =
-      let w = was_if_form p x a b t f t' e in
-      grew_both (test_grew x (with_site p t) w.test w.u w.tested) (grew_both (form_grew a w.u w.one w.v w.first) (grew_both (grew_one w.v.literals (row.Datum (record { place = p; kind = Sym (Named (record { 0 = 0 })) }))) (form_grew b (with_truth p w.v) w.two t' w.second)))
-  if_grew p (tree_and x (tree_and a (tree_and b (tree_and c cs)))) t f t' e = absurd (cc)
+  if_grew : (texts : List (List ℕ)) (p : Place) (ts : Items) (t : Tables) (f : Form) (t' : Tables) → if_form texts p ts t ≡ Some (f, t') → Grew t.literals t'.literals
+  if_grew texts p no_item t f t' e = absurd (cc)
+  if_grew texts p (item_and x no_item) t f t' e = absurd (cc)
+  if_grew texts p (item_and x (item_and a no_item)) t f t' e = absurd (cc)
+  if_grew texts p (item_and x (item_and a (item_and b no_item))) t f t' e =
+      let w = was_if_form texts p x a b t f t' e in
+      grew_both (test_grew texts x (with_site p t) w.test w.u w.tested) (grew_both (form_grew texts a w.u w.one w.v w.first) (grew_both (grew_one w.v.literals (row.Datum (datum.item p (datum.symbol (Named (record { 0 = 0 })))))) (form_grew texts b (with_truth p w.v) w.two t' w.second)))
+  if_grew texts p (item_and x (item_and a (item_and b (item_and c cs)))) t f t' e = absurd (cc)
 
-  forms_grew : (xs : Trees) (t : Tables) (fs : Forms) (t' : Tables) → forms_of xs t ≡ Some (fs, t') → Grew t.literals t'.literals
-  forms_grew no_tree t fs t' e = let h : ◌≡◌ {A = Forms × Tables} (no_form, t) (fs, t') = cc in subst (λ x. Grew t.literals x.literals) (ap (λ x. x.1) h) (grew_none t.literals)
-  forms_grew (tree_and x xs) t fs t' e =
-      let a = was_and (form_of x t) (λ f after. as_form (λ gs. form_and f gs) (forms_of xs after)) fs t' e in
-      let m = was_made (λ gs. form_and a.part gs) (forms_of xs a.tables) fs t' a.second in
-      grew_both (form_grew x t a.part a.tables a.first) (forms_grew xs a.tables m.part t' m.found)
+  forms_grew : (texts : List (List ℕ)) (xs : Items) (t : Tables) (fs : Forms) (t' : Tables) → forms_of texts xs t ≡ Some (fs, t') → Grew t.literals t'.literals
+  forms_grew texts no_item t fs t' e = let h : ◌≡◌ {A = Forms × Tables} (no_form, t) (fs, t') = cc in subst (λ x. Grew t.literals x.literals) (ap (λ x. x.1) h) (grew_none t.literals)
+  forms_grew texts (item_and x xs) t fs t' e =
+      let a = was_and (form_of texts x t) (λ f after. as_form (λ gs. form_and f gs) (forms_of texts xs after)) fs t' e in
+      let m = was_made (λ gs. form_and a.part gs) (forms_of texts xs a.tables) fs t' a.second in
+      grew_both (form_grew texts x t a.part a.tables a.first) (forms_grew texts xs a.tables m.part t' m.found)
 
 -- the sequence of one form
 single_simulated : (program : Program) (f : Form) → Simulates program f → Simulates program (sequence (form_and f no_form))
@@ -442,40 +439,38 @@ single_simulated program f s = sequence_simulated program (form_and f no_form) (
 mutual
   unfolding form_of
 
-  pub form_simulated : (program : Program) (x : TreeValue) (t : Tables) (f : Form) (t' : Tables) → form_of x t ≡ Some (f, t') → Grew t'.literals program.literals → Simulates program f
-  form_simulated program (word p w) t f t' e g = operand_simulated program f (found_integer_simulated program t f t' (was_integer p w t f t' e) g)
-  form_simulated program (list p no_tree) t f t' e g = absurd (cc)
-  form_simulated program (list p (tree_and (list q us) ts)) t f t' e g = absurd (cc)
-  form_simulated program (list p (tree_and (word q w) ts)) t f t' e g =
-      elim (was_headed (head_of w) (progn_form t (forms_of ts (with_site p t))) (format_char_form p ts t) (if_form p ts t) (sum_form Add p ts t) (sum_form Subtract p ts t) f t' e) [
-        | was_progn h ↦ let m = was_made (λ fs. sited (next_site t) (sequence fs)) (forms_of ts (with_site p t)) f t' h in
-            subst (Simulates program) m.made (sited_simulated program (next_site t) (sequence m.part) (sequence_simulated program m.part (forms_simulated program ts (with_site p t) m.part t' nil m.found g)))
-        | was_format_char h ↦ found_put_simulated program t f t' (was_put p ts t f t' h) g
-        | was_if h ↦ if_simulated program p ts t f t' h g
-        | was_plus h ↦ operand_simulated program f (found_added_simulated program t f t' (was_sum Add p ts t f t' h) g)
-        | was_minus h ↦ operand_simulated program f (found_subtracted_simulated program t f t' (was_sum Subtract p ts t f t' h) g)
+  pub form_simulated : (texts : List (List ℕ)) (program : Program) (x : Item) (t : Tables) (f : Form) (t' : Tables) → form_of texts x t ≡ Some (f, t') → Grew t'.literals program.literals → Simulates program f
+  form_simulated texts program (item p (list (item_and h ts) no_tail)) t f t' e g =
+      elim (was_headed (head_of texts h) (progn_form t (forms_of texts ts (with_site p t))) (format_char_form texts p ts t) (if_form texts p ts t) (sum_form Add p ts t) (sum_form Subtract p ts t) f t' e) [
+        | was_progn k ↦ let m = was_made (λ fs. sited (next_site t) (sequence fs)) (forms_of texts ts (with_site p t)) f t' k in
+            subst (Simulates program) m.made (sited_simulated program (next_site t) (sequence m.part) (sequence_simulated program m.part (forms_simulated texts program ts (with_site p t) m.part t' nil m.found g)))
+        | was_format_char k ↦ found_put_simulated program t f t' (was_put texts p ts t f t' k) g
+        | was_if k ↦ if_simulated texts program p ts t f t' k g
+        | was_plus k ↦ operand_simulated program f (found_added_simulated program t f t' (was_sum Add p ts t f t' k) g)
+        | was_minus k ↦ operand_simulated program f (found_subtracted_simulated program t f t' (was_sum Subtract p ts t f t' k) g)
       ]
+  form_simulated texts program (item p c) t f t' e g = operand_simulated program f (found_integer_simulated program t f t' (was_integer (item p c) t f t' e) g)
 
-  if_simulated : (program : Program) (p : Place) (ts : Trees) (t : Tables) (f : Form) (t' : Tables) → if_form p ts t ≡ Some (f, t') → Grew t'.literals program.literals → Simulates program f
-  if_simulated program p no_tree t f t' e g = absurd (cc)
-  if_simulated program p (tree_and x no_tree) t f t' e g = absurd (cc)
-  if_simulated program p (tree_and x (tree_and a no_tree)) t f t' e g = absurd (cc)
-  if_simulated program p (tree_and x (tree_and a (tree_and b no_tree))) t f t' e g =
-      let w = was_if_form p x a b t f t' e in
-      let r : LiteralRow = row.Datum (record { place = p; kind = Sym (Named (record { 0 = 0 })) }) in
-      let g2 : Grew (w.v.literals ++ r ∷ []) program.literals = grew_both (form_grew b (with_truth p w.v) w.two t' w.second) g in
+  if_simulated : (texts : List (List ℕ)) (program : Program) (p : Place) (ts : Items) (t : Tables) (f : Form) (t' : Tables) → if_form texts p ts t ≡ Some (f, t') → Grew t'.literals program.literals → Simulates program f
+  if_simulated texts program p no_item t f t' e g = absurd (cc)
+  if_simulated texts program p (item_and x no_item) t f t' e g = absurd (cc)
+  if_simulated texts program p (item_and x (item_and a no_item)) t f t' e g = absurd (cc)
+  if_simulated texts program p (item_and x (item_and a (item_and b no_item))) t f t' e g =
+      let w = was_if_form texts p x a b t f t' e in
+      let r : LiteralRow = row.Datum (datum.item p (datum.symbol (Named (record { 0 = 0 })))) in
+      let g2 : Grew (w.v.literals ++ r ∷ []) program.literals = grew_both (form_grew texts b (with_truth p w.v) w.two t' w.second) g in
       let g1 : Grew w.v.literals program.literals = grew_both (grew_one w.v.literals r) g2 in
-      let g0 : Grew w.u.literals program.literals = grew_both (form_grew a w.u w.one w.v w.first) g1 in
-      let test = found_test_simulated program x (with_site p t) w.test w.u w.tested g0 in
-      let one = form_simulated program a w.u w.one w.v w.first g1 in
-      let two = form_simulated program b (with_truth p w.v) w.two t' w.second g in
+      let g0 : Grew w.u.literals program.literals = grew_both (form_grew texts a w.u w.one w.v w.first) g1 in
+      let test = found_test_simulated texts program x (with_site p t) w.test w.u w.tested g0 in
+      let one = form_simulated texts program a w.u w.one w.v w.first g1 in
+      let two = form_simulated texts program b (with_truth p w.v) w.two t' w.second g in
       subst (Simulates program) w.made (sited_simulated program (next_site t) _ (choice_simulated program (next_literal w.v) p w.test (sequence (form_and w.one no_form)) (sequence (form_and w.two no_form)) (row_there w.v.literals program.literals r g2) test test.so refl (single_simulated program w.one one) (single_simulated program w.two two)))
-  if_simulated program p (tree_and x (tree_and a (tree_and b (tree_and c cs)))) t f t' e g = absurd (cc)
+  if_simulated texts program p (item_and x (item_and a (item_and b (item_and c cs)))) t f t' e g = absurd (cc)
 
-  pub forms_simulated : (program : Program) (xs : Trees) (t : Tables) (fs : Forms) (t' : Tables) (last : Value) → forms_of xs t ≡ Some (fs, t') → Grew t'.literals program.literals → SimulatesAll program last fs
-  forms_simulated program no_tree t fs t' last e g = let h : ◌≡◌ {A = Forms × Tables} (no_form, t) (fs, t') = cc in subst (SimulatesAll program last) (ap (λ x. x.0) h) (none_simulated program last)
-  forms_simulated program (tree_and x xs) t fs t' last e g =
-      let a = was_and (form_of x t) (λ f after. as_form (λ gs. form_and f gs) (forms_of xs after)) fs t' e in
-      let m = was_made (λ gs. form_and a.part gs) (forms_of xs a.tables) fs t' a.second in
-      let s = form_simulated program x t a.part a.tables a.first (grew_both (forms_grew xs a.tables m.part t' m.found) g) in
-      subst (SimulatesAll program last) m.made (both_simulated program last a.part m.part s (forms_simulated program xs a.tables m.part t' s.v m.found g))
+  pub forms_simulated : (texts : List (List ℕ)) (program : Program) (xs : Items) (t : Tables) (fs : Forms) (t' : Tables) (last : Value) → forms_of texts xs t ≡ Some (fs, t') → Grew t'.literals program.literals → SimulatesAll program last fs
+  forms_simulated texts program no_item t fs t' last e g = let h : ◌≡◌ {A = Forms × Tables} (no_form, t) (fs, t') = cc in subst (SimulatesAll program last) (ap (λ x. x.0) h) (none_simulated program last)
+  forms_simulated texts program (item_and x xs) t fs t' last e g =
+      let a = was_and (form_of texts x t) (λ f after. as_form (λ gs. form_and f gs) (forms_of texts xs after)) fs t' e in
+      let m = was_made (λ gs. form_and a.part gs) (forms_of texts xs a.tables) fs t' a.second in
+      let s = form_simulated texts program x t a.part a.tables a.first (grew_both (forms_grew texts xs a.tables m.part t' m.found) g) in
+      subst (SimulatesAll program last) m.made (both_simulated program last a.part m.part s (forms_simulated texts program xs a.tables m.part t' s.v m.found g))

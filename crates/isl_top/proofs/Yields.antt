@@ -1,10 +1,11 @@
 -- What a piece of code yields: a word in register 10, and bytes put, in so many instructions.
 use Rattle.std.proofs.Common.{◌≡◌, ◌≢◌, ℕ, ◌+◌, ◌*◌, ◌%◌, ◌^◌, ◌<◌, List, [], ◌∷◌, ◌++◌, length, refl, sym, ap, subst, ◌∙◌, arith, Some, append_assoc, length-append, append-nil}
-use Rattle.std.specs.Prelude.{slice_get, slice_index, slice_set}
+use Rattle.std.specs.Prelude.{slice_index, slice_set}
 use Rattle.std.proofs.lemmas.List.{get_or-set_same, get_or-set_other, length-set}
-use Rattle.rv_machine.specs.declared.instruction.Instruction.TheVariants.{Addi, Ecall}
+use Rattle.rv_encode.specs.declared.instruction.Instr.TheVariants.{Addi, Ecall}
 use Rattle.isl_top.specs.Code.{load_10, constant, put_code, nil_word, choose_put, environment}
-use Rattle.isl_top.proofs.Runs.{at, Comes, stays, and_on, HasAt, one, linked, moved, loaded, next_place}
+use Rattle.isl_top.proofs.Instructions.{is_choose_put, is_environment, is_load_10}
+use Rattle.isl_top.proofs.Runs.{at, word_in, Comes, stays, and_on, HasAt, one, linked, moved, loaded, next_place}
 
 -- a value in the arena from which code is read
 pub has_front : (arena : List ℕ) (i : ℕ) (a b : List ℕ) → HasAt arena i (a ++ b) → HasAt arena i a
@@ -87,9 +88,9 @@ constant_reached arena registers printed i n word ready room has =
     let five : List ℕ = slice_set registers 5 (4 * (i + 1)) in
     let five_ready : Ready five = ready_set registers 5 (4 * (i + 1)) (omega arith) ready in
     let j : i + 1 + 1 ≡ i + 2 = omega arith in
-    let load : slice_get arena (i + 2) ≡ Some load_10 = subst (λ x. slice_get arena x ≡ Some load_10) j has.1.1.0 in
+    let load : word_in arena (i + 2) ≡ Some load_10 = subst (λ x. word_in arena x ≡ Some load_10) j has.1.1.0 in
     let a = linked arena registers printed i n (omega arith) has.0 in
-    let b = loaded arena five printed (i + 2) (n + 1) load_10 10 (i + 1) word (omega arith) (omega arith) refl load (same registers 5 (4 * (i + 1)) (omega arith) ready) has.1.0 in
+    let b = loaded arena five printed (i + 2) (n + 1) load_10 10 (i + 1) word (omega arith) (omega arith) is_load_10 load (same registers 5 (4 * (i + 1)) (omega arith) ready) has.1.0 in
     record {
       registers' = slice_set five 10 word;
       comes = moved (i + 3) (n + 2) (omega arith) (omega arith) (and_on a b);
@@ -113,17 +114,17 @@ constant_yields before word = record {
 }
 
 -- `addi x17, x0, 1` chooses the call that puts a byte
-put_chosen : (arena registers printed : List ℕ) (i n : ℕ) → i < 2 ^ 25 → Ready registers → slice_get arena i ≡ Some choose_put → Comes 1 (at arena i registers printed n) (at arena (i + 1) (slice_set registers 17 1) printed (n + 1))
+put_chosen : (arena registers printed : List ℕ) (i n : ℕ) → i < 2 ^ 25 → Ready registers → word_in arena i ≡ Some choose_put → Comes 1 (at arena i registers printed n) (at arena (i + 1) (slice_set registers 17 1) printed (n + 1))
 put_chosen arena registers printed i n b ready h =
     let v : (slice_index registers 0 + 1) % 2 ^ 32 ≡ 1 = ap (λ z. (z + 1) % 2 ^ 32) ready.zero_is in
-    one arena registers printed i n choose_put (Addi 17 0 1) (at arena (i + 1) (slice_set registers 17 1) printed (n + 1)) h refl
-    (λ go_on. rw (v, next_place i b) refl)
+    one arena registers printed i n choose_put (Addi 17 0 1) (at arena (i + 1) (slice_set registers 17 1) printed (n + 1)) h is_choose_put
+    (λ input go_on. rw (v, next_place i b) refl)
 
 -- and the call puts it
-byte_put : (arena registers printed : List ℕ) (i n : ℕ) → i < 2 ^ 25 → slice_index registers 17 ≡ 1 → slice_get arena i ≡ Some environment → Comes 1 (at arena i registers printed n) (at arena (i + 1) registers (printed ++ slice_index registers 10 % 256 ∷ []) (n + 1))
+byte_put : (arena registers printed : List ℕ) (i n : ℕ) → i < 2 ^ 25 → slice_index registers 17 ≡ 1 → word_in arena i ≡ Some environment → Comes 1 (at arena i registers printed n) (at arena (i + 1) registers (printed ++ slice_index registers 10 % 256 ∷ []) (n + 1))
 byte_put arena registers printed i n b chosen h =
-    one arena registers printed i n environment Ecall (at arena (i + 1) registers (printed ++ slice_index registers 10 % 256 ∷ []) (n + 1)) h refl
-    (λ go_on. rw (chosen, next_place i b) refl)
+    one arena registers printed i n environment Ecall (at arena (i + 1) registers (printed ++ slice_index registers 10 % 256 ∷ []) (n + 1)) h is_environment
+    (λ input go_on. rw (chosen, next_place i b) refl)
 
 -- the byte in register 10 is put, and nil is the value
 pub put_yields : (byte : ℕ) → Yields byte put_code (byte % 256 ∷ []) nil_word 4

@@ -20,7 +20,7 @@ pub record HaltsWith (run : Ended) (meant : Meant) : Type 0 where
   pub halts : run.ending ≡ Halt word
   pub value : Value
   pub ends : meant.end ≡ ended_value value
-  pub stands : Represents run.at.state.arena word value
+  pub stands : Represents run.at.state.memory word value
   pub same : run.at.printed ≡ meant.printed
 
 -- a run of an image of so many words, beside the program's meaning with this input
@@ -31,6 +31,8 @@ pub record Faithful (program : Program) (size arena n : ℕ) (input : List ℕ) 
   pub halt : (word : ℕ) → run.ending ≡ Halt word → HaltsWith run (meaning names program input n unlimited)
   -- it ends in no other way, and traps nowhere
   pub only : (run.ending ≡ Budget) ⊎ ((word : ℕ) × (run.ending ≡ Halt word))
+  -- it reads nothing
+  pub unread : run.at.gets ≡ 0
   -- where the meaning has a value within the words that the arena has beside the image, or without a
   -- limit, the run halts with it within its charged count
   pub charged : (k : ℕ) (value : Value) → (meaning names program input k (words (arena - size))).end ≡ ended_value value → bound (meaning names program input k (words (arena - size))).units ≤ n → HaltsWith run (meaning names program input k (words (arena - size)))
@@ -42,4 +44,4 @@ pub record Faithful (program : Program) (size arena n : ℕ) (input : List ℕ) 
 -- an image that is the program's
 abbrev pub Compiled : Program → List ℕ → ℕ → Type 0
 Compiled program image entry =
-    (arena n : ℕ) (input : List ℕ) → length image ≤ arena → arena ≤ 16777216 → Faithful program (length image) arena n input (run_of image entry arena n)
+    (arena n : ℕ) (input : List ℕ) → length image ≤ arena → arena ≤ 16777216 → Faithful program (length image) arena n input (run_of image entry arena input n)

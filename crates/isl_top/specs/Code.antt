@@ -5,13 +5,13 @@
 -- comparison in x13, so that an operand may itself be a sum.
 use Rattle.std.specs.Prelude.{ℕ, ◌+◌, ◌*◌, ◌%◌, ◌^◌, ℤ, List, [], ◌∷◌, ◌++◌, length, Option, Some, None, slice_get}
 use Rattle.std.specs.Int.{cast_unsigned, w32}
-use Rattle.isl_base.specs.declared.datum.Kind.{Kind}
-use Rattle.isl_base.specs.declared.datum.Kind.TheVariants.{Int, Char, Sym, Nil}
+use Rattle.isl_base.specs.Data.{Content, content_of, integer, character, symbol, string, vector, nil, list}
 use Rattle.isl_meaning.specs.declared.program.LiteralRow.{LiteralRow}
 use Rattle.isl_meaning.specs.declared.program.LiteralRow.TheVariants as row
 use Rattle.isl_meaning.specs.declared.primitive.Primitive.{Primitive}
-use Rattle.isl_meaning.specs.declared.primitive.Primitive.TheVariants.{Add, Subtract, NumberEqual, NumberLess, StandardOutput, PutChar}
-use Rattle.isl_meaning.specs.Form.{Form, literal, clauses, sequence, prim, sited, Forms, no_form, form_and, ClauseForms, no_clause, clause_and, MaybeForm, no_body, with_body}
+use Rattle.isl_meaning.specs.declared.primitive.Primitive.TheVariants.{Add, Subtract, NumberEqual, NumberLess, PutChar}
+use Rattle.isl_meaning.specs.Form.{Form, literal, local, set_local, global, set_global, def_global, clauses, sequence, let_form, lambda, call, call_value, apply, prim, while_form, block, return_from, tagbody, go, catch_form, throw, unwind, dynamic_let, dynamic, set_dynamic, def_dynamic, with_handler, signal_form, continue_form, next_method, has_next, sited}
+use Rattle.isl_meaning.specs.Form.{Forms, no_form, form_and, ClauseForms, no_clause, clause_and, MaybeForm, no_body, with_body}
 
 -- the words of values: an integer has the tag 00, the symbol t and the stream 10, the rest 11
 abbrev pub integer_word : ℤ → ℕ
@@ -115,34 +115,41 @@ clause_code test body others =
     test ++ second_constant nil_word ++ over_jump_unless_same ∷ jump_over (length body + 5) ++ body ++ jump_over (length others) ++ others
 
 -- the word of a literal
-abbrev pub kind_word : Kind → ℕ
-kind_word (Int n) = integer_word n
-kind_word (Char c) = character_word c
-kind_word (Sym s) = t_word
-kind_word Nil = nil_word
+abbrev pub content_word : Content → ℕ
+content_word (integer n) = integer_word n
+content_word (character c) = character_word c
+content_word (symbol s) = t_word
+content_word (string bytes) = nil_word
+content_word (vector ds) = nil_word
+content_word nil = nil_word
+content_word (list ds t) = nil_word
 
 abbrev pub row_word : Option LiteralRow → ℕ
-row_word (Some (row.Datum d)) = kind_word d.kind
+row_word (Some (row.Datum d)) = content_word (content_of d)
+row_word (Some (row.Class c)) = nil_word
+row_word (Some (row.Function name)) = nil_word
 row_word None = nil_word
 
 -- the byte of a literal that is a character
-abbrev pub kind_byte : Kind → ℕ
-kind_byte (Int n) = 0
-kind_byte (Char c) = c
-kind_byte (Sym s) = 0
-kind_byte Nil = 0
+abbrev pub content_byte : Content → ℕ
+content_byte (integer n) = 0
+content_byte (character c) = c
+content_byte (symbol s) = 0
+content_byte (string bytes) = 0
+content_byte (vector ds) = 0
+content_byte nil = 0
+content_byte (list ds t) = 0
 
 abbrev pub row_byte : Option LiteralRow → ℕ
-row_byte (Some (row.Datum d)) = kind_byte d.kind
+row_byte (Some (row.Datum d)) = content_byte (content_of d)
+row_byte (Some (row.Class c)) = 0
+row_byte (Some (row.Function name)) = 0
 row_byte None = 0
 
 -- a literal's number, where a form is one
 abbrev pub literal_number : Form → Option ℕ
 literal_number (literal id) = Some id
-literal_number (clauses cs) = None
-literal_number (sequence fs) = None
-literal_number (prim which fs) = None
-literal_number (sited site f) = None
+literal_number f = None
 
 -- the byte of a literal character; other forms have none
 abbrev pub byte_of : List LiteralRow → Option ℕ → ℕ
@@ -153,15 +160,17 @@ byte_of literals None = 0
 abbrev pub between : List ℕ → ℕ → List ℕ → List ℕ → List ℕ
 between first move second operation = first ++ move ∷ (second ++ operation)
 
--- a primitive of two operands, the second of which may be a literal character
+-- a primitive of two operands, the second of which may be a literal character; no program of the first path
+-- has another primitive
 abbrev pub operation_code : Primitive → List ℕ → List ℕ → ℕ → List ℕ
 operation_code Add first second byte = between first move_12_from_10 second (add_12_and_10 ∷ [])
 operation_code Subtract first second byte = between first move_12_from_10 second (subtract_10_from_12 ∷ [])
 operation_code NumberEqual first second byte = between first move_13_from_10 second (truth_code over_four_if_same)
 operation_code NumberLess first second byte = between first move_13_from_10 second (truth_code over_four_if_less)
-operation_code StandardOutput first second byte = first
 operation_code PutChar first second byte = first ++ constant byte ++ put_code
+operation_code which first second byte = first
 
+-- the code of forms; no program of the first path has a form of another kind
 module _ (literals : List LiteralRow) where
   unfoldable mutual
     pub form_code : Form → List ℕ
@@ -170,6 +179,33 @@ module _ (literals : List LiteralRow) where
     form_code (sequence fs) = constant nil_word ++ forms_code fs
     form_code (prim which fs) = primitive_code which fs
     form_code (sited site f) = form_code f
+    form_code (local v) = constant nil_word
+    form_code (set_local v f) = constant nil_word
+    form_code (global n) = constant nil_word
+    form_code (set_global n f) = constant nil_word
+    form_code (def_global n f) = constant nil_word
+    form_code (let_form bs body) = constant nil_word
+    form_code (lambda p ps) = constant nil_word
+    form_code (call n fs) = constant nil_word
+    form_code (call_value fs) = constant nil_word
+    form_code (apply function fs) = constant nil_word
+    form_code (while_form test body) = constant nil_word
+    form_code (block x body) = constant nil_word
+    form_code (return_from x f) = constant nil_word
+    form_code (tagbody x ss) = constant nil_word
+    form_code (go x segment) = constant nil_word
+    form_code (catch_form tag body) = constant nil_word
+    form_code (throw tag f) = constant nil_word
+    form_code (unwind form cleanup) = constant nil_word
+    form_code (dynamic_let bs body) = constant nil_word
+    form_code (dynamic n) = constant nil_word
+    form_code (set_dynamic n f) = constant nil_word
+    form_code (def_dynamic n f) = constant nil_word
+    form_code (with_handler handler body) = constant nil_word
+    form_code (signal_form condition continuable) = constant nil_word
+    form_code (continue_form condition f) = constant nil_word
+    form_code next_method = constant nil_word
+    form_code has_next = constant nil_word
 
     -- forms in order
     pub forms_code : Forms → List ℕ

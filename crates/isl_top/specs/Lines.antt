@@ -1,20 +1,58 @@
--- The line that a status writes to the error sink, and what a sink was given.
+-- The lines that statuses write to the error sink, and what a sink was given.
 use Rattle.std.specs.Prelude.{◌≡◌, ℕ, List, [], ◌∷◌, ◌++◌, Option, Some, IfSome, codes}
+use Rattle.std.specs.Fmt.{decimal}
+use Rattle.isl_base.specs.Reason.{number_of as number_of_reason, text_of as name_of_reason}
+use Rattle.isl_base.specs.declared.place.Place.{Place}
+use Rattle.isl_base.specs.declared.reason.Reason.{Reason}
+use Rattle.isl_base.specs.declared.reason.Refusal.{Refusal}
 use Rattle.isl_top.specs.declared.status.Status.{Status}
-use Rattle.isl_top.specs.declared.status.Status.TheVariants.{Done, Usage, Refused, FileFault, WriteFault, NoMemory}
+use Rattle.isl_top.specs.declared.status.Status.TheVariants.{Done, Usage, Refused, Budget, FileFault, WriteFault, NoMemory}
+use Rattle.isl_top.specs.declared.status.Answer.{Answer}
+use Rattle.isl_top.specs.declared.status.Answer.TheVariants as answer
 
-abbrev pub line_of : Status → List ℕ
-line_of Done = []
-line_of Usage = codes "usage: isl [--steps N] [--arena W] ACTION FILE" ++ 10 ∷ []
-line_of Refused = codes "1:1: refused 90 NotBuilt" ++ 10 ∷ []
-line_of FileFault = codes "file fault" ++ 10 ∷ []
-line_of WriteFault = []
-line_of NoMemory = codes "no memory" ++ 10 ∷ []
+abbrev pub line : List ℕ → List ℕ
+line text = text ++ 10 ∷ []
+
+-- `LINE:COLUMN`
+abbrev pub place_text : Place → List ℕ
+place_text p = (decimal p.line ++ codes ":") ++ decimal p.column
+
+-- `NUMBER NAME`
+abbrev pub reason_text : Reason → List ℕ
+reason_text r = (decimal (number_of_reason r) ++ codes " ") ++ name_of_reason r
+
+-- `LINE:COLUMN: refused NUMBER NAME`
+abbrev pub refused_line : Refusal → List ℕ
+refused_line r =
+    line ((place_text r.place ++ codes ": refused ") ++ reason_text r.reason)
+
+-- `budget N`
+abbrev pub budget_line : ℕ → List ℕ
+budget_line n = line (codes "budget " ++ decimal n)
+
+abbrev pub line_of : Answer → List ℕ
+line_of answer.Done = []
+line_of answer.Usage = line (codes "usage: isl [--steps N] [--arena W] ACTION FILE")
+line_of (answer.Refused r) = refused_line r
+line_of (answer.Budget n) = budget_line n
+line_of answer.FileFault = line (codes "file fault")
+line_of answer.WriteFault = []
+line_of answer.NoMemory = line (codes "no memory")
+
+abbrev pub status_of : Answer → Status
+status_of answer.Done = Done
+status_of answer.Usage = Usage
+status_of (answer.Refused r) = Refused
+status_of (answer.Budget n) = Budget
+status_of answer.FileFault = FileFault
+status_of answer.WriteFault = WriteFault
+status_of answer.NoMemory = NoMemory
 
 abbrev pub number_of : Status → ℕ
 number_of Done = 0
 number_of Usage = 2
 number_of Refused = 3
+number_of Budget = 5
 number_of FileFault = 6
 number_of WriteFault = 8
 number_of NoMemory = 9

@@ -1,14 +1,15 @@
--- The programs of the first path, by cases on the trees of a text:
---     I is an optional `-` and one to eight digits;
+-- The programs of this part of the language, by cases on data:
+--     I is an integer from -99,999,999 to 99,999,999;
 --     Z is I, or (+ I I), or (- I I);
 --     T is (= Z Z), or (< Z Z);
---     F is Z, or (if T F F), or (progn F*), or (format-char (standard-output) #\c) with c from a to z.
-use Rattle.std.specs.Prelude.{◌≡◌, ℕ, ◌+◌, ◌≤◌, ℤ, ◌&&◌, nat_le, List, [], ◌∷◌, ◌++◌, length, Option, Some, None, if◌then◌else◌, codes}
+--     F is Z, or (if T F F), or (progn F*), or (format-char (standard-output) c) with a character c.
+-- A symbol counts as its text.
+use Rattle.std.specs.Prelude.{◌≡◌, ℕ, ◌+◌, ℤ, pos, negsuc, Bool, true, false, ◌&&◌, nat_lt, int_le, List, [], ◌∷◌, ◌++◌, length, Option, Some, None, slice_get, if◌then◌else◌, codes}
 use Rattle.std.specs.Str.{bytes_eq}
 use Rattle.isl_base.specs.declared.place.Place.{Place}
-use Rattle.isl_base.specs.declared.datum.Kind.{Kind}
-use Rattle.isl_base.specs.declared.datum.Kind.TheVariants.{Int, Char, Sym}
-use Rattle.isl_base.specs.declared.datum.Symbol.TheVariants.{Named}
+use Rattle.isl_base.specs.Data.{Item, Content, item, integer, character, symbol, string, vector, nil, list, Items, no_item, item_and, no_tail, dotted}
+use Rattle.isl_base.specs.declared.datum.Symbol.{Symbol}
+use Rattle.isl_base.specs.declared.datum.Symbol.TheVariants.{Named, Fresh}
 use Rattle.isl_meaning.specs.declared.program.LiteralRow.{LiteralRow}
 use Rattle.isl_meaning.specs.declared.program.LiteralRow.TheVariants as row
 use Rattle.isl_meaning.specs.declared.program.Program.{Program}
@@ -17,13 +18,22 @@ use Rattle.isl_meaning.specs.declared.primitive.Primitive.{Primitive}
 use Rattle.isl_meaning.specs.Form.{Form, literal, clauses, sequence, prim, sited}
 use Rattle.isl_meaning.specs.Form.{Forms, no_form, form_and, no_clause, clause_and, with_body}
 use Rattle.isl_meaning.specs.View.{forms_list}
-use Rattle.isl_top.specs.Trees.{TreeValue, word, list, Trees, no_tree, tree_and}
-use Rattle.isl_top.specs.Reads.{Reads}
-use Rattle.isl_top.specs.Numbers.{number_in}
+use Rattle.isl_top.specs.declared.operands.Number.{Number}
+use Rattle.isl_top.specs.declared.format_char.Letter.{Letter}
 
--- the names of a program of the first path: the symbol t alone
+-- the names of a program of this part of the language: the symbol t alone
 abbrev pub names : List (List ℕ)
 names = codes "t" ∷ []
+
+-- the text of a symbol, where names have these texts; a fresh symbol has none
+abbrev pub text_of : List (List ℕ) → Symbol → Option (List ℕ)
+text_of texts (Named name) = slice_get texts name.0
+text_of texts (Fresh expansion serial) = None
+
+-- whether a symbol has this text
+abbrev pub is_text : List ℕ → Option (List ℕ) → Bool
+is_text w None = false
+is_text w (Some v) = bytes_eq v w
 
 -- the literals and the sites that the forms so far have
 pub record Tables : Type 0 where
@@ -34,8 +44,8 @@ abbrev pub no_tables : Tables
 no_tables = record { literals = []; sites = [] }
 
 -- a literal more; its number is that of the rows before it
-abbrev pub with_literal : Place → Kind → Tables → Tables
-with_literal p kind t = record t { literals = t.literals ++ row.Datum (record { place = p; kind = kind }) ∷ [] }
+abbrev pub with_literal : Place → Content → Tables → Tables
+with_literal p content t = record t { literals = t.literals ++ row.Datum (item p content) ∷ [] }
 
 -- a site more; sites are counted from 1
 abbrev pub with_site : Place → Tables → Tables
@@ -70,8 +80,8 @@ pub data Head : Type 0 where
   less_head : Head
   other_head : Head
 
-abbrev pub head_of : List ℕ → Head
-head_of w =
+abbrev pub head_of_text : List ℕ → Head
+head_of_text w =
     if bytes_eq w (codes "progn") then progn_head
     else if bytes_eq w (codes "format-char") then format_char_head
     else if bytes_eq w (codes "if") then if_head
@@ -81,50 +91,73 @@ head_of w =
     else if bytes_eq w (codes "<") then less_head
     else other_head
 
--- `#\c` with c from a to z
-abbrev pub letter_in : List ℕ → Option ℕ
-letter_in (hash ∷ backslash ∷ c ∷ []) =
-    if bytes_eq (hash ∷ backslash ∷ []) (codes "#\\") && (nat_le 97 c && nat_le c 122) then Some c else None
-letter_in [] = None
-letter_in (a ∷ []) = None
-letter_in (a ∷ b ∷ []) = None
-letter_in (a ∷ b ∷ c ∷ d ∷ ds) = None
+-- the text of a datum that is a symbol
+abbrev pub word_of : List (List ℕ) → Item → Option (List ℕ)
+word_of texts (item q (symbol s)) = text_of texts s
+word_of texts (item q _) = None
 
--- a form, where the word has a letter
-abbrev pub put_form : Place → Place → Place → Option ℕ → Tables → Found Form
-put_form p q r None t = None
-put_form p q r (Some c) t =
+abbrev pub head_of_word : Option (List ℕ) → Head
+head_of_word None = other_head
+head_of_word (Some w) = head_of_text w
+
+-- what its first item makes of a list
+abbrev pub head_of : List (List ℕ) → Item → Head
+head_of texts d = head_of_word (word_of texts d)
+
+-- I, with its place
+abbrev pub is_small : ℤ → Bool
+is_small n = int_le (negsuc 99999998) n && int_le n (pos 99999999)
+
+abbrev pub number_of : Item → Option Number
+number_of (item p (integer n)) = if is_small n then Some (record { place = p; value = n }) else None
+number_of (item p _) = None
+
+-- a character, which is a byte, with its place
+abbrev pub letter_of : Item → Option Letter
+letter_of (item p (character c)) = if nat_lt c 256 then Some (record { place = p; byte = c }) else None
+letter_of (item p _) = None
+
+-- (standard-output), with its place
+abbrev pub stream_of : List (List ℕ) → Item → Option Place
+stream_of texts (item p (list (item_and h no_item) no_tail)) =
+    if is_text (codes "standard-output") (word_of texts h) then Some p else None
+stream_of texts (item p _) = None
+
+-- a form that puts a character
+abbrev pub put_form : Place → Option Place → Option Letter → Tables → Found Form
+put_form p None l t = None
+put_form p (Some q) None t = None
+put_form p (Some q) (Some l) t =
     Some (
       sited (next_site t) (prim PutChar (form_and (sited (next_site t + 1) (prim StandardOutput no_form)) (form_and (literal (next_literal t)) no_form))),
-      with_literal r (Char c) (with_site q (with_site p t)),
+      with_literal l.place (character l.byte) (with_site q (with_site p t)),
     )
 
--- (format-char (standard-output) #\c) behind its head
-abbrev pub format_char_form : Place → Trees → Tables → Found Form
-format_char_form p (tree_and (list q (tree_and (word _ w) no_tree)) (tree_and (word r c) no_tree)) t =
-    if bytes_eq w (codes "standard-output") then put_form p q r (letter_in c) t else None
-format_char_form p _ t = None
+-- (format-char (standard-output) c) behind its head
+abbrev pub format_char_form : List (List ℕ) → Place → Items → Tables → Found Form
+format_char_form texts p (item_and x (item_and y no_item)) t = put_form p (stream_of texts x) (letter_of y) t
+format_char_form texts p _ t = None
 
 -- a number that is a form
-abbrev pub integer_form : Place → Option ℤ → Tables → Found Form
-integer_form p None t = None
-integer_form p (Some n) t = Some (literal (next_literal t), with_literal p (Int n) t)
+abbrev pub integer_form : Option Number → Tables → Found Form
+integer_form None t = None
+integer_form (Some n) t = Some (literal (next_literal t), with_literal n.place (integer n.value) t)
 
 -- two numbers under `+` or `-`
-abbrev pub sum_of : Primitive → Place → Place → Place → Option ℤ → Option ℤ → Tables → Found Form
-sum_of which p q r None b t = None
-sum_of which p q r (Some a) None t = None
-sum_of which p q r (Some a) (Some b) t =
+abbrev pub sum_of : Primitive → Place → Option Number → Option Number → Tables → Found Form
+sum_of which p None b t = None
+sum_of which p (Some a) None t = None
+sum_of which p (Some a) (Some b) t =
     Some (
       sited (next_site t) (prim which (form_and (literal (next_literal t)) (form_and (literal (next_literal t + 1)) no_form))),
-      with_literal r (Int b) (with_literal q (Int a) (with_site p t)),
+      with_literal b.place (integer b.value) (with_literal a.place (integer a.value) (with_site p t)),
     )
 
-abbrev pub sum_form : Primitive → Place → Trees → Tables → Found Form
-sum_form which p (tree_and (word q a) (tree_and (word r b) no_tree)) t = sum_of which p q r (number_in a) (number_in b) t
+abbrev pub sum_form : Primitive → Place → Items → Tables → Found Form
+sum_form which p (item_and x (item_and y no_item)) t = sum_of which p (number_of x) (number_of y) t
 sum_form which p _ t = None
 
--- what a list of an operand is, by its first word
+-- what a list of an operand is, by its first item
 abbrev pub by_sum : Head → Found Form → Found Form → Found Form
 by_sum plus_head plus minus = plus
 by_sum minus_head plus minus = minus
@@ -136,21 +169,20 @@ by_sum less_head plus minus = None
 by_sum other_head plus minus = None
 
 -- Z: a number, a sum or a difference
-abbrev pub operand_of : TreeValue → Tables → Found Form
-operand_of (word p w) t = integer_form p (number_in w) t
-operand_of (list p no_tree) t = None
-operand_of (list p (tree_and (list q us) ts)) t = None
-operand_of (list p (tree_and (word q w) ts)) t = by_sum (head_of w) (sum_form Add p ts t) (sum_form Subtract p ts t)
+abbrev pub operand_of : List (List ℕ) → Item → Tables → Found Form
+operand_of texts (item p (list (item_and h ds) no_tail)) t =
+    by_sum (head_of texts h) (sum_form Add p ds t) (sum_form Subtract p ds t)
+operand_of texts (item p c) t = integer_form (number_of (item p c)) t
 
 -- two operands under `=` or `<`
-abbrev pub comparison_of : Primitive → Place → TreeValue → TreeValue → Tables → Found Form
-comparison_of which p x y t =
-    and_then (operand_of x (with_site p t)) (λ f after.
-    as_form (λ g. sited (next_site t) (prim which (form_and f (form_and g no_form)))) (operand_of y after))
+abbrev pub comparison_of : List (List ℕ) → Primitive → Place → Item → Item → Tables → Found Form
+comparison_of texts which p x y t =
+    and_then (operand_of texts x (with_site p t)) (λ f after.
+    as_form (λ g. sited (next_site t) (prim which (form_and f (form_and g no_form)))) (operand_of texts y after))
 
-abbrev pub comparison_form : Primitive → Place → Trees → Tables → Found Form
-comparison_form which p (tree_and x (tree_and y no_tree)) t = comparison_of which p x y t
-comparison_form which p _ t = None
+abbrev pub comparison_form : List (List ℕ) → Primitive → Place → Items → Tables → Found Form
+comparison_form texts which p (item_and x (item_and y no_item)) t = comparison_of texts which p x y t
+comparison_form texts which p _ t = None
 
 abbrev pub by_test : Head → Found Form → Found Form → Found Form
 by_test equal_head equal less = equal
@@ -163,12 +195,10 @@ by_test minus_head equal less = None
 by_test other_head equal less = None
 
 -- T: a comparison
-abbrev pub test_of : TreeValue → Tables → Found Form
-test_of (word p w) t = None
-test_of (list p no_tree) t = None
-test_of (list p (tree_and (list q us) ts)) t = None
-test_of (list p (tree_and (word q w) ts)) t =
-    by_test (head_of w) (comparison_form NumberEqual p ts t) (comparison_form NumberLess p ts t)
+abbrev pub test_of : List (List ℕ) → Item → Tables → Found Form
+test_of texts (item p (list (item_and h ds) no_tail)) t =
+    by_test (head_of texts h) (comparison_form texts NumberEqual p ds t) (comparison_form texts NumberLess p ds t)
+test_of texts (item p _) t = None
 
 -- `(if x a b)` is `(cond (x a) (t b))`
 abbrev pub choice : ℕ → ℕ → Form → Form → Form → Form
@@ -177,9 +207,9 @@ choice site truth x a b =
 
 -- the symbol t, which has the number 0 among the names
 abbrev pub with_truth : Place → Tables → Tables
-with_truth p t = with_literal p (Sym (Named (record { 0 = 0 }))) t
+with_truth p t = with_literal p (symbol (Named (record { 0 = 0 }))) t
 
--- what a list is, by its first word
+-- what a list is, by its first item
 abbrev pub by_head : Head → Found Form → Found Form → Found Form → Found Form → Found Form → Found Form
 by_head progn_head progn format_char if_form plus minus = progn
 by_head format_char_head progn format_char if_form plus minus = format_char
@@ -195,47 +225,48 @@ progn_form t = as_form (λ fs. sited (next_site t) (sequence fs))
 
 unfoldable mutual
   -- F
-  pub form_of : TreeValue → Tables → Found Form
-  form_of (word p w) t = integer_form p (number_in w) t
-  form_of (list p ts) t = list_form p ts t
+  pub form_of : List (List ℕ) → Item → Tables → Found Form
+  form_of texts (item p (list (item_and h ds) no_tail)) t =
+      by_head (head_of texts h) (progn_form t (forms_of texts ds (with_site p t))) (format_char_form texts p ds t) (if_form texts p ds t) (sum_form Add p ds t) (sum_form Subtract p ds t)
+  form_of texts (item p c) t = integer_form (number_of (item p c)) t
 
-  pub list_form : Place → Trees → Tables → Found Form
-  list_form p no_tree t = None
-  list_form p (tree_and (list q us) ts) t = None
-  list_form p (tree_and (word q w) ts) t =
-      by_head (head_of w) (progn_form t (forms_of ts (with_site p t))) (format_char_form p ts t) (if_form p ts t) (sum_form Add p ts t) (sum_form Subtract p ts t)
+  pub if_form : List (List ℕ) → Place → Items → Tables → Found Form
+  if_form texts p no_item t = None
+  if_form texts p (item_and x no_item) t = None
+  if_form texts p (item_and x (item_and a no_item)) t = None
+  if_form texts p (item_and x (item_and a (item_and b no_item))) t =
+      and_then (test_of texts x (with_site p t)) (λ f u.
+      and_then (form_of texts a u) (λ g v.
+      as_form (λ h. choice (next_site t) (next_literal v) f g h) (form_of texts b (with_truth p v))))
+  if_form texts p (item_and x (item_and a (item_and b (item_and c cs)))) t = None
 
-  pub if_form : Place → Trees → Tables → Found Form
-  if_form p no_tree t = None
-  if_form p (tree_and x no_tree) t = None
-  if_form p (tree_and x (tree_and a no_tree)) t = None
-  if_form p (tree_and x (tree_and a (tree_and b no_tree))) t =
-      and_then (test_of x (with_site p t)) (λ f u.
-      and_then (form_of a u) (λ g v.
-      as_form (λ h. choice (next_site t) (next_literal v) f g h) (form_of b (with_truth p v))))
-  if_form p (tree_and x (tree_and a (tree_and b (tree_and c cs)))) t = None
+  pub forms_of : List (List ℕ) → Items → Tables → Found Forms
+  forms_of texts no_item t = Some (no_form, t)
+  forms_of texts (item_and x xs) t = and_then (form_of texts x t) (λ f after. as_form (λ fs. form_and f fs) (forms_of texts xs after))
 
-  pub forms_of : Trees → Tables → Found Forms
-  forms_of no_tree t = Some (no_form, t)
-  forms_of (tree_and x xs) t = and_then (form_of x t) (λ f after. as_form (λ fs. form_and f fs) (forms_of xs after))
+-- a program of literals, main forms and sites alone
+abbrev pub program_of_parts : List LiteralRow → List Form → List Place → Program
+program_of_parts literals main sites = record {
+  literals = literals;
+  procedures = [];
+  classes = [];
+  generics = [];
+  functions = [];
+  main = main;
+  sites = sites;
+}
 
 -- the program of forms and tables
 abbrev pub program_with : Found Forms → Option Program
 program_with None = None
 program_with (Some found) =
-    Some (record { literals = found.1.literals; main = forms_list found.0; sites = found.1.sites })
+    Some (program_of_parts found.1.literals (forms_list found.0) found.1.sites)
 
-abbrev pub program_of : Trees → Option Program
-program_of trees = program_with (forms_of trees no_tables)
+abbrev pub program_of : List (List ℕ) → Items → Option Program
+program_of texts ds = program_with (forms_of texts ds no_tables)
 
--- A text of at most 4,096 bytes whose trees are the program's.
-pub record Spells (text : List ℕ) (program : Program) : Type 0 where
-  pub short : length text ≤ 4096
-  pub trees : Trees
-  pub read : Reads text trees
-  pub meant : program_of trees ≡ Some program
-
--- a program of the first path
+-- a program of this part of the language
 pub record IsFirstPath (program : Program) : Type 0 where
-  pub trees : Trees
-  pub meant : program_of trees ≡ Some program
+  pub texts : List (List ℕ)
+  pub file : Items
+  pub meant : program_of texts file ≡ Some program

@@ -1,33 +1,34 @@
 // The forms of tests: two operands that are compared.
 
 ghost use Rattle.std.specs.Prelude.{◌≡◌, ◌-◌, drop};
+ghost use Rattle.isl_base.specs.Data.{items_of};
 ghost use Rattle.isl_top.specs.Finds.{Finds};
 ghost use Rattle.isl_top.specs.Shapes.{comparison_of, comparison_form, test_of};
-ghost use Rattle.isl_top.specs.TreeView.{trees};
 
-use crate::heads::Head;
+use crate::heads::{Head, list_in};
 use crate::operands::operand_of;
 use crate::tables::Tables;
-use crate::tree::{Shape, Tree, TreeList};
-use isl_base::{NoMemory, Place};
+use isl_base::{Datum, DatumList, Names, NoMemory, Place};
 use isl_meaning::{Core, CoreList, Primitive};
 use std::alloc::Global;
 
 /// The form of a test, which is `(= Z Z)` or `(< Z Z)` with operands Z; none where it is neither.
-#[tactic(auto, using(crate::proofs::Comparing::test_of_list))]
+#[tactic(auto, using(crate::proofs::Comparing::one_test))]
 pub(crate) fn test_of(
     alloc: Global,
-    tree: &Tree,
+    names: &Names,
+    datum: &Datum,
     tables: &mut Tables,
 ) -> Result<Option<Core>, NoMemory>
-    ensures { Finds result tables.new (test_of tree.now tables.old) }
+    ensures { Finds result tables.new (test_of names.now datum.now tables.old) }
 {
-    let Shape::List(list) = &tree.shape else {
+    let Some(list) = list_in(datum) else {
         return Ok(None);
     };
-    match Head::in_list(list) {
-        Head::Equal => comparison_form(alloc, Primitive::NumberEqual, tree.place, list, tables),
-        Head::Less => comparison_form(alloc, Primitive::NumberLess, tree.place, list, tables),
+    let place = datum.place;
+    match Head::in_list(names, list) {
+        Head::Equal => comparison_form(alloc, names, Primitive::NumberEqual, place, list, tables),
+        Head::Less => comparison_form(alloc, names, Primitive::NumberLess, place, list, tables),
         Head::Progn | Head::FormatChar | Head::If | Head::Plus | Head::Minus | Head::Other => Ok(
             None,
         ),
@@ -39,16 +40,17 @@ pub(crate) fn test_of(
 #[tactic(auto, using(crate::proofs::Comparing::two_operands))]
 fn comparison_form(
     alloc: Global,
+    names: &Names,
     which: Primitive,
     place: Place,
-    list: &TreeList,
+    list: &DatumList,
     tables: &mut Tables,
 ) -> Result<Option<Core>, NoMemory>
     ensures { Finds result tables.new
-        (comparison_form which place (trees (drop 1 list.now)) tables.old) }
+        (comparison_form names.now which place (items_of (drop 1 list.now)) tables.old) }
 {
     match list.as_slice() {
-        [_, first, second] => comparison_of(alloc, which, place, first, second, tables),
+        [_, first, second] => comparison_of(alloc, names, which, place, first, second, tables),
         _ => Ok(None),
     }
 }
@@ -56,20 +58,21 @@ fn comparison_form(
 // The form of two operands under `=` or `<`: its site, and then theirs.
 fn comparison_of(
     alloc: Global,
+    names: &Names,
     which: Primitive,
     place: Place,
-    first: &Tree,
-    second: &Tree,
+    first: &Datum,
+    second: &Datum,
     tables: &mut Tables,
 ) -> Result<Option<Core>, NoMemory>
     ensures { Finds result tables.new
-        (comparison_of which place first.now second.now tables.old) }
+        (comparison_of names.now which place first.now second.now tables.old) }
 {
     let site = tables.add_site(place)?;
-    let Some(first) = operand_of(alloc, first, tables)? else {
+    let Some(first) = operand_of(alloc, names, first, tables)? else {
         return Ok(None);
     };
-    let Some(second) = operand_of(alloc, second, tables)? else {
+    let Some(second) = operand_of(alloc, names, second, tables)? else {
         return Ok(None);
     };
     let mut operands = CoreList::new(alloc);

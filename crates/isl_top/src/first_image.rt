@@ -1,6 +1,6 @@
 // The image of a program of the first path.
 
-ghost use Rattle.std.specs.Prelude.{◌≡◌, IfOk};
+ghost use Rattle.std.specs.Prelude.{◌≡◌, ℕ, ◌<◌, ◌^◌, IfOk, slice_index};
 ghost use Rattle.isl_meaning.specs.View.{forms};
 ghost use Rattle.isl_top.specs.Claims.{Compiled};
 ghost use Rattle.isl_top.specs.Code.{program_code};
@@ -38,10 +38,18 @@ pub fn first_build(alloc: Global, program: &Program) -> Result<Image, NoMemory>
     if words.len() > MOST_WORDS {
         return Err(NoMemory);
     }
+    words_fit(words.as_slice());
     Ok(Image {
         entry: ENTRY,
         words,
     })
+}
+
+// Each word has 32 bits, by its type.
+fn words_fit(words: &[u32])
+    ensures { (k : ℕ) → slice_index words.now k < 2 ^ 32 }
+{
+    let _ = words;
 }
 
 // The header, nil for an empty program, the code of the main forms, and the halt.

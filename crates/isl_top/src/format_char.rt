@@ -1,18 +1,17 @@
-// The form that puts a letter: (format-char (standard-output) #\c) with c from a to z.
+// The form that puts a character: (format-char (standard-output) c).
 
 ghost use Rattle.std.specs.Prelude.{◌≡◌, ◌-◌, drop, Some, IfOk};
-ghost use Rattle.isl_top.specs.Arguments.{stream_in, letter_of};
+ghost use Rattle.isl_base.specs.Data.{items_of};
 ghost use Rattle.isl_top.specs.Finds.{Finds};
-ghost use Rattle.isl_top.specs.Shapes.{letter_in, put_form, format_char_form};
-ghost use Rattle.isl_top.specs.TreeView.{trees};
+ghost use Rattle.isl_top.specs.Shapes.{stream_of, letter_of as letter_of_item, put_form, format_char_form};
 
+use crate::heads::{list_in, word_of};
 use crate::tables::Tables;
-use crate::tree::{Shape, Tree, TreeList};
-use isl_base::{Datum, Kind, NoMemory, Place};
+use isl_base::{Datum, DatumList, Kind, Names, NoMemory, Place};
 use isl_meaning::{Core, CoreList, Primitive};
 use std::alloc::Global;
 
-/// A letter, and where its word stands.
+/// A character, and where it stands.
 #[derive(Clone, Copy)]
 pub(crate) struct Letter {
     pub(crate) place: Place,
@@ -20,21 +19,22 @@ pub(crate) struct Letter {
 }
 
 /// The form of a list that stands at `place` and begins with `format-char`; none where it is not
-/// `(format-char (standard-output) #\c)` with c from a to z.
+/// `(format-char (standard-output) c)` with a character c.
 #[tactic(auto, using(crate::proofs::Arguments::two_arguments))]
 pub(crate) fn format_char_form(
     alloc: Global,
+    names: &Names,
     place: Place,
-    list: &TreeList,
+    list: &DatumList,
     tables: &mut Tables,
 ) -> Result<Option<Core>, NoMemory>
     ensures { Finds result tables.new
-        (format_char_form place (trees (drop 1 list.now)) tables.old) }
+        (format_char_form names.now place (items_of (drop 1 list.now)) tables.old) }
 {
     let [_, stream, letter] = list.as_slice() else {
         return Ok(None);
     };
-    let Some(stream) = stream_in(stream) else {
+    let Some(stream) = stream_of(names, stream) else {
         return Ok(None);
     };
     let Some(letter) = letter_of(letter) else {
@@ -43,52 +43,40 @@ pub(crate) fn format_char_form(
     Ok(Some(put_form(alloc, place, stream, letter, tables)?))
 }
 
-// The place of a tree that is `(standard-output)`.
+// The place of a datum that is `(standard-output)`.
 #[tactic(auto, using(crate::proofs::Arguments::one_word))]
-fn stream_in(tree: &Tree) -> Option<Place>
-    ensures { result ≡ stream_in tree.now }
+fn stream_of(names: &Names, datum: &Datum) -> Option<Place>
+    ensures { result ≡ stream_of names.now datum.now }
 {
-    let Shape::List(items) = &tree.shape else {
+    let [item] = list_in(datum)?.as_slice() else {
         return None;
     };
-    let [item] = items.as_slice() else {
-        return None;
-    };
-    let Shape::Word(word) = &item.shape else {
-        return None;
-    };
-    if word.as_slice() == b"standard-output".as_slice() {
-        Some(tree.place)
+    if word_of(names, item)? == b"standard-output".as_slice() {
+        Some(datum.place)
     } else {
         None
     }
 }
 
-// The letter of a tree that is a word `#\c` with c from a to z.
-fn letter_of(tree: &Tree) -> Option<Letter>
-    ensures { result ≡ letter_of tree.now }
+// The character that a datum is.
+fn letter_of(datum: &Datum) -> Option<Letter>
+    ensures { result ≡ letter_of_item datum.now }
 {
-    let Shape::Word(word) = &tree.shape else {
-        return None;
-    };
-    let byte = letter_in(word.as_slice())?;
-    Some(Letter {
-        place: tree.place,
-        byte,
-    })
-}
-
-// The byte c of `#\c` with c from a to z.
-fn letter_in(word: &[u8]) -> Option<u8>
-    ensures { result ≡ letter_in word.now }
-{
-    match word {
-        [b'#', b'\\', byte @ b'a'..=b'z'] => Some(*byte),
-        _ => None,
+    match &datum.kind {
+        Kind::Char(byte) => Some(Letter {
+            place: datum.place,
+            byte: *byte,
+        }),
+        Kind::Int(_)
+        | Kind::Sym(_)
+        | Kind::Str(_)
+        | Kind::Vector(_)
+        | Kind::Nil
+        | Kind::List { .. } => None,
     }
 }
 
-// The form that puts the letter on the stream: its site, then the stream's, and a literal.
+// The form that puts the character on the stream: its site, then the stream's, and a literal.
 fn put_form(
     alloc: Global,
     place: Place,
@@ -97,14 +85,11 @@ fn put_form(
     tables: &mut Tables,
 ) -> Result<Core, NoMemory>
     ensures { IfOk result (λ f.
-        put_form place stream letter.place (Some letter.byte) tables.old ≡ Some (f, tables.new)) }
+        put_form place (Some stream) (Some letter) tables.old ≡ Some (f, tables.new)) }
 {
     let site = tables.add_site(place)?;
     let stream_site = tables.add_site(stream)?;
-    let id = tables.add_literal(Datum {
-        place: letter.place,
-        kind: Kind::Char(letter.byte),
-    })?;
+    let id = tables.add_literal(Datum::new(letter.place, Kind::Char(letter.byte)))?;
     let output = Core::prim(Primitive::StandardOutput, CoreList::new(alloc));
     let mut arguments = CoreList::new(alloc);
     arguments.push(Core::sited(alloc, stream_site, output)?)?;

@@ -2,25 +2,28 @@
 
 ghost use Rattle.std.specs.Prelude.{◌≡◌, ◌≢◌, ◌≤◌, ◌⊎◌, ℕ, List, Some, None};
 ghost use Rattle.isl_base.specs.Outside.{Rose};
+ghost use Rattle.isl_base.specs.declared.reason.Refusal.{Refusal as RefusalValue};
 ghost use Rattle.isl_meaning.specs.declared.program.Program.{Program as ProgramValue};
-ghost use Rattle.isl_top.specs.Answers.{Accepted, Declined, Ran, GivenAll, GivenFront};
-ghost use Rattle.isl_top.specs.Command.{asked_file as asked_file_of};
-ghost use Rattle.isl_top.specs.Lines.{WasGiven, line_of};
-ghost use Rattle.isl_top.specs.declared.status.Status.TheVariants.{Done, Usage, Refused, FileFault, WriteFault, NoMemory as WantsMemory};
+ghost use Rattle.isl_top.specs.Answers.{Accepted, Declined, Built, Halts, Spends, GivenAll, GivenFront};
+ghost use Rattle.isl_top.specs.Command.{Asked, asked as asked_of};
+ghost use Rattle.isl_top.specs.Lines.{WasGiven, line_of, status_of, refused_line, budget_line};
+ghost use Rattle.isl_top.specs.declared.status.Answer.{Answer as AnswerValue};
+ghost use Rattle.isl_top.specs.declared.status.Answer.TheVariants as answer;
+ghost use Rattle.isl_top.specs.declared.status.Status.TheVariants.{Done, Usage, Refused, Budget, FileFault, WriteFault, NoMemory as WantsMemory};
 
-use crate::command::asked_file;
+use crate::command::asked;
 use crate::kept::Kept;
 use crate::lines::end_with;
 use crate::load::{LoadStop, load};
 use crate::program::read_program;
 use crate::run::run;
-use crate::status::Status;
-use isl_base::{Shelf, Sink, Source, Words};
+use crate::status::{Answer, Status};
+use isl_base::{Shelf, Sink, Source, Stop, Words};
 use std::alloc::Global;
 
 /// Does all that the program does: judges the words, takes the file from the shelf, judges its text,
-/// compiles it, runs the image with `out`, and writes the line of the status to `err`. `kept` is left
-/// with the image that was built, or empty.
+/// compiles it, runs at most so many instructions of the image with `out`, and writes the line of the
+/// status to `err`. `kept` is left with the image that was built, or empty.
 pub fn isl_main<F: Shelf, S: Source, O: Sink, E: Sink>(
     alloc: Global,
     words: &Words,
@@ -31,44 +34,65 @@ pub fn isl_main<F: Shelf, S: Source, O: Sink, E: Sink>(
     kept: &mut Kept,
 ) -> Status
     // The words are judged first: where they are no command, nothing else is touched.
-    ensures usage { result ≡ Usage → asked_file_of words.now ≡ None }
-    ensures words_first { asked_file_of words.now ≡ None →
+    ensures usage { result ≡ Usage → (asked_of words.now ≡ None)
+        × WasGiven (E.given err.old) (line_of answer.Usage) (E.given err.new) }
+    ensures words_first { asked_of words.now ≡ None →
         ((result ≡ Usage) ⊎ (result ≡ WriteFault))
         × (shelf.new ≡ shelf.old) × (out.new ≡ out.old) × (kept.new.image ≡ None) }
 
-    // The file's text spells a program, its image is kept, the run of it halts with the meaning's
-    // value, and all that it prints was given.
-    ensures done { result ≡ Done → (name : List ℕ) × (asked_file_of words.now ≡ Some name)
-        × ((program : ProgramValue) × Accepted (F.holds shelf.old name) program
-        × ((ran : Ran program kept.new.image)
-        × GivenAll ran (O.given out.old) (O.writes out.old) (O.given out.new) (O.writes out.new))) }
+    // The file's text is a program, its image is kept, the run of it halts with the meaning's value,
+    // and all that it prints was given.
+    ensures done { result ≡ Done → (command : Asked) × ((asked_of words.now ≡ Some command)
+        × ((program : ProgramValue) × (Accepted (F.holds shelf.old command.file) program
+        × ((built : Built program kept.new.image) × (Halts built command.steps
+        × GivenAll built command.steps (O.given out.old) (O.writes out.old) (O.given out.new) (O.writes out.new))))))
+        × WasGiven (E.given err.old) (line_of answer.Done) (E.given err.new) }
 
-    // The file's text spells no program.
-    ensures refused { result ≡ Refused → (name : List ℕ) × (asked_file_of words.now ≡ Some name)
-        × Declined (F.holds shelf.old name) × (out.new ≡ out.old) × (kept.new.image ≡ None) }
+    // The same with a run that does not end within its instructions; the line says how many.
+    ensures budget { result ≡ Budget → (command : Asked) × ((asked_of words.now ≡ Some command)
+        × ((program : ProgramValue) × (Accepted (F.holds shelf.old command.file) program
+        × ((built : Built program kept.new.image) × (Spends built command.steps
+        × GivenAll built command.steps (O.given out.old) (O.writes out.old) (O.given out.new) (O.writes out.new)))))
+        × WasGiven (E.given err.old) (budget_line command.steps) (E.given err.new)) }
+
+    // The file's text is refused; the line says where and why.
+    ensures refused { result ≡ Refused → (command : Asked) × ((asked_of words.now ≡ Some command)
+        × ((refusal : RefusalValue) × (Declined (F.holds shelf.old command.file) refusal
+        × WasGiven (E.given err.old) (refused_line refusal) (E.given err.new)))
+        × (out.new ≡ out.old) × (kept.new.image ≡ None)) }
 
     ensures file_fault { result ≡ FileFault → Rose (F.faults shelf.old) (F.faults shelf.new)
-        × (out.new ≡ out.old) × (kept.new.image ≡ None) }
+        × (out.new ≡ out.old) × (kept.new.image ≡ None)
+        × WasGiven (E.given err.old) (line_of answer.FileFault) (E.given err.new) }
 
-    // A line could not be written, or the run's output was cut off behind a front of it.
+    // A line could not be written with nothing given to `out`; or the run's output was cut off behind
+    // a front of it; or the line of a run that was spent could not be written.
     ensures write_fault { result ≡ WriteFault →
         (Rose (E.faults err.old) (E.faults err.new) × (out.new ≡ out.old))
-        ⊎ (Rose (O.faults out.old) (O.faults out.new)
-        × ((name : List ℕ) × (asked_file_of words.now ≡ Some name)
-        × ((program : ProgramValue) × Accepted (F.holds shelf.old name) program
-        × ((ran : Ran program kept.new.image)
-        × GivenFront ran (O.given out.old) (O.writes out.old) (O.given out.new) (O.writes out.new))))) }
+        ⊎ ((Rose (O.faults out.old) (O.faults out.new)
+        × ((command : Asked) × ((asked_of words.now ≡ Some command)
+        × ((program : ProgramValue) × (Accepted (F.holds shelf.old command.file) program
+        × ((built : Built program kept.new.image)
+        × GivenFront built command.steps (O.given out.old) (O.writes out.old) (O.given out.new) (O.writes out.new)))))))
+        ⊎ (Rose (E.faults err.old) (E.faults err.new)
+        × ((command : Asked) × ((asked_of words.now ≡ Some command)
+        × ((program : ProgramValue) × (Accepted (F.holds shelf.old command.file) program
+        × ((built : Built program kept.new.image) × (Spends built command.steps
+        × GivenAll built command.steps (O.given out.old) (O.writes out.old) (O.given out.new) (O.writes out.new))))))))) }
 
-    ensures no_memory { result ≡ WantsMemory → out.new ≡ out.old }
-    ensures line { result ≢ WriteFault → WasGiven (E.given err.old) (line_of result) (E.given err.new) }
+    ensures no_memory { result ≡ WantsMemory → (out.new ≡ out.old)
+        × WasGiven (E.given err.old) (line_of answer.NoMemory) (E.given err.new) }
+    // The line is that of an answer with this status.
+    ensures line { result ≢ WriteFault → (told : AnswerValue) × ((result ≡ status_of told)
+        × WasGiven (E.given err.old) (line_of told) (E.given err.new)) }
     ensures input { input.new ≡ input.old }
 {
     kept.image = None;
-    match asked_file(words) {
-        None => end_with(err, Status::Usage),
-        Some(name) => {
-            let status = run_file(alloc, name, shelf, input, out, kept);
-            end_with(err, status)
+    match asked(words) {
+        None => end_with(err, Answer::Usage),
+        Some(command) => {
+            let answer = run_file(alloc, command.steps, command.file, shelf, input, out, kept);
+            end_with(err, answer)
         }
     }
 }
@@ -76,37 +100,43 @@ pub fn isl_main<F: Shelf, S: Source, O: Sink, E: Sink>(
 // The file's text read, compiled and run.
 fn run_file<F: Shelf, S: Source, O: Sink>(
     alloc: Global,
-    name: &str,
+    steps: u32,
+    file: &str,
     shelf: &mut F,
     input: &mut S,
     out: &mut O,
     kept: &mut Kept,
-) -> Status
+) -> Answer
     requires { kept.old.image ≡ None }
-    ensures done { result ≡ Done →
-        (program : ProgramValue) × Accepted (F.holds shelf.old name.now) program
-        × ((ran : Ran program kept.new.image)
-        × GivenAll ran (O.given out.old) (O.writes out.old) (O.given out.new) (O.writes out.new)) }
-    ensures refused { result ≡ Refused →
-        Declined (F.holds shelf.old name.now) × (out.new ≡ out.old) × (kept.new.image ≡ None) }
-    ensures file_fault { result ≡ FileFault → Rose (F.faults shelf.old) (F.faults shelf.new)
+    ensures done { result ≡ answer.Done →
+        (program : ProgramValue) × (Accepted (F.holds shelf.old file.now) program
+        × ((built : Built program kept.new.image) × (Halts built steps
+        × GivenAll built steps (O.given out.old) (O.writes out.old) (O.given out.new) (O.writes out.new)))) }
+    ensures budget { (n : ℕ) → result ≡ answer.Budget n → (n ≡ steps)
+        × ((program : ProgramValue) × (Accepted (F.holds shelf.old file.now) program
+        × ((built : Built program kept.new.image) × (Spends built steps
+        × GivenAll built steps (O.given out.old) (O.writes out.old) (O.given out.new) (O.writes out.new))))) }
+    ensures refused { (refusal : RefusalValue) → result ≡ answer.Refused refusal →
+        Declined (F.holds shelf.old file.now) refusal
         × (out.new ≡ out.old) × (kept.new.image ≡ None) }
-    ensures cut_off { result ≡ WriteFault → Rose (O.faults out.old) (O.faults out.new)
-        × ((program : ProgramValue) × Accepted (F.holds shelf.old name.now) program
-        × ((ran : Ran program kept.new.image)
-        × GivenFront ran (O.given out.old) (O.writes out.old) (O.given out.new) (O.writes out.new))) }
-    ensures no_memory { result ≡ WantsMemory → out.new ≡ out.old }
-    ensures no_usage { result ≢ Usage }
+    ensures file_fault { result ≡ answer.FileFault → Rose (F.faults shelf.old) (F.faults shelf.new)
+        × (out.new ≡ out.old) × (kept.new.image ≡ None) }
+    ensures cut_off { result ≡ answer.WriteFault → Rose (O.faults out.old) (O.faults out.new)
+        × ((program : ProgramValue) × (Accepted (F.holds shelf.old file.now) program
+        × ((built : Built program kept.new.image)
+        × GivenFront built steps (O.given out.old) (O.writes out.old) (O.given out.new) (O.writes out.new)))) }
+    ensures no_memory { result ≡ answer.NoMemory → out.new ≡ out.old }
+    ensures no_usage { result ≢ answer.Usage }
     ensures input { input.new ≡ input.old }
 {
-    let text = match load(alloc, shelf, name) {
+    let text = match load(alloc, shelf, file) {
         Ok(text) => text,
-        Err(LoadStop::Failed) => return Status::FileFault,
-        Err(LoadStop::NoMemory) => return Status::NoMemory,
+        Err(LoadStop::Failed) => return Answer::FileFault,
+        Err(LoadStop::NoMemory) => return Answer::NoMemory,
     };
     match read_program(alloc, text.as_slice()) {
-        Ok(Some(program)) => run(alloc, &program, input, out, kept),
-        Ok(None) => Status::Refused,
-        Err(_) => Status::NoMemory,
+        Ok(program) => run(alloc, &program, steps, input, out, kept),
+        Err(Stop::Refused(refusal)) => Answer::Refused(refusal),
+        Err(Stop::NoMemory) => Answer::NoMemory,
     }
 }

@@ -1,39 +1,56 @@
 // The forms of numbers: a number, a sum of two, and a difference of two.
 
 ghost use Rattle.std.specs.Prelude.{◌≡◌, ◌-◌, drop, Some, IfOk};
-ghost use Rattle.isl_top.specs.Arguments.{number_of};
+ghost use Rattle.isl_base.specs.Data.{items_of};
 ghost use Rattle.isl_top.specs.Finds.{Finds};
-ghost use Rattle.isl_top.specs.Numbers.{number_in};
-ghost use Rattle.isl_top.specs.Shapes.{integer_form, sum_of, sum_form, operand_of};
-ghost use Rattle.isl_top.specs.TreeView.{trees};
+ghost use Rattle.isl_top.specs.Shapes.{number_of as number_of_item, integer_form, sum_of, sum_form, operand_of};
 
-use crate::heads::Head;
-use crate::numbers::number_in;
+use crate::heads::{Head, list_in};
 use crate::tables::Tables;
-use crate::tree::{Shape, Tree, TreeList};
-use isl_base::{Datum, Kind, NoMemory, Place};
+use isl_base::{Datum, DatumList, Kind, Names, NoMemory, Place};
 use isl_meaning::{Core, CoreList, Primitive};
 use std::alloc::Global;
 
-/// A number, and where its word stands.
+/// A number, and where it stands.
 #[derive(Clone, Copy)]
 pub(crate) struct Number {
     pub(crate) place: Place,
     pub(crate) value: i32,
 }
 
-/// The form of a word that stands at `place`; none where it is no number.
+// The greatest number that a form names, and that of the least.
+const MOST: i32 = 99_999_999;
+
+/// The number that a datum is, if it is one from -99,999,999 to 99,999,999.
+pub(crate) fn number_of(datum: &Datum) -> Option<Number>
+    ensures { result ≡ number_of_item datum.now }
+{
+    match &datum.kind {
+        Kind::Int(value) if -MOST <= *value && *value <= MOST => Some(Number {
+            place: datum.place,
+            value: *value,
+        }),
+        Kind::Int(_)
+        | Kind::Char(_)
+        | Kind::Sym(_)
+        | Kind::Str(_)
+        | Kind::Vector(_)
+        | Kind::Nil
+        | Kind::List { .. } => None,
+    }
+}
+
+/// The form of a number, if there is one.
 pub(crate) fn integer_form(
-    place: Place,
-    word: &[u8],
+    number: Option<Number>,
     tables: &mut Tables,
 ) -> Result<Option<Core>, NoMemory>
-    ensures { Finds result tables.new (integer_form place (number_in word.now) tables.old) }
+    ensures { Finds result tables.new (integer_form number tables.old) }
 {
-    let Some(value) = number_in(word) else {
-        return Ok(None);
-    };
-    Ok(Some(number_form(Number { place, value }, tables)?))
+    match number {
+        Some(number) => Ok(Some(number_form(number, tables)?)),
+        None => Ok(None),
+    }
 }
 
 /// The form of a list that stands at `place` and begins with the word of `which`, `+` or `-`; none
@@ -43,11 +60,11 @@ pub(crate) fn sum_form(
     alloc: Global,
     which: Primitive,
     place: Place,
-    list: &TreeList,
+    list: &DatumList,
     tables: &mut Tables,
 ) -> Result<Option<Core>, NoMemory>
     ensures { Finds result tables.new
-        (sum_form which place (trees (drop 1 list.now)) tables.old) }
+        (sum_form which place (items_of (drop 1 list.now)) tables.old) }
 {
     let [_, first, second] = list.as_slice() else {
         return Ok(None);
@@ -62,39 +79,25 @@ pub(crate) fn sum_form(
 }
 
 /// The form of an operand, which is a number, a sum or a difference; none where it is neither.
-#[tactic(auto, using(crate::proofs::Sums::operand_of_list))]
+#[tactic(auto, using(crate::proofs::Sums::one_operand))]
 pub(crate) fn operand_of(
     alloc: Global,
-    tree: &Tree,
+    names: &Names,
+    datum: &Datum,
     tables: &mut Tables,
 ) -> Result<Option<Core>, NoMemory>
-    ensures { Finds result tables.new (operand_of tree.now tables.old) }
+    ensures { Finds result tables.new (operand_of names.now datum.now tables.old) }
 {
-    let list = match &tree.shape {
-        Shape::Word(word) => return integer_form(tree.place, word.as_slice(), tables),
-        Shape::List(list) => list,
+    let Some(list) = list_in(datum) else {
+        return integer_form(number_of(datum), tables);
     };
-    match Head::in_list(list) {
-        Head::Plus => sum_form(alloc, Primitive::Add, tree.place, list, tables),
-        Head::Minus => sum_form(alloc, Primitive::Subtract, tree.place, list, tables),
+    match Head::in_list(names, list) {
+        Head::Plus => sum_form(alloc, Primitive::Add, datum.place, list, tables),
+        Head::Minus => sum_form(alloc, Primitive::Subtract, datum.place, list, tables),
         Head::Progn | Head::FormatChar | Head::If | Head::Equal | Head::Less | Head::Other => Ok(
             None,
         ),
     }
-}
-
-// The number of a tree that is a word of one.
-fn number_of(tree: &Tree) -> Option<Number>
-    ensures { result ≡ number_of tree.now }
-{
-    let Shape::Word(word) = &tree.shape else {
-        return None;
-    };
-    let value = number_in(word.as_slice())?;
-    Some(Number {
-        place: tree.place,
-        value,
-    })
 }
 
 // The form of two numbers under `+` or `-`: its site, and then a literal for each.
@@ -106,8 +109,8 @@ fn sum_of(
     second: Number,
     tables: &mut Tables,
 ) -> Result<Core, NoMemory>
-    ensures { IfOk result (λ f. sum_of which place first.place second.place
-        (Some first.value) (Some second.value) tables.old ≡ Some (f, tables.new)) }
+    ensures { IfOk result (λ f. sum_of which place (Some first) (Some second) tables.old
+        ≡ Some (f, tables.new)) }
 {
     let site = tables.add_site(place)?;
     let mut operands = CoreList::new(alloc);
@@ -118,12 +121,8 @@ fn sum_of(
 
 // The form of a number: a literal.
 fn number_form(number: Number, tables: &mut Tables) -> Result<Core, NoMemory>
-    ensures { IfOk result (λ f.
-        integer_form number.place (Some number.value) tables.old ≡ Some (f, tables.new)) }
+    ensures { IfOk result (λ f. integer_form (Some number) tables.old ≡ Some (f, tables.new)) }
 {
-    let id = tables.add_literal(Datum {
-        place: number.place,
-        kind: Kind::Int(number.value),
-    })?;
+    let id = tables.add_literal(Datum::new(number.place, Kind::Int(number.value)))?;
     Ok(Core::literal(id))
 }

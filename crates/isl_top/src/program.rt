@@ -1,29 +1,84 @@
-// The program of a text.
+// A text compiled to a program, datum by datum.
 
-ghost use Rattle.std.specs.Prelude.{IfOk, MatchOption};
-ghost use Rattle.isl_meaning.specs.declared.program.Program.{Program as ProgramValue};
-ghost use Rattle.isl_top.specs.Shapes.{Spells};
+ghost use Rattle.std.specs.Prelude.{◌≡◌, ◌≤◌, length, Some, None, IfOk, IfErr, OnOk};
+ghost use Rattle.isl_top.specs.Finds.{IsForm, IsNoForm};
+ghost use Rattle.isl_top.specs.Verdicts.{Accepts, IsStopped};
 
-use crate::read::read_trees;
-use crate::shape::program_of;
-use isl_base::NoMemory;
-use isl_meaning::Program;
+use crate::shape::form_of;
+use crate::tables::Tables;
+use isl_base::{Datum, Names, Origin, Place, Reason, Refusal, Stop};
+use isl_meaning::{CoreList, Program};
+use isl_reader::Reader;
 use std::alloc::Global;
 
-// The most bytes that a text of the first path may have.
-const MOST_BYTES: usize = 4096;
+// The bytes that a file may have, and those that one of this part of the language may have.
+const LONGEST_FILE: usize = 1_048_576;
 
-/// The program that a text spells; none exactly where it spells none.
-pub fn read_program(alloc: Global, text: &[u8]) -> Result<Option<Program>, NoMemory>
-    ensures { IfOk result (λ o. MatchOption o
-        ((p : ProgramValue) → Spells text.now p → ⊥)
-        (λ p. Spells text.now p)) }
+const LONGEST_PROGRAM: usize = 4_096;
+
+// How many lists may stand inside one another.
+const DEEPEST: u32 = 64;
+
+// Where a text begins.
+const START: Place = Place { line: 1, column: 1 };
+
+/// The program that a text is. Refused, at its first offence: at 1:1 for its length; else at the
+/// text's fault, or at the first datum that is no form of this part of the language.
+pub(crate) fn read_program(alloc: Global, text: &[u8]) -> Result<Program, Stop>
+    ensures program { IfOk result (Accepts text.now) }
+    ensures stopped { IfErr result (IsStopped text.now) }
 {
-    if text.len() > MOST_BYTES {
-        return Ok(None);
+    if text.len() > LONGEST_FILE {
+        return Err(refused(START, Reason::SourceTooLong));
     }
-    match read_trees(alloc, text)? {
-        None => Ok(None),
-        Some(trees) => program_of(alloc, &trees),
+    if text.len() > LONGEST_PROGRAM {
+        return Err(refused(START, Reason::NotBuilt));
     }
+    program_of(alloc, text)
+}
+
+// The program of a text that is not too long.
+fn program_of(alloc: Global, text: &[u8]) -> Result<Program, Stop>
+    requires { length text.now ≤ 4096 }
+    ensures program { IfOk result (Accepts text.now) }
+    ensures stopped { IfErr result (IsStopped text.now) }
+{
+    let mut names = Names::new(alloc);
+    names.intern(b"t")?;
+    let mut tables = Tables::new(alloc);
+    let mut main = CoreList::new(alloc);
+    let mut reader = Reader::new(text, Origin::File);
+    while let Some(datum) = reader.next(alloc, &mut names)? {
+        add_form(alloc, &names, datum, &mut tables, &mut main)?;
+    }
+    Ok(tables.program(alloc, main))
+}
+
+// The form that a datum is, behind the forms so far; refused where it is none.
+fn add_form(
+    alloc: Global,
+    names: &Names,
+    datum: Datum,
+    tables: &mut Tables,
+    main: &mut CoreList,
+) -> Result<(), Stop>
+    ensures added { OnOk result (IsForm names.now datum tables.old tables.new main.old main.new) }
+    ensures stopped { IfErr result (IsNoForm names.now datum tables.old) }
+{
+    let place = datum.place;
+    if datum.depth() > DEEPEST {
+        return Err(refused(place, Reason::NotBuilt));
+    }
+    let Some(form) = form_of(alloc, names, &datum, tables)? else {
+        return Err(refused(place, Reason::NotBuilt));
+    };
+    main.push(form)?;
+    Ok(())
+}
+
+// Refused there, for that reason.
+fn refused(place: Place, reason: Reason) -> Stop
+    ensures { result ≡ Stop.Refused (record { place = place; reason = reason }) }
+{
+    Stop::Refused(Refusal { place, reason })
 }

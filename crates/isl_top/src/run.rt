@@ -1,62 +1,67 @@
 // A program compiled and run.
 
-ghost use Rattle.std.specs.Prelude.{◌≡◌, ◌≤◌, ◌⊎◌, None, IfOk, length};
+ghost use Rattle.std.specs.Prelude.{◌≡◌, ◌≤◌, ℕ, None, IfOk, length};
 ghost use Rattle.isl_base.specs.Outside.{Rose};
 ghost use Rattle.isl_meaning.specs.View.{forms};
 ghost use Rattle.rv_machine.specs.State.{start};
 ghost use Rattle.isl_top.specs.Shapes.{IsFirstPath};
 ghost use Rattle.isl_top.specs.Code.{program_code};
-ghost use Rattle.isl_top.specs.Answers.{arena_words, Ran, GivenAll, GivenFront};
-ghost use Rattle.isl_top.specs.declared.status.Status.TheVariants.{Done, WriteFault, NoMemory as WantsMemory};
+ghost use Rattle.isl_top.specs.Answers.{arena_words, Built, Halts, Spends, GivenAll, GivenFront, IsOfRun};
+ghost use Rattle.isl_top.specs.declared.status.Answer.TheVariants.{Done, Budget, WriteFault, NoMemory as WantsMemory};
 
 use crate::first_image::first_build;
 use crate::kept::Kept;
-use crate::status::Status;
+use crate::status::Answer;
 use isl_base::{NoMemory, Sink, Source};
 use isl_meaning::Program;
-use rv_machine::{Ending, Image, Machine, law_budget};
+use rv_machine::{Ending, Image, Machine, law_budget, law_split};
 use std::alloc::Global;
-
-// The instructions that a run may execute.
-const MOST_INSTRUCTIONS: u64 = 50_000_000;
 
 // The words of a run's arena.
 const ARENA_WORDS: u32 = 4_194_304;
 
-/// Compiles the program, keeps its image and runs it. Nothing is read. `WriteFault` only where the
-/// count of the sink's faults rose; after `NoMemory` the sink is as it was.
-pub fn run<S: Source, O: Sink>(
+/// Compiles the program, keeps its image and runs at most so many instructions of it. Nothing is
+/// read. `WriteFault` only where the count of the sink's faults rose; after `NoMemory` the sink is as
+/// it was.
+pub(crate) fn run<S: Source, O: Sink>(
     alloc: Global,
     program: &Program,
+    steps: u32,
     input: &mut S,
     out: &mut O,
     kept: &mut Kept,
-) -> Status
+) -> Answer
     requires first { IsFirstPath program.now }
     requires small { length (program_code program.now.literals (forms program.now.main)) ≤ 4194304 }
     requires empty { kept.old.image ≡ None }
-    ensures done { result ≡ Done → (ran : Ran program.now kept.new.image) ×
-        GivenAll ran (O.given out.old) (O.writes out.old) (O.given out.new) (O.writes out.new) }
-    ensures cut_off { result ≡ WriteFault → (ran : Ran program.now kept.new.image) ×
-        GivenFront ran (O.given out.old) (O.writes out.old) (O.given out.new) (O.writes out.new) }
+    ensures done { result ≡ Done → (built : Built program.now kept.new.image) × (Halts built steps
+        × GivenAll built steps (O.given out.old) (O.writes out.old) (O.given out.new) (O.writes out.new)) }
+    ensures budget { (n : ℕ) → result ≡ Budget n → (n ≡ steps)
+        × ((built : Built program.now kept.new.image) × (Spends built steps
+        × GivenAll built steps (O.given out.old) (O.writes out.old) (O.given out.new) (O.writes out.new))) }
+    ensures cut_off { result ≡ WriteFault → (built : Built program.now kept.new.image) ×
+        GivenFront built steps (O.given out.old) (O.writes out.old) (O.given out.new) (O.writes out.new) }
     ensures fault { result ≡ WriteFault → Rose (O.faults out.old) (O.faults out.new) }
     ensures memory { result ≡ WantsMemory → (out.new ≡ out.old) × (kept.new.image ≡ None) }
-    ensures only { (result ≡ Done) ⊎ ((result ≡ WriteFault) ⊎ (result ≡ WantsMemory)) }
+    ensures only { IsOfRun result }
     ensures count { O.faults out.old ≤ O.faults out.new }
     ensures input { input.new ≡ input.old }
 {
     law_budget();
+    law_split();
     let Ok(image) = first_build(alloc, program) else {
-        return Status::NoMemory;
+        return Answer::NoMemory;
     };
     let Ok(mut machine) = started(alloc, &image, ARENA_WORDS) else {
-        return Status::NoMemory;
+        return Answer::NoMemory;
     };
-    let ending = machine.run(MOST_INSTRUCTIONS, input, out);
+    let ending = machine.run(steps as u64, input, out);
     kept.image = Some(image);
     match ending {
-        Ending::WriteFault => Status::WriteFault,
-        _ => Status::Done,
+        Ending::Halt(_) => Answer::Done,
+        Ending::Budget => Answer::Budget(steps),
+        Ending::WriteFault => Answer::WriteFault,
+        _ => unreachable!(),
     }
 }
 

@@ -1,85 +1,80 @@
-// From trees to forms: the program that the trees of a text are.
+// From data to forms.
 
 ghost use Rattle.std.specs.Prelude.{◌≡◌, drop, IfOk};
+ghost use Rattle.isl_base.specs.Data.{items_of};
 ghost use Rattle.isl_meaning.specs.View.{forms};
 ghost use Rattle.isl_top.specs.Finds.{Finds, FindsAs};
-ghost use Rattle.isl_top.specs.Shapes.{with_site, form_of, list_form, if_form, progn_form, forms_of, program_of};
-ghost use Rattle.isl_top.specs.TreeView.{trees};
+ghost use Rattle.isl_top.specs.Heads.{list_form};
+ghost use Rattle.isl_top.specs.Shapes.{with_site, form_of, if_form, progn_form, forms_of};
 
 use crate::choice::choice;
 use crate::comparisons::test_of;
 use crate::format_char::format_char_form;
-use crate::heads::Head;
-use crate::operands::{integer_form, sum_form};
+use crate::heads::{Head, list_in};
+use crate::operands::{integer_form, number_of, sum_form};
 use crate::tables::Tables;
-use crate::tree::{Shape, Tree, TreeList};
-use isl_base::{NoMemory, Place};
-use isl_meaning::{Core, CoreList, Primitive, Program};
+use isl_base::{Datum, DatumList, Names, NoMemory, Place};
+use isl_meaning::{Core, CoreList, Primitive};
 use std::alloc::Global;
 
-/// The program that these trees are; none where they are not one of the first path: where a tree
-/// is none of these, with numbers I of an optional `-` and one to eight digits:
+/// The form that a datum is; none where it is none of these, with integers I from -99,999,999 to
+/// 99,999,999:
 ///
 /// - Z, which is I, `(+ I I)` or `(- I I)`;
-/// - `(if T F F)`, where T is `(= Z Z)` or `(< Z Z)`, and F is a tree of this list;
+/// - `(if T F F)`, where T is `(= Z Z)` or `(< Z Z)`, and F is a datum of this list;
 /// - `(progn F*)`;
-/// - `(format-char (standard-output) #\c)` with c from a to z.
-pub fn program_of(alloc: Global, list: &TreeList) -> Result<Option<Program>, NoMemory>
-    ensures { IfOk result (λ o. o ≡ program_of (trees list.now)) }
-{
-    let mut tables = Tables::new(alloc);
-    let Some(main) = forms_of(alloc, list, 0, &mut tables)? else {
-        return Ok(None);
-    };
-    Ok(Some(tables.program(main)))
-}
-
-// The form that a tree is.
+/// - `(format-char (standard-output) c)` with a character c.
 #[cycle(shape)]
-#[tactic(auto, using(crate::proofs::Forming::one_tree))]
-fn form_of(alloc: Global, tree: &Tree, tables: &mut Tables) -> Result<Option<Core>, NoMemory>
-    ensures { Finds result tables.new (form_of tree.now tables.old) }
+#[tactic(auto, using(crate::proofs::Forming::one_datum, crate::proofs::Lists::items_smaller))]
+pub(crate) fn form_of(
+    alloc: Global,
+    names: &Names,
+    datum: &Datum,
+    tables: &mut Tables,
+) -> Result<Option<Core>, NoMemory>
+    ensures { Finds result tables.new (form_of names.now datum.now tables.old) }
 {
-    match &tree.shape {
-        Shape::Word(word) => integer_form(tree.place, word.as_slice(), tables),
-        Shape::List(list) => list_form(alloc, tree.place, list, tables),
+    match list_in(datum) {
+        Some(list) => list_form(alloc, names, datum.place, list, tables),
+        None => integer_form(number_of(datum), tables),
     }
 }
 
-// The form that a list is, by its first word.
+// The form that a list is, by its first item.
 #[cycle(shape)]
-#[tactic(auto, using(crate::proofs::Forming::one_list))]
 fn list_form(
     alloc: Global,
+    names: &Names,
     place: Place,
-    list: &TreeList,
+    list: &DatumList,
     tables: &mut Tables,
 ) -> Result<Option<Core>, NoMemory>
-    ensures { Finds result tables.new (list_form place (trees list.now) tables.old) }
+    ensures { Finds result tables.new (list_form names.now place list.now tables.old) }
 {
-    match Head::in_list(list) {
-        Head::Progn => sequence_form(alloc, place, list, tables),
-        Head::FormatChar => format_char_form(alloc, place, list, tables),
-        Head::If => if_form(alloc, place, list, tables),
+    match Head::in_list(names, list) {
+        Head::Progn => sequence_form(alloc, names, place, list, tables),
+        Head::FormatChar => format_char_form(alloc, names, place, list, tables),
+        Head::If => if_form(alloc, names, place, list, tables),
         Head::Plus => sum_form(alloc, Primitive::Add, place, list, tables),
         Head::Minus => sum_form(alloc, Primitive::Subtract, place, list, tables),
         Head::Equal | Head::Less | Head::Other => Ok(None),
     }
 }
 
-// The forms behind a list's first word, in order.
+// The forms behind a list's first item, in order.
 #[cycle(shape)]
 fn sequence_form(
     alloc: Global,
+    names: &Names,
     place: Place,
-    list: &TreeList,
+    list: &DatumList,
     tables: &mut Tables,
 ) -> Result<Option<Core>, NoMemory>
-    ensures { Finds result tables.new
-        (progn_form tables.old (forms_of (trees (drop 1 list.now)) (with_site place tables.old))) }
+    ensures { Finds result tables.new (progn_form tables.old
+        (forms_of names.now (items_of (drop 1 list.now)) (with_site place tables.old))) }
 {
     let site = tables.add_site(place)?;
-    let Some(forms) = forms_of(alloc, list, 1, tables)? else {
+    let Some(forms) = forms_of(alloc, names, list, 1, tables)? else {
         return Ok(None);
     };
     Ok(Some(Core::sited(alloc, site, Core::sequence(forms))?))
@@ -91,53 +86,54 @@ fn sequence_form(
 #[tactic(auto, using(crate::proofs::Choosing::item_smaller, crate::proofs::Choosing::branches))]
 fn if_form(
     alloc: Global,
+    names: &Names,
     place: Place,
-    list: &TreeList,
+    list: &DatumList,
     tables: &mut Tables,
 ) -> Result<Option<Core>, NoMemory>
-    ensures { Finds result tables.new (if_form place (trees (drop 1 list.now)) tables.old) }
+    ensures { Finds result tables.new
+        (if_form names.now place (items_of (drop 1 list.now)) tables.old) }
 {
     let [_, test, consequent, alternative] = list.as_slice() else {
         return Ok(None);
     };
     let site = tables.add_site(place)?;
-    let Some(test) = test_of(alloc, test, tables)? else {
+    let Some(test) = test_of(alloc, names, test, tables)? else {
         return Ok(None);
     };
-    let Some(consequent) = form_of(alloc, consequent, tables)? else {
+    let Some(consequent) = form_of(alloc, names, consequent, tables)? else {
         return Ok(None);
     };
     let truth = tables.add_truth(place)?;
-    let Some(alternative) = form_of(alloc, alternative, tables)? else {
+    let Some(alternative) = form_of(alloc, names, alternative, tables)? else {
         return Ok(None);
     };
     let form = choice(alloc, site, truth, test, consequent, alternative)?;
     Ok(Some(form))
 }
 
-// The forms that the trees of a list are, from the one at `start` on.
+// The forms that the data of a list are, from the one at `start` on.
 #[cycle(shape)]
-#[tactic(auto, using(crate::specs::TreeSizes::tree_in_smaller, crate::proofs::Forming::items))]
+#[tactic(auto, using(isl_base::specs::DataSizes::item_in_smaller, crate::proofs::Forming::items))]
 fn forms_of(
     alloc: Global,
-    list: &TreeList,
+    names: &Names,
+    list: &DatumList,
     start: usize,
     tables: &mut Tables,
 ) -> Result<Option<CoreList>, NoMemory>
-    ensures { FindsAs forms result tables.new (forms_of (trees (drop start list.now)) tables.old) }
+    ensures { FindsAs forms result tables.new
+        (forms_of names.now (items_of (drop start list.now)) tables.old) }
 {
     let mut done = CoreList::new(alloc);
     for at in start..list.len() {
-        let Some(tree) = list.get(at) else {
+        let Some(datum) = list.get(at) else {
             unreachable!()
         };
-        let Some(form) = form_of(alloc, tree, tables)? else {
+        let Some(form) = form_of(alloc, names, datum, tables)? else {
             return Ok(None);
         };
         done.push(form)?;
     }
     Ok(Some(done))
 }
-
-#[cfg(test)]
-mod tests;

@@ -1,7 +1,9 @@
-// The statuses that the program ends with.
+// The statuses that the program ends with, and what it has to tell of them.
 
 ghost use Rattle.std.specs.Prelude.{◌≡◌};
-ghost use Rattle.isl_top.specs.Lines.{number_of};
+ghost use Rattle.isl_top.specs.Lines.{number_of, status_of};
+
+use isl_base::Refusal;
 
 /// How a call of the program ended.
 #[derive(Clone, Copy, Debug, PartialEq, Eq)]
@@ -12,6 +14,8 @@ pub enum Status {
     Usage,
     /// The file is outside the profile.
     Refused,
+    /// The run's instructions were spent before it ended.
+    Budget,
     /// The shelf failed.
     FileFault,
     /// A sink failed.
@@ -21,7 +25,7 @@ pub enum Status {
 }
 
 impl Status {
-    /// The exit status: 0, 2, 3, 6, 8 or 9.
+    /// The exit status: 0, 2, 3, 5, 6, 8 or 9.
     pub fn number(self) -> u8
         ensures { result ≡ number_of self }
     {
@@ -29,9 +33,40 @@ impl Status {
             Status::Done => 0,
             Status::Usage => 2,
             Status::Refused => 3,
+            Status::Budget => 5,
             Status::FileFault => 6,
             Status::WriteFault => 8,
             Status::NoMemory => 9,
+        }
+    }
+}
+
+/// A status with what its line tells: why and where the file is refused, or how many instructions
+/// were executed.
+#[derive(Clone, Copy, Debug, PartialEq, Eq)]
+pub enum Answer {
+    Done,
+    Usage,
+    Refused(Refusal),
+    Budget(u32),
+    FileFault,
+    WriteFault,
+    NoMemory,
+}
+
+impl Answer {
+    /// The status alone.
+    pub fn status(self) -> Status
+        ensures { result ≡ status_of self }
+    {
+        match self {
+            Answer::Done => Status::Done,
+            Answer::Usage => Status::Usage,
+            Answer::Refused(_) => Status::Refused,
+            Answer::Budget(_) => Status::Budget,
+            Answer::FileFault => Status::FileFault,
+            Answer::WriteFault => Status::WriteFault,
+            Answer::NoMemory => Status::NoMemory,
         }
     }
 }

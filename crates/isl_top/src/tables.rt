@@ -3,9 +3,13 @@
 ghost use Rattle.std.specs.Prelude.{◌≡◌, Some, IfOk, OnOk};
 ghost use Rattle.isl_top.specs.Shapes.{no_tables, with_literal, with_truth, with_site, next_literal, next_site, program_with};
 ghost use Rattle.isl_meaning.specs.View.{forms};
+ghost use Rattle.isl_base.specs.Data.{place_of, content_of};
 
 use isl_base::{Datum, Kind, Name, NoMemory, Place, PlaceList, Symbol};
-use isl_meaning::{CoreList, LiteralId, LiteralRow, LiteralRows, Program, SiteId};
+use isl_meaning::{
+    ClassRows, CoreList, FunctionRows, GenericRows, LiteralId, LiteralRow, LiteralRows,
+    ProcedureList, Program, SiteId,
+};
 use std::alloc::Global;
 use std::marker::Model;
 
@@ -21,6 +25,11 @@ impl Model for Tables {
     ghost use Rattle.isl_top.specs.Shapes.{Tables as FormTables};
 
     ghost Value = { FormTables };
+
+    ghost use Rattle.isl_base.specs.contracts.datum.Datum as datum;
+    ghost use Rattle.std.specs.Coded.{codes};
+
+    ghost coded = { Prim.hlevel (codes, datum.the_row.coded) };
 
     ghost view = { λ t. record { literals = t.literals; sites = t.sites } };
 }
@@ -39,7 +48,7 @@ impl Tables {
     /// A literal more, and its number.
     pub(crate) fn add_literal(&mut self, datum: Datum) -> Result<LiteralId, NoMemory>
         ensures id { IfOk result (λ id. id ≡ next_literal self.old) }
-        ensures after { OnOk result (self.new ≡ with_literal datum.place datum.kind self.old) }
+        ensures after { OnOk result (self.new ≡ with_literal (place_of datum) (content_of datum) self.old) }
     {
         let id = self.literals.len();
         self.literals.push(LiteralRow::Datum(datum))?;
@@ -68,11 +77,15 @@ impl Tables {
 
     /// The program of these main forms, with these tables.
     #[tactic(auto, using(isl_meaning::specs::View::forms_back))]
-    pub(crate) fn program(self, main: CoreList) -> Program
+    pub(crate) fn program(self, alloc: Global, main: CoreList) -> Program
         ensures { Some result ≡ program_with (Some (forms main, self)) }
     {
         Program {
             literals: self.literals,
+            procedures: ProcedureList::new(alloc),
+            classes: ClassRows::new(alloc),
+            generics: GenericRows::new(alloc),
+            functions: FunctionRows::new(alloc),
             main,
             sites: self.sites,
         }

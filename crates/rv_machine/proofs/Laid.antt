@@ -1,9 +1,11 @@
 -- An image's words in an arena, place by place.
-use Rattle.std.proofs.Common.{◌≡◌, ℕ, ◌-◌, ◌<◌, ◌≤◌, List, length, get_or, arith, ◌∙◌, sym, inl, inr, refl}
-use Rattle.std.proofs.lemmas.List.{get_or-replicate, get_or_append_left, get_or-append_right, get_or_past}
+use Rattle.std.proofs.Common.{◌≡◌, ℕ, ◌*◌, ◌-◌, ◌<◌, ◌≤◌, List, ◌++◌, length, take, drop, get_or, ap, arith, ◌∙◌, sym, inl, inr, refl, append-nil}
+use Rattle.std.specs.Prelude.{replicate, slice_set}
+use Rattle.std.proofs.lemmas.List.{take_all, drop_all, get_or-replicate, get_or_append_left, get_or-append_right, get_or_past}
 use Rattle.std.proofs.lemmas.Bool.{cases_lt}
 use Rattle.std.proofs.lemmas.Grind.{same_number_lists, common_steps}
-use Rattle.rv_machine.specs.State.{laid}
+use Rattle.rv_machine.specs.State.{State, start, laid}
+use Rattle.rv_machine.specs.Memory.{bytes_of}
 
 pub length-laid : (words : List ℕ) (n : ℕ) → length words ≤ n → length (laid words n) ≡ n
 length-laid words n h = grind (arith, common_steps)
@@ -24,3 +26,24 @@ pub laid_from_reads :
 laid_from_reads words arena fits reads =
     same_number_lists _ _ (sym (length-laid words (length arena) fits))
     (λ k h. reads k h ∙ sym (get_or-laid words (length arena) k h fits))
+
+-- as many words written over a list of words
+overwritten : (items written : List ℕ) (n : ℕ) → length written ≡ length items → n ≡ length items → take n (written ++ drop (length written) items) ≡ written
+overwritten items written n same e =
+    ap (λ rest. take n (written ++ rest)) (drop_all (length written) items (omega arith))
+    ∙ (ap (take n) (append-nil written) ∙ take_all n written (omega arith))
+
+-- the state that a load leaves is the start
+pub started :
+    (words : List ℕ) (entry n asked arena : ℕ) (items written : List ℕ) (len : ℕ) → n ≡ arena → asked ≡ length words
+    → length items ≡ arena → len ≡ arena → length words ≤ arena → written ≡ laid words arena
+    → ◌≡◌ {A = State} (record {
+      pc = entry;
+      registers = slice_set (slice_set (replicate 32 0) 2 (4 * n)) 3 (4 * asked);
+      memory = bytes_of (take len (written ++ drop (length written) items));
+    })
+    (start words entry arena)
+started words entry n asked arena items written len en ea ei el fits ew =
+    let long : length written ≡ arena = ap length ew ∙ length-laid words arena fits in
+    let over = overwritten items written len (omega arith) (omega arith) ∙ ew in
+    rw (over, en, ea) refl

@@ -1,3 +1,6 @@
 pub mod Laid
+pub mod Numbers
+pub mod Calls
+pub mod Steps
 pub mod Runs
 pub mod Turns

@@ -1,29 +1,18 @@
 -- A machine in the middle of a run: where it stands after i turns, and after one more.
-use Rattle.std.proofs.Common.{◌≡◌, ℕ, ◌+◌, ◌<◌, List, [], ◌∷◌, ◌++◌, Option, Some, None, IfSome, refl, sym, ap, subst, ◌∙◌, arith, append_assoc, append-nil, add-zero, length-append}
+use Rattle.std.proofs.Common.{◌≡◌, ℕ, ◌+◌, ◌<◌, ◌≤◌, List, [], ◌∷◌, ◌++◌, Some, None, refl, sym, ap, subst, ◌∙◌, arith, inl, inr, append_assoc, append-nil, add-zero, length-append}
+use Rattle.std.specs.Prelude.{Option, IfSome, min}
 use Rattle.rv_machine.specs.declared.ending.Ending.{Ending}
-use Rattle.rv_machine.specs.declared.ending.Ending.TheVariants.{Budget}
-use Rattle.rv_machine.specs.State.{Counted}
-use Rattle.rv_machine.specs.Step.{environment_call, step_of}
-use Rattle.rv_machine.specs.Run.{Moment, Ended, run_from, first, turn_of, Gave, StandsAt, CutOff}
-use Rattle.rv_machine.proofs.Runs.{after, run_from-more, run_from-executed, run_from-turn}
-
--- the run goes on after i turns, and this is where the machine and the sink stand
-pub record Through
-    (i : ℕ) (old new : Counted) (told : Option (List ℕ)) (writes : ℕ) (told' : Option (List ℕ)) (writes' : ℕ) : Type 0 where
-  pub goes_on : (run_from i (first old.state)).ending ≡ Budget
-  pub stands : StandsAt (run_from i (first old.state)).at old new told writes told' writes'
+use Rattle.rv_machine.specs.declared.ending.Ending.TheVariants.{Halt, Unhandled, Full, Budget}
+use Rattle.rv_machine.specs.State.{State, Counted, register}
+use Rattle.rv_machine.specs.Step.{Result, environment_call, step_of}
+use Rattle.rv_machine.specs.Run.{Moment, Ended, ends, run_from, first, turn_of, Feeds, Outside, Gave, StandsAt, Tells, CutOff}
+use Rattle.rv_machine.specs.Turn.{Turned, acted}
+use Rattle.rv_machine.proofs.Runs.{after, run_from-more, run_from-turn, run_from-read_more}
 
 gave-nothing : (told : Option (List ℕ)) (writes : ℕ) → IfSome told (λ after. Gave told writes [] after writes)
 gave-nothing None writes = tt
 gave-nothing (Some all) writes =
     record { before = all; was = refl; appended = sym (append-nil all); counted = sym (add-zero writes) }
-
-pub through-begin : (old : Counted) (told : Option (List ℕ)) (writes : ℕ) → Through 0 old old told writes told writes
-unfolding run_from
-through-begin old told writes = record {
-  goes_on = refl;
-  stands = record { state = refl; count = sym (add-zero old.count); given = gave-nothing told writes };
-}
 
 at-some : (P : List ℕ → Type 0) (told : Option (List ℕ)) (x : List ℕ) → told ≡ Some x → IfSome told P → P x
 at-some P None x e h = cc
@@ -43,86 +32,218 @@ gave-then told told' (Some all) writes writes' writes'' xs ys g h =
       counted = let n = length-append xs ys in let a = k.counted in let b = h.counted in omega arith;
     }
 
-pub stands-then :
-    (m k : Moment) (old mid new : Counted) (told told' told'' : Option (List ℕ)) (writes writes' writes'' : ℕ)
-    → StandsAt m old mid told writes told' writes' → StandsAt k mid new told' writes' told'' writes''
-    → StandsAt
-    (record { state = k.state; printed = m.printed ++ k.printed; executed = m.executed + k.executed })
-    old new told writes told'' writes''
-stands-then m k old mid new told told' told'' writes writes' writes'' g h = record {
+stands-then :
+    (m : Moment) (e : Ended) (input : List ℕ) (old mid new : Counted) (o o' o'' : Outside)
+    → StandsAt m input old mid o o' → StandsAt e.at m.input mid new o' o'' → StandsAt (after m e).at input old new o o''
+stands-then m e input old mid new o o' o'' g h = record {
   state = h.state;
   count = let a = g.count in let b = h.count in omega arith;
-  given = gave-then told told' told'' writes writes' writes'' m.printed k.printed g.given h.given;
+  left = λ tells. h.left (g.left tells);
+  given = gave-then o.given o'.given o''.given o.writes o'.writes o''.writes m.printed e.at.printed g.given h.given;
 }
+
+-- Environment calls that end a run.
+
+turned_ends :
+    (r : Result) (ending : Ending) (old new : Counted) (o : Outside) (Same : Type 0) → Same
+    → ((input : List ℕ) → acted r old input ≡ ends ending (first old.state input)) → (ending ≡ Budget → ⊥)
+    → new.state ≡ old.state → new.count ≡ old.count + 1 → Turned r (Some ending) old new o o Same
+turned_ends r ending old new o Same same is no_budget state count = record {
+  tells = λ input fed. (ap (λ (e : Ended). e.ending) (is input), no_budget);
+  stands = λ input fed.
+      subst (λ (e : Ended). StandsAt e.at input old new o o) (sym (is input))
+      (record { state = state; count = count; left = λ tells. tells; given = gave-nothing o.given o.writes });
+  unwritten = λ input fed none. same;
+}
+
+counts :
+    (old mid new : Counted) → mid ≡ old → old.count + 1 < 18446744073709551616
+    → new.count ≡ min (mid.count + 1) 18446744073709551615 → new.count ≡ old.count + 1
+counts old mid new unchanged room rises = let same = ap (λ (c : Counted). c.count) unchanged in omega arith
+
+pub turned_halt :
+    (r : Result) (which code : ℕ) (old mid new : Counted) (o : Outside) (Same : Type 0) → Same → r ≡ environment_call which
+    → which ≡ 0 → mid ≡ old → new.state ≡ mid.state → old.count + 1 < 18446744073709551616
+    → new.count ≡ min (mid.count + 1) 18446744073709551615 → code ≡ register new.state 10
+    → Turned r (Some (Halt code)) old new o o Same
+turned_halt r which code old mid new o Same same e w unchanged state room rises is =
+    let here : new.state ≡ old.state = state ∙ ap (λ (c : Counted). c.state) unchanged in
+    let value : code ≡ register old.state 10 = is ∙ ap (λ (s : State). register s 10) here in
+    turned_ends r (Halt code) old new o Same same (λ input. rw (e, w, value) refl) (λ b. cc) here (counts old mid new unchanged room rises)
+
+pub turned_unhandled :
+    (r : Result) (which class : ℕ) (old mid new : Counted) (o : Outside) (Same : Type 0) → Same → r ≡ environment_call which
+    → which ≡ 3 → mid ≡ old → new.state ≡ mid.state → old.count + 1 < 18446744073709551616
+    → new.count ≡ min (mid.count + 1) 18446744073709551615 → class ≡ register new.state 10
+    → Turned r (Some (Unhandled class)) old new o o Same
+turned_unhandled r which class old mid new o Same same e w unchanged state room rises is =
+    let here : new.state ≡ old.state = state ∙ ap (λ (c : Counted). c.state) unchanged in
+    let value : class ≡ register old.state 10 = is ∙ ap (λ (s : State). register s 10) here in
+    turned_ends r (Unhandled class) old new o Same same (λ input. rw (e, w, value) refl) (λ b. cc) here (counts old mid new unchanged room rises)
+
+pub turned_full :
+    (r : Result) (which asked left : ℕ) (old mid new : Counted) (o : Outside) (Same : Type 0) → Same → r ≡ environment_call which
+    → which ≡ 4 → mid ≡ old → new.state ≡ mid.state → old.count + 1 < 18446744073709551616
+    → new.count ≡ min (mid.count + 1) 18446744073709551615 → asked ≡ register new.state 10
+    → left ≡ register new.state 11 → Turned r (Some (Full asked left)) old new o o Same
+turned_full r which asked left old mid new o Same same e w unchanged state room rises is is' =
+    let here : new.state ≡ old.state = state ∙ ap (λ (c : Counted). c.state) unchanged in
+    let value : asked ≡ register old.state 10 = is ∙ ap (λ (s : State). register s 10) here in
+    let value' : left ≡ register old.state 11 = is' ∙ ap (λ (s : State). register s 11) here in
+    turned_ends r (Full asked left) old new o Same same (λ input. rw (e, w, value, value') refl) (λ b. cc) here (counts old mid new unchanged room rises)
+
+-- In the middle of a run.
+
+-- after i turns the run goes on, and this is where machine, source and sink stand
+pub record Passed (i : ℕ) (input : List ℕ) (old mid : Counted) (o o' : Outside) (Same : Type 0) : Type 0 where
+  pub goes_on : (run_from i (first old.state input)).ending ≡ Budget
+  pub stands : StandsAt (run_from i (first old.state input)).at input old mid o o'
+  pub unwritten : (run_from i (first old.state input)).at.printed ≡ [] → Same
+
+pub passed-begin : (input : List ℕ) (old : Counted) (o : Outside) (Same : Type 0) → Same → Passed 0 input old old o o Same
+unfolding run_from
+passed-begin input old o Same same = record {
+  goes_on = refl;
+  stands = record { state = refl; count = sym (add-zero old.count); left = λ tells. tells; given = gave-nothing o.given o.writes };
+  unwritten = λ none. same;
+}
+
+-- what feeds a run feeds the shorter ones
+pub feeds_shorter :
+    (told : Option (List ℕ)) (input : List ℕ) (j n : ℕ) (m : Moment) → j ≤ n → Feeds told input (run_from n m)
+    → Feeds told input (run_from j m)
+feeds_shorter told input j n m le fed = elim fed [
+  | inl tells ↦ inl tells
+  | inr none ↦ inr (let more = (run_from-read_more j n m le).1 in omega arith)
+]
 
 -- the run of one turn more
-pub through-turn :
-    (i : ℕ) (old mid : Counted) (told told' : Option (List ℕ)) (writes writes' : ℕ)
-    → Through i old mid told writes told' writes'
-    → run_from (i + 1) (first old.state) ≡ after (run_from i (first old.state)).at (turn_of mid.state)
-through-turn i old mid told told' writes writes' t =
-    run_from-turn i (first old.state) t.goes_on
-    ∙ ap (λ s. after (run_from i (first old.state)).at (turn_of s)) (sym t.stands.state)
+passed-turn :
+    (i : ℕ) (input : List ℕ) (old mid : Counted) (o o' : Outside) (Same : Type 0) → Passed i input old mid o o' Same
+    → run_from (i + 1) (first old.state input)
+    ≡ after (run_from i (first old.state input)).at (turn_of mid.state (run_from i (first old.state input)).at.input)
+passed-turn i input old mid o o' Same p =
+    run_from-turn i (first old.state input) p.goes_on
+    ∙ ap (λ s. after (run_from i (first old.state input)).at (turn_of s (run_from i (first old.state input)).at.input)) (sym p.stands.state)
 
-pub stands-more :
-    (i : ℕ) (old mid new : Counted) (told told' told'' : Option (List ℕ)) (writes writes' writes'' : ℕ)
-    → Through i old mid told writes told' writes'
-    → StandsAt (turn_of mid.state).at mid new told' writes' told'' writes''
-    → StandsAt (run_from (i + 1) (first old.state)).at old new told writes told'' writes''
-stands-more i old mid new told told' told'' writes writes' writes'' t h =
-    subst (λ (e : Ended). StandsAt e.at old new told writes told'' writes'')
-    (sym (through-turn i old mid told told' writes writes' t))
-    (stands-then (run_from i (first old.state)).at (turn_of mid.state).at old mid new told told' told'' writes writes' writes'' t.stands h)
+-- get-bytes before a turn, and in it
+pub unread_parts :
+    (i : ℕ) (input : List ℕ) (old mid : Counted) (o o' : Outside) (Same : Type 0) → Passed i input old mid o o' Same
+    → (run_from (i + 1) (first old.state input)).at.gets ≡ 0
+    → (turn_of mid.state (run_from i (first old.state input)).at.input).at.gets ≡ 0
+unread_parts i input old mid o o' Same p none =
+    let turned = ap (λ (e : Ended). e.at.gets) (passed-turn i input old mid o o' Same p) in omega arith
 
-pub through-more :
-    (i : ℕ) (old mid new : Counted) (told told' told'' : Option (List ℕ)) (writes writes' writes'' : ℕ)
-    → Through i old mid told writes told' writes' → (turn_of mid.state).ending ≡ Budget
-    → StandsAt (turn_of mid.state).at mid new told' writes' told'' writes''
-    → Through (i + 1) old new told writes told'' writes''
-through-more i old mid new told told' told'' writes writes' writes'' t e h = record {
-  goes_on = ap (λ (e : Ended). e.ending) (through-turn i old mid told told' writes writes' t) ∙ e;
-  stands = stands-more i old mid new told told' told'' writes writes' writes'' t h;
-}
-
--- a turn that ends the run ends every longer run
-pub through-ends :
-    (i n : ℕ) (old mid : Counted) (told told' : Option (List ℕ)) (writes writes' : ℕ) (ending : Ending) → i < n
-    → Through i old mid told writes told' writes'
-    → (turn_of mid.state).ending ≡ ending → (ending ≡ Budget → ⊥)
-    → run_from n (first old.state) ≡ run_from (i + 1) (first old.state)
-through-ends i n old mid told told' writes writes' ending below t is ends =
-    let turned = through-turn i old mid told told' writes writes' t in
-    run_from-more (i + 1) n (first old.state) (omega arith)
-    (λ goes_on. ends (sym is ∙ (sym (ap (λ (e : Ended). e.ending) turned) ∙ goes_on)))
+-- what feeds the run feeds its next turn
+feeds_turn :
+    (i : ℕ) (input : List ℕ) (old mid : Counted) (o o' : Outside) (Same : Type 0) → Passed i input old mid o o' Same
+    → Feeds o.left input (run_from (i + 1) (first old.state input))
+    → Feeds o'.left (run_from i (first old.state input)).at.input (turn_of mid.state (run_from i (first old.state input)).at.input)
+feeds_turn i input old mid o o' Same p fed = elim fed [
+  | inl tells ↦ inl (p.stands.left tells)
+  | inr none ↦ inr (unread_parts i input old mid o o' Same p none)
+]
 
 append-none : (xs ys : List ℕ) → xs ++ ys ≡ [] → (xs ≡ []) × (ys ≡ [])
 append-none [] ys e = (refl, e)
 append-none (x ∷ xs) ys e = cc
 
--- where nothing was put after one turn more, nothing was put before it and nothing by it
-pub through-quiet :
-    (i : ℕ) (old mid : Counted) (told told' : Option (List ℕ)) (writes writes' : ℕ)
-    → Through i old mid told writes told' writes' → (run_from (i + 1) (first old.state)).at.printed ≡ []
-    → ((run_from i (first old.state)).at.printed ≡ []) × ((turn_of mid.state).at.printed ≡ [])
-through-quiet i old mid told told' writes writes' t e =
-    append-none _ _ (sym (ap (λ (e : Ended). e.at.printed) (through-turn i old mid told told' writes writes' t)) ∙ e)
+-- where everything stands after one turn more
+pub record OneMore (told : Option Ending) (i : ℕ) (input : List ℕ) (old new : Counted) (o o' : Outside) (Same : Type 0) : Type 0 where
+  pub tells : Tells told (run_from (i + 1) (first old.state input))
+  pub stands : StandsAt (run_from (i + 1) (first old.state input)).at input old new o o'
+  pub unwritten : (run_from (i + 1) (first old.state input)).at.printed ≡ [] → Same
 
--- a machine and a sink that have not changed since stand there still
-pub cut_off :
-    (i n : ℕ) (old mid new : Counted) (told told' told'' : Option (List ℕ)) (writes writes' writes'' : ℕ) → i < n
-    → Through i old mid told writes told' writes' → new ≡ mid → told'' ≡ told' → writes'' ≡ writes'
-    → step_of mid.state ≡ environment_call 1 → CutOff n old new told writes told'' writes''
-cut_off i n old mid new told told' told'' writes writes' writes'' below t e f g call = record {
-  turns = i;
-  below = below;
-  goes_on = t.goes_on;
-  stands = rw (e, f, g) t.stands;
-  call = rw e call;
+tells-after : (told : Option Ending) (m : Moment) (e : Ended) → Tells told e → Tells told (after m e)
+tells-after None m e t = t
+tells-after (Some ending) m e t = t
+
+pub one_more :
+    (told : Option Ending) (i : ℕ) (input : List ℕ) (old mid new : Counted) (o o' o'' : Outside) (A B C : Type 0)
+    → (A → B → C) → Passed i input old mid o o' A → Turned (step_of mid.state) told mid new o' o'' B
+    → Feeds o.left input (run_from (i + 1) (first old.state input)) → OneMore told i input old new o o'' C
+one_more told i input old mid new o o' o'' A B C both p t fed =
+    let m : Moment = (run_from i (first old.state input)).at in
+    let e : Ended = turn_of mid.state m.input in
+    let turned : run_from (i + 1) (first old.state input) ≡ after m e = passed-turn i input old mid o o' A p in
+    let fed' : Feeds o'.left m.input e = feeds_turn i input old mid o o' A p fed in
+    record {
+      tells = subst (λ (x : Ended). Tells told x) (sym turned) (tells-after told m e (t.tells m.input fed'));
+      stands = subst (λ (x : Ended). StandsAt x.at input old new o o'') (sym turned) (stands-then m e input old mid new o o' o'' p.stands (t.stands m.input fed'));
+      unwritten = λ none.
+          let parts = append-none m.printed e.at.printed (sym (ap (λ (x : Ended). x.at.printed) turned) ∙ none) in
+          both (p.unwritten parts.0) (t.unwritten m.input fed' parts.1);
+    }
+
+-- the run goes on
+pub passed-more :
+    (i : ℕ) (input : List ℕ) (old mid new : Counted) (o o' o'' : Outside) (A B C : Type 0) → (A → B → C)
+    → Passed i input old mid o o' A → Turned (step_of mid.state) None mid new o' o'' B
+    → Feeds o.left input (run_from (i + 1) (first old.state input)) → Passed (i + 1) input old new o o'' C
+passed-more i input old mid new o o' o'' A B C both p t fed =
+    let more = one_more None i input old mid new o o' o'' A B C both p t fed in
+    record { goes_on = more.tells; stands = more.stands; unwritten = more.unwritten }
+
+-- the run has ended, so every longer run ends there
+pub record Finished (n : ℕ) (input : List ℕ) (ending : Ending) (old new : Counted) (o o' : Outside) (Same : Type 0) : Type 0 where
+  pub ending_is : ending ≡ (run_from n (first old.state input)).ending
+  pub stands : StandsAt (run_from n (first old.state input)).at input old new o o'
+  pub unwritten : (run_from n (first old.state input)).at.printed ≡ [] → Same
+
+pub finished :
+    (i n : ℕ) (input : List ℕ) (ending : Ending) (old mid new : Counted) (o o' o'' : Outside) (A B C : Type 0) → i < n
+    → (A → B → C)
+    → ((fed : Feeds o.left input (run_from i (first old.state input))) → Passed i input old mid o o' A)
+    → Turned (step_of mid.state) (Some ending) mid new o' o'' B → Feeds o.left input (run_from n (first old.state input))
+    → Finished n input ending old new o o'' C
+finished i n input ending old mid new o o' o'' A B C below both passed t fed =
+    let before = feeds_shorter o.left input i n (first old.state input) (omega arith) fed in
+    let with_turn = feeds_shorter o.left input (i + 1) n (first old.state input) (omega arith) fed in
+    let more = one_more (Some ending) i input old mid new o o' o'' A B C both (passed before) t with_turn in
+    let same = run_from-more (i + 1) n (first old.state input) (omega arith) (λ goes_on. more.tells.1 (sym more.tells.0 ∙ goes_on)) in
+    record {
+      ending_is = sym (ap (λ (e : Ended). e.ending) same ∙ more.tells.0);
+      stands = subst (λ (e : Ended). StandsAt e.at input old new o o'') (sym same) more.stands;
+      unwritten = λ none. more.unwritten (sym (ap (λ (e : Ended). e.at.printed) same) ∙ none);
+    }
+
+-- nothing was read in a run that has not read
+pub unread_before :
+    (j n : ℕ) (m : Moment) → j ≤ n → (run_from n m).at.gets ≡ 0 → (run_from j m).at.gets ≡ 0
+unread_before j n m le none = let more = (run_from-read_more j n m le).1 in omega arith
+
+-- a run that goes on to the end of its instructions
+pub finished_budget :
+    (n : ℕ) (input : List ℕ) (old new : Counted) (o o' : Outside) (Same : Type 0) → Passed n input old new o o' Same
+    → Finished n input Budget old new o o' Same
+finished_budget n input old new o o' Same p = record { ending_is = sym p.goes_on; stands = p.stands; unwritten = p.unwritten }
+
+-- a machine that has not changed since stands there still
+stands-still :
+    (m : Moment) (input : List ℕ) (old mid new : Counted) (o o' o'' : Outside) → new ≡ mid
+    → ((all : List ℕ) → o'.left ≡ Some all → o''.left ≡ Some all) → o''.given ≡ o'.given → o''.writes ≡ o'.writes
+    → StandsAt m input old mid o o' → StandsAt m input old new o o''
+stands-still m input old mid new o o' o'' same left given writes s = record {
+  state = rw same s.state;
+  count = rw same s.count;
+  left = λ tells. left m.input (s.left tells);
+  given = rw (given, writes) s.given;
 }
 
--- as many instructions were executed as turns were made
-pub through-count :
-    (i : ℕ) (old new : Counted) (told told' : Option (List ℕ)) (writes writes' : ℕ)
-    → Through i old new told writes told' writes' → new.count ≡ old.count + i
-through-count i old new told told' writes writes' t =
-    let e = run_from-executed i (first old.state) t.goes_on in let c = t.stands.count in omega arith
+pub cut_off :
+    (call i n : ℕ) (old mid new : Counted) (o o' o'' : Outside) (A : Type 0) (Other : Moment → Type 0) → i < n
+    → mid.count ≡ old.count + i
+    → ((input : List ℕ) → Feeds o.left input (run_from i (first old.state input)) → Passed i input old mid o o' A)
+    → new ≡ mid → step_of mid.state ≡ environment_call call
+    → ((all : List ℕ) → o'.left ≡ Some all → o''.left ≡ Some all) → o''.given ≡ o'.given → o''.writes ≡ o'.writes
+    → ((input : List ℕ) → Feeds o.left input (run_from i (first old.state input)) → Other (run_from i (first old.state input)).at)
+    → CutOff call n old new o o'' Other
+cut_off call i n old mid new o o' o'' A Other below counted passed same before left given writes other = record {
+  turns = i;
+  below = below;
+  count = rw same counted;
+  before = rw same before;
+  stands = λ input fed.
+      let p = passed input fed in
+      (p.goes_on, stands-still _ input old mid new o o' o'' same left given writes p.stands, other input fed);
+}

@@ -1,11 +1,16 @@
 -- What the machine holds (RISC-V Unprivileged ISA, 1.2 and 2.1): the address of the next instruction,
--- 32 registers of 32 bits of which number 0 is always 0, and the arena as words, least address first.
-use Rattle.std.specs.Prelude.{ℕ, ◌+◌, ◌-◌, ◌*◌, ◌/◌, ◌%◌, ◌^◌, List, ◌++◌, length, Option, None, replicate, if◌then◌else◌, ◌==◌, slice_get, slice_index, slice_set}
+-- 32 registers of 32 bits of which number 0 is always 0, and the memory.
+use Rattle.std.specs.Prelude.{ℕ, ◌-◌, ◌*◌, ◌/◌, List, ◌++◌, length, replicate, if◌then◌else◌, ◌==◌, slice_index, slice_set}
+use Rattle.rv_machine.specs.Memory.{bytes_of}
 
 pub record State : Type 0 where
   pub pc : ℕ
   pub registers : List ℕ
-  pub arena : List ℕ
+  pub memory : List ℕ
+
+-- how many words the memory has
+abbrev pub arena_words : State → ℕ
+arena_words s = length s.memory / 4
 
 -- a machine: its state, and how many instructions were executed since the image was loaded
 pub record Counted : Type 0 where
@@ -20,19 +25,7 @@ register s r = slice_index s.registers r
 abbrev pub put : ℕ → ℕ → State → State
 put rd value s = record s { registers = if rd == 0 then s.registers else slice_set s.registers rd value }
 
--- a sum of 32 bits
-abbrev pub sum32 : ℕ → ℕ → ℕ
-sum32 a b = (a + b) % 2 ^ 32
-
--- a difference of 32 bits
-abbrev pub difference32 : ℕ → ℕ → ℕ
-difference32 a b = (a + 2 ^ 32 - b) % 2 ^ 32
-
--- the word at an address, where that is aligned and in the arena
-abbrev pub word_at : List ℕ → ℕ → Option ℕ
-word_at arena address = if address % 4 == 0 then slice_get arena (address / 4) else None
-
--- the image's words from address 0, all other words 0
+-- the image's words from address 0 in an arena of so many words, all other words 0
 abbrev pub laid : List ℕ → ℕ → List ℕ
 laid words arena = words ++ replicate (arena - length words) 0
 
@@ -44,5 +37,5 @@ abbrev pub start : List ℕ → ℕ → ℕ → State
 start words entry arena = record {
   pc = entry;
   registers = start_registers (length words) arena;
-  arena = laid words arena;
+  memory = bytes_of (laid words arena);
 }

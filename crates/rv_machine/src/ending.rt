@@ -10,15 +10,15 @@ use thiserror::Error;
 pub enum TrapKind {
     /// The program counter is no multiple of 4, or behind the arena.
     FetchAddress,
-    /// The word is none of the instructions.
+    /// The word is no instruction of RV32IM.
     BadWord,
-    /// A load's address is no multiple of 4, or behind the arena.
+    /// A load's address is no multiple of its size, or not all of it is in the arena.
     LoadAddress,
-    /// A store's address is no multiple of 4, or behind the arena.
+    /// A store's address is no multiple of its size, or not all of it is in the arena.
     StoreAddress,
-    /// Register 17 names no environment call.
+    /// Register 17 is above 4 at an ECALL.
     BadCall,
-    /// Stands for EBREAK; `step` gives `BadWord` there.
+    /// EBREAK.
     Break,
 }
 
@@ -45,7 +45,8 @@ pub enum StepEnd {
     Went,
     /// The instruction is ECALL, with this number in register 17; nothing has changed.
     Call(u32),
-    /// A trap, with the address of its instruction; nothing has changed.
+    /// A trap, with the address of its instruction, or for `FetchAddress` the address that was to be
+    /// fetched; nothing has changed.
     Trap(TrapKind, u32),
 }
 
@@ -54,13 +55,13 @@ pub enum StepEnd {
 pub enum Ending {
     /// The program halted, with this exit code.
     Halt(u32),
-    /// A condition was signalled that no handler took.
+    /// A condition of this class was signalled that no handler took.
     Unhandled(u32),
     /// The program asked for more words than were left.
     Full { asked: u32, left: u32 },
     /// All the instructions of the run were executed.
     Budget,
-    /// A trap, with the address of its instruction.
+    /// A trap, with its address.
     Trap(TrapKind, u32),
     /// The source failed.
     ReadFault,

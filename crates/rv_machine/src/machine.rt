@@ -1,9 +1,14 @@
 // The machine: what it holds, how it is loaded, and what can be seen of it.
 
 ghost use Rattle.std.specs.Prelude.{◌≡◌, ◌+◌, ◌*◌, ◌<◌, ◌≤◌, length, replicate, slice_index, IfOk, IfErr, MatchResult};
-ghost use Rattle.rv_machine.specs.State.{start, laid};
+ghost use Rattle.rv_machine.specs.Memory.{bytes_of};
+ghost use Rattle.rv_machine.specs.State.{arena_words as arena_words_of, start, laid};
 
+mod arithmetic;
+mod control;
+mod memory;
 mod steps;
+mod transfers;
 
 use crate::ending::TooBig;
 use crate::image::Image;
@@ -11,7 +16,7 @@ use isl_base::{NoMemory, WordList};
 use std::alloc::Global;
 use std::marker::Model;
 
-/// A machine of RV32I (RISC-V Unprivileged ISA, 2.1): the address of the next instruction, 32
+/// A machine of RV32IM (RISC-V Unprivileged ISA, 2.1): the address of the next instruction, 32
 /// registers, an arena of 1 to 16,777,216 words, and how many instructions were executed since the
 /// image was loaded.
 #[derive(Drop)]
@@ -24,12 +29,13 @@ pub struct Machine {
 
 impl Model for Machine {
     ghost use Rattle.std.specs.Prelude.{◌≡◌, ◌≤◌, length, slice_index};
+    ghost use Rattle.rv_machine.specs.Memory.{bytes_of};
     ghost use Rattle.rv_machine.specs.State.{Counted};
 
     ghost Value = { Counted };
 
     ghost view = { λ m. record {
-      state = record { pc = m.pc; registers = m.registers; arena = m.arena.items };
+      state = record { pc = m.pc; registers = m.registers; memory = bytes_of m.arena.items };
       count = m.count;
     } };
 
@@ -46,18 +52,16 @@ impl Machine {
         requires bounded { arena_words ≤ 16777216 }
         ensures address { IfOk result (λ m. m.state.pc ≡ 0) }
         ensures registers { IfOk result (λ m. m.state.registers ≡ replicate 32 0) }
-        ensures arena { IfOk result (λ m. m.state.arena ≡ replicate arena_words 0) }
+        ensures memory { IfOk result (λ m. m.state.memory ≡ replicate (4 * arena_words) 0) }
         ensures count { IfOk result (λ m. m.count ≡ 0) }
     {
-        match vec![in alloc; 0; arena_words as usize] {
-            Ok(arena) => Ok(Machine {
-                pc: 0,
-                registers: [0; 32],
-                arena,
-                count: 0,
-            }),
-            Err(_) => Err(NoMemory),
-        }
+        let arena = zeros(alloc, arena_words)?;
+        Ok(Machine {
+            pc: 0,
+            registers: [0; 32],
+            arena,
+            count: 0,
+        })
     }
 
     /// Places the image: its words from address 0 on and 0 behind them, the program counter at its
@@ -65,19 +69,19 @@ impl Machine {
     /// `TooBig` exactly where the image has more words than the arena; the machine is then
     /// unchanged. Takes no memory.
     pub fn load(&mut self, image: &Image) -> Result<(), TooBig>
-        ensures loaded { let arena = length self.old.state.arena in
+        ensures loaded { let arena = arena_words_of self.old.state in
             MatchResult result
             (λ _. self.new.state ≡ start image.now.words image.now.entry arena)
             (λ _. self.new ≡ self.old) }
         ensures count { IfOk result (λ _. self.new.count ≡ 0) }
         ensures fits { MatchResult result
-            (λ _. length image.now.words ≤ length self.old.state.arena)
-            (λ _. length self.old.state.arena < length image.now.words) }
+            (λ _. length image.now.words ≤ arena_words_of self.old.state)
+            (λ _. arena_words_of self.old.state < length image.now.words) }
         ensures asked { IfErr result (λ e. e.asked ≡ length image.now.words) }
-        ensures left { IfErr result (λ e. e.left ≡ length self.old.state.arena) }
+        ensures left { IfErr result (λ e. e.left ≡ arena_words_of self.old.state) }
     {
         let asked = image.words();
-        let left = self.arena.len() as u32;
+        let left = self.arena().len() as u32;
         if left < asked {
             return Err(TooBig { asked, left });
         }
@@ -106,11 +110,13 @@ impl Machine {
         self.registers[at as usize]
     }
 
-    /// The arena's words, least address first: 1 to 16,777,216.
+    /// The arena's words, least address first: 1 to 16,777,216. Their bytes, least first, are the
+    /// memory.
     pub fn arena(&self) -> &[u32]
-        ensures exact { result.now ≡ self.now.state.arena }
-        ensures some { 1 ≤ length self.now.state.arena }
-        ensures bounded { length self.now.state.arena ≤ 16777216 }
+        ensures exact { bytes_of result.now ≡ self.now.state.memory }
+        ensures words { length result.now ≡ arena_words_of self.now.state }
+        ensures some { 1 ≤ length result.now }
+        ensures bounded { length result.now ≤ 16777216 }
     {
         self.arena.as_slice()
     }
@@ -121,6 +127,16 @@ impl Machine {
         ensures { result ≡ self.now.count }
     {
         self.count
+    }
+}
+
+// That many words of 0.
+fn zeros(alloc: Global, words: u32) -> Result<Vec<u32>, NoMemory>
+    ensures { IfOk result (λ zeros. zeros.items ≡ replicate words 0) }
+{
+    match vec![in alloc; 0; words as usize] {
+        Ok(zeros) => Ok(zeros),
+        Err(_) => Err(NoMemory),
     }
 }
 

@@ -1,94 +1,63 @@
 // A run of the machine: steps, and the environment calls between them.
 
-ghost use Rattle.std.specs.Prelude.{◌≡◌, ◌≢◌, ◌+◌, ◌<◌, ◌≤◌, ◌^◌, [], ◌∷◌, IfOk, IfSome, OnOk, OnErr, MatchResult};
+ghost use Rattle.std.specs.Prelude.{◌≡◌, ◌≢◌, ℕ, ◌+◌, ◌<◌, ◌≤◌, ◌^◌, List, [], Some, IfSome};
 ghost use Rattle.isl_base.specs.Outside.{Rose};
-ghost use Rattle.rv_machine.specs.Step.{environment_call, step_of};
-ghost use Rattle.rv_machine.specs.Run.{CutOff, Gave, IsOfRun, StandsAt, Tells, first, run_from, turn_of};
+ghost use Rattle.rv_machine.specs.Run.{CutOff, Feeds, IsNoFault, StandsAt, first, outside, run_from};
 
-use crate::ending::{Ending, StepEnd, TrapKind};
+use crate::ending::Ending;
 use crate::machine::Machine;
-use isl_base::{Failed, Sink, Source};
+use isl_base::{Sink, Source};
 
 impl Machine {
-    /// Executes at most `n` instructions. Environment call 1 gives the sink the low byte of
-    /// register 10, by a write of its own, and goes on behind the call; call 0 halts with register
-    /// 10. No call reads from the source. After `WriteFault` the machine stands before the call
-    /// whose byte the sink did not take.
+    /// Executes at most `n` instructions. Of the environment calls, in register 17, 0 halts with
+    /// register 10; 1 gives the sink the low byte of register 10, by a write of its own, and 2 reads
+    /// one byte of the source into register 10, all ones at its end, and both go on behind the call;
+    /// 3 is a condition of class register 10 that no handler took; 4 says that register 10 words were
+    /// asked for and register 11 are left. The call that ends a run is one of the `n`. After
+    /// `ReadFault`, only at a get-byte where the source's count of faults rose, and `WriteFault`, only
+    /// at a put-byte where the sink's rose, the machine stands before that call.
+    ///
+    /// All is told for each `input` that the source tells, and for each where the run reads nothing.
     pub fn run<S: Source, K: Sink>(&mut self, n: u64, source: &mut S, sink: &mut K) -> Ending
         requires { self.old.count + n < 2 ^ 64 }
-        ensures ending { result ≢ Ending.WriteFault →
-            result ≡ (run_from n (first self.old.state)).ending }
-        ensures stands { result ≢ Ending.WriteFault →
-            StandsAt (run_from n (first self.old.state)).at self.old self.new
-            (K.given sink.old) (K.writes sink.old) (K.given sink.new) (K.writes sink.new) }
-        ensures quiet { result ≢ Ending.WriteFault →
-            (run_from n (first self.old.state)).at.printed ≡ [] → sink.new ≡ sink.old }
+        ensures ending { IsNoFault result → (input : List ℕ) →
+            Feeds (S.left source.old) input (run_from n (first self.old.state input)) →
+            result ≡ (run_from n (first self.old.state input)).ending }
+        ensures stands { IsNoFault result → (input : List ℕ) →
+            Feeds (S.left source.old) input (run_from n (first self.old.state input)) →
+            StandsAt (run_from n (first self.old.state input)).at input self.old self.new
+            (outside (S.left source.old) (K.given sink.old) (K.writes sink.old))
+            (outside (S.left source.new) (K.given sink.new) (K.writes sink.new)) }
+        ensures no_write { IsNoFault result → (input : List ℕ) →
+            Feeds (S.left source.old) input (run_from n (first self.old.state input)) →
+            (run_from n (first self.old.state input)).at.printed ≡ [] → sink.new ≡ sink.old }
+        ensures no_read { IsNoFault result → (input : List ℕ) →
+            (run_from n (first self.old.state input)).at.gets ≡ 0 → source.new ≡ source.old }
 
-        ensures fault { result ≡ Ending.WriteFault →
-            CutOff n self.old self.new
-            (K.given sink.old) (K.writes sink.old) (K.given sink.new) (K.writes sink.new) }
-        ensures rose { result ≡ Ending.WriteFault → Rose (K.faults sink.old) (K.faults sink.new) }
-        ensures faults { K.faults sink.old ≤ K.faults sink.new }
+        ensures read_fault { result ≡ Ending.ReadFault → CutOff 2 n self.old self.new
+            (outside (S.left source.old) (K.given sink.old) (K.writes sink.old))
+            (outside (S.left source.new) (K.given sink.new) (K.writes sink.new))
+            (λ m. m.printed ≡ [] → sink.new ≡ sink.old) }
+        ensures source_rose { result ≡ Ending.ReadFault →
+            Rose (S.faults source.old) (S.faults source.new) }
+        ensures write_fault { result ≡ Ending.WriteFault → CutOff 1 n self.old self.new
+            (outside (S.left source.old) (K.given sink.old) (K.writes sink.old))
+            (outside (S.left source.new) (K.given sink.new) (K.writes sink.new))
+            (λ m. m.gets ≡ 0 → source.new ≡ source.old) }
+        ensures sink_rose { result ≡ Ending.WriteFault →
+            Rose (K.faults sink.old) (K.faults sink.new) }
 
-        ensures only { IsOfRun result }
-        ensures source { source.new ≡ source.old }
+        ensures count { (self.old.count ≤ self.new.count) × (self.new.count ≤ self.old.count + n) }
+        ensures budget { result ≡ Ending.Budget → self.new.count ≡ self.old.count + n }
+        ensures source_faults { S.faults source.old ≤ S.faults source.new }
+        ensures sink_faults { K.faults sink.old ≤ K.faults sink.new }
     {
-        let _ = source;
         for _turn in 0..n {
-            match self.turn(sink) {
-                Ok(None) => {}
-                Ok(Some(ending)) => return ending,
-                Err(Failed) => return Ending::WriteFault,
+            match self.turn(source, sink) {
+                None => {}
+                Some(ending) => return ending,
             }
         }
         Ending::Budget
     }
-
-    // One instruction, with its environment call: none where the run goes on. After `Failed` the
-    // machine stands before the call that was to put a byte.
-    fn turn<K: Sink>(&mut self, sink: &mut K) -> Result<Option<Ending>, Failed>
-        requires { self.old.count + 1 < 2 ^ 64 }
-        ensures tells { IfOk result (λ told. Tells told (turn_of self.old.state)) }
-        ensures stands { IfOk result (λ _.
-            StandsAt (turn_of self.old.state).at self.old self.new
-            (K.given sink.old) (K.writes sink.old) (K.given sink.new) (K.writes sink.new)) }
-        ensures quiet { IfOk result (λ _.
-            (turn_of self.old.state).at.printed ≡ [] → sink.new ≡ sink.old) }
-        ensures only { IfOk result (λ told. IfSome told IsOfRun) }
-
-        ensures call { OnErr result (step_of self.old.state ≡ environment_call 1) }
-        ensures machine { OnErr result (self.new ≡ self.old) }
-        ensures given { OnErr result (K.given sink.new ≡ K.given sink.old) }
-        ensures writes { OnErr result (K.writes sink.new ≡ K.writes sink.old) }
-        ensures rose { OnErr result (Rose (K.faults sink.old) (K.faults sink.new)) }
-        ensures faults { K.faults sink.old ≤ K.faults sink.new }
-    {
-        match self.step() {
-            StepEnd::Went => Ok(None),
-            StepEnd::Trap(kind, address) => Ok(Some(Ending::Trap(kind, address))),
-            StepEnd::Call(0) => {
-                self.count_one();
-                Ok(Some(Ending::Halt(self.register(10))))
-            }
-            StepEnd::Call(1) => {
-                put_byte(sink, (self.register(10) % 256) as u8)?;
-                self.go_behind();
-                Ok(None)
-            }
-            StepEnd::Call(_) => Ok(Some(Ending::Trap(TrapKind::BadCall, self.pc()))),
-        }
-    }
-}
-
-// Gives the sink one byte, by one write.
-fn put_byte<K: Sink>(sink: &mut K, byte: u8) -> Result<(), Failed>
-    ensures put { OnOk result (IfSome (K.given sink.new) (λ after.
-        Gave (K.given sink.old) (K.writes sink.old) (byte ∷ []) after (K.writes sink.new))) }
-    ensures given { OnErr result (K.given sink.new ≡ K.given sink.old) }
-    ensures writes { OnErr result (K.writes sink.new ≡ K.writes sink.old) }
-    ensures rose { OnErr result (Rose (K.faults sink.old) (K.faults sink.new)) }
-    ensures faults { K.faults sink.old ≤ K.faults sink.new }
-{
-    sink.write(&[byte])?;
-    Ok(())
 }

@@ -1,7 +1,8 @@
 // The words of literals.
 
 ghost use Rattle.std.specs.Prelude.{◌≡◌, slice_get};
-ghost use Rattle.isl_top.specs.Code.{integer_word, kind_word, kind_byte, row_word, row_byte};
+ghost use Rattle.isl_base.specs.DataView.{view_content};
+ghost use Rattle.isl_top.specs.Code.{integer_word, content_word, content_byte, row_word, row_byte};
 
 use crate::emit::instructions::{NIL_WORD, T_WORD};
 use isl_base::Kind;
@@ -14,25 +15,30 @@ fn integer_word(n: i32) -> u32
     n.cast_unsigned().wrapping_mul(4)
 }
 
-// The word of a datum.
-fn kind_word(kind: Kind) -> u32
-    ensures { result ≡ kind_word kind }
+// The word of a datum; that of nil where no program of the first path has such a literal.
+fn kind_word(kind: &Kind) -> u32
+    ensures { result ≡ content_word (view_content kind.now) }
 {
     match kind {
-        Kind::Int(n) => integer_word(n),
-        Kind::Char(c) => u32::from(c) * 8 + 7,
+        Kind::Int(n) => integer_word(*n),
+        Kind::Char(c) => u32::from(*c) * 8 + 7,
         Kind::Sym(_) => T_WORD,
-        Kind::Nil => NIL_WORD,
+        Kind::Str(_) | Kind::Vector(_) | Kind::Nil | Kind::List { .. } => NIL_WORD,
     }
 }
 
 // The byte of a datum that is a character, else 0.
-fn kind_byte(kind: Kind) -> u32
-    ensures { result ≡ kind_byte kind }
+fn kind_byte(kind: &Kind) -> u32
+    ensures { result ≡ content_byte (view_content kind.now) }
 {
     match kind {
-        Kind::Char(c) => u32::from(c),
-        Kind::Int(_) | Kind::Sym(_) | Kind::Nil => 0,
+        Kind::Char(c) => u32::from(*c),
+        Kind::Int(_)
+        | Kind::Sym(_)
+        | Kind::Str(_)
+        | Kind::Vector(_)
+        | Kind::Nil
+        | Kind::List { .. } => 0,
     }
 }
 
@@ -41,8 +47,8 @@ pub(crate) fn row_word(literals: &LiteralRows, id: LiteralId) -> u32
     ensures { result ≡ row_word (slice_get literals.now id) }
 {
     match literals.get(id) {
-        Some(LiteralRow::Datum(datum)) => kind_word(datum.kind),
-        None => NIL_WORD,
+        Some(LiteralRow::Datum(datum)) => kind_word(&datum.kind),
+        Some(LiteralRow::Class(_) | LiteralRow::Function(_)) | None => NIL_WORD,
     }
 }
 
@@ -51,7 +57,7 @@ pub(crate) fn row_byte(literals: &LiteralRows, id: LiteralId) -> u32
     ensures { result ≡ row_byte (slice_get literals.now id) }
 {
     match literals.get(id) {
-        Some(LiteralRow::Datum(datum)) => kind_byte(datum.kind),
-        None => 0,
+        Some(LiteralRow::Datum(datum)) => kind_byte(&datum.kind),
+        Some(LiteralRow::Class(_) | LiteralRow::Function(_)) | None => 0,
     }
 }

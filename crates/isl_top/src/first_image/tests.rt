@@ -1,12 +1,16 @@
 // The program `(progn (format-char (standard-output) #\y))`, built by hand, compiled and run.
 
 ghost use Rattle.std.specs.Prelude.{◌≡◌, [], ◌∷◌, IfOk};
+ghost use Rattle.isl_base.specs.Data.{item, character};
 ghost use Rattle.isl_meaning.specs.Form.{literal, sequence, prim, sited, no_form, form_and};
-ghost use Rattle.isl_top.specs.Shapes.{IsFirstPath};
+ghost use Rattle.isl_top.specs.Shapes.{IsFirstPath, program_of_parts};
 
 use crate::first_image::first_build;
 use isl_base::{Bytes, Datum, ItemList, Kind, NoMemory, Place, PlaceList, SureSink, SureSource};
-use isl_meaning::{Core, CoreList, LiteralRow, LiteralRows, Primitive, Program};
+use isl_meaning::{
+    ClassRows, Core, CoreList, FunctionRows, GenericRows, LiteralRow, LiteralRows, Primitive,
+    ProcedureList, Program,
+};
 use rv_machine::{Ending, Machine};
 use std::alloc::Global;
 use std::test::Fail;
@@ -32,7 +36,7 @@ fn put(alloc: Global) -> Result<Core, NoMemory>
 
 fn literals(alloc: Global) -> Result<LiteralRows, NoMemory>
     ensures { IfOk result (λ rows. rows ≡ LiteralRow.Datum
-        (record { place = record { line = 1; column = 39 }; kind = Kind.Char 121 }) ∷ []) }
+        (item (record { line = 1; column = 39 }) (character 121)) ∷ []) }
 {
     let place = Place {
         line: 1,
@@ -69,17 +73,28 @@ fn sites(alloc: Global) -> Result<PlaceList, NoMemory>
     Ok(places)
 }
 
+// A program of these alone.
+fn of_parts(alloc: Global, literals: LiteralRows, main: CoreList, sites: PlaceList) -> Program
+    ensures { result ≡ program_of_parts literals main sites }
+{
+    Program {
+        literals,
+        procedures: ProcedureList::new(alloc),
+        classes: ClassRows::new(alloc),
+        generics: GenericRows::new(alloc),
+        functions: FunctionRows::new(alloc),
+        main,
+        sites,
+    }
+}
+
 fn puts_y(alloc: Global) -> Result<Program, NoMemory>
     ensures { IfOk result IsFirstPath }
 {
     let literals = literals(alloc)?;
     let main = main_forms(alloc)?;
     let sites = sites(alloc)?;
-    Ok(Program {
-        literals,
-        main,
-        sites,
-    })
+    Ok(of_parts(alloc, literals, main, sites))
 }
 
 #[test]

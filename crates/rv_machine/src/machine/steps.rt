@@ -1,216 +1,257 @@
 // One step: the word at the program counter, its instruction, and what that does.
 
-ghost use Rattle.std.specs.Prelude.{◌≡◌, ◌+◌, ◌<◌, min};
-ghost use Rattle.rv_machine.specs.State.{put as put_of, register, word_at as word_at_of};
-ghost use Rattle.rv_machine.specs.Step.{NamesRegisters, Does, Steps, behind, go_to as go_to_of, gives as gives_of, branch as branch_of, link as link_of, load as load_of, store as store_of, call as call_of, execute as execute_of, less_signed};
+ghost use Rattle.std.specs.Prelude.{◌≡◌, ℕ, ◌<◌, option_map};
+ghost use Rattle.rv_machine.specs.Arithmetic.{sign_extended};
+ghost use Rattle.rv_machine.specs.Memory.{number_at};
+ghost use Rattle.rv_machine.specs.Step.{Does, Result as AnyResult, Step, Steps, address as address_of, execute as execute_of};
 
 use super::Machine;
+use super::arithmetic::{
+    even, extended8, extended12, extended16, extended21, high_mixed, high_signed, high_unsigned,
+    is_less_signed, one_if_less, one_if_less_signed, quotient, quotient_signed, remainder,
+    remainder_signed, shift_left, shift_right, shift_right_signed,
+};
+use super::memory::{byte_at, half_at, word_at};
 use crate::ending::{StepEnd, TrapKind};
-use crate::instruction::{Instruction, decode};
+use rv_encode::{Immediate12, Instr, Register, decode};
 
 impl Machine {
-    /// Executes the instruction at the program counter (RISC-V Unprivileged ISA, 2.4 to 2.8), and
-    /// counts it. An ECALL is left to the caller, and nothing is changed by it nor by a trap.
+    /// Executes the instruction at the program counter (RISC-V Unprivileged ISA, 2.4 to 2.8, and the
+    /// M extension), and counts it. An ECALL with a call from 0 to 4 in register 17 is left to the
+    /// caller, and nothing is changed by it nor by a trap.
     #[tactic(auto, unfolding(crate::specs::Step::step_of))]
     pub fn step(&mut self) -> StepEnd
-        ensures { Steps self.old result self.new }
+        ensures exact { Steps self.old result self.new }
+        ensures call { (which : ℕ) → result ≡ StepEnd.Call which → which < 5 }
+        ensures row { (r : AnyResult) × Step self.old.state r × Does r self.old result self.new }
     {
-        let Some(word) = word_at(&self.arena, self.pc) else {
-            return StepEnd::Trap(TrapKind::FetchAddress, self.pc);
+        let Some(word) = word_at(self.arena(), self.pc()) else {
+            return StepEnd::Trap(TrapKind::FetchAddress, self.pc());
         };
         match decode(word) {
-            None => StepEnd::Trap(TrapKind::BadWord, self.pc),
+            None => StepEnd::Trap(TrapKind::BadWord, self.pc()),
             Some(instruction) => self.execute(instruction),
         }
     }
 
-    fn execute(&mut self, instruction: Instruction) -> StepEnd
-        requires { NamesRegisters instruction }
+    // One row an instruction.
+    fn execute(&mut self, instruction: Instr) -> StepEnd
         ensures { Does (execute_of instruction self.old.state) self.old result self.new }
     {
         match instruction {
-            Instruction::Lui { rd, immediate } => self.gives(rd, immediate),
-            Instruction::Addi { rd, rs1, immediate } => {
-                let sum = self.register(rs1).wrapping_add(immediate);
-                self.gives(rd, sum)
+            Instr::Lui { rd, immediate } => self.gives(rd, immediate.value() * 4096),
+            Instr::Auipc { rd, immediate } => {
+                let value = self.pc().wrapping_add(immediate.value() * 4096);
+                self.gives(rd, value)
             }
-            Instruction::Add { rd, rs1, rs2 } => {
-                let sum = self.register(rs1).wrapping_add(self.register(rs2));
-                self.gives(rd, sum)
-            }
-            Instruction::Sub { rd, rs1, rs2 } => {
-                let difference = self.register(rs1).wrapping_sub(self.register(rs2));
-                self.gives(rd, difference)
-            }
-            Instruction::Slt { rd, rs1, rs2 } => {
-                let less = self.is_less(rs1, rs2);
-                self.gives(rd, if less { 1 } else { 0 })
-            }
-            Instruction::Beq { rs1, rs2, offset } => {
-                let taken = self.register(rs1) == self.register(rs2);
-                self.branch(taken, offset)
-            }
-            Instruction::Bne { rs1, rs2, offset } => {
-                let taken = self.register(rs1) != self.register(rs2);
-                self.branch(taken, offset)
-            }
-            Instruction::Blt { rs1, rs2, offset } => {
-                let taken = self.is_less(rs1, rs2);
-                self.branch(taken, offset)
-            }
-            Instruction::Bge { rs1, rs2, offset } => {
-                let taken = !self.is_less(rs1, rs2);
-                self.branch(taken, offset)
-            }
-            Instruction::Jal { rd, offset } => {
-                let target = self.pc().wrapping_add(offset);
+            Instr::Jal { rd, offset } => {
+                let target = self.pc().wrapping_add(extended21(offset));
                 self.link(rd, target)
             }
-            Instruction::Jalr { rd, rs1, immediate } => {
-                let target = self.register(rs1).wrapping_add(immediate);
-                self.link(rd, target - target % 2)
+            Instr::Jalr { rd, rs1, offset } => {
+                let target = even(self.address(rs1, offset));
+                self.link(rd, target)
             }
-            Instruction::Lw { rd, rs1, immediate } => {
-                let address = self.register(rs1).wrapping_add(immediate);
-                self.load_word(rd, address)
+            Instr::Beq { rs1, rs2, offset } => {
+                let taken = self.read(rs1) == self.read(rs2);
+                self.branch(taken, offset)
             }
-            Instruction::Sw {
-                rs2,
-                rs1,
-                immediate,
-            } => {
-                let address = self.register(rs1).wrapping_add(immediate);
-                let value = self.register(rs2);
+            Instr::Bne { rs1, rs2, offset } => {
+                let taken = self.read(rs1) != self.read(rs2);
+                self.branch(taken, offset)
+            }
+            Instr::Blt { rs1, rs2, offset } => {
+                let taken = is_less_signed(self.read(rs1), self.read(rs2));
+                self.branch(taken, offset)
+            }
+            Instr::Bge { rs1, rs2, offset } => {
+                let taken = !is_less_signed(self.read(rs1), self.read(rs2));
+                self.branch(taken, offset)
+            }
+            Instr::Bltu { rs1, rs2, offset } => {
+                let taken = self.read(rs1) < self.read(rs2);
+                self.branch(taken, offset)
+            }
+            Instr::Bgeu { rs1, rs2, offset } => {
+                let taken = self.read(rs1) >= self.read(rs2);
+                self.branch(taken, offset)
+            }
+            Instr::Lb { rd, rs1, offset } => {
+                let found = self.signed_byte_at(self.address(rs1, offset));
+                self.load_found(rd, found)
+            }
+            Instr::Lh { rd, rs1, offset } => {
+                let found = self.signed_half_at(self.address(rs1, offset));
+                self.load_found(rd, found)
+            }
+            Instr::Lw { rd, rs1, offset } => {
+                let found = word_at(self.arena(), self.address(rs1, offset));
+                self.load_found(rd, found)
+            }
+            Instr::Lbu { rd, rs1, offset } => {
+                let found = byte_at(self.arena(), self.address(rs1, offset));
+                self.load_found(rd, found)
+            }
+            Instr::Lhu { rd, rs1, offset } => {
+                let found = half_at(self.arena(), self.address(rs1, offset));
+                self.load_found(rd, found)
+            }
+            Instr::Sb { rs2, rs1, offset } => {
+                let address = self.address(rs1, offset);
+                let value = self.read(rs2);
+                self.store_byte(address, value)
+            }
+            Instr::Sh { rs2, rs1, offset } => {
+                let address = self.address(rs1, offset);
+                let value = self.read(rs2);
+                self.store_half(address, value)
+            }
+            Instr::Sw { rs2, rs1, offset } => {
+                let address = self.address(rs1, offset);
+                let value = self.read(rs2);
                 self.store_word(address, value)
             }
-            Instruction::Ecall => self.call(),
-        }
-    }
-
-    // Whether one register is less than another as numbers in two's complement.
-    fn is_less(&self, rs1: u32, rs2: u32) -> bool
-        requires first { rs1 < 32 }
-        requires second { rs2 < 32 }
-        ensures { result ≡ less_signed (register self.now.state rs1) (register self.now.state rs2) }
-    {
-        self.register(rs1).cast_signed() < self.register(rs2).cast_signed()
-    }
-
-    // A result in a register, and on with the next instruction.
-    fn gives(&mut self, rd: u32, value: u32) -> StepEnd
-        requires { rd < 32 }
-        ensures { Does (gives_of rd value self.old.state) self.old result self.new }
-    {
-        self.put(rd, value);
-        self.go_behind();
-        StepEnd::Went
-    }
-
-    fn branch(&mut self, taken: bool, offset: u32) -> StepEnd
-        ensures { Does (branch_of taken offset self.old.state) self.old result self.new }
-    {
-        if taken {
-            let target = self.pc().wrapping_add(offset);
-            self.go_to(target);
-        } else {
-            self.go_behind();
-        }
-        StepEnd::Went
-    }
-
-    // The address of the next instruction in a register, and on at the target.
-    fn link(&mut self, rd: u32, target: u32) -> StepEnd
-        requires { rd < 32 }
-        ensures { Does (link_of rd target self.old.state) self.old result self.new }
-    {
-        let next = self.pc().wrapping_add(4);
-        self.put(rd, next);
-        self.go_to(target);
-        StepEnd::Went
-    }
-
-    fn load_word(&mut self, rd: u32, address: u32) -> StepEnd
-        requires { rd < 32 }
-        ensures { let word = word_at_of self.old.state.arena address in
-            Does (load_of rd word self.old.state) self.old result self.new }
-    {
-        match word_at(self.arena(), address) {
-            Some(word) => self.gives(rd, word),
-            None => StepEnd::Trap(TrapKind::LoadAddress, self.pc()),
-        }
-    }
-
-    fn store_word(&mut self, address: u32, value: u32) -> StepEnd
-        ensures { let word = word_at_of self.old.state.arena address in
-            Does (store_of address value word self.old.state) self.old result self.new }
-    {
-        match word_at(self.arena(), address) {
-            Some(_) => {
-                self.arena[(address / 4) as usize] = value;
+            Instr::Addi { rd, rs1, immediate } => {
+                let value = self.read(rs1).wrapping_add(extended12(immediate));
+                self.gives(rd, value)
+            }
+            Instr::Slti { rd, rs1, immediate } => {
+                let value = one_if_less_signed(self.read(rs1), extended12(immediate));
+                self.gives(rd, value)
+            }
+            Instr::Sltiu { rd, rs1, immediate } => {
+                let value = one_if_less(self.read(rs1), extended12(immediate));
+                self.gives(rd, value)
+            }
+            Instr::Xori { rd, rs1, immediate } => {
+                let value = self.read(rs1) ^ extended12(immediate);
+                self.gives(rd, value)
+            }
+            Instr::Ori { rd, rs1, immediate } => {
+                let value = self.read(rs1) | extended12(immediate);
+                self.gives(rd, value)
+            }
+            Instr::Andi { rd, rs1, immediate } => {
+                let value = self.read(rs1) & extended12(immediate);
+                self.gives(rd, value)
+            }
+            Instr::Slli { rd, rs1, shift } => {
+                let value = shift_left(self.read(rs1), shift.value());
+                self.gives(rd, value)
+            }
+            Instr::Srli { rd, rs1, shift } => {
+                let value = shift_right(self.read(rs1), shift.value());
+                self.gives(rd, value)
+            }
+            Instr::Srai { rd, rs1, shift } => {
+                let value = shift_right_signed(self.read(rs1), shift.value());
+                self.gives(rd, value)
+            }
+            Instr::Add { rd, rs1, rs2 } => {
+                let value = self.read(rs1).wrapping_add(self.read(rs2));
+                self.gives(rd, value)
+            }
+            Instr::Sub { rd, rs1, rs2 } => {
+                let value = self.read(rs1).wrapping_sub(self.read(rs2));
+                self.gives(rd, value)
+            }
+            Instr::Sll { rd, rs1, rs2 } => {
+                let value = shift_left(self.read(rs1), self.read(rs2));
+                self.gives(rd, value)
+            }
+            Instr::Slt { rd, rs1, rs2 } => {
+                let value = one_if_less_signed(self.read(rs1), self.read(rs2));
+                self.gives(rd, value)
+            }
+            Instr::Sltu { rd, rs1, rs2 } => {
+                let value = one_if_less(self.read(rs1), self.read(rs2));
+                self.gives(rd, value)
+            }
+            Instr::Xor { rd, rs1, rs2 } => {
+                let value = self.read(rs1) ^ self.read(rs2);
+                self.gives(rd, value)
+            }
+            Instr::Srl { rd, rs1, rs2 } => {
+                let value = shift_right(self.read(rs1), self.read(rs2));
+                self.gives(rd, value)
+            }
+            Instr::Sra { rd, rs1, rs2 } => {
+                let value = shift_right_signed(self.read(rs1), self.read(rs2));
+                self.gives(rd, value)
+            }
+            Instr::Or { rd, rs1, rs2 } => {
+                let value = self.read(rs1) | self.read(rs2);
+                self.gives(rd, value)
+            }
+            Instr::And { rd, rs1, rs2 } => {
+                let value = self.read(rs1) & self.read(rs2);
+                self.gives(rd, value)
+            }
+            Instr::Mul { rd, rs1, rs2 } => {
+                let value = self.read(rs1).wrapping_mul(self.read(rs2));
+                self.gives(rd, value)
+            }
+            Instr::Mulh { rd, rs1, rs2 } => {
+                let value = high_signed(self.read(rs1), self.read(rs2));
+                self.gives(rd, value)
+            }
+            Instr::Mulhsu { rd, rs1, rs2 } => {
+                let value = high_mixed(self.read(rs1), self.read(rs2));
+                self.gives(rd, value)
+            }
+            Instr::Mulhu { rd, rs1, rs2 } => {
+                let value = high_unsigned(self.read(rs1), self.read(rs2));
+                self.gives(rd, value)
+            }
+            Instr::Div { rd, rs1, rs2 } => {
+                let value = quotient_signed(self.read(rs1), self.read(rs2));
+                self.gives(rd, value)
+            }
+            Instr::Divu { rd, rs1, rs2 } => {
+                let value = quotient(self.read(rs1), self.read(rs2));
+                self.gives(rd, value)
+            }
+            Instr::Rem { rd, rs1, rs2 } => {
+                let value = remainder_signed(self.read(rs1), self.read(rs2));
+                self.gives(rd, value)
+            }
+            Instr::Remu { rd, rs1, rs2 } => {
+                let value = remainder(self.read(rs1), self.read(rs2));
+                self.gives(rd, value)
+            }
+            Instr::Fence { .. } => {
                 self.go_behind();
                 StepEnd::Went
             }
-            None => StepEnd::Trap(TrapKind::StoreAddress, self.pc()),
+            Instr::Ecall => self.call(),
+            Instr::Ebreak => StepEnd::Trap(TrapKind::Break, self.pc()),
         }
     }
 
-    // An environment call is left to the caller of `step`.
-    fn call(&self) -> StepEnd
-        ensures { let which = register self.now.state 17 in
-            Does (call_of which self.now.state) self.now result self.now }
+    // A register and a signed offset.
+    fn address(&self, rs1: Register, offset: Immediate12) -> u32
+        ensures { result ≡ address_of rs1 offset self.now.state }
     {
-        let which = self.register(17);
-        if which < 2 {
-            StepEnd::Call(which)
-        } else {
-            StepEnd::Trap(TrapKind::BadCall, self.pc())
+        self.read(rs1).wrapping_add(extended12(offset))
+    }
+
+    // The byte at an address with its highest bit repeated.
+    fn signed_byte_at(&self, address: u32) -> Option<u32>
+        ensures { result ≡ option_map (sign_extended 8) (number_at 1 address self.now.state.memory) }
+    {
+        match byte_at(self.arena(), address) {
+            Some(byte) => Some(extended8(byte)),
+            None => None,
         }
     }
 
-    // A register written; register 0 stays 0.
-    fn put(&mut self, rd: u32, value: u32)
-        requires { rd < 32 }
-        ensures { self.new ≡ record self.old { state = put_of rd value self.old.state } }
+    // The half at an address with its highest bit repeated.
+    fn signed_half_at(&self, address: u32) -> Option<u32>
+        ensures { result ≡ option_map (sign_extended 16) (number_at 2 address self.now.state.memory) }
     {
-        if rd != 0 {
-            self.registers[rd as usize] = value;
+        match half_at(self.arena(), address) {
+            Some(half) => Some(extended16(half)),
+            None => None,
         }
-    }
-
-    // Passes on to the next instruction, and counts the one executed.
-    pub(crate) fn go_behind(&mut self)
-        ensures state { self.new.state ≡ behind self.old.state }
-        ensures count { self.new.count ≡ min (self.old.count + 1) 18446744073709551615 }
-    {
-        let next = self.pc().wrapping_add(4);
-        self.go_to(next);
-    }
-
-    // Passes on to an address, and counts the instruction executed.
-    fn go_to(&mut self, address: u32)
-        ensures state { self.new.state ≡ go_to_of address self.old.state }
-        ensures count { self.new.count ≡ min (self.old.count + 1) 18446744073709551615 }
-    {
-        self.pc = address;
-        self.count_one();
-    }
-
-    // Counts an instruction.
-    pub(crate) fn count_one(&mut self)
-        ensures state { self.new.state ≡ self.old.state }
-        ensures count { self.new.count ≡ min (self.old.count + 1) 18446744073709551615 }
-    {
-        self.count = self.count.saturating_add(1);
-    }
-}
-
-// The word at an address, where that is aligned and in the arena.
-fn word_at(arena: &[u32], address: u32) -> Option<u32>
-    ensures { result ≡ word_at_of arena.now address }
-{
-    if address % 4 == 0 {
-        arena.get((address / 4) as usize).copied()
-    } else {
-        None
     }
 }

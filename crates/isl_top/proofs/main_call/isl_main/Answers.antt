@@ -1,13 +1,42 @@
-use Rattle.isl_top.specs.declared.status.Status.TheVariants.{Refused}
-use Rattle.isl_top.proofs.Ends.{by_status, same_status}
+-- The status of a call, by the answer of the file's run.
+use Rattle.std.proofs.Common.{◌≡◌, refl, sym, ap, ◌∙◌, subst}
+use Rattle.isl_top.specs.declared.status.Status.TheVariants.{Refused, WriteFault}
+use Rattle.isl_top.specs.declared.status.Answer.{Answer}
+use Rattle.isl_top.specs.declared.status.Answer.TheVariants.{Usage as usage_answer}
+use Rattle.isl_top.specs.Command.{Asked}
+use Rattle.isl_top.specs.Lines.{line_of, WasGiven}
+use Rattle.isl_top.proofs.Ends.{was_refused, same_status, by_answer}
 use Rattle.isl_top.proofs.main_call.isl_main.Goals as goal
 
 pub returns-in-Some-clause-refused : goal.returns-in-Some-clause-refused
 returns-in-Some-clause-refused g c =
-    λ e. let h = c.run_file-status.ensures.refused (same_status c.run_file-status.result c.end_with-in-Some.result Refused c.end_with-in-Some.ensures.written e (λ x. cc)) in
-    (c.in-Some.name.now, c.in-Some.ensures, h.0, h.1, h.2)
+    λ e.
+    let answer = c.run_file-answer.result in
+    let was = was_refused answer (same_status answer c.end_with-in-Some.result Refused c.end_with-in-Some.ensures.written e (λ x. cc)) in
+    let told = c.run_file-answer.ensures.refused was.0 was.1 in
+    let line = c.end_with-in-Some.ensures.line (λ x. let k : Refused ≡ WriteFault = sym e ∙ x in absurd (cc)) in
+    let P : Answer → Type 0 = λ a. WasGiven (g.E.Sink.given c.args.err.now) (line_of a) (g.E.Sink.given c.end_with-in-Some.new.err) in (
+      record { steps = c.in-Some.command.steps; file = c.in-Some.command.file.now },
+      (c.in-Some.ensures, (was.0, (told.0, subst P was.1 line)), told.1, told.2),
+    )
 
 pub returns-in-Some-clause-write_fault : goal.returns-in-Some-clause-write_fault
 returns-in-Some-clause-write_fault g c =
-    λ e. by_status _ _ _ c.run_file-status.result c.end_with-in-Some.result e c.end_with-in-Some.ensures.fault c.end_with-in-Some.ensures.quiet (λ s. (c.run_file-status.ensures.refused s).1) (λ s. (c.run_file-status.ensures.file_fault s).1) c.run_file-status.ensures.no_memory c.run_file-status.ensures.no_usage
-    (λ s. let h = c.run_file-status.ensures.cut_off s in (h.0, (c.in-Some.name.now, c.in-Some.ensures, h.1)))
+    λ e.
+    let of_file = c.run_file-answer.ensures in
+    let asked : Asked = record { steps = c.in-Some.command.steps; file = c.in-Some.command.file.now } in
+    by_answer _ _ _ _ c.run_file-answer.result c.end_with-in-Some.result e c.end_with-in-Some.ensures.fault c.end_with-in-Some.ensures.quiet
+    (λ x h. (of_file.refused x h).1)
+    (λ h. (of_file.file_fault h).1)
+    of_file.no_memory
+    of_file.no_usage
+    (λ h. let k = of_file.cut_off h in (k.0, (asked, (c.in-Some.ensures, k.1))))
+    (λ n h. let k = of_file.budget n h in (asked, (c.in-Some.ensures, k.1)))
+
+pub returns-in-Some-clause-line : goal.returns-in-Some-clause-line
+returns-in-Some-clause-line g c =
+    λ e. (c.run_file-answer.result, (c.end_with-in-Some.ensures.written e, c.end_with-in-Some.ensures.line e))
+
+pub returns-in-None-clause-line : goal.returns-in-None-clause-line
+returns-in-None-clause-line g c =
+    λ e. (usage_answer, (c.end_with.ensures.written e, c.end_with.ensures.line e))

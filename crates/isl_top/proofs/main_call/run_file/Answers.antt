@@ -1,15 +1,27 @@
-use Rattle.std.proofs.Common.{⊎_elim, refl, sym, subst}
-use Rattle.isl_top.proofs.Sizes.{small}
+-- The answer for a file, by the verdict on its text.
+use Rattle.std.proofs.Common.{◌≡◌, refl, sym, ap, ◌∙◌, subst}
 use Rattle.isl_top.specs.Loads.{IsTaken}
+use Rattle.isl_top.specs.Answers.{IsOfRun}
+use Rattle.isl_top.proofs.Judging.{accepted-small}
 use Rattle.isl_top.proofs.main_call.run_file.Goals as goal
 
 pub run-requires-clause-small : goal.run-requires-clause-small
-run-requires-clause-small g c = small _ _ (rw c.in-Ok-Some.field-0-is at c.in-Ok-Some.ensures)
+run-requires-clause-small g c = accepted-small c.as_slice.result.now c.in-Ok-read_program.program c.in-Ok-read_program.ensures.program
 
-pub returns-in-Ok-Some-clause-refused : goal.returns-in-Ok-Some-clause-refused
-returns-in-Ok-Some-clause-refused g c =
-    λ e. ⊎_elim (λ d. absurd (cc)) (λ h. ⊎_elim (λ d. absurd (cc)) (λ d. absurd (cc)) h) c.run.ensures.only
+pub returns-in-Ok-read_program-clause-refused : goal.returns-in-Ok-read_program-clause-refused
+returns-in-Ok-read_program-clause-refused g c =
+    λ refusal e. absurd (subst IsOfRun e c.run.ensures.only)
 
-pub returns-in-Ok-None-clause-refused : goal.returns-in-Ok-None-clause-refused
-returns-in-Ok-None-clause-refused g c =
-    λ e. (record { text = c.as_slice.result.now; taken = subst (IsTaken (g.F.Shelf.holds c.args.shelf.now c.args.name.now)) (sym c.as_slice.ensures) c.in-Ok.ensures.taken; unspelled = rw c.in-Ok-None.field-0-is at c.in-Ok-None.ensures }, refl, c.requires)
+pub returns-in-Err-Refused-clause-refused : goal.returns-in-Err-Refused-clause-refused
+returns-in-Err-Refused-clause-refused g c =
+    λ refusal e.
+    let same : c.in-Err-Refused.refusal ≡ refusal = cc in
+    let stopped = rw c.in-Err-Refused.field-0-is at c.in-Err-Refused.ensures.stopped in (
+      record {
+        text = c.as_slice.result.now;
+        taken = subst (IsTaken (g.F.Shelf.holds c.args.shelf.now c.args.file.now)) (sym c.as_slice.ensures) c.in-Ok.ensures.taken;
+        refuses = rw same at stopped;
+      },
+      refl,
+      c.requires,
+    )

@@ -1,7 +1,14 @@
-use Rattle.std.proofs.Common.{arith}
-use Rattle.isl_top.proofs.Programs.{spelled}
+-- A text that is too long is refused at its begin.
+use Rattle.std.proofs.Common.{rules, refl, sym, subst}
+use Rattle.isl_top.specs.Verdicts.{IsStopped, source_too_long, program_too_long}
 use Rattle.isl_top.proofs.program.read_program.Goals as goal
 
-pub returns-in-Some : goal.returns-in-Some
-returns-in-Some c =
-    spelled c.args.text.now _ (omega (arith, c.if-text-gt-MOST_BYTES.false)) (rw c.in-Some.is at c.in_ok-read_trees.ensures) c.program_of.result c.program_of.ensures
+pub returns-then-text-gt-LONGEST_FILE-clause-stopped :
+    goal.returns-then-text-gt-LONGEST_FILE-clause-stopped
+returns-then-text-gt-LONGEST_FILE-clause-stopped c =
+    subst (IsStopped c.args.text.now) (sym c.refused.ensures) (source_too_long (search rules) refl)
+
+pub returns-then-text-gt-LONGEST_PROGRAM-clause-stopped :
+    goal.returns-then-text-gt-LONGEST_PROGRAM-clause-stopped
+returns-then-text-gt-LONGEST_PROGRAM-clause-stopped c =
+    subst (IsStopped c.args.text.now) (sym c.refused-then-text-gt-LONGEST_PROGRAM.ensures) (program_too_long (search rules) (search rules) refl)

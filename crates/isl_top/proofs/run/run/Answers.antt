@@ -1,14 +1,79 @@
-use Rattle.std.proofs.Common.{length, ap, arith, refl}
-use Rattle.isl_top.proofs.Ran.{ran_whole, ran_cut_off}
+-- What the machine's run says, as what a run of the program says.
+use Rattle.std.proofs.Common.{◌≡◌, ◌≤◌, ℕ, List, [], length, ap, arith, refl, sym, ◌∙◌}
+use Rattle.rv_machine.specs.Run.{IsNoFault}
+use Rattle.rv_machine.specs.declared.ending.Ending.TheVariants.{Halt, Budget}
+use Rattle.isl_top.specs.Answers.{arena_words}
+use Rattle.isl_top.proofs.Ran.{Laws, built, whole, halted, spent, only, cut_off, cut_other, no_read_fault, no_fault, fed, unread}
 use Rattle.isl_top.proofs.run.run.Goals as goal
 
 pub started-requires : goal.started-requires
 started-requires g c = record { fits = omega (arith, ap length c.in-Ok.ensures.code, c.requires.small); bounded = omega arith }
 
+pub returns-in-Halt-clause-done : goal.returns-in-Halt-clause-done
+returns-in-Halt-clause-done g c =
+    let fits : length c.in-Ok.image.words ≤ arena_words = omega (arith, ap length c.in-Ok.ensures.code, c.requires.small) in
+    let begin = c.in-Ok-started.ensures.state in
+    let compiled = c.in-Ok.ensures.compiled in
+    let feeds = fed c.args.program.now c.in-Ok.image compiled fits _ begin (g.S.Source.left c.args.input.now) c.args.steps in
+    λ e. (
+      built c.args.program.now c.in-Ok.image compiled fits,
+      (
+        halted c.args.program.now c.in-Ok.image compiled fits _ begin c.args.steps c.in-Halt.field-0 (λ input. c.in-Halt.ensures.ending tt input (feeds input)),
+        whole c.args.program.now c.in-Ok.image compiled fits _ begin c.args.steps _ _ _ _ (λ input. (c.in-Halt.ensures.stands tt input (feeds input)).given),
+      ),
+    )
+
+pub returns-in-Halt-clause-input : goal.returns-in-Halt-clause-input
+returns-in-Halt-clause-input g c =
+    let fits : length c.in-Ok.image.words ≤ arena_words = omega (arith, ap length c.in-Ok.ensures.code, c.requires.small) in
+    c.in-Halt.ensures.no_read tt [] (unread c.args.program.now c.in-Ok.image c.in-Ok.ensures.compiled fits _ c.in-Ok-started.ensures.state c.args.steps [])
+
+pub returns-in-Budget-clause-budget : goal.returns-in-Budget-clause-budget
+returns-in-Budget-clause-budget g c =
+    let fits : length c.in-Ok.image.words ≤ arena_words = omega (arith, ap length c.in-Ok.ensures.code, c.requires.small) in
+    let begin = c.in-Ok-started.ensures.state in
+    let compiled = c.in-Ok.ensures.compiled in
+    let feeds = fed c.args.program.now c.in-Ok.image compiled fits _ begin (g.S.Source.left c.args.input.now) c.args.steps in
+    λ n e. (
+      cc,
+      (
+        built c.args.program.now c.in-Ok.image compiled fits,
+        (
+          spent c.args.program.now c.in-Ok.image compiled fits _ begin c.args.steps (λ input. c.in-Budget.ensures.ending tt input (feeds input)),
+          whole c.args.program.now c.in-Ok.image compiled fits _ begin c.args.steps _ _ _ _ (λ input. (c.in-Budget.ensures.stands tt input (feeds input)).given),
+        ),
+      ),
+    )
+
+pub returns-in-Budget-clause-input : goal.returns-in-Budget-clause-input
+returns-in-Budget-clause-input g c =
+    let fits : length c.in-Ok.image.words ≤ arena_words = omega (arith, ap length c.in-Ok.ensures.code, c.requires.small) in
+    c.in-Budget.ensures.no_read tt [] (unread c.args.program.now c.in-Ok.image c.in-Ok.ensures.compiled fits _ c.in-Ok-started.ensures.state c.args.steps [])
+
 pub returns-in-WriteFault-clause-cut_off : goal.returns-in-WriteFault-clause-cut_off
 returns-in-WriteFault-clause-cut_off g c =
-    λ e. ran_cut_off c.args.program.now c.in-Ok.image _ _ _ _ _ _ c.in-Ok.ensures.compiled (omega (arith, ap length c.in-Ok.ensures.code, c.requires.small)) c.law_budget.ensures.printed c.in-Ok-started.ensures.state (c.in-WriteFault.ensures.fault refl)
+    let laws : Laws = record { printed = c.law_budget.ensures.printed; split = c.law_split.ensures } in
+    let fits : length c.in-Ok.image.words ≤ arena_words = omega (arith, ap length c.in-Ok.ensures.code, c.requires.small) in
+    λ e. (
+      built c.args.program.now c.in-Ok.image c.in-Ok.ensures.compiled fits,
+      cut_off c.args.program.now c.in-Ok.image c.in-Ok.ensures.compiled fits _ c.in-Ok-started.ensures.state laws c.args.steps _ _ _ _ _ refl (c.in-WriteFault.ensures.write_fault refl),
+    )
 
-pub returns-clause-done : goal.returns-clause-done
-returns-clause-done g c =
-    λ e. ran_whole c.args.program.now c.in-Ok.image _ _ _ _ _ c.in-Ok.ensures.compiled (omega (arith, ap length c.in-Ok.ensures.code, c.requires.small)) c.in-Ok-started.ensures.state (c.run-ending.ensures.stands c.in_default-ending.not-WriteFault).given
+pub returns-in-WriteFault-clause-input : goal.returns-in-WriteFault-clause-input
+returns-in-WriteFault-clause-input g c =
+    let fits : length c.in-Ok.image.words ≤ arena_words = omega (arith, ap length c.in-Ok.ensures.code, c.requires.small) in
+    cut_other c.args.program.now c.in-Ok.image c.in-Ok.ensures.compiled fits _ c.in-Ok-started.ensures.state c.args.steps _ _ _ _ _ refl (c.in-WriteFault.ensures.write_fault refl)
+
+pub unreachable-requires : goal.unreachable-requires
+unreachable-requires g c =
+    let laws : Laws = record { printed = c.law_budget.ensures.printed; split = c.law_split.ensures } in
+    let fits : length c.in-Ok.image.words ≤ arena_words = omega (arith, ap length c.in-Ok.ensures.code, c.requires.small) in
+    let begin = c.in-Ok-started.ensures.state in
+    let compiled = c.in-Ok.ensures.compiled in
+    let plain : IsNoFault c.run-ending.result =
+    no_fault c.run-ending.result
+    (λ e. no_read_fault c.args.program.now c.in-Ok.image compiled fits _ begin laws c.args.steps _ _ _ _ _ refl (c.run-ending.ensures.read_fault e))
+    c.in_default-ending.not-WriteFault in
+    only c.args.program.now c.in-Ok.image compiled fits _ begin c.args.steps c.run-ending.result
+    (λ input. c.run-ending.ensures.ending plain input (fed c.args.program.now c.in-Ok.image compiled fits _ begin (g.S.Source.left c.args.input.now) c.args.steps input))
+    c.in_default-ending.not-Halt c.in_default-ending.not-Budget

@@ -1,8 +1,15 @@
--- The parts of `if`, one after another.
+-- A list by its first item, and the parts of `if`, one after another.
 use Rattle.std.proofs.Common.{◌≡◌, ◌∙◌, ap, sym, Some}
 use Rattle.isl_top.specs.Shapes.{next_site, next_literal, choice}
+use Rattle.isl_base.specs.Data.{place_of}
+use Rattle.isl_top.proofs.Forming.{form_of_list}
 use Rattle.isl_top.proofs.Choosing.{HasParts, parts, no_consequent, no_alternative, all_parts}
 use Rattle.isl_top.proofs.shape.+shape.Goals as goal
+
+pub form_of-returns-in-Some : goal.form_of-returns-in-Some
+form_of-returns-in-Some t c =
+    let p : place_of c.args.datum.now ≡ c.datum.inside.place = ap place_of (sym c.datum.view_is) in
+    rw (form_of_list c.args.names.now c.args.datum.now c.in-Some.list.now c.args.tables.now c.in-Some.ensures, p) c.list_form.ensures
 
 pub if_form-returns-in_default-3 : goal.if_form-returns-in_default-3
 if_form-returns-in_default-3 t c =
@@ -10,7 +17,7 @@ if_form-returns-in_default-3 t c =
     parts c.as_slice.ensures c.in-len4.len_at_least c.in-len4.len_below c.test-item.is c.consequent-item.is c.alternative-item.is in
     let test = rw (c.in-Some.is, c.in_ok-site.ensures.after) at c.in_ok-test.ensures in
     let consequent = rw c.in_default-3.is at c.in_ok-consequent.ensures in
-    no_consequent c.args.place c.args.tables.now has test consequent
+    no_consequent c.args.names.now c.args.place c.args.tables.now has test consequent
 
 pub if_form-returns-in_default-4 : goal.if_form-returns-in_default-4
 if_form-returns-in_default-4 t c =
@@ -19,7 +26,7 @@ if_form-returns-in_default-4 t c =
     let test = rw (c.in-Some.is, c.in_ok-site.ensures.after) at c.in_ok-test.ensures in
     let consequent = rw c.in-Some-2.is at c.in_ok-consequent.ensures in
     let alternative = rw (c.in_default-4.is, c.in_ok-truth.ensures.after) at c.in_ok-alternative.ensures in
-    no_alternative c.args.place c.args.tables.now has test consequent alternative
+    no_alternative c.args.names.now c.args.place c.args.tables.now has test consequent alternative
 
 pub if_form-returns : goal.if_form-returns
 if_form-returns t c =
@@ -30,4 +37,4 @@ if_form-returns t c =
     let alternative = rw (c.in-Some-3.is, c.in_ok-truth.ensures.after) at c.in_ok-alternative.ensures in
     let made : c.in_ok-form.form ≡ choice (next_site c.args.tables.now) (next_literal c.form_of.new.tables) c.in-Some.test c.in-Some-2.consequent c.in-Some-3.alternative =
     rw (← c.in_ok-site.ensures.id, ← c.in_ok-truth.ensures.id) c.in_ok-form.ensures in
-    all_parts c.args.place c.args.tables.now has test consequent alternative ∙ ap (λ f. Some (f, c.form_of-2.new.tables)) (sym made)
+    all_parts c.args.names.now c.args.place c.args.tables.now has test consequent alternative ∙ ap (λ f. Some (f, c.form_of-2.new.tables)) (sym made)

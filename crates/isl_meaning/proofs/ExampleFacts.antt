@@ -1,0 +1,44 @@
+-- The facts of the worked programs compute.
+use Rattle.std.proofs.Common.{refl}
+use Rattle.isl_meaning.specs.WorkedFacts.{WorkedAreWhole, TooFewArguments, GoOutside, NoSuchSegment, GoToABlock, Captured, NotThere, NodesOfOneApplication, NotReached, CellsOfMethods}
+use Rattle.isl_base.specs.DataMeasures.{size_of}
+
+pub worked_are_whole : WorkedAreWhole
+unfolding size_of
+worked_are_whole = (refl, refl, refl)
+
+pub too_few_arguments : TooFewArguments
+unfolding size_of
+too_few_arguments = refl
+
+pub go_outside : GoOutside
+unfolding size_of
+go_outside = refl
+
+pub no_such_segment : NoSuchSegment
+unfolding size_of
+no_such_segment = refl
+
+pub go_to_a_block : GoToABlock
+unfolding size_of
+go_to_a_block = refl
+
+pub captured : Captured
+unfolding size_of
+captured = (refl, refl)
+
+pub not_there : NotThere
+unfolding size_of
+not_there = (refl, refl, refl, refl, refl)
+
+pub nodes_of_one_application : NodesOfOneApplication
+unfolding size_of
+nodes_of_one_application = refl
+
+pub not_reached : NotReached
+unfolding size_of
+not_reached = (refl, refl)
+
+pub cells_of_methods : CellsOfMethods
+unfolding size_of
+cells_of_methods = refl

@@ -1,0 +1,11 @@
+pub mod Steps
+pub mod Compared
+pub mod Applied
+pub mod Answers
+pub mod Forms
+pub mod Levels
+pub mod Examples
+pub mod Lengths
+pub mod Totals
+pub mod ExampleFacts
+pub mod ExampleData

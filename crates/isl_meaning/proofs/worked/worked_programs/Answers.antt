@@ -1,0 +1,32 @@
+use Rattle.isl_meaning.proofs.ExampleFacts.{worked_are_whole, too_few_arguments, go_outside, no_such_segment, go_to_a_block, captured, not_there, nodes_of_one_application, not_reached, cells_of_methods}
+use Rattle.isl_meaning.proofs.worked.worked_programs.Goals as goal
+
+pub returns-clause-worked_are_whole : goal.returns-clause-worked_are_whole
+returns-clause-worked_are_whole c = worked_are_whole
+
+pub returns-clause-too_few_arguments : goal.returns-clause-too_few_arguments
+returns-clause-too_few_arguments c = too_few_arguments
+
+pub returns-clause-go_outside : goal.returns-clause-go_outside
+returns-clause-go_outside c = go_outside
+
+pub returns-clause-no_such_segment : goal.returns-clause-no_such_segment
+returns-clause-no_such_segment c = no_such_segment
+
+pub returns-clause-go_to_a_block : goal.returns-clause-go_to_a_block
+returns-clause-go_to_a_block c = go_to_a_block
+
+pub returns-clause-captured : goal.returns-clause-captured
+returns-clause-captured c = captured
+
+pub returns-clause-not_there : goal.returns-clause-not_there
+returns-clause-not_there c = not_there
+
+pub returns-clause-nodes_of_one_application : goal.returns-clause-nodes_of_one_application
+returns-clause-nodes_of_one_application c = nodes_of_one_application
+
+pub returns-clause-not_reached : goal.returns-clause-not_reached
+returns-clause-not_reached c = not_reached
+
+pub returns-clause-cells_of_methods : goal.returns-clause-cells_of_methods
+returns-clause-cells_of_methods c = cells_of_methods

@@ -1,0 +1,57 @@
+-- What holds of all runs, as the laws say it.
+use Rattle.std.specs.Prelude.{◌≡◌, ◌≤◌, ◌⊎◌, ⊤, ℕ, List, [], ◌∷◌, ◌++◌}
+use Rattle.isl_meaning.specs.declared.program.Program.{Program}
+use Rattle.isl_meaning.specs.State.{State, Surroundings, Exit, Outcome, value, exit, full, more, Limit}
+use Rattle.isl_meaning.specs.Objects.{Environment}
+use Rattle.isl_meaning.specs.Signals.{Task}
+use Rattle.isl_meaning.specs.Meaning.{Meant, ended_more, meaning, meaning_at}
+
+-- some bytes are the beginning of others
+pub record Begins (few many : List ℕ) : Type 0 where
+  pub rest : List ℕ
+  pub is : few ++ rest ≡ many
+
+-- what is known at some levels of what comes at more of them: an end is the same, with the same bytes, units
+-- and peak, and what is printed is a beginning
+pub record IsSettled (at_few at_many : Meant) : Type 0 where
+  pub same : (at_few.end ≡ ended_more → ⊥) → at_many ≡ at_few
+  pub prefix : Begins at_few.printed at_many.printed
+
+-- the law of levels
+abbrev pub LawOfLevels : Type 0
+LawOfLevels =
+    (names : List (List ℕ)) (program : Program) (input : List ℕ) (limit : Limit) (few many : ℕ) → few ≤ many
+    → IsSettled (meaning names program input few limit) (meaning names program input many limit)
+
+-- what never falls along a run, and what was printed stays
+pub record IsLater (before after : State) : Type 0 where
+  pub printed : Begins before.printed after.printed
+  pub units : before.units ≤ after.units
+  pub peak : before.peak ≤ after.peak
+  pub exits : before.exits ≤ after.exits
+  pub symbols : before.symbols ≤ after.symbols
+
+-- whether an exit is one of the list
+abbrev pub IsExitOf : ℕ → List Exit → Type 0
+IsExitOf e [] = ⊥
+IsExitOf e (x ∷ xs) = x.number ≡ e ⊎ IsExitOf e xs
+
+-- a transfer goes to one of these exits, or to exit 0
+abbrev pub LandsIn : List Exit → Outcome → Type 0
+LandsIn exits (value v) = ⊤
+LandsIn exits (exit e v landing) = e ≡ 0 ⊎ IsExitOf e exits
+LandsIn exits (full asked left) = ⊤
+LandsIn exits more = ⊤
+
+-- the law of growth, of each task with any number of levels
+abbrev pub LawOfGrowth : Type 0
+LawOfGrowth =
+    (names : List (List ℕ)) (program : Program) (limit : Limit) (k : ℕ) (task : Task) (env : Environment)
+    (around : Surroundings) (z : State) → IsLater z (meaning_at names program limit k task env around z).state
+
+-- the law of transfers
+abbrev pub LawOfTransfers : Type 0
+LawOfTransfers =
+    (names : List (List ℕ)) (program : Program) (limit : Limit) (k : ℕ) (task : Task) (env : Environment)
+    (around : Surroundings) (z : State)
+    → LandsIn around.exits (meaning_at names program limit k task env around z).outcome

@@ -1,0 +1,44 @@
+-- The nodes of a program (this profile's own measure).
+use Rattle.std.specs.Prelude.{ℕ, ◌+◌, ◌*◌, List, [], ◌∷◌, length}
+use Rattle.isl_base.specs.DataMeasures.{size_of}
+use Rattle.isl_meaning.specs.declared.program.LiteralRow.{LiteralRow}
+use Rattle.isl_meaning.specs.declared.program.LiteralRow.TheVariants as row
+use Rattle.isl_meaning.specs.declared.program.Procedure.{Procedure}
+use Rattle.isl_meaning.specs.declared.program.SlotRow.{SlotRow}
+use Rattle.isl_meaning.specs.declared.program.ClassRow.{ClassRow}
+use Rattle.isl_meaning.specs.declared.program.Program.{Program}
+use Rattle.isl_meaning.specs.Counts.{nodes, application_words}
+
+-- the sum over a list
+abbrev pub total : {X : Type 0} → (X → ℕ) → List X → ℕ
+total f [] = 0
+total f (x ∷ xs) = f x + total f xs
+
+-- a literal counts the size of its datum; a class or a function counts one
+abbrev pub row_nodes : LiteralRow → ℕ
+row_nodes (row.Datum d) = size_of d
+row_nodes (row.Class c) = 1
+row_nodes (row.Function name) = 1
+
+abbrev pub procedure_nodes : Procedure → ℕ
+procedure_nodes p = nodes p.body + 4
+
+-- a class counts its precedence list, its slots and their initargs
+abbrev pub slot_nodes : SlotRow → ℕ
+slot_nodes s = 1 + length s.initargs
+
+abbrev pub class_nodes : ClassRow → ℕ
+class_nodes c = length c.precedence + total slot_nodes c.slots
+
+-- a generic function counts four
+abbrev pub program_nodes : Program → ℕ
+program_nodes program =
+    total row_nodes program.literals
+    + total procedure_nodes program.procedures
+    + total class_nodes program.classes
+    + 4 * length program.generics
+    + total nodes program.main
+
+-- the stack words of an active application of a procedure, besides one for each argument
+abbrev pub frame_words : Procedure → ℕ
+frame_words p = application_words (nodes p.body)

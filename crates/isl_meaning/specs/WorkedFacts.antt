@@ -1,0 +1,74 @@
+-- Which programs that are written out are whole ones, and which are not.
+use Rattle.std.specs.Prelude.{◌≡◌, ℕ, ◌+◌, true, false, [], ◌∷◌}
+use Rattle.isl_meaning.specs.declared.part.Part.TheVariants.{Exit}
+use Rattle.isl_meaning.specs.declared.program.Program.{Program}
+use Rattle.isl_meaning.specs.declared.primitive.Primitive.TheVariants.{Cons}
+use Rattle.isl_meaning.specs.Form.{Form, literal, local, lambda, call_value, prim, block, tagbody, go, next_method, sited}
+use Rattle.isl_meaning.specs.View.{forms}
+use Rattle.isl_meaning.specs.Cells.{program_cells}
+use Rattle.isl_meaning.specs.ProgramCounts.{program_nodes}
+use Rattle.isl_meaning.specs.Reached.{reached_nodes}
+use Rattle.isl_meaning.specs.Facts.{all_of, is_whole}
+use Rattle.isl_meaning.specs.ByHand.{a_number, a_procedure, a_program, body}
+use Rattle.isl_meaning.specs.WorkedExits.{inner_first, inner_catch, outer_catch, earlier_turn, stale_exit, many_cleanups}
+use Rattle.isl_meaning.specs.WorkedConditions.{without_itself, continued, not_continuable, returning, cleanup_runs, no_catch_left, replaced, handler_fails}
+use Rattle.isl_meaning.specs.WorkedCalls.{methods_in_order, seen_through_a_call, one_application, one_cons}
+
+-- the worked programs are whole
+abbrev pub WorkedAreWhole : Type 0
+WorkedAreWhole =
+    all_of is_whole (inner_first ∷ inner_catch ∷ outer_catch ∷ earlier_turn ∷ stale_exit ∷ many_cleanups ∷ []) ≡ true
+    × all_of is_whole (without_itself ∷ continued ∷ not_continuable ∷ returning ∷ cleanup_runs ∷ no_catch_left ∷ replaced ∷ handler_fails ∷ []) ≡ true
+    × all_of is_whole (methods_in_order ∷ seen_through_a_call ∷ one_application ∷ one_cons ∷ []) ≡ true
+
+-- a program of one main form
+abbrev pub one_form : Form → Program
+one_form f = a_program (a_number 1 ∷ []) (a_procedure (0 ∷ []) (go 0 0 ∷ []) ∷ []) [] (f ∷ [])
+
+-- (cons 1): an argument is wanting
+abbrev pub TooFewArguments : Type 0
+TooFewArguments = is_whole (one_form (prim Cons (forms (literal 0 ∷ [])))) ≡ false
+
+-- `go` outside its `tagbody`, to a segment that is not there, and to a block
+abbrev pub GoOutside : Type 0
+GoOutside = is_whole (one_form (go 0 0)) ≡ false
+
+abbrev pub NoSuchSegment : Type 0
+NoSuchSegment = is_whole (one_form (tagbody 0 (forms (body (go 0 1 ∷ []) ∷ [])))) ≡ false
+
+abbrev pub GoToABlock : Type 0
+GoToABlock = is_whole (one_form (block 0 (body (go 0 0 ∷ [])))) ≡ false
+
+-- a function that captures its tagbody's exit says so
+abbrev pub Captured : Type 0
+Captured =
+    is_whole (one_form (tagbody 0 (forms (body (lambda 0 (Exit 0 ∷ []) ∷ []) ∷ [])))) ≡ true
+    × is_whole (one_form (tagbody 0 (forms (body (lambda 0 [] ∷ []) ∷ [])))) ≡ false
+
+-- rows, sites and variables that are not there; a call of nothing; a next method outside a method
+abbrev pub NotThere : Type 0
+NotThere =
+    is_whole (one_form (literal 1)) ≡ false
+    × is_whole (one_form (sited 6 (literal 0))) ≡ false
+    × is_whole (one_form (local 0)) ≡ false
+    × is_whole (one_form (call_value (forms []))) ≡ false
+    × is_whole (one_form next_method) ≡ false
+
+-- counted by hand: the precedence lists of the built-in classes have 114 classes, and they have 7 slots
+abbrev pub built_in_nodes : ℕ
+built_in_nodes = 114 + 7
+
+-- the main form of that program has 4 nodes, the procedure 2 and 4 more, the literal 1
+abbrev pub NodesOfOneApplication : Type 0
+NodesOfOneApplication = program_nodes one_application ≡ 4 + (2 + 4) + 1 + built_in_nodes
+
+-- a procedure that no main form mentions, of 2 nodes and 4 more, is not reached
+abbrev pub NotReached : Type 0
+NotReached =
+    program_nodes (one_form (literal 0)) ≡ 1 + (2 + 4) + 1 + built_in_nodes
+    × reached_nodes [] (one_form (literal 0)) ≡ 1 + 1 + built_in_nodes
+
+-- one argument is specialised, by `<a>` and `<b>` of 36 classes; for a `<b>` all seven methods apply, for an
+-- `<a>` three, and for all others none
+abbrev pub CellsOfMethods : Type 0
+CellsOfMethods = program_cells methods_in_order ≡ 36 + ((1 + 7) + (1 + 3) + 1)

@@ -1,0 +1,114 @@
+// The nodes of programs, and the words of applications.
+
+ghost use Rattle.std.specs.Prelude.{◌≡◌, min, length};
+ghost use Rattle.isl_meaning.specs.Counts.{nodes};
+ghost use Rattle.isl_meaning.specs.ProgramCounts.{total, row_nodes, procedure_nodes, slot_nodes, class_nodes, program_nodes, frame_words};
+
+use crate::core_form::CoreList;
+use crate::program::{
+    ClassRow, ClassRows, LiteralRow, LiteralRows, Procedure, ProcedureList, Program, SlotRows,
+};
+
+impl Program {
+    /// Its nodes: those of its procedures, literals, classes, generic functions and main forms;
+    /// 2^64 - 1 where that is more. Takes no memory.
+    pub fn nodes(&self) -> u64
+        ensures { result ≡ min (program_nodes self.now) 18446744073709551615 }
+    {
+        literal_nodes(&self.literals)
+            .saturating_add(procedure_list_nodes(&self.procedures))
+            .saturating_add(class_list_nodes(&self.classes))
+            .saturating_add((self.generics.len() as u64).saturating_mul(4))
+            .saturating_add(main_nodes(&self.main))
+    }
+}
+
+/// The stack words of an active application of a procedure, besides one for each argument;
+/// 2^64 - 1 where that is more. Takes no memory.
+pub fn frame_words(procedure: &Procedure) -> u64
+    ensures { result ≡ min (frame_words procedure.now) 18446744073709551615 }
+{
+    procedure.body.nodes().saturating_mul(16).saturating_add(16)
+}
+
+// A literal's nodes: the size of its datum, or one.
+fn row_nodes(row: &LiteralRow) -> u64
+    ensures { result ≡ min (row_nodes row.now) 18446744073709551615 }
+{
+    match row {
+        LiteralRow::Datum(datum) => datum.size(),
+        LiteralRow::Class(_) | LiteralRow::Function(_) => 1,
+    }
+}
+
+// A class's nodes: its precedence list, its slots and their initargs.
+fn class_nodes(row: &ClassRow) -> u64
+    ensures { result ≡ min (class_nodes row.now) 18446744073709551615 }
+{
+    (row.precedence.len() as u64).saturating_add(slot_list_nodes(&row.slots))
+}
+
+fn literal_nodes(list: &LiteralRows) -> u64
+    ensures { result ≡ min (total row_nodes list.now) 18446744073709551615 }
+{
+    let mut total: u64 = 0;
+    for at in 0..list.len() {
+        let Some(row) = list.get(at) else {
+            unreachable!()
+        };
+        total = total.saturating_add(row_nodes(row));
+    }
+    total
+}
+
+fn procedure_list_nodes(list: &ProcedureList) -> u64
+    ensures { result ≡ min (total procedure_nodes list.now) 18446744073709551615 }
+{
+    let mut total: u64 = 0;
+    for at in 0..list.len() {
+        let Some(procedure) = list.get(at) else {
+            unreachable!()
+        };
+        total = total.saturating_add(procedure.body.nodes().saturating_add(4));
+    }
+    total
+}
+
+fn slot_list_nodes(list: &SlotRows) -> u64
+    ensures { result ≡ min (total slot_nodes list.now) 18446744073709551615 }
+{
+    let mut total: u64 = 0;
+    for at in 0..list.len() {
+        let Some(slot) = list.get(at) else {
+            unreachable!()
+        };
+        total = total.saturating_add((slot.initargs.len() as u64).saturating_add(1));
+    }
+    total
+}
+
+fn class_list_nodes(list: &ClassRows) -> u64
+    ensures { result ≡ min (total class_nodes list.now) 18446744073709551615 }
+{
+    let mut total: u64 = 0;
+    for at in 0..list.len() {
+        let Some(row) = list.get(at) else {
+            unreachable!()
+        };
+        total = total.saturating_add(class_nodes(row));
+    }
+    total
+}
+
+fn main_nodes(list: &CoreList) -> u64
+    ensures { result ≡ min (total nodes list.now) 18446744073709551615 }
+{
+    let mut total: u64 = 0;
+    for at in 0..list.len() {
+        let Some(form) = list.get(at) else {
+            unreachable!()
+        };
+        total = total.saturating_add(form.nodes());
+    }
+    total
+}

@@ -1,0 +1,79 @@
+// Worked programs: what some programs that are written out do, as the contracts of functions that do nothing.
+
+ghost use Rattle.isl_meaning.specs.WorkedExits.{InnerFirst, InnerCatch, OuterCatch, EarlierTurn, TooFewLevels, StaleExit, ManyCleanups};
+ghost use Rattle.isl_meaning.specs.WorkedConditions.{WithoutItself, Continued, NotContinuable, Returning, CleanupRuns, NoCatchLeft, Replaced, HandlerFails};
+ghost use Rattle.isl_meaning.specs.WorkedCalls.{MethodsInOrder, SeenThroughACall, OneApplication, FullAtTheForm, FullAtTheCons};
+ghost use Rattle.isl_meaning.specs.WorkedData.{DottedList, StringInAVector, ChangedLiteral, RestList, Applied, AppliedToADottedList, TooManyArguments, Floors, Overflow, NoFunction, NoValue, Counting, CountingWords, SetBinding, SlotPlaces, SlotInitarg, SlotForm, UnboundSlot, SetSlot, TwoBytes};
+ghost use Rattle.isl_meaning.specs.WorkedFacts.{WorkedAreWhole, TooFewArguments, GoOutside, NoSuchSegment, GoToABlock, Captured, NotThere, NodesOfOneApplication, NotReached, CellsOfMethods};
+
+/// Programs of transfers and cleanups do what their comments in `specs/WorkedExits.antt` say.
+pub fn worked_exits()
+    ensures inner_first { InnerFirst }
+    ensures inner_catch { InnerCatch }
+    ensures outer_catch { OuterCatch }
+    ensures earlier_turn { EarlierTurn }
+    ensures too_few_levels { TooFewLevels }
+    ensures stale_exit { StaleExit }
+    ensures many_cleanups { ManyCleanups }
+{}
+
+/// Programs of conditions and handlers do what their comments in `specs/WorkedConditions.antt` say.
+pub fn worked_conditions()
+    ensures without_itself { WithoutItself }
+    ensures continued { Continued }
+    ensures not_continuable { NotContinuable }
+    ensures returning { Returning }
+    ensures cleanup_runs { CleanupRuns }
+    ensures no_catch_left { NoCatchLeft }
+    ensures replaced { Replaced }
+    ensures handler_fails { HandlerFails }
+{}
+
+/// Programs of methods, dynamic variables and charges do what their comments in `specs/WorkedCalls.antt` say.
+pub fn worked_calls()
+    ensures methods_in_order { MethodsInOrder }
+    ensures seen_through_a_call { SeenThroughACall }
+    ensures one_application { OneApplication }
+    ensures full_at_the_form { FullAtTheForm }
+    ensures full_at_the_cons { FullAtTheCons }
+{}
+
+/// The worked programs are whole ones, and programs with a name out of its place, a wrong number of
+/// arguments or wrong captured parts are not; and nodes, reached nodes and cells as counted by hand.
+pub fn worked_programs()
+    ensures worked_are_whole { WorkedAreWhole }
+    ensures too_few_arguments { TooFewArguments }
+    ensures go_outside { GoOutside }
+    ensures no_such_segment { NoSuchSegment }
+    ensures go_to_a_block { GoToABlock }
+    ensures captured { Captured }
+    ensures not_there { NotThere }
+    ensures nodes_of_one_application { NodesOfOneApplication }
+    ensures not_reached { NotReached }
+    ensures cells_of_methods { CellsOfMethods }
+{}
+
+/// Programs of literals, data, variables and arguments do what their comments in
+/// `specs/WorkedData.antt` say.
+pub fn worked_data()
+    ensures dotted_list { DottedList }
+    ensures string_in_a_vector { StringInAVector }
+    ensures changed_literal { ChangedLiteral }
+    ensures rest_list { RestList }
+    ensures applied { Applied }
+    ensures applied_to_a_dotted_list { AppliedToADottedList }
+    ensures too_many_arguments { TooManyArguments }
+    ensures floors { Floors }
+    ensures overflow { Overflow }
+    ensures no_function { NoFunction }
+    ensures no_value { NoValue }
+    ensures counting { Counting }
+    ensures counting_words { CountingWords }
+    ensures set_binding { SetBinding }
+    ensures slot_places { SlotPlaces }
+    ensures slot_initarg { SlotInitarg }
+    ensures slot_form { SlotForm }
+    ensures unbound_slot { UnboundSlot }
+    ensures set_slot { SetSlot }
+    ensures two_bytes { TwoBytes }
+{}

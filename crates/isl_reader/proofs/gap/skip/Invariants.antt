@@ -1,0 +1,12 @@
+-- The gap from here on, and fewer comments around than bytes so far.
+use Rattle.std.proofs.Common.{◌≡◌, ◌≤◌, drop}
+use Rattle.isl_reader.specs.declared.gap.Mode.TheVariants.{Between}
+use Rattle.isl_reader.specs.Lexemes as bridge
+use Rattle.isl_reader.specs.Scanning.{depth_of}
+use Rattle.isl_reader.proofs.gap.skip.Given as goal
+
+abbrev pub invariant-loop-i : goal.invariant-loop-i
+invariant-loop-i l = record {
+  skipped : bridge.skip l.mode l.i l.opened (drop l.i l.text) ≡ bridge.skip Between 0 0 l.text;
+  depth : depth_of l.mode ≤ l.i;
+}

@@ -1,0 +1,17 @@
+pub mod Characters
+pub mod Gaps
+pub mod Tokens
+pub mod Atoms
+pub mod Trees
+pub mod Meanings
+pub mod Reads
+pub mod Fronts
+pub mod Stops
+pub mod Printing
+pub mod Lexemes
+pub mod Machine
+pub mod Turns
+pub mod Readers
+pub mod Steps
+pub mod Answers
+pub mod Scanning

@@ -1,0 +1,14 @@
+use Rattle.rv_machine.proofs.Numbers.{quotient_by_zero, quotient_by_minus_one, quotient_else}
+use Rattle.rv_machine.proofs.machine.arithmetic.quotient_signed.Goals as goal
+
+pub returns-then-b-eq0 : goal.returns-then-b-eq0
+returns-then-b-eq0 c = quotient_by_zero c.args.a c.args.b c.if-b-eq0.true
+
+pub returns-then-b-eq4294967295 : goal.returns-then-b-eq4294967295
+returns-then-b-eq4294967295 c =
+    quotient_by_minus_one c.args.a c.args.b _ c.ranges.a.fits c.if-b-eq4294967295.true c.wrapping_neg.type_inv c.wrapping_neg.ensures
+
+pub returns-else-b-eq4294967295 : goal.returns-else-b-eq4294967295
+returns-else-b-eq4294967295 c =
+    quotient_else c.args.a c.args.b _ _ _ c.cast_signed.ensures c.cast_signed.type_inv c.cast_signed-else-b-eq4294967295.ensures c.cast_signed-else-b-eq4294967295.type_inv
+    c.ranges.b.fits c.if-b-eq0.false c.if-b-eq4294967295.false c.cast_unsigned.ensures

@@ -1,0 +1,2 @@
+(progn)
+  (format-char (standard-output) #\no)
