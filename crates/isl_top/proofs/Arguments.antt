@@ -1,10 +1,8 @@
 -- The arguments of format-char, one at a time and both.
-use Rattle.std.proofs.Common.{◌≡◌, ◌≢◌, ℕ, ◌<◌, List as Seq, [], ◌∷◌, length, get_or, drop, Option, Some, None, Bool, refl, ap, sym, ◌∙◌, if◌then◌else◌, arith}
+use Rattle.std.proofs.Common.{◌≡◌, ◌≢◌, ℕ, List as Seq, [], ◌∷◌, length, get_or, drop, Some, None, refl, ap, sym, if◌then◌else◌, arith}
 use Rattle.std.specs.Prelude.{codes}
-use Rattle.std.specs.Str.{bytes_eq}
 use Rattle.isl_base.specs.declared.place.Place.{Place}
-use Rattle.isl_base.specs.Data.{Item, item, integer, character, symbol, string, vector, nil, list, Items, no_item, item_and, items_of, items_list, no_tail, dotted, place_of}
-use Rattle.isl_base.specs.DataView.{items_of-items_list}
+use Rattle.isl_base.specs.Data.{Item, item, integer, character, symbol, string, vector, nil, list, no_item, item_and, items_of, items_list, no_tail, dotted, place_of}
 use Rattle.isl_top.specs.Heads.{list_in}
 use Rattle.isl_top.specs.Shapes.{Tables, word_of, is_text, stream_of, letter_of, put_form, format_char_form}
 

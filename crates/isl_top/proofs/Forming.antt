@@ -1,8 +1,7 @@
 -- The forms of data, one step of the definition at a time: a list by its first item, and the items of
 -- a list one after another.
-use Rattle.std.proofs.Common.{◌≡◌, ℕ, ◌+◌, ◌≤◌, List as Seq, [], ◌∷◌, ◌++◌, length, slice_get, drop, Some, None, refl, ap, arith}
+use Rattle.std.proofs.Common.{◌≡◌, ℕ, ◌+◌, ◌≤◌, List as Seq, [], ◌∷◌, ◌++◌, length, slice_get, drop, Some, None, refl, ap}
 use Rattle.std.proofs.lemmas.List.{drop_all}
-use Rattle.isl_base.specs.declared.place.Place.{Place}
 use Rattle.isl_base.specs.Data.{Item, item, integer, character, symbol, string, vector, nil, list, Items, no_item, item_and, items_of, items_list, no_tail, dotted, place_of}
 use Rattle.isl_base.specs.DataView.{items_of-items_list}
 use Rattle.isl_base.specs.DataRest.{items_at}

@@ -1,10 +1,8 @@
 -- Integers and the machine's words of them: sums, differences and comparisons of the numbers that a text can name.
-use Rattle.std.proofs.Common.{◌≡◌, ℕ, zero, suc, ◌+◌, ◌-◌, ◌*◌, ◌%◌, ◌^◌, ◌<◌, ◌≤◌, ℤ, pos, negsuc, neg_ℤ, ◌+ℤ◌, ◌-ℤ◌, nat_abs, List, [], ◌∷◌, length, Option, Some, None, Bool, true, false, ◌==◌, refl, sym, ap, ◌∙◌, arith, le-leb, leb-true, subst, pow-suc, mul-le-mul_right, mul_comm, mul_assoc, zero-lt-suc}
-use Rattle.std.proofs.Math.Nat.{pow-le-pow_right}
+use Rattle.std.proofs.Common.{◌≡◌, ℕ, zero, suc, ◌+◌, ◌-◌, ◌*◌, ◌%◌, ◌^◌, ◌<◌, ◌≤◌, ℤ, pos, negsuc, neg_ℤ, ◌+ℤ◌, ◌-ℤ◌, nat_abs, true, ◌==◌, refl, ap, ◌∙◌, arith, le-leb, leb-true}
 use Rattle.std.proofs.lemmas.Bool.{and_from, and_parts}
-use Rattle.std.proofs.lemmas.Option.{none-some, same_Some}
 use Rattle.std.proofs.lemmas.Int.{ints, to_z_pos}
-use Rattle.std.specs.Prelude.{int_lt, ◌&&◌, if◌then◌else◌, nat_le}
+use Rattle.std.specs.Prelude.{int_lt, nat_le}
 use Rattle.std.specs.Int.{cast_signed, w32}
 use lib.IntN.{sub_ℕ}
 use Rattle.isl_meaning.specs.Values.{in_range, int_equal}

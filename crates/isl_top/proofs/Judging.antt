@@ -1,5 +1,5 @@
 -- How a text is judged, datum by datum.
-use Rattle.std.proofs.Common.{⊎_elim, ◌≡◌, ℕ, suc, ◌+◌, ◌*◌, ◌<◌, ◌≤◌, ◌⊎◌, inl, inr, Bool, true, false, List as Seq, [], ◌∷◌, ◌++◌, length, Option, Some, None, refl, sym, ap, subst, ◌∙◌, arith}
+use Rattle.std.proofs.Common.{⊎_elim, ◌≡◌, ℕ, ◌<◌, ◌≤◌, inl, inr, Bool, true, false, List as Seq, [], ◌∷◌, ◌++◌, length, Option, Some, None, refl, sym, ap, subst, ◌∙◌, arith}
 use Rattle.std.specs.Prelude.{◌&&◌, nat_le}
 use Rattle.std.specs.List.{list_all}
 use Rattle.std.proofs.lemmas.Bool.{le-leb}
@@ -7,30 +7,27 @@ use Rattle.isl_base.specs.declared.place.Place.{Place}
 use Rattle.isl_base.specs.declared.origin.Origin.TheVariants.{File}
 use Rattle.isl_base.specs.declared.reason.Reason.{Reason}
 use Rattle.isl_base.specs.declared.reason.Reason.TheVariants.{NotBuilt}
-use Rattle.isl_base.specs.Data.{Item, Items, no_item, item_and, items_of, place_of, items_size}
+use Rattle.isl_base.specs.Data.{Item, items_of, place_of}
 use Rattle.isl_base.specs.DataMeasures.{depth_of}
 use Rattle.isl_base.specs.Names.{Extends}
 use Rattle.isl_meaning.specs.declared.program.Program.{Program}
 use Rattle.isl_meaning.specs.Form.{Form, Forms, no_form, form_and}
 use Rattle.isl_meaning.specs.View.{forms}
-use Rattle.isl_reader.specs.Gaps.{Gap}
-use Rattle.isl_reader.specs.Reads.{ReadsNext}
 use Rattle.isl_reader.specs.Readers.{ReaderState, first_place}
-use Rattle.isl_reader.specs.Stops.{Stops}
 use Rattle.isl_base.specs.declared.reason.Refusal.{Refusal}
 use Rattle.isl_base.specs.declared.reason.Stop.{Stop}
 use Rattle.isl_base.specs.declared.reason.Stop.TheVariants.{Refused, NoMemory}
 use Rattle.isl_reader.specs.Stops.{StopsFirst}
 use Rattle.isl_reader.specs.Answers.{IsRead, IsEnded, IsStopped as IsStoppedReader}
 use Rattle.isl_top.specs.Finds.{IsForm, IsNoForm}
-use Rattle.isl_top.specs.Shapes.{Tables, no_tables, Found, and_then, as_form, form_of, forms_of, program_with, program_of}
-use Rattle.isl_top.specs.Verdicts.{DataOf, no_datum, then_datum, AreProgram, Begins, Accepts, OffendsNext, StopsNext, Refuses, text_fault, not_built, IsStopped}
+use Rattle.isl_top.specs.Shapes.{Tables, no_tables, as_form, form_of, forms_of, program_with}
+use Rattle.isl_top.specs.Verdicts.{DataOf, no_datum, then_datum, Begins, Accepts, Refuses, text_fault, not_built, IsStopped}
 use Rattle.isl_top.proofs.Founds.{was_and, was_made}
 use Rattle.isl_top.specs.Code.{program_code}
 use Rattle.isl_top.proofs.Sizes.{small}
 use Rattle.isl_top.proofs.Spans.{data-size}
 use Rattle.isl_top.proofs.LaterNames.{data-later}
-use Rattle.isl_top.proofs.LaterForms.{form-later, forms-later}
+use Rattle.isl_top.proofs.LaterForms.{forms-later}
 
 -- the forms of data and one more, behind the first
 more-behind : (names : Seq (Seq ℕ)) (es : Seq Item) (d : Item) (t : Tables) (e : Item) (fs : Seq Form) (u : Tables) (f : Form) (v : Tables)
@@ -152,7 +149,7 @@ some-program fs t = (_, refl)
 
 -- a stop of the text
 pub judged-stop : (names : Seq (Seq ℕ)) (text : Seq ℕ) (reader : ReaderState) (fs : Seq Form) (t : Tables) (at : Place) (r : Reason)
-    → length text ≤ 4096 → Judged names text reader fs t → Stops reader.place reader.rest at r → Refuses text at r
+    → length text ≤ 4096 → Judged names text reader fs t → StopsFirst reader.place reader.rest at r → Refuses text at r
 unfolding judged-begins
 judged-stop names text reader fs t at r short j k =
     let p = some-program fs t in
@@ -219,7 +216,7 @@ pub judged-stops : (names later : Seq (Seq ℕ)) (text : Seq ℕ) (old new : Rea
     → IsStopped text stop
 judged-stops names later text old new t fs NoMemory short x j k = tt
 judged-stops names later text old new t fs (Refused r) short x j k =
-    judged-stop names text old fs t r.place r.reason short j (k.stops j.fresh).stops
+    judged-stop names text old fs t r.place r.reason short j (k.stops j.fresh)
 
 -- the code of an accepted text's program fits the arena of a run
 pub accepted-small : (text : Seq ℕ) (program : Program) → Accepts text program

@@ -1,17 +1,17 @@
 -- A form that was found with a table of names is found the same with a later one.
-use Rattle.std.proofs.Common.{◌≡◌, ℕ, Bool, true, false, List as Seq, [], ◌∷◌, Option, Some, None, refl, sym, ap, ◌∙◌, if◌then◌else◌}
+use Rattle.std.proofs.Common.{◌≡◌, ℕ, List as Seq, Option, Some, None, refl, ap, ◌∙◌, if◌then◌else◌}
 use Rattle.std.specs.Prelude.{codes}
 use Rattle.isl_base.specs.declared.place.Place.{Place}
 use Rattle.isl_base.specs.declared.datum.Symbol.{Symbol}
 use Rattle.isl_base.specs.declared.datum.Symbol.TheVariants.{Named, Fresh}
 use Rattle.isl_base.specs.Names.{Extends, text_stays}
-use Rattle.isl_base.specs.Data.{Item, item, integer, character, symbol, string, vector, nil, list, Items, no_item, item_and, no_tail, dotted}
-use Rattle.isl_meaning.specs.Form.{Form, Forms, form_and}
+use Rattle.isl_base.specs.Data.{Item, item, integer, character, symbol, string, vector, nil, list, Items, no_item, item_and, no_tail}
+use Rattle.isl_meaning.specs.Form.{Form, form_and}
 use Rattle.isl_meaning.specs.declared.primitive.Primitive.{Primitive}
 use Rattle.isl_meaning.specs.declared.primitive.Primitive.TheVariants.{Add, Subtract, NumberEqual, NumberLess}
 use Rattle.isl_meaning.specs.Form.{no_form, prim, sited}
 use Rattle.isl_top.specs.declared.format_char.Letter.{Letter}
-use Rattle.isl_top.specs.Shapes.{text_of, is_text, Tables, with_site, with_truth, next_literal, next_site, Found, and_then, as_form, Head, progn_head, format_char_head, if_head, plus_head, minus_head, equal_head, less_head, other_head, word_of, head_of_word, head_of, number_of, letter_of, stream_of, put_form, format_char_form, integer_form, sum_form, by_sum, operand_of, comparison_of, comparison_form, by_test, test_of, choice, by_head, progn_form, form_of, if_form, forms_of}
+use Rattle.isl_top.specs.Shapes.{text_of, is_text, Tables, with_site, with_truth, next_literal, next_site, Found, and_then, as_form, Head, progn_head, format_char_head, if_head, plus_head, minus_head, equal_head, less_head, other_head, word_of, head_of_word, head_of, letter_of, stream_of, put_form, format_char_form, sum_form, by_sum, operand_of, comparison_form, by_test, test_of, choice, by_head, progn_form, form_of, if_form, forms_of}
 
 -- what the first finds, the second finds
 abbrev Stays : {A : Type 0} → Option A → Option A → Type 0

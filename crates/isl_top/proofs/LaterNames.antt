@@ -1,5 +1,5 @@
 -- What was read with a table of names is read the same with a later one.
-use Rattle.std.proofs.Common.{◌≡◌, ℕ, Bool, true, false, List as Seq, [], ◌∷◌, ◌++◌, Option, Some, None, refl, sym, ap, ◌∙◌, if◌then◌else◌}
+use Rattle.std.proofs.Common.{◌≡◌, ℕ, Bool, true, false, List as Seq, [], ◌∷◌, ◌++◌, Option, Some, None, refl, ap, ◌∙◌, if◌then◌else◌}
 use Rattle.std.specs.Prelude.{codes}
 use Rattle.std.specs.Str.{bytes_eq}
 use Rattle.isl_base.specs.declared.place.Place.{Place}
@@ -9,7 +9,7 @@ use Rattle.isl_reader.specs.Atoms.{Atom, an_integer, a_character, a_symbol, a_st
 use Rattle.isl_reader.specs.Trees.{Tree, atom, proper, improper, row, prefixed, Trees, no_tree, then_tree, prefix_bytes, behind_all}
 use Rattle.isl_reader.specs.Characters.{place_behind}
 use Rattle.isl_reader.specs.Meanings.{one_later, number_in, named, atom_content, prefix_name, Means, MeansAll}
-use Rattle.isl_reader.specs.Reads.{Reads, ReadsNext}
+use Rattle.isl_reader.specs.Reads.{ReadsNext}
 use Rattle.isl_top.specs.Verdicts.{DataOf, no_datum, then_datum}
 
 number-if : (b : Bool) (o p : Option ℕ) (n : ℕ) → ((m : ℕ) → o ≡ Some m → p ≡ Some m)

@@ -1,14 +1,13 @@
 -- The parts of data are bounded by the bytes that spell them.
-use Rattle.std.proofs.Common.{◌≡◌, ℕ, suc, ◌+◌, ◌*◌, ◌<◌, ◌≤◌, Bool, true, false, List as Seq, [], ◌∷◌, ◌++◌, length, Option, Some, None, refl, sym, ap, subst, ◌∙◌, arith, length-append, if◌then◌else◌}
+use Rattle.std.proofs.Common.{◌≡◌, ℕ, suc, ◌+◌, ◌*◌, ◌<◌, ◌≤◌, Bool, true, false, List as Seq, [], ◌∷◌, ◌++◌, length, Option, Some, None, sym, ap, arith, length-append, if◌then◌else◌}
 use Rattle.std.specs.Prelude.{codes}
 use Rattle.std.specs.Str.{bytes_eq}
 use Rattle.isl_base.specs.declared.place.Place.{Place}
-use Rattle.isl_base.specs.Data.{Item, item, Content, integer, character, symbol, string, vector, nil, list, Items, no_item, item_and, items_of, Tail, no_tail, dotted, item_size, content_size, items_size, tail_size}
+use Rattle.isl_base.specs.Data.{Item, item, Content, integer, character, symbol, string, vector, nil, list, Items, items_of, item_size, content_size, items_size}
 use Rattle.isl_reader.specs.declared.opening.Prefix.{Prefix}
 use Rattle.isl_reader.specs.declared.opening.Prefix.TheVariants.{Quote, Quasiquote, Unquote, UnquoteSplicing, Function}
 use Rattle.isl_base.specs.declared.datum.Symbol.TheVariants.{Named}
 use Rattle.isl_reader.specs.Characters.{begins, is_token, place_behind}
-use Rattle.isl_reader.specs.Tokens.{IsToken}
 use Rattle.isl_reader.specs.Atoms.{Atom, an_integer, a_character, a_symbol, a_string, Spells, decimal, token, barred, quoted, based, marked, lettered, space, newline}
 use Rattle.isl_reader.specs.Trees.{Tree, atom, proper, improper, row, prefixed, Trees, no_tree, then_tree, prefix_bytes, spelled, spelled_all, behind_all, Stands, StandsAll}
 use Rattle.isl_reader.specs.Meanings.{number_in, named, atom_content, list_content, in_front, joined, prefix_item, Means, MeansAll}

@@ -4,10 +4,10 @@
 --     T is (= Z Z), or (< Z Z);
 --     F is Z, or (if T F F), or (progn F*), or (format-char (standard-output) c) with a character c.
 -- A symbol counts as its text.
-use Rattle.std.specs.Prelude.{◌≡◌, ℕ, ◌+◌, ℤ, pos, negsuc, Bool, true, false, ◌&&◌, nat_lt, int_le, List, [], ◌∷◌, ◌++◌, length, Option, Some, None, slice_get, if◌then◌else◌, codes}
+use Rattle.std.specs.Prelude.{◌≡◌, ℕ, ◌+◌, ℤ, pos, negsuc, Bool, false, ◌&&◌, nat_lt, int_le, List, [], ◌∷◌, ◌++◌, length, Option, Some, None, slice_get, if◌then◌else◌, codes}
 use Rattle.std.specs.Str.{bytes_eq}
 use Rattle.isl_base.specs.declared.place.Place.{Place}
-use Rattle.isl_base.specs.Data.{Item, Content, item, integer, character, symbol, string, vector, nil, list, Items, no_item, item_and, no_tail, dotted}
+use Rattle.isl_base.specs.Data.{Item, Content, item, integer, character, symbol, list, Items, no_item, item_and, no_tail}
 use Rattle.isl_base.specs.declared.datum.Symbol.{Symbol}
 use Rattle.isl_base.specs.declared.datum.Symbol.TheVariants.{Named, Fresh}
 use Rattle.isl_meaning.specs.declared.program.LiteralRow.{LiteralRow}

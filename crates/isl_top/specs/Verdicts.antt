@@ -1,5 +1,5 @@
 -- What is said to a text: it is a program, or it is refused at its first offence.
-use Rattle.std.specs.Prelude.{◌≡◌, ◌<◌, ◌≤◌, ◌⊎◌, ℕ, true, nat_le, List, [], ◌∷◌, ◌++◌, length, Option, Some, None}
+use Rattle.std.specs.Prelude.{◌≡◌, ◌<◌, ◌≤◌, ◌⊎◌, ℕ, true, nat_le, List, [], ◌∷◌, ◌++◌, length, Some, None}
 use Rattle.std.specs.List.{list_all}
 use Rattle.isl_base.specs.declared.place.Place.{Place}
 use Rattle.isl_base.specs.declared.origin.Origin.TheVariants.{File}
@@ -14,7 +14,7 @@ use Rattle.isl_reader.specs.Characters.{place_behind}
 use Rattle.isl_reader.specs.Gaps.{Gap}
 use Rattle.isl_reader.specs.Reads.{ReadsNext}
 use Rattle.isl_reader.specs.Readers.{first_place}
-use Rattle.isl_reader.specs.Stops.{Stops}
+use Rattle.isl_reader.specs.Stops.{StopsFirst}
 use Rattle.isl_top.specs.Shapes.{program_of}
 
 -- `DataOf names text ds rest p`: the text begins with the data ds; what is left of it stands at place p.
@@ -56,10 +56,10 @@ pub record OffendsNext (text : List ℕ) (at : Place) : Type 0 where
   pub is_none : (64 < depth_of offending) ⊎ (program_of begins.names (items_of (begins.data_before ++ offending ∷ [])) ≡ None)
   pub stands : place_of offending ≡ at
 
--- the text stops being one behind the data before
+-- the text stops being one behind the data before, and before another datum is whole
 pub record StopsNext (text : List ℕ) (at : Place) (r : Reason) : Type 0 where
   pub begins : Begins text
-  pub stops : Stops begins.place begins.rest at r
+  pub stops : StopsFirst begins.place begins.rest at r
 
 -- `Refuses text at r`: the text's first offence is at that place, and has that reason
 pub data Refuses (text : List ℕ) (at : Place) : Reason → Type 0 where

@@ -1,5 +1,5 @@
 -- The status of a call, by the answer of the file's run.
-use Rattle.std.proofs.Common.{◌≡◌, refl, sym, ap, ◌∙◌, subst}
+use Rattle.std.proofs.Common.{◌≡◌, sym, ◌∙◌, subst}
 use Rattle.isl_top.specs.declared.status.Status.TheVariants.{Refused, WriteFault}
 use Rattle.isl_top.specs.declared.status.Answer.{Answer}
 use Rattle.isl_top.specs.declared.status.Answer.TheVariants.{Usage as usage_answer}

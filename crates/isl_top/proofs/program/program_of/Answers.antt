@@ -1,5 +1,5 @@
 -- The text is judged datum by datum.
-use Rattle.std.proofs.Common.{rules, refl, sym, ◌∙◌, subst}
+use Rattle.std.proofs.Common.{rules, sym}
 use Rattle.isl_top.proofs.Judging.{judged-init, judged-step, judged-offends, judged-stops, judged-end, judged-later}
 use Rattle.isl_top.proofs.Spans.{next-shorter}
 use Rattle.isl_top.proofs.program.program_of.Goals as goal

@@ -1,5 +1,5 @@
 -- The text's first data were read, and these are their forms.
-use Rattle.std.proofs.Common.{◌≡◌, ◌≤◌, length}
+use Rattle.std.proofs.Common.{length}
 use Rattle.isl_top.proofs.Judging.{Judged}
 use Rattle.isl_top.proofs.program.program_of.Given as goal
 

@@ -1,7 +1,6 @@
 -- What the machine's run says, as what a run of the program says.
-use Rattle.std.proofs.Common.{◌≡◌, ◌≤◌, ℕ, List, [], length, ap, arith, refl, sym, ◌∙◌}
+use Rattle.std.proofs.Common.{◌≤◌, [], length, ap, arith, refl}
 use Rattle.rv_machine.specs.Run.{IsNoFault}
-use Rattle.rv_machine.specs.declared.ending.Ending.TheVariants.{Halt, Budget}
 use Rattle.isl_top.specs.Answers.{arena_words}
 use Rattle.isl_top.proofs.Ran.{Laws, built, whole, halted, spent, only, cut_off, cut_other, no_read_fault, no_fault, fed, unread}
 use Rattle.isl_top.proofs.run.run.Goals as goal
