@@ -108,6 +108,11 @@ fn reads_first(rt: HostRuntime) -> Result<(), Fail> {
     reads(&rt, rt.alloc(), table::FIRST)
 }
 
+#[test]
+fn reads_fronts(rt: HostRuntime) -> Result<(), Fail> {
+    reads(&rt, rt.alloc(), table::FRONTS)
+}
+
 // So many of this byte, and then this byte.
 fn repeated(alloc: Global, byte: u8, count: usize, last: u8) -> Result<Vec<u8>, Fail> {
     let mut text = Vec::new(alloc);

@@ -252,3 +252,25 @@ pub(crate) static FIRST: &[(&[u8], &[u8])] = &[
     (b"1.5 )", b"!FloatLiteral@1:1"),
     (b"(a 1.5 #z", b"!FloatLiteral@1:4"),
 ];
+
+// each front of a text
+pub(crate) static FRONTS: &[(&[u8], &[u8])] = &[
+    (b"", b"end"),
+    (b"(", b"!UnclosedList@1:1"),
+    (b"(c", b"!UnclosedList@1:1"),
+    (b"(ca", b"!UnclosedList@1:1"),
+    (b"(car", b"!UnclosedList@1:1"),
+    (b"(car ", b"!UnclosedList@1:1"),
+    (b"(car '", b"!UnclosedList@1:6"),
+    (b"(car '(", b"!UnclosedList@1:7"),
+    (b"(car '(1", b"!UnclosedList@1:7"),
+    (b"(car '(1 ", b"!UnclosedList@1:7"),
+    (b"(car '(1 \"", b"!UnclosedString@1:10"),
+    (b"(car '(1 \"b", b"!UnclosedString@1:10"),
+    (b"(car '(1 \"b\"", b"!UnclosedList@1:7"),
+    (b"(car '(1 \"b\")", b"!UnclosedList@1:1"),
+    (
+        b"(car '(1 \"b\"))",
+        b"1:1l(1:2scar 1:6l(1:6squote 1:7l(1:8i1 1:10t<b>))) end",
+    ),
+];
