@@ -1,5 +1,5 @@
 -- What stands in a list of data is smaller than the list: a recursion over data ends.
-use Rattle.std.specs.Prelude.{◌≡◌, ℕ, zero, suc, ◌<◌, List, [], ◌∷◌, Some, slice_get}
+use Rattle.std.specs.Prelude.{◌≡◌, ℕ, zero, suc, ◌<◌, List, [], ◌∷◌, Some, slice_get, slice_index_or, length}
 use Rattle.std.proofs.Common.{arith}
 use Rattle.isl_base.specs.Data.{Item, item_size, items_size, items_of}
 
@@ -16,3 +16,11 @@ item_in_smaller (e ∷ es) zero d h =
     let same : item_size e ≡ item_size d = cc in
     omega (arith, items_size_above es)
 item_in_smaller (e ∷ es) (suc i) d h = omega (arith, item_in_smaller es i d h)
+
+-- so is what a loop over the list looks at
+pub item_turn : (ds : List Item) (i : ℕ) (d : Item) → i < length ds → d ≡ slice_index_or ds i d → item_size d < items_size (items_of ds)
+item_turn [] i d h e = absurd (omega (arith, h))
+item_turn (x ∷ xs) zero d h e =
+    let same : item_size d ≡ item_size x = cc e in
+    omega (arith, items_size_above xs, same)
+item_turn (x ∷ xs) (suc i) d h e = omega (arith, item_turn xs i d (omega (arith, h)) e)

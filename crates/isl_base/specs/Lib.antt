@@ -11,5 +11,6 @@ pub mod DataFalls
 pub mod DataSizes
 pub mod DataRest
 pub mod DataMeasures
+pub mod DataFormed
 pub mod Names
 pub mod NameNumbers

@@ -5,6 +5,7 @@ ghost use Rattle.isl_base.specs.Data.{item};
 ghost use Rattle.isl_base.specs.DataView.{view_content};
 
 mod copies;
+mod formed;
 mod measures;
 #[cfg(test)]
 mod tests;

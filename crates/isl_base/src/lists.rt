@@ -1,11 +1,12 @@
 // The list that contracts see as the list of its items.
 
-ghost use Rattle.std.specs.Prelude.{◌≡◌, ◌≤◌, List, [], ◌∷◌, ◌++◌, length, take, slice_get, Some, OnOk, OnErr, IfOk, MatchOption};
+ghost use Rattle.std.specs.Prelude.{◌≡◌, ◌<◌, ◌≤◌, List, [], ◌∷◌, ◌++◌, length, take, slice_get, slice_set, Some, OnOk, OnErr, IfOk, MatchOption};
 
 use crate::faults::NoMemory;
 use crate::place::Place;
 use std::alloc::Global;
 use std::marker::Model;
+use std::mem;
 
 /// A list that grows at its end.
 #[derive(Drop)]
@@ -72,6 +73,17 @@ impl<T: Drop> ItemList<T> {
         ensures { self.new ≡ take len self.old }
     {
         self.items.truncate(len);
+    }
+}
+
+impl<T> ItemList<T> {
+    /// Puts the item at that place and gives the one that was there; takes no memory.
+    pub fn replace(&mut self, at: usize, item: T) -> T
+        requires { at < length self.old }
+        ensures was { slice_get self.old at ≡ Some result }
+        ensures now { self.new ≡ slice_set self.old at item }
+    {
+        mem::replace(&mut self.items[at], item)
     }
 }
 

@@ -3,7 +3,7 @@ use Rattle.std.proofs.Common.{ℕ, ◌+◌, Bool, true, false, List, [], ◌∷�
 use Rattle.std.specs.Prelude.{ℤ, pos, ◌+ℤ◌, ◌-ℤ◌, ◌*ℤ◌, slice_get, slice_set, if◌then◌else◌, ◌==◌}
 use Rattle.isl_meaning.specs.declared.primitive.Primitive.{Primitive}
 use Rattle.isl_meaning.specs.declared.primitive.Primitive.TheVariants.{Add, Subtract, Multiply, Divide, Modulo, NumberEqual, NumberNotEqual, NumberLess, NumberAtMost, NumberGreater, NumberAtLeast, Same, IsNull, IsCons, IsInteger, IsSymbol, IsCharacter, IsString, IsVector, IsFunction, IsGeneric, Cons, Car, Cdr, SetCar, SetCdr, MakeString, MakeVector, StringLength, VectorLength, CharAt, VectorRef, SetCharAt, SetVectorRef, CharCode, CodeChar, SymbolName, SymbolSerial, Gensym, ClassOf, ClassName, IsSubclass, IsInstance, Allocate, SlotCount, SlotPlace, SlotRef, SlotSet, SlotBound, SlotInitargs, SlotInitform, Continuable, StandardInput, StandardOutput, PutChar, IsFreshLine, GetByte, PeekByte}
-use Rattle.isl_meaning.specs.declared.program.Program.{Program}
+use Rattle.isl_meaning.specs.declared.program.ProgramRows.{ProgramRows}
 use Rattle.isl_meaning.specs.declared.program.SlotRow.{SlotRow}
 use Rattle.isl_meaning.specs.Values.{Value, integer, character, symbol, nil, object, in_range, int_equal}
 use Rattle.isl_meaning.specs.Objects.{Object, cons, string, vector, instance}
@@ -96,7 +96,7 @@ module _ (R : State → State → Type 0) (k : IsKept R) where
       needed (as_integer w) z (at (k.none z)) (λ n.
       needed (index_of n (length i.1)) z (at (k.none z)) (λ place. h i place)))
 
-  row : (names : List (List ℕ)) (program : Program) (which : Primitive) (vs : List Value) (z : State)
+  row : (names : List (List ℕ)) (program : ProgramRows) (which : Primitive) (vs : List Value) (z : State)
       → Keeps z (primitive names program which vs z)
   row names program Add = integers_kept (λ a b. integer_kept (a +ℤ b))
   row names program Subtract = integers_kept (λ a b. integer_kept (a -ℤ b))
@@ -181,6 +181,6 @@ module _ (R : State → State → Type 0) (k : IsKept R) where
   row names program GetByte = none_kept (λ z. at (k.input (other_bytes z.input) z))
   row names program PeekByte = none_kept (λ z. at (k.none z))
 
-  pub primitive_kept : (names : List (List ℕ)) (program : Program) (which : Primitive) (vs : List Value) (z : State)
+  pub primitive_kept : (names : List (List ℕ)) (program : ProgramRows) (which : Primitive) (vs : List Value) (z : State)
       → R z (state_of (primitive names program which vs z))
   primitive_kept names program which vs z = (row names program which vs z).by

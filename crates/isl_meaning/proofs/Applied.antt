@@ -1,7 +1,7 @@
 -- Applications, signals and transfers side by side, over the meaning one level below on both sides.
 use Rattle.std.proofs.Common.{ℕ, ◌+◌, Bool, List, [], ◌∷◌, ◌++◌, refl, inl, inr, Option, Some, None, length, map, take, drop}
 use Rattle.std.specs.Prelude.{is_some, slice_get}
-use Rattle.isl_meaning.specs.declared.program.Program.{Program}
+use Rattle.isl_meaning.specs.declared.program.ProgramRows.{ProgramRows}
 use Rattle.isl_meaning.specs.declared.program.Procedure.{Procedure}
 use Rattle.isl_meaning.specs.declared.program.GenericRow.{GenericRow}
 use Rattle.isl_meaning.specs.declared.program.FunctionRow.{FunctionRow}
@@ -21,7 +21,7 @@ use Rattle.isl_meaning.proofs.Steps.{IsKept}
 use Rattle.isl_meaning.proofs.Compared as compared
 use Rattle.isl_meaning.proofs.Compared.{Extends, Continues, Follows, Acts}
 
-module _ (R : State → State → Type 0) (k : IsKept R) (names : List (List ℕ)) (program : Program) (limit : Limit)
+module _ (R : State → State → Type 0) (k : IsKept R) (names : List (List ℕ)) (program : ProgramRows) (limit : Limit)
     (low low' : Task → Evaluation)
     (w : (task : Task) (env : Environment) (around : Surroundings) (z : State)
     → Extends R k around.exits z (low task env around z) (low' task env around z)) where

@@ -2,7 +2,7 @@
 use Rattle.std.proofs.Common.{ℕ, ◌+◌, ◌-◌, List, [], ◌∷◌, ◌++◌, Option, Some, None, length}
 use Rattle.isl_meaning.specs.declared.program.LiteralRow.{LiteralRow}
 use Rattle.isl_meaning.specs.declared.program.LiteralRow.TheVariants as row
-use Rattle.isl_meaning.specs.declared.program.Program.{Program}
+use Rattle.isl_meaning.specs.declared.program.ProgramRows.{ProgramRows}
 use Rattle.isl_meaning.specs.Form.{Form, literal, local, set_local, global, set_global, def_global, clauses, sequence, let_form, lambda, call, call_value, apply, prim, while_form, block, return_from, tagbody, go, catch_form, throw, unwind, dynamic_let, dynamic, set_dynamic, def_dynamic, with_handler, signal_form, continue_form, next_method, has_next, sited}
 use Rattle.isl_meaning.specs.Form.{Forms, no_form, form_and, ClauseForms, no_clause, clause_and, MaybeForm, no_body, with_body}
 use Rattle.isl_meaning.specs.Form.{BindingForms, no_binding, binding_and, DynamicForms, no_dynamic, dynamic_and}
@@ -22,7 +22,7 @@ use Rattle.isl_meaning.proofs.Compared.{Extends, Continues, Follows, Acts}
 use Rattle.isl_meaning.proofs.Applied as applied
 use Rattle.isl_meaning.proofs.Answers.{state_of, primitive_kept}
 
-module _ (R : State → State → Type 0) (k : IsKept R) (names : List (List ℕ)) (program : Program) (limit : Limit)
+module _ (R : State → State → Type 0) (k : IsKept R) (names : List (List ℕ)) (program : ProgramRows) (limit : Limit)
     (low low' : Task → Evaluation)
     (w : (task : Task) (env : Environment) (around : Surroundings) (z : State)
     → Extends R k around.exits z (low task env around z) (low' task env around z)) where

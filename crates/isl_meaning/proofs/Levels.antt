@@ -1,7 +1,7 @@
 -- The laws of all runs: by induction on the levels.
 use Rattle.std.proofs.Common.{◌≤◌, ℕ, zero, suc, List, [], ◌∷◌, refl, sym, ap, subst, arith, inr, ⊎_elim, le_refl}
-use Rattle.isl_meaning.specs.declared.program.Program.{Program}
-use Rattle.isl_meaning.specs.Laws.{IsSettled, LawOfLevels, IsLater, LawOfGrowth, LawOfTransfers}
+use Rattle.isl_meaning.specs.declared.program.ProgramRows.{ProgramRows}
+use Rattle.isl_meaning.specs.Laws.{IsSettled, LawOfLevels, IsLater, LawOfGrowth, LawOfTransfers, LawOfExits}
 use Rattle.isl_meaning.specs.Form.{Form}
 use Rattle.isl_meaning.specs.Counts.{nodes, application_words}
 use Rattle.isl_meaning.specs.Values.{Value, nil}
@@ -10,7 +10,7 @@ use Rattle.isl_meaning.specs.State.{State, first_state, Surroundings, main_surro
 use Rattle.isl_meaning.specs.Literals.{objects_at_start}
 use Rattle.isl_meaning.specs.Signals.{Task, form, Evaluation}
 use Rattle.isl_meaning.specs.Meaning.{none_below, meaning_at, mean_main, mean_mains, end_of, meant, meaning}
-use Rattle.isl_meaning.proofs.Steps.{IsKept, later_kept, begins_itself}
+use Rattle.isl_meaning.proofs.Steps.{IsKept, later_kept, GrowsAnew, anew_kept, begins_itself}
 use Rattle.isl_meaning.proofs.Compared as compared
 use Rattle.isl_meaning.proofs.Compared.{IsCut, Extends}
 use Rattle.isl_meaning.proofs.Forms.{tasks}
@@ -34,7 +34,7 @@ module _ (R : State → State → Type 0) (k : IsKept R) where
       compared.itself R k around.exits (record { outcome = more; state = z }) (k.none z) tt
 
   -- fewer levels are below more of them
-  pub levels_within : (names : List (List ℕ)) (program : Program) (limit : Limit) (few many : ℕ) → few ≤ many
+  pub levels_within : (names : List (List ℕ)) (program : ProgramRows) (limit : Limit) (few many : ℕ) → few ≤ many
       → Within (meaning_at names program limit few) (meaning_at names program limit many)
   unfolding meaning_at
   levels_within names program limit zero zero h =
@@ -47,14 +47,14 @@ module _ (R : State → State → Type 0) (k : IsKept R) where
       tasks R k names program limit (meaning_at names program limit few) (meaning_at names program limit many)
       (levels_within names program limit few many (omega (arith, h)))
 
-  main_within : (names : List (List ℕ)) (program : Program) (limit : Limit) (few many : ℕ) → few ≤ many → (f : Form) (z : State)
+  main_within : (names : List (List ℕ)) (program : ProgramRows) (limit : Limit) (few many : ℕ) → few ≤ many → (f : Form) (z : State)
       → Extends R k main_surroundings.exits z (mean_main names program limit few f z) (mean_main names program limit many f z)
   main_within names program limit few many h f z =
       compared.requests R k limit 0 (application_words (nodes f)) z (λ entered.
       compared.on R k (levels_within names program limit few many h (form f) no_environment main_surroundings entered) (λ v after.
       compared.given R k main_surroundings.exits v (record after { stack = z.stack }) (k.stack z.stack after)))
 
-  pub mains_within : (names : List (List ℕ)) (program : Program) (limit : Limit) (few many : ℕ) → few ≤ many → (fs : List Form) (last : Value) (z : State)
+  pub mains_within : (names : List (List ℕ)) (program : ProgramRows) (limit : Limit) (few many : ℕ) → few ≤ many → (fs : List Form) (last : Value) (z : State)
       → Extends R k main_surroundings.exits z (mean_mains names program limit few fs last z) (mean_mains names program limit many fs last z)
   mains_within names program limit few many h [] last z = compared.given R k main_surroundings.exits last z (k.none z)
   mains_within names program limit few many h (f ∷ fs) last z =
@@ -82,3 +82,10 @@ law_of_growth names program limit k task env around z =
 pub law_of_transfers : LawOfTransfers
 law_of_transfers names program limit k task env around z =
     (levels_within IsLater later_kept names program limit k k (le_refl k) task env around z).lands
+
+pub law_of_exits : LawOfExits
+law_of_exits = (
+  (λ objects input. (omega arith, tt)),
+  (λ names program limit k task env around z.
+      (levels_within GrowsAnew anew_kept names program limit k k (le_refl k) task env around z).grows.exits),
+)

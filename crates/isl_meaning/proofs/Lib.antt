@@ -5,7 +5,16 @@ pub mod Answers
 pub mod Forms
 pub mod Levels
 pub mod Examples
+pub mod Lists
+pub mod Turns
+pub mod Bodies
+pub mod Bounds
+pub mod FirstClasses
 pub mod Lengths
 pub mod Totals
 pub mod ExampleFacts
 pub mod ExampleData
+pub mod GroupTurns
+pub mod Decoding
+pub mod ChainCounts
+pub mod Methods

@@ -1,7 +1,7 @@
 -- Facts between two states that each step of a run keeps.
-use Rattle.std.proofs.Common.{◌≡◌, ◌≤◌, ℕ, ◌+◌, List, [], ◌∷◌, ◌++◌, refl, sym, ap, ◌∙◌, arith, append_assoc, append-nil, le_refl, le_trans}
+use Rattle.std.proofs.Common.{◌≡◌, ◌≤◌, ℕ, ◌+◌, List, [], ◌∷◌, ◌++◌, refl, sym, ap, subst, ◌∙◌, arith, append_assoc, append-nil, le_refl, le_trans}
 use Rattle.std.specs.Prelude.{slice_set}
-use Rattle.isl_meaning.specs.Laws.{Begins, IsLater}
+use Rattle.isl_meaning.specs.Laws.{Begins, IsLater, Falling, MakesNewExits}
 use Rattle.isl_meaning.specs.Values.{Value}
 use Rattle.isl_meaning.specs.Objects.{Object}
 use Rattle.isl_meaning.specs.State.{State, charged, with_words, stored, changed, exit_made}
@@ -84,4 +84,47 @@ later_kept = record {
   set = λ i v z. later_by refl (omega arith) (omega arith) (omega arith) (omega arith);
   globals = λ now z. later_by refl (omega arith) (omega arith) (omega arith) (omega arith);
   dynamics = λ now z. later_by refl (omega arith) (omega arith) (omega arith) (omega arith);
+}
+
+-- a later state, with exits of new numbers
+pub record GrowsAnew (a b : State) : Type 0 where
+  pub later : IsLater a b
+  pub exits : MakesNewExits a b
+
+no_exit : {a b : State} → b.exits ≡ a.exits → b.made ≡ a.made → MakesNewExits a b
+no_exit {a} {b} e m = record {
+  new = [];
+  kept = m;
+  differ = λ h. subst (λ n. Falling n b.made) (sym e) (subst (λ ns. Falling a.exits ns) (sym m) h);
+}
+
+more_exits : {a b c : State} → MakesNewExits a b → MakesNewExits b c → MakesNewExits a c
+more_exits {a} {b} {c} x y = record {
+  new = y.new ++ x.new;
+  kept = y.kept ∙ ap (λ ns. y.new ++ ns) x.kept ∙ sym (append_assoc y.new x.new a.made);
+  differ = λ h. y.differ (x.differ h);
+}
+
+one_exit : (z : State) → MakesNewExits z (exit_made z)
+one_exit z = record { new = z.exits ∷ []; kept = refl; differ = λ h. (omega arith, h) }
+
+-- no number is used twice
+pub anew_kept : IsKept GrowsAnew
+anew_kept = record {
+  begins = λ g. g.later.printed;
+  none = λ z. record { later = later_kept.none z; exits = no_exit refl refl };
+  both = λ {a} {b} {c} g h. record { later = later_kept.both g.later h.later; exits = more_exits g.exits h.exits };
+  charge = λ n z. record { later = later_kept.charge n z; exits = no_exit refl refl };
+  words = λ h s z. record { later = later_kept.words h s z; exits = no_exit refl refl };
+  stack = λ n z. record { later = later_kept.stack n z; exits = no_exit refl refl };
+  store = λ o z. record { later = later_kept.store o z; exits = no_exit refl refl };
+  change = λ i o z. record { later = later_kept.change i o z; exits = no_exit refl refl };
+  print = λ c z. record { later = later_kept.print c z; exits = no_exit refl refl };
+  exit = λ z. record { later = later_kept.exit z; exits = one_exit z };
+  symbol = λ z. record { later = later_kept.symbol z; exits = no_exit refl refl };
+  input = λ left z. record { later = later_kept.input left z; exits = no_exit refl refl };
+  values = λ vs z. record { later = later_kept.values vs z; exits = no_exit refl refl };
+  set = λ i v z. record { later = later_kept.set i v z; exits = no_exit refl refl };
+  globals = λ now z. record { later = later_kept.globals now z; exits = no_exit refl refl };
+  dynamics = λ now z. record { later = later_kept.dynamics now z; exits = no_exit refl refl };
 }

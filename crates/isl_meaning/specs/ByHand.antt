@@ -11,7 +11,7 @@ use Rattle.isl_meaning.specs.declared.program.ClassRow.{ClassRow}
 use Rattle.isl_meaning.specs.declared.program.SlotRow.{SlotRow}
 use Rattle.isl_meaning.specs.declared.program.FunctionRow.{FunctionRow}
 use Rattle.isl_meaning.specs.declared.program.Callee.TheVariants as callee
-use Rattle.isl_meaning.specs.declared.program.Program.{Program}
+use Rattle.isl_meaning.specs.declared.program.ProgramRows.{ProgramRows}
 use Rattle.isl_meaning.specs.declared.primitive.Primitive.TheVariants.{StandardOutput, PutChar}
 use Rattle.isl_meaning.specs.Form.{Form, literal, sequence, prim, no_form}
 use Rattle.isl_meaning.specs.View.{forms}
@@ -37,7 +37,7 @@ a_nil = row.Datum (datum.item no_place datum.nil)
 
 -- the built-in classes, all without names
 abbrev pub a_slot_row : SlotRow
-a_slot_row = record { name = name 0; initargs = []; initform = None }
+a_slot_row = record { name = name 0; initargs = name 0 ∷ []; initform = None }
 
 abbrev pub class_rows : List (List ℕ) → List ℕ → List ClassRow
 class_rows [] slots = []
@@ -64,7 +64,7 @@ abbrev pub a_function : ℕ → ℕ → FunctionRow
 a_function n p = record { name = name n; callee = callee.Procedure p }
 
 -- a program of literals, procedures, further classes, functions and main forms; each site n is at 1:n
-abbrev pub a_program : List LiteralRow → List Procedure → List FunctionRow → List Form → Program
+abbrev pub a_program : List LiteralRow → List Procedure → List FunctionRow → List Form → ProgramRows
 a_program literals procedures functions main = record {
   literals = literals;
   procedures = procedures;
@@ -90,6 +90,6 @@ abbrev pub body : List Form → Form
 body fs = sequence (forms fs)
 
 -- what a program does, with an empty input, so many levels and so many words
-pub record Does (names : List (List ℕ)) (program : Program) (k : ℕ) (limit : Limit) (ending : Ending) (printed : List ℕ) : Type 0 where
+pub record Does (names : List (List ℕ)) (program : ProgramRows) (k : ℕ) (limit : Limit) (ending : Ending) (printed : List ℕ) : Type 0 where
   pub ends : ending_of (meaning names program [] k limit).end (meaning names program [] k limit).store ≡ ending
   pub prints : (meaning names program [] k limit).printed ≡ printed

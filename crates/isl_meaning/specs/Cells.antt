@@ -1,6 +1,6 @@
 -- The cells of a program: how large the tables are that choose its methods (this profile's own limit).
 use Rattle.std.specs.Prelude.{ℕ, ◌+◌, ◌*◌, ◌==◌, Bool, not, List, [], ◌∷◌, ◌++◌, Option, Some, None, length, map, filter, flat_map, slice_index_or, if◌then◌else◌}
-use Rattle.isl_meaning.specs.declared.program.Program.{Program}
+use Rattle.isl_meaning.specs.declared.program.ProgramRows.{ProgramRows}
 use Rattle.isl_meaning.specs.declared.program.GenericRow.{GenericRow}
 use Rattle.isl_meaning.specs.Values.{same_text}
 use Rattle.isl_meaning.specs.Objects.{Chain, count_up}
@@ -18,7 +18,7 @@ is_specialised g argument = some_of (λ c. not (c == 0)) (argument_classes g arg
 
 -- the classes above a class that the methods have at the argument: classes with the same ones, in the same
 -- order, are one group
-abbrev pub group_of : Program → List ℕ → ℕ → List ℕ
+abbrev pub group_of : ProgramRows → List ℕ → ℕ → List ℕ
 group_of program classes c = filter (λ d. is_in d classes) (precedence program c)
 
 -- one class for each group, the first of it
@@ -27,7 +27,7 @@ one_of_each group seen [] = []
 one_of_each group seen (c ∷ cs) =
     (if some_of (λ d. same_text (group c) (group d)) seen then [] else c ∷ []) ++ one_of_each group (c ∷ seen) cs
 
-abbrev pub groups : Program → GenericRow → ℕ → List ℕ
+abbrev pub groups : ProgramRows → GenericRow → ℕ → List ℕ
 groups program g argument =
     one_of_each (group_of program (argument_classes g argument)) [] (count_up 0 (length program.classes))
 
@@ -41,14 +41,14 @@ abbrev pub chain_length : Option Chain → ℕ
 chain_length None = 0
 chain_length (Some c) = length c.around + length c.before + length c.primary + length c.after
 
-abbrev pub tuple_cells : Program → GenericRow → List ℕ → ℕ
+abbrev pub tuple_cells : ProgramRows → GenericRow → List ℕ → ℕ
 tuple_cells program g tuple = 1 + chain_length (chain program g tuple)
 
 -- a generic function counts each class once for each specialised argument, and its tuples
-abbrev pub generic_cells : Program → GenericRow → ℕ
+abbrev pub generic_cells : ProgramRows → GenericRow → ℕ
 generic_cells program g =
     length program.classes * length (filter (is_specialised g) (count_up 0 g.required))
     + total (tuple_cells program g) (tuples (map (groups program g) (count_up 0 g.required)))
 
-abbrev pub program_cells : Program → ℕ
+abbrev pub program_cells : ProgramRows → ℕ
 program_cells program = total (generic_cells program) program.generics

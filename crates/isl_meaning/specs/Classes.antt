@@ -1,6 +1,6 @@
 -- Classes, and the methods that a call runs (ISO/IEC 13816:2007, 15).
 use Rattle.std.specs.Prelude.{ℕ, ◌==◌, Bool, true, false, ◌&&◌, nat_le, nat_lt, List, [], ◌∷◌, Option, Some, None, map, filter, reverse, slice_get, if◌then◌else◌}
-use Rattle.isl_meaning.specs.declared.program.Program.{Program}
+use Rattle.isl_meaning.specs.declared.program.ProgramRows.{ProgramRows}
 use Rattle.isl_meaning.specs.declared.program.ClassRow.{ClassRow}
 use Rattle.isl_meaning.specs.declared.program.SlotRow.{SlotRow}
 use Rattle.isl_meaning.specs.declared.program.GenericRow.{GenericRow}
@@ -53,24 +53,24 @@ slots_of (Some row) = row.slots
 slots_of None = []
 
 -- the precedence list of a class: the class itself, and those above it
-abbrev pub precedence : Program → ℕ → List ℕ
+abbrev pub precedence : ProgramRows → ℕ → List ℕ
 precedence program c = precedence_of (slice_get program.classes c)
 
-abbrev pub slots : Program → ℕ → List SlotRow
+abbrev pub slots : ProgramRows → ℕ → List SlotRow
 slots program c = slots_of (slice_get program.classes c)
 
 -- whether a class is that one or below it
-abbrev pub is_below : Program → ℕ → ℕ → Bool
+abbrev pub is_below : ProgramRows → ℕ → ℕ → Bool
 is_below program c above = is_in above (precedence program c)
 
 -- conditions are the instances of classes below `<serious-condition>` (ISO/IEC 13816:2007, 29.1)
-abbrev pub is_condition : Program → State → Value → Bool
+abbrev pub is_condition : ProgramRows → State → Value → Bool
 is_condition program z v = is_below program (class_of z v) serious_condition_class
 
 -- methods
 
 -- a method applies where each argument's precedence list holds the method's class
-abbrev pub applies : Program → List ℕ → List ℕ → Bool
+abbrev pub applies : ProgramRows → List ℕ → List ℕ → Bool
 applies program [] [] = true
 applies program [] (m ∷ ms) = false
 applies program (c ∷ cs) [] = false
@@ -78,7 +78,7 @@ applies program (c ∷ cs) (m ∷ ms) = is_below program c m && applies program 
 
 -- one method is more specific than another where, at the first argument whose classes differ, its class
 -- stands earlier in the precedence list of that argument's class
-abbrev pub more_specific : Program → List ℕ → List ℕ → List ℕ → Bool
+abbrev pub more_specific : ProgramRows → List ℕ → List ℕ → List ℕ → Bool
 more_specific program (c ∷ cs) (m ∷ ms) (n ∷ ns) =
     if m == n then more_specific program cs ms ns
     else nat_lt (place_in (λ d. d == m) (precedence program c)) (place_in (λ d. d == n) (precedence program c))
@@ -93,7 +93,7 @@ abbrev pub ordered : (MethodRow → MethodRow → Bool) → List MethodRow → L
 ordered before [] = []
 ordered before (m ∷ ms) = among before m (ordered before ms)
 
-abbrev pub applicable : Program → List ℕ → List MethodRow → List MethodRow
+abbrev pub applicable : ProgramRows → List ℕ → List MethodRow → List MethodRow
 applicable program cs ms =
     ordered (λ m n. more_specific program cs m.classes n.classes) (filter (λ m. applies program cs m.classes) ms)
 
@@ -119,5 +119,5 @@ chain_of ms (p ∷ ps) = Some (record {
 })
 
 -- the chain of a call, by the classes of its required arguments
-abbrev pub chain : Program → GenericRow → List ℕ → Option Chain
+abbrev pub chain : ProgramRows → GenericRow → List ℕ → Option Chain
 chain program g cs = chain_of (applicable program cs g.methods) (of_kind Primary (applicable program cs g.methods))

@@ -4,7 +4,7 @@ use Rattle.std.specs.Prelude.{ℕ, zero, suc, ◌==◌, Bool, true, false, ◌&&
 use Rattle.isl_meaning.specs.declared.part.Part.{Part}
 use Rattle.isl_meaning.specs.declared.part.Part.TheVariants.{Variable, Exit, Method}
 use Rattle.isl_meaning.specs.declared.program.Procedure.{Procedure}
-use Rattle.isl_meaning.specs.declared.program.Program.{Program}
+use Rattle.isl_meaning.specs.declared.program.ProgramRows.{ProgramRows}
 use Rattle.isl_meaning.specs.Form.{Form, literal, local, set_local, global, set_global, def_global, clauses, sequence, let_form, lambda, call, call_value, apply, prim, while_form, block, return_from, tagbody, go, catch_form, throw, unwind, dynamic_let, dynamic, set_dynamic, def_dynamic, with_handler, signal_form, continue_form, next_method, has_next, sited}
 use Rattle.isl_meaning.specs.Form.{Forms, no_form, form_and, ClauseForms, no_clause, clause_and, MaybeForm, no_body, with_body}
 use Rattle.isl_meaning.specs.Form.{BindingForms, no_binding, binding_and, DynamicForms, no_dynamic, dynamic_and}
@@ -98,7 +98,7 @@ body_at None = []
 
 -- whether the variable is set in a form, or in the procedures of the functions made in it that capture it,
 -- to that depth of functions inside functions
-abbrev pub sets_to : Program → ℕ → ℕ → List Form → Bool
+abbrev pub sets_to : ProgramRows → ℕ → ℕ → List Form → Bool
 sets_to program zero v fs = some_of (sets_here v) fs
 sets_to program (suc depth) v fs = some_of (sets_here v) fs || some_of (inner (sets_to program depth v)) fs
   where
@@ -106,9 +106,9 @@ sets_to program (suc depth) v fs = some_of (sets_here v) fs || some_of (inner (s
     inner sets (lambda i ps) = some_of (is_variable v) ps && some_of (λ f. sets (inside_form f)) (body_at (slice_get program.procedures i))
     inner sets f = false
 
-abbrev pub is_set : Program → ℕ → Form → Bool
+abbrev pub is_set : ProgramRows → ℕ → Form → Bool
 is_set program v f = sets_to program (length program.procedures) v (inside_form f)
 
 -- a variable has a cell of its own where its body both captures and sets it
-abbrev pub has_cell : Program → ℕ → Form → Bool
+abbrev pub has_cell : ProgramRows → ℕ → Form → Bool
 has_cell program v f = captures (is_variable v) f && is_set program v f

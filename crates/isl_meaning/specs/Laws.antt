@@ -1,7 +1,8 @@
 -- What holds of all runs, as the laws say it.
-use Rattle.std.specs.Prelude.{◌≡◌, ◌≤◌, ◌⊎◌, ⊤, ℕ, List, [], ◌∷◌, ◌++◌}
-use Rattle.isl_meaning.specs.declared.program.Program.{Program}
-use Rattle.isl_meaning.specs.State.{State, Surroundings, Exit, Outcome, value, exit, full, more, Limit}
+use Rattle.std.specs.Prelude.{◌≡◌, ◌≤◌, ◌<◌, ◌⊎◌, ⊤, ℕ, List, [], ◌∷◌, ◌++◌}
+use Rattle.isl_meaning.specs.declared.program.ProgramRows.{ProgramRows}
+use Rattle.isl_meaning.specs.Objects.{Object}
+use Rattle.isl_meaning.specs.State.{State, first_state, Surroundings, Exit, Outcome, value, exit, full, more, Limit}
 use Rattle.isl_meaning.specs.Objects.{Environment}
 use Rattle.isl_meaning.specs.Signals.{Task}
 use Rattle.isl_meaning.specs.Meaning.{Meant, ended_more, meaning, meaning_at}
@@ -20,7 +21,7 @@ pub record IsSettled (at_few at_many : Meant) : Type 0 where
 -- the law of levels
 abbrev pub LawOfLevels : Type 0
 LawOfLevels =
-    (names : List (List ℕ)) (program : Program) (input : List ℕ) (limit : Limit) (few many : ℕ) → few ≤ many
+    (names : List (List ℕ)) (program : ProgramRows) (input : List ℕ) (limit : Limit) (few many : ℕ) → few ≤ many
     → IsSettled (meaning names program input few limit) (meaning names program input many limit)
 
 -- what never falls along a run, and what was printed stays
@@ -46,12 +47,31 @@ LandsIn exits more = ⊤
 -- the law of growth, of each task with any number of levels
 abbrev pub LawOfGrowth : Type 0
 LawOfGrowth =
-    (names : List (List ℕ)) (program : Program) (limit : Limit) (k : ℕ) (task : Task) (env : Environment)
+    (names : List (List ℕ)) (program : ProgramRows) (limit : Limit) (k : ℕ) (task : Task) (env : Environment)
     (around : Surroundings) (z : State) → IsLater z (meaning_at names program limit k task env around z).state
 
 -- the law of transfers
 abbrev pub LawOfTransfers : Type 0
 LawOfTransfers =
-    (names : List (List ℕ)) (program : Program) (limit : Limit) (k : ℕ) (task : Task) (env : Environment)
+    (names : List (List ℕ)) (program : ProgramRows) (limit : Limit) (k : ℕ) (task : Task) (env : Environment)
     (around : Surroundings) (z : State)
     → LandsIn around.exits (meaning_at names program limit k task env around z).outcome
+
+-- numbers, each below the one before it: none stands there twice
+abbrev pub Falling : ℕ → List ℕ → Type 0
+Falling above [] = ⊤
+Falling above (n ∷ ns) = n < above × Falling n ns
+
+-- the exits made before stay made, and where no number was used twice before, none is after
+pub record MakesNewExits (before after : State) : Type 0 where
+  pub new : List ℕ
+  pub kept : after.made ≡ new ++ before.made
+  pub differ : Falling before.exits before.made → Falling after.exits after.made
+
+-- the law of exits: no number is used twice, of each task with any number of levels, and from the start
+abbrev pub LawOfExits : Type 0
+LawOfExits =
+    ((objects : List Object) (input : List ℕ)
+    → Falling (first_state objects input).exits (first_state objects input).made)
+    × ((names : List (List ℕ)) (program : ProgramRows) (limit : Limit) (k : ℕ) (task : Task) (env : Environment)
+    (around : Surroundings) (z : State) → MakesNewExits z (meaning_at names program limit k task env around z).state)

@@ -4,7 +4,7 @@ use Rattle.std.specs.Prelude.{ℕ, zero, suc, ◌+◌, ◌-◌, ◌*◌, List, [
 use Rattle.isl_base.specs.Data as datum
 use Rattle.isl_base.specs.declared.datum.Symbol.{Symbol}
 use Rattle.isl_base.specs.declared.datum.Symbol.TheVariants.{Named, Fresh}
-use Rattle.isl_meaning.specs.declared.program.Program.{Program}
+use Rattle.isl_meaning.specs.declared.program.ProgramRows.{ProgramRows}
 use Rattle.isl_meaning.specs.declared.program.SlotRow.{SlotRow}
 use Rattle.isl_meaning.specs.declared.program.ClassRow.{ClassRow}
 use Rattle.isl_meaning.specs.declared.program.FunctionRow.{FunctionRow}
@@ -76,10 +76,10 @@ class_number (suc n) c = c + 2
 abbrev pub class_value : ℕ → Value
 class_value c = object (class_number (c - 33) c)
 
-abbrev pub first_function : Program → ℕ
+abbrev pub first_function : ProgramRows → ℕ
 first_function program = 36 + length (drop built_in_classes program.classes)
 
-abbrev pub first_literal : Program → ℕ
+abbrev pub first_literal : ProgramRows → ℕ
 first_literal program = first_function program + length program.functions
 
 -- the row of a function, by its name's text
@@ -88,7 +88,7 @@ function_row names [] name = None
 function_row names (f ∷ fs) name = if same_text name (text names f.name.0) then Some f else function_row names fs name
 
 -- the object of the function at that row
-abbrev pub function_value : List (List ℕ) → Program → List ℕ → Value
+abbrev pub function_value : List (List ℕ) → ProgramRows → List ℕ → Value
 function_value names program name =
     object (first_function program + place_in (λ f. same_text name (text names f.name.0)) program.functions)
 
@@ -128,7 +128,7 @@ all_slots [] = []
 all_slots (c ∷ cs) = c.slots ++ all_slots cs
 
 -- what is laid behind the functions: the literals in the order of their rows, then each slot's two things
-abbrev pub lays : List (List ℕ) → Program → List (ℕ → Laid)
+abbrev pub lays : List (List ℕ) → ProgramRows → List (ℕ → Laid)
 lays names program = map (row_lays names) program.literals ++ flat_map (slot_lays names) (all_slots program.classes)
 
 abbrev pub laid_objects : List (ℕ → Laid) → ℕ → List Object
@@ -140,24 +140,24 @@ abbrev pub laid_before : ℕ → List (ℕ → Laid) → ℕ
 laid_before i ls = sum_by (λ (l : ℕ → Laid). length (l 0).objects) (take i ls)
 
 -- the value of the i-th of these
-abbrev pub laid_value : Program → List (ℕ → Laid) → ℕ → Option (ℕ → Laid) → Value
+abbrev pub laid_value : ProgramRows → List (ℕ → Laid) → ℕ → Option (ℕ → Laid) → Value
 laid_value program ls i (Some l) = (l (first_literal program + laid_before i ls)).value
 laid_value program ls i None = nil
 
 -- the list of initargs of a slot, and its initform's function
-abbrev pub slot_index : Program → ℕ → ℕ → ℕ
+abbrev pub slot_index : ProgramRows → ℕ → ℕ → ℕ
 slot_index program c place = length program.literals + 2 * (length (all_slots (take c program.classes)) + place)
 
-abbrev pub initargs_value : List (List ℕ) → Program → ℕ → ℕ → Value
+abbrev pub initargs_value : List (List ℕ) → ProgramRows → ℕ → ℕ → Value
 initargs_value names program c place =
     let i = slot_index program c place in laid_value program (lays names program) i (slice_get (lays names program) i)
 
-abbrev pub initform_value : List (List ℕ) → Program → ℕ → ℕ → Value
+abbrev pub initform_value : List (List ℕ) → ProgramRows → ℕ → ℕ → Value
 initform_value names program c place =
     let i = slot_index program c place + 1 in laid_value program (lays names program) i (slice_get (lays names program) i)
 
 -- all objects before the first form
-abbrev pub objects_at_start : List (List ℕ) → Program → List Object
+abbrev pub objects_at_start : List (List ℕ) → ProgramRows → List Object
 objects_at_start names program =
     first_objects
     ++ map class_object (count_up built_in_classes (length program.classes - built_in_classes))

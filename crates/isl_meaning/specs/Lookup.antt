@@ -1,5 +1,5 @@
 -- What names and numbers stand for: the first of its kind in a list (ISO/IEC 13816:2007, 11 and 14.2).
-use Rattle.std.specs.Prelude.{ℕ, ◌+◌, ◌==◌, Bool, true, false, List, [], ◌∷◌, ◌++◌, Option, Some, None, length, slice_index_or, slice_set, if◌then◌else◌}
+use Rattle.std.specs.Prelude.{ℕ, ◌+◌, ◌==◌, Bool, true, false, not, ◌&&◌, List, [], ◌∷◌, ◌++◌, Option, Some, None, length, slice_index_or, slice_set, if◌then◌else◌}
 use Rattle.isl_meaning.specs.Values.{Value, nil, same_text}
 use Rattle.isl_meaning.specs.Objects.{Environment}
 use Rattle.isl_meaning.specs.State.{State}
@@ -12,6 +12,15 @@ text names n = slice_index_or names n []
 abbrev pub some_of : {X : Type 0} → (X → Bool) → List X → Bool
 some_of p [] = false
 some_of p (x ∷ xs) = if p x then true else some_of p xs
+
+-- whether all of the list pass, and whether no two of it are alike
+abbrev pub all_of : {X : Type 0} → (X → Bool) → List X → Bool
+all_of p [] = true
+all_of p (x ∷ xs) = p x && all_of p xs
+
+abbrev pub all_differ : {X : Type 0} → (X → X → Bool) → List X → Bool
+all_differ alike [] = true
+all_differ alike (x ∷ xs) = not (some_of (alike x) xs) && all_differ alike xs
 
 -- whether a number is in the list
 abbrev pub is_in : ℕ → List ℕ → Bool

@@ -4,7 +4,7 @@ use Rattle.std.specs.Prelude.{ℕ, zero, suc, ◌+◌, ◌-◌, Bool, true, fals
 use Rattle.isl_base.specs.declared.place.Place.{Place}
 use Rattle.isl_meaning.specs.declared.program.LiteralRow.{LiteralRow}
 use Rattle.isl_meaning.specs.declared.program.LiteralRow.TheVariants as row
-use Rattle.isl_meaning.specs.declared.program.Program.{Program}
+use Rattle.isl_meaning.specs.declared.program.ProgramRows.{ProgramRows}
 use Rattle.isl_meaning.specs.Form.{Form, literal, local, set_local, global, set_global, def_global, clauses, sequence, let_form, lambda, call, call_value, apply, prim, while_form, block, return_from, tagbody, go, catch_form, throw, unwind, dynamic_let, dynamic, set_dynamic, def_dynamic, with_handler, signal_form, continue_form, next_method, has_next, sited}
 use Rattle.isl_meaning.specs.Form.{Forms, no_form, form_and, ClauseForms, no_clause, clause_and, MaybeForm, no_body, with_body}
 use Rattle.isl_meaning.specs.Form.{BindingForms, no_binding, binding_and, DynamicForms, no_dynamic, dynamic_and}
@@ -66,7 +66,7 @@ spread zero z seen v = record { elements = []; proper = false }
 spread (suc n) z seen v = spread_at (λ i d. spread n z (i ∷ seen) d) seen v (fetch z v)
 
 -- a program with the texts of its names, the words there are, and the meaning one level below
-module _ (names : List (List ℕ)) (program : Program) (limit : Limit) (below : Task → Evaluation) where
+module _ (names : List (List ℕ)) (program : ProgramRows) (limit : Limit) (below : Task → Evaluation) where
   -- the signal of a condition, as rules and primitives do it
   abbrev pub wrong : ℕ → List Value → Act
   wrong = signal names program limit below
@@ -284,19 +284,19 @@ abbrev pub none_below : Task → Evaluation
 none_below task env around z = record { outcome = more; state = z }
 
 -- the meaning with so many levels
-unfoldable pub meaning_at : List (List ℕ) → Program → Limit → ℕ → Task → Evaluation
+unfoldable pub meaning_at : List (List ℕ) → ProgramRows → Limit → ℕ → Task → Evaluation
 meaning_at names program limit zero = mean_task names program limit none_below
 meaning_at names program limit (suc k) = mean_task names program limit (meaning_at names program limit k)
 
 -- a main form is charged as the body of an application without arguments, and takes no level
-abbrev pub mean_main : List (List ℕ) → Program → Limit → ℕ → Form → State → Evaluated
+abbrev pub mean_main : List (List ℕ) → ProgramRows → Limit → ℕ → Form → State → Evaluated
 mean_main names program limit k f z =
     request limit 0 (application_words (nodes f)) z (λ entered.
     go_on (meaning_at names program limit k (form f) no_environment main_surroundings entered) (λ v after.
     gives v (record after { stack = z.stack })))
 
 -- the main forms in order, behind a last value
-abbrev pub mean_mains : List (List ℕ) → Program → Limit → ℕ → List Form → Value → State → Evaluated
+abbrev pub mean_mains : List (List ℕ) → ProgramRows → Limit → ℕ → List Form → Value → State → Evaluated
 mean_mains names program limit k [] last z = gives last z
 mean_mains names program limit k (f ∷ fs) last z =
     go_on (mean_main names program limit k f z) (λ v after. mean_mains names program limit k fs v after)
@@ -352,6 +352,6 @@ ending_of (ended_full asked left) store = for_words asked left
 ending_of ended_more store = for_levels
 
 -- the meaning of a program with an input, at k levels and with so many words
-unfoldable pub meaning : List (List ℕ) → Program → List ℕ → ℕ → Limit → Meant
+unfoldable pub meaning : List (List ℕ) → ProgramRows → List ℕ → ℕ → Limit → Meant
 meaning names program input k limit =
     meant (mean_mains names program limit k program.main nil (first_state (objects_at_start names program) input))

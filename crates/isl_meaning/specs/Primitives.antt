@@ -5,7 +5,7 @@
 use Rattle.std.specs.Prelude.{ℕ, zero, suc, ◌+◌, ◌/◌, ◌%◌, ◌==◌, ℤ, pos, negsuc, ◌+ℤ◌, ◌-ℤ◌, ◌*ℤ◌, int_lt, int_le, Bool, true, false, not, ◌&&◌, ◌||◌, nat_le, nat_lt, List, [], ◌∷◌, ◌++◌, length, replicate, Option, Some, None, slice_get, slice_set, slice_index_or, if◌then◌else◌, is_some}
 use Rattle.isl_meaning.specs.declared.primitive.Primitive.{Primitive}
 use Rattle.isl_meaning.specs.declared.primitive.Primitive.TheVariants.{Add, Subtract, Multiply, Divide, Modulo, NumberEqual, NumberNotEqual, NumberLess, NumberAtMost, NumberGreater, NumberAtLeast, Same, IsNull, IsCons, IsInteger, IsSymbol, IsCharacter, IsString, IsVector, IsFunction, IsGeneric, Cons, Car, Cdr, SetCar, SetCdr, MakeString, MakeVector, StringLength, VectorLength, CharAt, VectorRef, SetCharAt, SetVectorRef, CharCode, CodeChar, SymbolName, SymbolSerial, Gensym, ClassOf, ClassName, IsSubclass, IsInstance, Allocate, SlotCount, SlotPlace, SlotRef, SlotSet, SlotBound, SlotInitargs, SlotInitform, Continuable, StandardInput, StandardOutput, PutChar, IsFreshLine, GetByte, PeekByte}
-use Rattle.isl_meaning.specs.declared.program.Program.{Program}
+use Rattle.isl_meaning.specs.declared.program.ProgramRows.{ProgramRows}
 use Rattle.isl_meaning.specs.declared.program.ClassRow.{ClassRow}
 use Rattle.isl_meaning.specs.declared.program.SlotRow.{SlotRow}
 use Rattle.isl_meaning.specs.Values.{named, unnamed, Value, integer, character, symbol, nil, object, truth, in_range, int_equal, same, same_text}
@@ -157,7 +157,7 @@ abbrev pub makes_vector : List Value → State → Answer
 makes_vector vs = makes (2 + length vs) 0 (vector vs)
 
 -- the words of an instance: a condition has one more, for its mark
-abbrev pub instance_words : Program → ℕ → ℕ → ℕ
+abbrev pub instance_words : ProgramRows → ℕ → ℕ → ℕ
 instance_words program c n = 2 + n + (if is_below program c serious_condition_class then 1 else 0)
 
 -- a change of an object that is there
@@ -199,7 +199,7 @@ is_abstract (Some row) = row.abstract_class
 is_abstract None = true
 
 -- instances of a class can be made where it is not abstract, and is the file's own or a condition class
-abbrev pub can_be_made : Program → ℕ → Bool
+abbrev pub can_be_made : ProgramRows → ℕ → Bool
 can_be_made program c =
     not (is_abstract (slice_get program.classes c))
     && (nat_le built_in_classes c || is_below program c serious_condition_class)
@@ -255,7 +255,7 @@ abbrev pub says : Bool → State → Answer
 says b = result (truth b)
 
 -- the answer of a primitive at the values of its arguments
-abbrev pub primitive : List (List ℕ) → Program → Primitive → List Value → State → Answer
+abbrev pub primitive : List (List ℕ) → ProgramRows → Primitive → List Value → State → Answer
 primitive names program Add = of_integers (λ a b. integer_result (a +ℤ b))
 primitive names program Subtract = of_integers (λ a b. integer_result (a -ℤ b))
 primitive names program Multiply = of_integers (λ a b. integer_result (a *ℤ b))

@@ -6,7 +6,7 @@ use Rattle.isl_meaning.specs.declared.program.LiteralRow.TheVariants as row
 use Rattle.isl_meaning.specs.declared.program.Procedure.{Procedure}
 use Rattle.isl_meaning.specs.declared.program.SlotRow.{SlotRow}
 use Rattle.isl_meaning.specs.declared.program.ClassRow.{ClassRow}
-use Rattle.isl_meaning.specs.declared.program.Program.{Program}
+use Rattle.isl_meaning.specs.declared.program.ProgramRows.{ProgramRows}
 use Rattle.isl_meaning.specs.Counts.{nodes, application_words}
 
 -- the sum over a list
@@ -31,7 +31,7 @@ abbrev pub class_nodes : ClassRow → ℕ
 class_nodes c = length c.precedence + total slot_nodes c.slots
 
 -- a generic function counts four
-abbrev pub program_nodes : Program → ℕ
+abbrev pub program_nodes : ProgramRows → ℕ
 program_nodes program =
     total row_nodes program.literals
     + total procedure_nodes program.procedures

@@ -6,7 +6,7 @@ use Rattle.isl_meaning.specs.declared.program.GenericRow.{GenericRow}
 use Rattle.isl_meaning.specs.declared.program.FunctionRow.{FunctionRow}
 use Rattle.isl_meaning.specs.declared.program.Callee.{Callee}
 use Rattle.isl_meaning.specs.declared.program.Callee.TheVariants as callee
-use Rattle.isl_meaning.specs.declared.program.Program.{Program}
+use Rattle.isl_meaning.specs.declared.program.ProgramRows.{ProgramRows}
 use Rattle.isl_meaning.specs.Form.{Form, literal, lambda, call}
 use Rattle.isl_meaning.specs.Cells.{program_cells}
 use Rattle.isl_meaning.specs.Counts.{nodes}
@@ -27,7 +27,7 @@ methods_at (Some g) = map (λ m. m.procedure) g.methods
 methods_at None = []
 
 -- a generic function brings all its methods
-abbrev pub callee_procedures : Program → Option FunctionRow → List ℕ
+abbrev pub callee_procedures : ProgramRows → Option FunctionRow → List ℕ
 callee_procedures program None = []
 callee_procedures program (Some f) = by f.callee
   where
@@ -50,17 +50,17 @@ named_in (Some (row.Class c)) = []
 named_in None = []
 
 -- the names of functions that a form mentions
-abbrev pub names_of : Program → Form → List ℕ
+abbrev pub names_of : ProgramRows → Form → List ℕ
 names_of program (call n fs) = n ∷ []
 names_of program (literal i) = named_in (slice_get program.literals i)
 names_of program f = []
 
-abbrev pub procedures_of : List (List ℕ) → Program → Form → List ℕ
+abbrev pub procedures_of : List (List ℕ) → ProgramRows → Form → List ℕ
 procedures_of names program (lambda p parts) = p ∷ []
 procedures_of names program f =
     flat_map (λ n. callee_procedures program (function_row names program.functions (text names n))) (names_of program f)
 
-abbrev pub generics_of : List (List ℕ) → Program → Form → List ℕ
+abbrev pub generics_of : List (List ℕ) → ProgramRows → Form → List ℕ
 generics_of names program f =
     flat_map (λ n. callee_generics (function_row names program.functions (text names n))) (names_of program f)
 
@@ -69,27 +69,27 @@ literals_of (literal i) = i ∷ []
 literals_of f = []
 
 -- the bodies of procedures
-abbrev pub bodies : Program → List ℕ → List Form
+abbrev pub bodies : ProgramRows → List ℕ → List Form
 bodies program ps = flat_map (λ p. body_at (slice_get program.procedures p)) ps
 
 -- the procedures that some forms mention, directly or through so many others
-abbrev pub reached_from : List (List ℕ) → Program → ℕ → List Form → List ℕ
+abbrev pub reached_from : List (List ℕ) → ProgramRows → ℕ → List Form → List ℕ
 reached_from names program zero fs = []
 reached_from names program (suc depth) fs =
     let ps = once (flat_map (procedures_of names program) (flat_map inside_form fs)) in
     once (ps ++ reached_from names program depth (bodies program ps))
 
 -- where the search begins: the main forms, and the procedures of all initforms
-abbrev pub initforms : Program → List ℕ
+abbrev pub initforms : ProgramRows → List ℕ
 initforms program = flat_map (λ s. option_to_list s.initform) (all_slots program.classes)
 
-abbrev pub reached_procedures : List (List ℕ) → Program → List ℕ
+abbrev pub reached_procedures : List (List ℕ) → ProgramRows → List ℕ
 reached_procedures names program =
     once (initforms program
     ++ reached_from names program (length program.procedures) (program.main ++ bodies program (initforms program)))
 
 -- all forms that are reached, each with those inside it
-abbrev pub reached_forms : List (List ℕ) → Program → List Form
+abbrev pub reached_forms : List (List ℕ) → ProgramRows → List Form
 reached_forms names program =
     flat_map inside_form (program.main ++ bodies program (reached_procedures names program))
 
@@ -99,7 +99,7 @@ rows_at xs ns = flat_map (λ n. option_to_list (slice_get xs n)) ns
 
 -- the reached nodes: the main forms, all classes, and the procedures, literals and generic functions that are
 -- reached
-abbrev pub reached_nodes : List (List ℕ) → Program → ℕ
+abbrev pub reached_nodes : List (List ℕ) → ProgramRows → ℕ
 reached_nodes names program =
     total nodes program.main
     + total class_nodes program.classes
@@ -108,7 +108,7 @@ reached_nodes names program =
     + 4 * length (once (flat_map (generics_of names program) (reached_forms names program)))
 
 -- the most words that an image of the program has
-abbrev pub image_words : List (List ℕ) → Program → ℕ
+abbrev pub image_words : List (List ℕ) → ProgramRows → ℕ
 image_words names program =
     min (160 * program_nodes program + 600000)
     (160 * reached_nodes names program + 2 * program_cells program + 40000)

@@ -2,7 +2,7 @@
 -- `<program-error>` for a wrong number of arguments, `<control-error>` for a missing next method, for a handler
 -- that returns and for a condition that is not continuable.
 use Rattle.std.specs.Prelude.{ℕ, ◌+◌, ◌==◌, Bool, false, nat_eq, nat_le, List, [], ◌∷◌, ◌++◌, length, map, take, drop, Option, Some, None, option_to_list, slice_get, is_some, if◌then◌else◌}
-use Rattle.isl_meaning.specs.declared.program.Program.{Program}
+use Rattle.isl_meaning.specs.declared.program.ProgramRows.{ProgramRows}
 use Rattle.isl_meaning.specs.declared.program.Procedure.{Procedure}
 use Rattle.isl_meaning.specs.declared.program.GenericRow.{GenericRow}
 use Rattle.isl_meaning.specs.declared.program.FunctionRow.{FunctionRow}
@@ -70,7 +70,7 @@ is_continuable (signal_exit c mark) = is_true mark
 is_continuable kind = false
 
 -- a program with the texts of its names, the words there are, and the meaning one level below
-module _ (names : List (List ℕ)) (program : Program) (limit : Limit) (below : Task → Evaluation) where
+module _ (names : List (List ℕ)) (program : ProgramRows) (limit : Limit) (below : Task → Evaluation) where
   -- what needs a level: More where there is none
   abbrev pub descend : (State → Evaluated) → Act
   descend next around z = go_on (below nothing no_environment around z) (λ v after. next after)

@@ -6,8 +6,8 @@ use Rattle.isl_meaning.specs.Values.{Value, object}
 use Rattle.isl_meaning.specs.Objects.{Object}
 
 -- the state: the store of all objects made, the variables, the global variables and the outermost dynamic
--- values by their names, the input left, the bytes printed, how many exits and fresh symbols were made, and
--- the charges: units, the words of the heap, those of the stack, and the most of both together
+-- values by their names, the input left, the bytes printed, how many exits and fresh symbols were made, the
+-- numbers of those exits, the last one first, and the charges: units, the words of the heap, those of the stack, and the most of both together
 pub record State : Type 0 where
   pub store : List Object
   pub variables : List Value
@@ -16,6 +16,7 @@ pub record State : Type 0 where
   pub input : List ℕ
   pub printed : List ℕ
   pub exits : ℕ
+  pub made : List ℕ
   pub symbols : ℕ
   pub units : ℕ
   pub heap : ℕ
@@ -32,6 +33,7 @@ first_state objects input = record {
   input = input;
   printed = [];
   exits = 1;
+  made = 0 ∷ [];
   symbols = 0;
   units = 0;
   heap = 0;
@@ -149,9 +151,9 @@ cleaned cleanup around r = cleaned_from cleanup around r.outcome r.state
 abbrev pub inside : ExitKind → Surroundings → State → Surroundings
 inside kind around z = record around { exits = record { number = z.exits; kind = kind } ∷ around.exits }
 
--- one exit more was made
+-- one exit more was made, with the number to which the exits had come
 abbrev pub exit_made : State → State
-exit_made z = record z { exits = z.exits + 1 }
+exit_made z = record z { exits = z.exits + 1; made = z.exits ∷ z.made }
 
 -- charges
 

@@ -5,7 +5,7 @@ use Rattle.isl_meaning.specs.declared.program.Callee.TheVariants as callee
 use Rattle.isl_meaning.specs.declared.program.Qualifier.{Qualifier}
 use Rattle.isl_meaning.specs.declared.program.Qualifier.TheVariants.{Primary, Around, Before, After}
 use Rattle.isl_meaning.specs.declared.program.MethodRow.{MethodRow}
-use Rattle.isl_meaning.specs.declared.program.Program.{Program}
+use Rattle.isl_meaning.specs.declared.program.ProgramRows.{ProgramRows}
 use Rattle.isl_meaning.specs.declared.primitive.Primitive.TheVariants.{Subtract, Multiply, Cons, Allocate}
 use Rattle.isl_meaning.specs.Form.{literal, local, lambda, call, call_value, prim, dynamic_let, dynamic, def_dynamic, next_method, no_dynamic, dynamic_and}
 use Rattle.isl_meaning.specs.View.{forms}
@@ -21,7 +21,7 @@ abbrev pub method : Qualifier → ℕ → ℕ → MethodRow
 method q c p = record { qualifier = q; classes = c ∷ []; procedure = p }
 
 -- (g (create (class <b>)))
-abbrev pub methods_in_order : Program
+abbrev pub methods_in_order : ProgramRows
 methods_in_order = record (a_program
     (a_char 49 ∷ a_char 50 ∷ a_char 51 ∷ a_char 52 ∷ a_char 53 ∷ a_char 54 ∷ a_char 40 ∷ a_char 41 ∷ row.Class 35 ∷ [])
     (a_procedure (0 ∷ []) (put 0 ∷ [])
@@ -47,7 +47,7 @@ abbrev pub MethodsInOrder : Type 0
 MethodsInOrder = Does ((103 ∷ []) ∷ []) methods_in_order 4 unlimited (with_value nil) (40 ∷ 52 ∷ 51 ∷ 50 ∷ 49 ∷ 53 ∷ 54 ∷ 41 ∷ [])
 
 -- (defdynamic d 1) (defun f () (dynamic d)) (- (* 10 (dynamic-let ((d 2)) (f))) (f))
-abbrev pub seen_through_a_call : Program
+abbrev pub seen_through_a_call : ProgramRows
 seen_through_a_call = a_program (a_number 1 ∷ a_number 2 ∷ a_number 10 ∷ [])
     (a_procedure [] (dynamic 0 ∷ []) ∷ []) (a_function 1 0 ∷ [])
     (def_dynamic 0 (literal 0)
@@ -60,7 +60,7 @@ abbrev pub SeenThroughACall : Type 0
 SeenThroughACall = Does ((100 ∷ []) ∷ (102 ∷ []) ∷ []) seen_through_a_call 1 unlimited (with_value (integer (pos 19))) []
 
 -- ((lambda (x) x) 1)
-abbrev pub one_application : Program
+abbrev pub one_application : ProgramRows
 one_application = a_program (a_number 1 ∷ []) (a_procedure (0 ∷ []) (local 0 ∷ []) ∷ []) []
     (call_value (forms (lambda 0 [] ∷ literal 0 ∷ [])) ∷ [])
 
@@ -74,7 +74,7 @@ OneApplication =
     × ((meaning [] one_application [] 1 unlimited).peak ≡ (16 + 16 * 4) + 2 + (16 + 16 * 2 + 1))
 
 -- (cons 1 1): the main form has 5 nodes, so it asks for 96 words, and the cons for 2 more
-abbrev pub one_cons : Program
+abbrev pub one_cons : ProgramRows
 one_cons = a_program (a_number 1 ∷ []) [] [] (prim Cons (forms (literal 0 ∷ literal 0 ∷ [])) ∷ [])
 
 -- with 95 words the main form does not fit, with 97 the cons does not

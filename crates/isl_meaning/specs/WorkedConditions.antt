@@ -1,7 +1,7 @@
 -- Worked programs: conditions and handlers (ISO/IEC 13816:2007, 29).
 use Rattle.std.specs.Prelude.{ℕ, pos, [], ◌∷◌}
 use Rattle.isl_meaning.specs.declared.program.LiteralRow.TheVariants as row
-use Rattle.isl_meaning.specs.declared.program.Program.{Program}
+use Rattle.isl_meaning.specs.declared.program.ProgramRows.{ProgramRows}
 use Rattle.isl_meaning.specs.declared.primitive.Primitive.TheVariants.{Add, Divide, Car, Allocate}
 use Rattle.isl_meaning.specs.Form.{Form, literal, local, lambda, prim, unwind, catch_form, throw, with_handler, signal_form, continue_form, sited}
 use Rattle.isl_meaning.specs.View.{forms}
@@ -18,7 +18,7 @@ an_error id = prim Allocate (forms (literal id ∷ []))
 --   (with-handler (lambda (c) (format-char (standard-output) #\o) (throw 'k 1))
 --     (with-handler (lambda (c) (format-char (standard-output) #\i) (signal-condition (%allocate (class <simple-error>)) nil))
 --       (signal-condition (%allocate (class <simple-error>)) nil))))
-abbrev pub without_itself : Program
+abbrev pub without_itself : ProgramRows
 without_itself = a_program (a_symbol 0 ∷ a_char 111 ∷ a_char 105 ∷ row.Class 25 ∷ a_nil ∷ a_number 1 ∷ [])
     (a_procedure (0 ∷ []) (put 1 ∷ throw (literal 0) (literal 5) ∷ [])
     ∷ a_procedure (1 ∷ []) (put 2 ∷ signal_form (an_error 3) (literal 4) ∷ []) ∷ []) []
@@ -32,7 +32,7 @@ WithoutItself = Does ((107 ∷ []) ∷ []) without_itself 3 unlimited (with_valu
 
 -- (with-handler (lambda (c) (unwind-protect (continue-condition c 7) (format-char (standard-output) #\u)))
 --   (+ 1 (signal-condition (%allocate (class <simple-error>)) t)))
-abbrev pub continued : Program
+abbrev pub continued : ProgramRows
 continued = a_program (a_number 7 ∷ a_char 117 ∷ a_number 1 ∷ row.Class 25 ∷ a_symbol 0 ∷ [])
     (a_procedure (0 ∷ []) (unwind (continue_form (local 0) (literal 0)) (body (put 1 ∷ [])) ∷ []) ∷ []) []
     (with_handler (lambda 0 []) (body (prim Add (forms (literal 2 ∷ signal_form (an_error 3) (literal 4) ∷ [])) ∷ [])) ∷ [])
@@ -42,7 +42,7 @@ abbrev pub Continued : Type 0
 Continued = Does ((116 ∷ []) ∷ []) continued 1 unlimited (with_value (integer (pos 8))) (117 ∷ [])
 
 -- the same with the mark nil: the condition is not continuable, a control error at site 1
-abbrev pub not_continuable : Program
+abbrev pub not_continuable : ProgramRows
 not_continuable = a_program (a_number 7 ∷ a_char 117 ∷ a_number 1 ∷ row.Class 25 ∷ a_nil ∷ [])
     (a_procedure (0 ∷ []) (unwind (sited 1 (continue_form (local 0) (literal 0))) (body (put 1 ∷ [])) ∷ []) ∷ []) []
     (with_handler (lambda 0 []) (body (prim Add (forms (literal 2 ∷ signal_form (an_error 3) (literal 4) ∷ [])) ∷ [])) ∷ [])
@@ -51,7 +51,7 @@ abbrev pub NotContinuable : Type 0
 NotContinuable = Does [] not_continuable 1 unlimited (by_class 22 (site_at 1)) (117 ∷ [])
 
 -- (with-handler (lambda (c) 5) (signal-condition (%allocate (class <simple-error>)) nil)), the signal at site 1
-abbrev pub returning : Program
+abbrev pub returning : ProgramRows
 returning = a_program (a_number 5 ∷ row.Class 25 ∷ a_nil ∷ []) (a_procedure (0 ∷ []) (literal 0 ∷ []) ∷ []) []
     (with_handler (lambda 0 []) (body (sited 1 (signal_form (an_error 1) (literal 2)) ∷ [])) ∷ [])
 
@@ -60,7 +60,7 @@ abbrev pub Returning : Type 0
 Returning = Does [] returning 1 unlimited (by_class 22 (site_at 1)) []
 
 -- (unwind-protect (car nil) (format-char (standard-output) #\c)), `(car nil)` at site 1
-abbrev pub cleanup_runs : Program
+abbrev pub cleanup_runs : ProgramRows
 cleanup_runs = a_program (a_nil ∷ a_char 99 ∷ []) [] []
     (unwind (sited 1 (prim Car (forms (literal 0 ∷ [])))) (body (put 1 ∷ [])) ∷ [])
 
@@ -69,7 +69,7 @@ abbrev pub CleanupRuns : Type 0
 CleanupRuns = Does [] cleanup_runs 0 unlimited (by_class 29 (site_at 1)) (99 ∷ [])
 
 -- (catch 'k (unwind-protect (car nil) (throw 'k 1))), `throw` at site 2
-abbrev pub no_catch_left : Program
+abbrev pub no_catch_left : ProgramRows
 no_catch_left = a_program (a_symbol 0 ∷ a_nil ∷ a_number 1 ∷ []) [] []
     (catch_form (literal 0) (body (
     unwind (sited 1 (prim Car (forms (literal 1 ∷ [])))) (body (sited 2 (throw (literal 0) (literal 2)) ∷ [])) ∷ [])) ∷ [])
@@ -80,7 +80,7 @@ NoCatchLeft = Does ((107 ∷ []) ∷ []) no_catch_left 0 unlimited (by_class 22 
 
 -- (unwind-protect (unwind-protect (car nil) (format-char (standard-output) #\a) (div 1 0))
 --     (format-char (standard-output) #\b)), `(div 1 0)` at site 2
-abbrev pub replaced : Program
+abbrev pub replaced : ProgramRows
 replaced = a_program (a_nil ∷ a_char 97 ∷ a_char 98 ∷ a_number 1 ∷ a_number 0 ∷ []) [] []
     (unwind
     (unwind (sited 1 (prim Car (forms (literal 0 ∷ []))))
@@ -93,7 +93,7 @@ Replaced = Does [] replaced 0 unlimited (by_class 27 (site_at 2)) (97 ∷ 98 ∷
 
 -- (with-handler (lambda (c) (format-char (standard-output) #\h) (div 1 0))
 --     (unwind-protect (car nil) (format-char (standard-output) #\c))), `(div 1 0)` at site 2
-abbrev pub handler_fails : Program
+abbrev pub handler_fails : ProgramRows
 handler_fails = a_program (a_char 104 ∷ a_number 1 ∷ a_number 0 ∷ a_nil ∷ a_char 99 ∷ [])
     (a_procedure (0 ∷ []) (put 0 ∷ sited 2 (prim Divide (forms (literal 1 ∷ literal 2 ∷ []))) ∷ []) ∷ []) []
     (with_handler (lambda 0 []) (body (

@@ -4,7 +4,7 @@ use Rattle.isl_base.specs.Data as datum
 use Rattle.isl_meaning.specs.declared.part.Part.TheVariants.{Variable}
 use Rattle.isl_meaning.specs.declared.program.LiteralRow.{LiteralRow}
 use Rattle.isl_meaning.specs.declared.program.LiteralRow.TheVariants as row
-use Rattle.isl_meaning.specs.declared.program.Program.{Program}
+use Rattle.isl_meaning.specs.declared.program.ProgramRows.{ProgramRows}
 use Rattle.isl_meaning.specs.declared.primitive.Primitive.TheVariants.{Add, Subtract, Divide, Modulo, NumberLess, Car, Cdr, SetCar, VectorRef, CharAt, GetByte, Allocate, SlotPlace, SlotRef, SlotSet, SlotInitargs, SlotInitform}
 use Rattle.isl_meaning.specs.Form.{Form, literal, local, set_local, set_global, let_form, lambda, call, call_value, apply, prim, while_form, no_binding, binding_and, dynamic_let, dynamic, set_dynamic, def_dynamic, no_dynamic, dynamic_and, sited}
 use Rattle.isl_meaning.specs.View.{forms}
@@ -27,7 +27,7 @@ abbrev pub of : List Form → Form
 of fs = call_value (forms fs)
 
 -- (cdr (cdr '(1 2 . 3)))
-abbrev pub dotted_list : Program
+abbrev pub dotted_list : ProgramRows
 dotted_list = a_program (a_list (number 1 ∷ number 2 ∷ []) (datum.dotted (number 3)) ∷ []) [] []
     (prim Cdr (forms (prim Cdr (forms (literal 0 ∷ [])) ∷ [])) ∷ [])
 
@@ -35,7 +35,7 @@ abbrev pub DottedList : Type 0
 DottedList = Does [] dotted_list 0 unlimited (with_value (integer (pos 3))) []
 
 -- ('#(5 "ab") is one object): (%char-at (%vector-ref #(5 "ab") 1) 1)
-abbrev pub string_in_a_vector : Program
+abbrev pub string_in_a_vector : ProgramRows
 string_in_a_vector = a_program
     (row.Datum (datum.item no_place (datum.vector (datum.items_of (number 5 ∷ datum.item no_place (datum.string (97 ∷ 98 ∷ [])) ∷ []))))
     ∷ a_number 1 ∷ []) [] []
@@ -45,7 +45,7 @@ abbrev pub StringInAVector : Type 0
 StringInAVector = Does [] string_in_a_vector 0 unlimited (with_value (character 98)) []
 
 -- (set-car 7 '(1)), and then the car of the same literal; a literal is one object and may be changed
-abbrev pub changed_literal : Program
+abbrev pub changed_literal : ProgramRows
 changed_literal = a_program (a_number 9 ∷ a_list (number 1 ∷ []) datum.no_tail ∷ a_number 7 ∷ []) [] []
     (prim SetCar (forms (literal 2 ∷ literal 1 ∷ []))
     ∷ prim Car (forms (literal 1 ∷ [])) ∷ [])
@@ -54,7 +54,7 @@ abbrev pub ChangedLiteral : Type 0
 ChangedLiteral = Does [] changed_literal 0 unlimited (with_value (integer (pos 7))) []
 
 -- ((lambda (a :rest r) (- (car (cdr r)) a)) 1 2 3)
-abbrev pub rest_list : Program
+abbrev pub rest_list : ProgramRows
 rest_list = a_program (a_number 1 ∷ a_number 2 ∷ a_number 3 ∷ [])
     (record {
       name = None;
@@ -69,7 +69,7 @@ abbrev pub RestList : Type 0
 RestList = Does [] rest_list 1 unlimited (with_value (integer (pos 2))) []
 
 -- (%apply (lambda (x y) (- x y)) '(9 2)), and with '(9 . 2)
-abbrev pub applied : datum.Items → datum.Tail → Program
+abbrev pub applied : datum.Items → datum.Tail → ProgramRows
 applied ds end = a_program (row.Datum (datum.item no_place (datum.list ds end)) ∷ [])
     (a_procedure (0 ∷ 1 ∷ []) (prim Subtract (forms (local 0 ∷ local 1 ∷ [])) ∷ []) ∷ []) []
     (sited 1 (apply (lambda 0 []) (literal 0)) ∷ [])
@@ -85,7 +85,7 @@ abbrev pub TooManyArguments : Type 0
 TooManyArguments = Does [] (applied (datum.items_of (number 9 ∷ number 2 ∷ number 1 ∷ [])) datum.no_tail) 1 unlimited (by_class 24 (site_at 1)) []
 
 -- (list (div -7 2) (mod -7 2)) as a difference: -4 - 1
-abbrev pub floors : Program
+abbrev pub floors : ProgramRows
 floors = a_program (below_zero 6 ∷ a_number 2 ∷ []) [] []
     (prim Subtract (forms (prim Divide (forms (literal 0 ∷ literal 1 ∷ [])) ∷ prim Modulo (forms (literal 0 ∷ literal 1 ∷ [])) ∷ [])) ∷ [])
 
@@ -93,14 +93,14 @@ abbrev pub Floors : Type 0
 Floors = Does [] floors 0 unlimited (with_value (integer (negsuc 4))) []
 
 -- (+ 536870911 1) at site 1
-abbrev pub overflow : Program
+abbrev pub overflow : ProgramRows
 overflow = a_program (a_number 536870911 ∷ a_number 1 ∷ []) [] [] (sited 1 (prim Add (forms (literal 0 ∷ literal 1 ∷ []))) ∷ [])
 
 abbrev pub Overflow : Type 0
 Overflow = Does [] overflow 0 unlimited (by_class 28 (site_at 1)) []
 
 -- (foo (format-char (standard-output) #\a)) at site 1: the argument first
-abbrev pub no_function : Program
+abbrev pub no_function : ProgramRows
 no_function = a_program (a_char 97 ∷ []) [] [] (sited 1 (call 0 (forms (put 0 ∷ []))) ∷ [])
 
 abbrev pub NoFunction : Type 0
@@ -111,7 +111,7 @@ abbrev pub NoValue : Type 0
 NoValue = Does ((120 ∷ []) ∷ []) (a_program (a_number 1 ∷ []) [] [] (sited 1 (set_global 0 (literal 0)) ∷ [])) 0 unlimited (by_class 31 (site_at 1)) []
 
 -- (let ((n 0)) (let ((f (lambda () (setq n (+ n 2))))) (while (< n 5) (funcall f)) n)): n is captured and set
-abbrev pub counting : Program
+abbrev pub counting : ProgramRows
 counting = a_program (a_number 0 ∷ a_number 2 ∷ a_number 5 ∷ [])
     (a_procedure [] (set_local 0 (prim Add (forms (local 0 ∷ literal 1 ∷ []))) ∷ []) ∷ []) []
     (let_form (binding_and 0 (literal 0) no_binding) (body (
@@ -128,7 +128,7 @@ abbrev pub CountingWords : Type 0
 CountingWords = (meaning [] counting [] 3 unlimited).peak ≡ (16 + 16 * 19) + 1 + 3 + (16 + 16 * 7)
 
 -- (defdynamic d 1) (dynamic-let ((d 2)) (setf (dynamic d) 3)) (dynamic d): the binding was set, not the outermost value
-abbrev pub set_binding : Program
+abbrev pub set_binding : ProgramRows
 set_binding = a_program (a_number 1 ∷ a_number 2 ∷ a_number 3 ∷ []) [] []
     (def_dynamic 0 (literal 0)
     ∷ dynamic_let (dynamic_and 0 (literal 1) no_dynamic) (body (set_dynamic 0 (literal 2) ∷ []))
@@ -138,7 +138,7 @@ abbrev pub SetBinding : Type 0
 SetBinding = Does ((100 ∷ []) ∷ []) set_binding 0 unlimited (with_value (integer (pos 1))) []
 
 -- a class with a slot s, whose initarg is a and whose initform is 4: its place, its initarg, and what its initform gives
-abbrev pub slotted : List Form → Program
+abbrev pub slotted : List Form → ProgramRows
 slotted main = record (a_program (row.Class 34 ∷ a_symbol 0 ∷ a_number 4 ∷ a_number 0 ∷ [])
     (a_procedure [] (literal 2 ∷ []) ∷ []) [] main) {
       classes = built_in_rows ++ record {

@@ -1,7 +1,7 @@
 -- Worked programs: transfers and cleanups (ISO/IEC 13816:2007, 14.8).
 use Rattle.std.specs.Prelude.{pos, [], ◌∷◌}
 use Rattle.isl_meaning.specs.declared.part.Part.TheVariants.{Exit}
-use Rattle.isl_meaning.specs.declared.program.Program.{Program}
+use Rattle.isl_meaning.specs.declared.program.ProgramRows.{ProgramRows}
 use Rattle.isl_meaning.specs.declared.primitive.Primitive.TheVariants.{Add, Subtract, NumberEqual}
 use Rattle.isl_meaning.specs.Form.{literal, local, set_local, global, set_global, def_global, clauses, let_form, lambda, call, call_value, prim, block, return_from, tagbody, go, unwind, catch_form, throw, sited, no_clause, clause_and, with_body, no_binding, binding_and}
 use Rattle.isl_meaning.specs.View.{forms}
@@ -12,7 +12,7 @@ use Rattle.isl_meaning.specs.ByHand.{a_number, a_char, a_symbol, a_nil, a_proced
 
 -- (block b (unwind-protect (unwind-protect (return-from b 1) (format-char (standard-output) #\a))
 --     (format-char (standard-output) #\b)))
-abbrev pub inner_first : Program
+abbrev pub inner_first : ProgramRows
 inner_first = a_program (a_number 1 ∷ a_char 97 ∷ a_char 98 ∷ []) [] []
     (block 0 (body (unwind (unwind (return_from 0 (literal 0)) (body (put 1 ∷ []))) (body (put 2 ∷ [])) ∷ [])) ∷ [])
 
@@ -21,7 +21,7 @@ abbrev pub InnerFirst : Type 0
 InnerFirst = Does [] inner_first 0 unlimited (with_value (integer (pos 1))) (97 ∷ 98 ∷ [])
 
 -- (catch 'a (catch 'b (unwind-protect (throw 'a 1) (throw 'b 2)))), the second `throw` at site 1
-abbrev pub inner_catch : Program
+abbrev pub inner_catch : ProgramRows
 inner_catch = a_program (a_symbol 0 ∷ a_symbol 1 ∷ a_number 1 ∷ a_number 2 ∷ []) [] []
     (catch_form (literal 0) (body (catch_form (literal 1) (body (
     unwind (throw (literal 0) (literal 2)) (body (sited 1 (throw (literal 1) (literal 3)) ∷ [])) ∷ [])) ∷ [])) ∷ [])
@@ -31,7 +31,7 @@ abbrev pub InnerCatch : Type 0
 InnerCatch = Does ((97 ∷ []) ∷ (98 ∷ []) ∷ []) inner_catch 0 unlimited (by_class 22 (site_at 1)) []
 
 -- (catch 'a (catch 'b (unwind-protect (throw 'b 3) (throw 'a 4))))
-abbrev pub outer_catch : Program
+abbrev pub outer_catch : ProgramRows
 outer_catch = a_program (a_symbol 0 ∷ a_symbol 1 ∷ a_number 3 ∷ a_number 4 ∷ []) [] []
     (catch_form (literal 0) (body (catch_form (literal 1) (body (
     unwind (throw (literal 1) (literal 2)) (body (throw (literal 0) (literal 3) ∷ [])) ∷ [])) ∷ [])) ∷ [])
@@ -45,7 +45,7 @@ OuterCatch = Does ((97 ∷ []) ∷ (98 ∷ []) ∷ []) outer_catch 0 unlimited (
 --            (if (= n 1) (progn (setq f (lambda () (go end))) (go top)))
 --            (funcall f) (format-char (standard-output) #\x) end)
 --   n)
-abbrev pub earlier_turn : Program
+abbrev pub earlier_turn : ProgramRows
 earlier_turn = a_program (a_nil ∷ a_number 0 ∷ a_number 1 ∷ a_char 120 ∷ [])
     (a_procedure [] (go 0 2 ∷ []) ∷ []) []
     (let_form (binding_and 0 (literal 0) (binding_and 1 (literal 1) no_binding)) (body (
@@ -70,7 +70,7 @@ TooFewLevels = Does [] earlier_turn 1 unlimited for_levels []
 
 -- (defun f (k) (block b (if (= k 0) (lambda () (return-from b 1)) (funcall g))))
 -- (defglobal g (f 0)) (f 1), the `return-from` at site 1
-abbrev pub stale_exit : Program
+abbrev pub stale_exit : ProgramRows
 stale_exit = a_program (a_number 0 ∷ a_number 1 ∷ a_symbol 2 ∷ [])
     (a_procedure [] (sited 1 (return_from 0 (literal 1)) ∷ [])
     ∷ a_procedure (0 ∷ []) (block 0 (body (
@@ -86,7 +86,7 @@ StaleExit = Does ((102 ∷ []) ∷ (103 ∷ []) ∷ (116 ∷ []) ∷ []) stale_e
 -- (defglobal c 0)
 -- (defun u (n) (if (= n 0) (throw 'k 1) (unwind-protect (u (- n 1)) (setq c (+ c 1)))))
 -- (catch 'k (u 100)) c
-abbrev pub many_cleanups : Program
+abbrev pub many_cleanups : ProgramRows
 many_cleanups = a_program (a_number 0 ∷ a_number 1 ∷ a_number 100 ∷ a_symbol 2 ∷ a_symbol 3 ∷ [])
     (a_procedure (0 ∷ []) (
     clauses (clause_and (prim NumberEqual (forms (local 0 ∷ literal 0 ∷ []))) (with_body (body (throw (literal 3) (literal 1) ∷ [])))

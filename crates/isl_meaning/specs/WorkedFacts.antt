@@ -1,14 +1,15 @@
--- Which programs that are written out are whole ones, and which are not.
-use Rattle.std.specs.Prelude.{◌≡◌, ℕ, ◌+◌, true, false, [], ◌∷◌}
+-- Which programs that are written out are whole, and which are not.
+use Rattle.std.specs.Prelude.{◌≡◌, ℕ, ◌+◌, ◌*◌, true, false, [], ◌∷◌}
 use Rattle.isl_meaning.specs.declared.part.Part.TheVariants.{Exit}
-use Rattle.isl_meaning.specs.declared.program.Program.{Program}
+use Rattle.isl_meaning.specs.declared.program.ProgramRows.{ProgramRows}
 use Rattle.isl_meaning.specs.declared.primitive.Primitive.TheVariants.{Cons}
 use Rattle.isl_meaning.specs.Form.{Form, literal, local, lambda, call_value, prim, block, tagbody, go, next_method, sited}
 use Rattle.isl_meaning.specs.View.{forms}
 use Rattle.isl_meaning.specs.Cells.{program_cells}
 use Rattle.isl_meaning.specs.ProgramCounts.{program_nodes}
 use Rattle.isl_meaning.specs.Reached.{reached_nodes}
-use Rattle.isl_meaning.specs.Facts.{all_of, is_whole}
+use Rattle.std.specs.List.{list_all}
+use Rattle.isl_meaning.specs.Facts.{is_whole}
 use Rattle.isl_meaning.specs.ByHand.{a_number, a_procedure, a_program, body}
 use Rattle.isl_meaning.specs.WorkedExits.{inner_first, inner_catch, outer_catch, earlier_turn, stale_exit, many_cleanups}
 use Rattle.isl_meaning.specs.WorkedConditions.{without_itself, continued, not_continuable, returning, cleanup_runs, no_catch_left, replaced, handler_fails}
@@ -17,12 +18,12 @@ use Rattle.isl_meaning.specs.WorkedCalls.{methods_in_order, seen_through_a_call,
 -- the worked programs are whole
 abbrev pub WorkedAreWhole : Type 0
 WorkedAreWhole =
-    all_of is_whole (inner_first ∷ inner_catch ∷ outer_catch ∷ earlier_turn ∷ stale_exit ∷ many_cleanups ∷ []) ≡ true
-    × all_of is_whole (without_itself ∷ continued ∷ not_continuable ∷ returning ∷ cleanup_runs ∷ no_catch_left ∷ replaced ∷ handler_fails ∷ []) ≡ true
-    × all_of is_whole (methods_in_order ∷ seen_through_a_call ∷ one_application ∷ one_cons ∷ []) ≡ true
+    list_all is_whole (inner_first ∷ inner_catch ∷ outer_catch ∷ earlier_turn ∷ stale_exit ∷ many_cleanups ∷ []) ≡ true
+    × list_all is_whole (without_itself ∷ continued ∷ not_continuable ∷ returning ∷ cleanup_runs ∷ no_catch_left ∷ replaced ∷ handler_fails ∷ []) ≡ true
+    × list_all is_whole (methods_in_order ∷ seen_through_a_call ∷ one_application ∷ one_cons ∷ []) ≡ true
 
 -- a program of one main form
-abbrev pub one_form : Form → Program
+abbrev pub one_form : Form → ProgramRows
 one_form f = a_program (a_number 1 ∷ []) (a_procedure (0 ∷ []) (go 0 0 ∷ []) ∷ []) [] (f ∷ [])
 
 -- (cons 1): an argument is wanting
@@ -54,9 +55,10 @@ NotThere =
     × is_whole (one_form (call_value (forms []))) ≡ false
     × is_whole (one_form next_method) ≡ false
 
--- counted by hand: the precedence lists of the built-in classes have 114 classes, and they have 7 slots
+-- counted by hand: the precedence lists of the built-in classes have 114 classes, and they have 7 slots, each
+-- with one initarg
 abbrev pub built_in_nodes : ℕ
-built_in_nodes = 114 + 7
+built_in_nodes = 114 + 2 * 7
 
 -- the main form of that program has 4 nodes, the procedure 2 and 4 more, the literal 1
 abbrev pub NodesOfOneApplication : Type 0

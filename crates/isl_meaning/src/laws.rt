@@ -1,6 +1,6 @@
 // What is true of all runs of all programs, as the contracts of functions that do nothing.
 
-ghost use Rattle.isl_meaning.specs.Laws.{LawOfLevels, LawOfGrowth, LawOfTransfers};
+ghost use Rattle.isl_meaning.specs.Laws.{LawOfLevels, LawOfGrowth, LawOfTransfers, LawOfExits};
 
 /// The law of levels: an end within some levels is the same within more of them, with the same bytes,
 /// units and peak; and what is printed within fewer levels is a beginning of what is printed within more.
@@ -9,7 +9,7 @@ pub fn law_levels()
 {}
 
 /// Bytes printed, units, the peak of words, and the numbers of exits and of fresh symbols never fall along
-/// a run. An exit takes the number to which the exits have come, so no number is used twice.
+/// a run.
 pub fn law_growth()
     ensures { LawOfGrowth }
 {}
@@ -17,4 +17,9 @@ pub fn law_growth()
 /// A transfer goes to one of the exits of its surroundings, or to exit 0.
 pub fn law_transfers()
     ensures { LawOfTransfers }
+{}
+
+/// No number of an exit is used twice: those made in a run are each above all made before.
+pub fn law_exits()
+    ensures { LawOfExits }
 {}

@@ -6,10 +6,10 @@ ghost use Rattle.isl_meaning.specs.ProgramCounts.{total, row_nodes, procedure_no
 
 use crate::core_form::CoreList;
 use crate::program::{
-    ClassRow, ClassRows, LiteralRow, LiteralRows, Procedure, ProcedureList, Program, SlotRows,
+    ClassRow, ClassRows, LiteralRow, LiteralRows, Procedure, ProcedureList, ProgramRows, SlotRows,
 };
 
-impl Program {
+impl ProgramRows {
     /// Its nodes: those of its procedures, literals, classes, generic functions and main forms;
     /// 2^64 - 1 where that is more. Takes no memory.
     pub fn nodes(&self) -> u64

@@ -126,7 +126,7 @@ pub type FunctionRows = ItemList<FunctionRow>;
 /// A program: its literals, procedures, classes, generic functions and functions, its main forms in
 /// order, and the places of its sites.
 #[derive(Drop)]
-pub struct Program {
+pub struct ProgramRows {
     pub literals: LiteralRows,
     pub procedures: ProcedureList,
     pub classes: ClassRows,

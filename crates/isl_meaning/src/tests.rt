@@ -2,7 +2,8 @@
 
 use crate::{
     ClassRows, ClauseList, Core, CoreForm, CoreList, FunctionRows, GenericRows, LiteralRow,
-    LiteralRows, Primitive, Procedure, ProcedureList, Program, VarList, class_text, frame_words,
+    LiteralRows, Primitive, Procedure, ProcedureList, ProgramRows, VarList, class_text,
+    frame_words,
 };
 use isl_base::{Datum, Kind, NoMemory, Place, PlaceList};
 use std::alloc::Global;
@@ -49,7 +50,7 @@ fn one_cons(alloc: Global) -> Result<Core, NoMemory> {
 }
 
 // The program of a procedure and a main form, each `(cons 1 1)`.
-fn two_conses(alloc: Global) -> Result<Program, NoMemory> {
+fn two_conses(alloc: Global) -> Result<ProgramRows, NoMemory> {
     let mut literals = LiteralRows::new(alloc);
     let place = Place { line: 1, column: 1 };
     literals.push(LiteralRow::Datum(Datum::new(place, Kind::Int(1))))?;
@@ -62,7 +63,7 @@ fn two_conses(alloc: Global) -> Result<Program, NoMemory> {
     })?;
     let mut main = CoreList::new(alloc);
     main.push(one_cons(alloc)?)?;
-    Ok(Program {
+    Ok(ProgramRows {
         literals,
         procedures,
         classes: ClassRows::new(alloc),

@@ -10,7 +10,7 @@ use Rattle.isl_base.specs.declared.reason.Reason.TheVariants.{NotBuilt}
 use Rattle.isl_base.specs.Data.{Item, items_of, place_of}
 use Rattle.isl_base.specs.DataMeasures.{depth_of}
 use Rattle.isl_base.specs.Names.{Extends}
-use Rattle.isl_meaning.specs.declared.program.Program.{Program}
+use Rattle.isl_meaning.specs.declared.program.ProgramRows.{ProgramRows}
 use Rattle.isl_meaning.specs.Form.{Form, Forms, no_form, form_and}
 use Rattle.isl_meaning.specs.View.{forms}
 use Rattle.isl_reader.specs.Readers.{ReaderState, first_place}
@@ -83,7 +83,7 @@ all-more p (e ∷ es) d h k = both (p e) (list_all p es) (list_all p (es ++ d �
     both false b c h k = absurd (cc)
 
 -- the program of forms and tables
-abbrev pub program_from : Seq Form → Tables → Option Program
+abbrev pub program_from : Seq Form → Tables → Option ProgramRows
 program_from fs t = program_with (Some (forms fs, t))
 
 -- the text's first data were read; these are their forms and tables
@@ -123,7 +123,7 @@ judged-more names text old new d fs t f u j r deep k = record {
 }
 
 -- the data so far begin the text
-pub judged-begins : (names : Seq (Seq ℕ)) (text : Seq ℕ) (reader : ReaderState) (fs : Seq Form) (t : Tables) (program : Program)
+pub judged-begins : (names : Seq (Seq ℕ)) (text : Seq ℕ) (reader : ReaderState) (fs : Seq Form) (t : Tables) (program : ProgramRows)
     → length text ≤ 4096 → Judged names text reader fs t → program_from fs t ≡ Some program → Begins text
 judged-begins names text reader fs t program short j e = record {
   short = short;
@@ -137,14 +137,14 @@ judged-begins names text reader fs t program short j e = record {
 }
 
 -- the end of the text
-pub judged-end : (names : Seq (Seq ℕ)) (text : Seq ℕ) (old new : ReaderState) (fs : Seq Form) (t : Tables) (program : Program)
+pub judged-end : (names : Seq (Seq ℕ)) (text : Seq ℕ) (old new : ReaderState) (fs : Seq Form) (t : Tables) (program : ProgramRows)
     → length text ≤ 4096 → Judged names text old fs t → IsEnded old new → program_from fs t ≡ Some program → Accepts text program
 unfolding judged-begins
 judged-end names text old new fs t program short j k e =
     record { begins = judged-begins names text old fs t program short j e; at_end = k.is_gap; same = refl }
 
 -- some program is that of forms and tables
-some-program : (fs : Seq Form) (t : Tables) → (program : Program) × (program_from fs t ≡ Some program)
+some-program : (fs : Seq Form) (t : Tables) → (program : ProgramRows) × (program_from fs t ≡ Some program)
 some-program fs t = (_, refl)
 
 -- a stop of the text
@@ -219,7 +219,7 @@ judged-stops names later text old new t fs (Refused r) short x j k =
     judged-stop names text old fs t r.place r.reason short j (k.stops j.fresh)
 
 -- the code of an accepted text's program fits the arena of a run
-pub accepted-small : (text : Seq ℕ) (program : Program) → Accepts text program
+pub accepted-small : (text : Seq ℕ) (program : ProgramRows) → Accepts text program
     → length (program_code program.literals (forms program.main)) ≤ 4194304
 accepted-small text program a =
     let b = a.begins in

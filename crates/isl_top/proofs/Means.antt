@@ -5,7 +5,7 @@ use Rattle.isl_base.specs.Data.{Content}
 use Rattle.isl_base.specs.Data as datum
 use Rattle.isl_base.specs.declared.place.Place.{Place}
 use Rattle.isl_meaning.specs.declared.program.LiteralRow.TheVariants as row
-use Rattle.isl_meaning.specs.declared.program.Program.{Program}
+use Rattle.isl_meaning.specs.declared.program.ProgramRows.{ProgramRows}
 use Rattle.isl_meaning.specs.declared.primitive.Primitive.TheVariants.{StandardOutput, PutChar}
 use Rattle.isl_meaning.specs.declared.primitive.Primitive.{Primitive}
 use Rattle.isl_meaning.specs.Form.{Form, literal, clauses, sequence, prim, sited, no_clause, clause_and, with_body}
@@ -33,13 +33,13 @@ after_both bytes more units others z =
     ∙ ap (λ u. record z { printed = z.printed ++ (bytes ++ more); units = u }) (add_assoc z.units units others)
 
 -- under any limit and with anything below, where the standard output is there, the form has this value
-pub record Means (program : Program) (f : Form) (v : Value) (bytes : List ℕ) (units : ℕ) : Type 0 where
+pub record Means (program : ProgramRows) (f : Form) (v : Value) (bytes : List ℕ) (units : ℕ) : Type 0 where
   pub by : (limit : Limit) (below : Task → Evaluation) (env : Environment) (around : Surroundings) (z : State) → HasOutput z → mean names program limit below f env around z ≡ gives v (after bytes units z)
 
-pub record MeansSequence (program : Program) (last : Value) (fs : Forms) (v : Value) (bytes : List ℕ) (units : ℕ) : Type 0 where
+pub record MeansSequence (program : ProgramRows) (last : Value) (fs : Forms) (v : Value) (bytes : List ℕ) (units : ℕ) : Type 0 where
   pub by : (limit : Limit) (below : Task → Evaluation) (env : Environment) (around : Surroundings) (z : State) → HasOutput z → mean_sequence names program limit below last fs env around z ≡ gives v (after bytes units z)
 
-pub no_forms_mean : (program : Program) (last : Value) → MeansSequence program last no_form last [] 0
+pub no_forms_mean : (program : ProgramRows) (last : Value) → MeansSequence program last no_form last [] 0
 unfolding mean
 no_forms_mean program last = record {
   by = λ limit below env around z s.
@@ -47,7 +47,7 @@ no_forms_mean program last = record {
       ∙ ap (λ u. gives last (record z { printed = z.printed ++ []; units = u })) (omega arith);
 }
 
-pub forms_mean : {program : Program} {last v w : Value} {f : Form} {fs : Forms} {bytes more : List ℕ} {units others : ℕ} → Means program f v bytes units → MeansSequence program v fs w more others → MeansSequence program last (form_and f fs) w (bytes ++ more) (units + others)
+pub forms_mean : {program : ProgramRows} {last v w : Value} {f : Form} {fs : Forms} {bytes more : List ℕ} {units others : ℕ} → Means program f v bytes units → MeansSequence program v fs w more others → MeansSequence program last (form_and f fs) w (bytes ++ more) (units + others)
 unfolding mean
 forms_mean {program} {last} {v} {w} {f} {fs} {bytes} {more} {units} {others} m s = record {
   by = λ limit below env around z e.
@@ -56,7 +56,7 @@ forms_mean {program} {last} {v} {w} {f} {fs} {bytes} {more} {units} {others} m s
       ∙ ap (gives w) (after_both bytes more units others z);
 }
 
-pub sequence_means : {program : Program} {fs : Forms} {v : Value} {bytes : List ℕ} {units : ℕ} → MeansSequence program nil fs v bytes units → Means program (sequence fs) v bytes (1 + units)
+pub sequence_means : {program : ProgramRows} {fs : Forms} {v : Value} {bytes : List ℕ} {units : ℕ} → MeansSequence program nil fs v bytes units → Means program (sequence fs) v bytes (1 + units)
 unfolding mean
 sequence_means {program} {fs} {v} {bytes} {units} s = record {
   by = λ limit below env around z e.
@@ -64,12 +64,12 @@ sequence_means {program} {fs} {v} {bytes} {units} s = record {
       ∙ ap (λ u. gives v (record z { printed = z.printed ++ bytes; units = u })) (add_assoc z.units 1 units);
 }
 
-pub sited_means : {program : Program} {site : ℕ} {f : Form} {v : Value} {bytes : List ℕ} {units : ℕ} → Means program f v bytes units → Means program (sited site f) v bytes units
+pub sited_means : {program : ProgramRows} {site : ℕ} {f : Form} {v : Value} {bytes : List ℕ} {units : ℕ} → Means program f v bytes units → Means program (sited site f) v bytes units
 unfolding mean
 sited_means m = record { by = λ limit below env around z e. m.by limit below env _ z e }
 
 -- the character of a literal is put on the standard output
-pub put_means : (program : Program) (site id c : ℕ) (p : Place) → slice_get program.literals id ≡ Some (row.Datum (datum.item p (datum.character c))) → Means program (prim PutChar (form_and (sited site (prim StandardOutput no_form)) (form_and (literal id) no_form))) nil (c ∷ []) 5
+pub put_means : (program : ProgramRows) (site id c : ℕ) (p : Place) → slice_get program.literals id ≡ Some (row.Datum (datum.item p (datum.character c))) → Means program (prim PutChar (form_and (sited site (prim StandardOutput no_form)) (form_and (literal id) no_form))) nil (c ∷ []) 5
 unfolding mean
 put_means program site id c p h = record {
   by = λ limit below env around z e.
@@ -78,7 +78,7 @@ put_means program site id c p h = record {
 }
 
 -- a literal
-pub literal_means : (program : Program) (id : ℕ) (p : Place) (content : Content) (v : Value) → ((n : ℕ) → (lay_content names content n).value ≡ v) → slice_get program.literals id ≡ Some (row.Datum (datum.item p content)) → Means program (literal id) v [] 1
+pub literal_means : (program : ProgramRows) (id : ℕ) (p : Place) (content : Content) (v : Value) → ((n : ℕ) → (lay_content names content n).value ≡ v) → slice_get program.literals id ≡ Some (row.Datum (datum.item p content)) → Means program (literal id) v [] 1
 unfolding mean
 literal_means program id p content v laid h = record {
   by = λ limit below env around z e.
@@ -86,7 +86,7 @@ literal_means program id p content v laid h = record {
 }
 
 -- a primitive of two arguments that put nothing, where it has this value at theirs
-pub two_mean : {program : Program} {f g : Form} {x y : Value} {u w : ℕ} (which : Primitive) (v : Value) → Means program f x [] u → Means program g y [] w → ((z : State) → primitive names program which (x ∷ y ∷ []) z ≡ result v z) → Means program (prim which (form_and f (form_and g no_form))) v [] (3 + u + w)
+pub two_mean : {program : ProgramRows} {f g : Form} {x y : Value} {u w : ℕ} (which : Primitive) (v : Value) → Means program f x [] u → Means program g y [] w → ((z : State) → primitive names program which (x ∷ y ∷ []) z ≡ result v z) → Means program (prim which (form_and f (form_and g no_form))) v [] (3 + u + w)
 unfolding mean
 two_mean {program} {f} {g} {x} {y} {u} {w} which v m n e = record {
   by = λ limit below env around z s.
@@ -103,7 +103,7 @@ two_mean {program} {f} {g} {x} {y} {u} {w} which v m n e = record {
     sum_of_three a u w = omega arith
 
 -- `cond` of a test and of t: the first body where the test is t, the second where it is nil
-pub chosen_means : {program : Program} {f g h : Form} {v : Value} {bytes : List ℕ} {u w : ℕ} (id : ℕ) → Means program f t [] u → Means program g v bytes w → Means program (clauses (clause_and f (with_body g) (clause_and (literal id) (with_body h) no_clause))) v bytes (3 + u + w)
+pub chosen_means : {program : ProgramRows} {f g h : Form} {v : Value} {bytes : List ℕ} {u w : ℕ} (id : ℕ) → Means program f t [] u → Means program g v bytes w → Means program (clauses (clause_and f (with_body g) (clause_and (literal id) (with_body h) no_clause))) v bytes (3 + u + w)
 unfolding mean
 chosen_means {program} {f} {g} {h} {v} {bytes} {u} {w} id m n = record {
   by = λ limit below env around z e.
@@ -117,7 +117,7 @@ chosen_means {program} {f} {g} {h} {v} {bytes} {u} {w} id m n = record {
     sum_of_three : (a u w : ℕ) → a + 3 + (u + w) ≡ a + (3 + u + w)
     sum_of_three a u w = omega arith
 
-pub passed_means : {program : Program} {f g h : Form} {v : Value} {bytes : List ℕ} {u w : ℕ} (id : ℕ) → Means program f nil [] u → Means program (literal id) t [] 1 → Means program h v bytes w → Means program (clauses (clause_and f (with_body g) (clause_and (literal id) (with_body h) no_clause))) v bytes (3 + u + (1 + w))
+pub passed_means : {program : ProgramRows} {f g h : Form} {v : Value} {bytes : List ℕ} {u w : ℕ} (id : ℕ) → Means program f nil [] u → Means program (literal id) t [] 1 → Means program h v bytes w → Means program (clauses (clause_and f (with_body g) (clause_and (literal id) (with_body h) no_clause))) v bytes (3 + u + (1 + w))
 unfolding mean
 passed_means {program} {f} {g} {h} {v} {bytes} {u} {w} id m l n = record {
   by = λ limit below env around z e.

@@ -8,7 +8,7 @@ use Rattle.rv_machine.specs.declared.ending.Ending.TheVariants.{Halt, Unhandled,
 use Rattle.rv_machine.specs.State.{State, Counted, start}
 use Rattle.rv_machine.specs.Step.{Result, environment_call, step_of}
 use Rattle.rv_machine.specs.Run.{Moment, Ended, act, stop, run_from, first, Feeds, Outside, IsNoFault, Gave, CutOff}
-use Rattle.isl_meaning.specs.declared.program.Program.{Program}
+use Rattle.isl_meaning.specs.declared.program.ProgramRows.{ProgramRows}
 use Rattle.isl_top.specs.Claims.{IsPrefixOf, Compiled}
 use Rattle.isl_top.specs.Answers.{arena_words, the_run, Built, Halts, Spends, GivenAll, GivenFront}
 
@@ -18,7 +18,7 @@ pub record Laws : Type 0 where
   pub split : (j k : ℕ) (m : Moment) → (run_from j m).ending ≡ Budget → run_from (j + k) m ≡ run_from k (run_from j m).at
 
 -- an image that is the program's and fits the arena is kept
-pub built : (program : Program) (image : Image) → Compiled program image.words image.entry → length image.words ≤ arena_words → Built program (Some image)
+pub built : (program : ProgramRows) (image : Image) → Compiled program image.words image.entry → length image.words ≤ arena_words → Built program (Some image)
 built program image compiled fits = record { image = image; is_kept = refl; compiled = compiled; fits = fits }
 
 with_front : (told told' : Option (List ℕ)) (writes writes' : ℕ) (front whole : List ℕ) → IsPrefixOf front whole → IfSome told' (λ after. Gave told writes front after writes') → IfSome told' (λ after. (f : List ℕ) × IsPrefixOf f whole × Gave told writes f after writes')
@@ -33,7 +33,7 @@ unfolding run_from
 one_more m e = after_get (step_of m.state) m e
 
 -- an image that is the program's, in a machine at its start
-module _ (program : Program) (image : Image) (compiled : Compiled program image.words image.entry) (fits : length image.words ≤ arena_words) (state : State) (begin : state ≡ start image.words image.entry arena_words) where
+module _ (program : ProgramRows) (image : Image) (compiled : Compiled program image.words image.entry) (fits : length image.words ≤ arena_words) (state : State) (begin : state ≡ start image.words image.entry arena_words) where
   -- it reads nothing
   pub unread : (n : ℕ) (input : List ℕ) → (run_from n (first state input)).at.gets ≡ 0
   unread n input =

@@ -6,7 +6,7 @@ use Rattle.isl_base.specs.Data as datum
 use Rattle.isl_base.specs.declared.datum.Symbol.TheVariants.{Named}
 use Rattle.isl_meaning.specs.declared.program.LiteralRow.{LiteralRow}
 use Rattle.isl_meaning.specs.declared.program.LiteralRow.TheVariants as row
-use Rattle.isl_meaning.specs.declared.program.Program.{Program}
+use Rattle.isl_meaning.specs.declared.program.ProgramRows.{ProgramRows}
 use Rattle.isl_meaning.specs.declared.primitive.Primitive.TheVariants.{Add, Subtract, NumberEqual, NumberLess, StandardOutput, PutChar}
 use Rattle.isl_meaning.specs.Form.{Form, literal, clauses, sequence, prim, sited, no_clause, clause_and, with_body}
 use Rattle.isl_meaning.specs.Form.{Forms, no_form, form_and}
@@ -42,7 +42,7 @@ IsPlain nil = Unit {0}
 IsPlain (object i) = ⊥
 
 -- a form and its code: what the form means, what the code yields, and how long that takes
-pub record Simulates (program : Program) (f : Form) : Type 0 where
+pub record Simulates (program : ProgramRows) (f : Form) : Type 0 where
   pub v : Value
   pub bytes : List ℕ
   pub units : ℕ
@@ -54,7 +54,7 @@ pub record Simulates (program : Program) (f : Form) : Type 0 where
   pub plain : IsPlain v
 
 -- forms in order behind a value
-pub record SimulatesAll (program : Program) (last : Value) (fs : Forms) : Type 0 where
+pub record SimulatesAll (program : ProgramRows) (last : Value) (fs : Forms) : Type 0 where
   pub v : Value
   pub bytes : List ℕ
   pub units : ℕ
@@ -66,7 +66,7 @@ pub record SimulatesAll (program : Program) (last : Value) (fs : Forms) : Type 0
   pub plain : IsPlain last → IsPlain v
   pub mains : MeansMains program last (forms_list fs) v bytes units
 
-none_simulated : (program : Program) (last : Value) → SimulatesAll program last no_form
+none_simulated : (program : ProgramRows) (last : Value) → SimulatesAll program last no_form
 unfolding form_code
 none_simulated program last = record {
   v = last;
@@ -81,7 +81,7 @@ none_simulated program last = record {
   mains = no_mains program last;
 }
 
-both_simulated : (program : Program) (last : Value) (f : Form) (fs : Forms) (s : Simulates program f) → SimulatesAll program s.v fs → SimulatesAll program last (form_and f fs)
+both_simulated : (program : ProgramRows) (last : Value) (f : Form) (fs : Forms) (s : Simulates program f) → SimulatesAll program s.v fs → SimulatesAll program last (form_and f fs)
 unfolding form_code
 both_simulated program last f fs s r = record {
   v = r.v;
@@ -96,7 +96,7 @@ both_simulated program last f fs s r = record {
   mains = main_and program last s.v r.v f (forms_list fs) s.bytes r.bytes s.units r.units s.means r.mains;
 }
 
-sequence_simulated : (program : Program) (fs : Forms) → SimulatesAll program nil fs → Simulates program (sequence fs)
+sequence_simulated : (program : ProgramRows) (fs : Forms) → SimulatesAll program nil fs → Simulates program (sequence fs)
 unfolding form_code
 sequence_simulated program fs r = record {
   v = r.v;
@@ -110,7 +110,7 @@ sequence_simulated program fs r = record {
   plain = r.plain tt;
 }
 
-sited_simulated : (program : Program) (site : ℕ) (f : Form) → Simulates program f → Simulates program (sited site f)
+sited_simulated : (program : ProgramRows) (site : ℕ) (f : Form) → Simulates program f → Simulates program (sited site f)
 unfolding form_code
 sited_simulated program site f s = record {
   v = s.v;
@@ -124,7 +124,7 @@ sited_simulated program site f s = record {
   plain = s.plain;
 }
 
-put_simulated : (program : Program) (site inner id c : ℕ) (p : Place) → c < 256 → slice_get program.literals id ≡ Some (row.Datum (datum.item p (datum.character c))) → Simulates program (sited site (prim PutChar (form_and (sited inner (prim StandardOutput no_form)) (form_and (literal id) no_form))))
+put_simulated : (program : ProgramRows) (site inner id c : ℕ) (p : Place) → c < 256 → slice_get program.literals id ≡ Some (row.Datum (datum.item p (datum.character c))) → Simulates program (sited site (prim PutChar (form_and (sited inner (prim StandardOutput no_form)) (form_and (literal id) no_form))))
 unfolding form_code
 put_simulated program site inner id c p b h = record {
   v = nil;
@@ -145,7 +145,7 @@ put_simulated program site inner id c p b h = record {
 }
 
 -- an operand: an integer, which the code leaves in register 10 while register 13 stays
-record SimulatesOperand (program : Program) (f : Form) : Type 0 where
+record SimulatesOperand (program : ProgramRows) (f : Form) : Type 0 where
   n : ℤ
   within : Within 199999998 n
   units : ℕ
@@ -156,7 +156,7 @@ record SimulatesOperand (program : Program) (f : Form) : Type 0 where
   forward : cost ≤ length (form_code program.literals f)
 
 -- a test: t or nil
-record SimulatesTest (program : Program) (f : Form) : Type 0 where
+record SimulatesTest (program : ProgramRows) (f : Form) : Type 0 where
   so : Bool
   units : ℕ
   cost : ℕ
@@ -165,7 +165,7 @@ record SimulatesTest (program : Program) (f : Form) : Type 0 where
   cheap : cost ≤ 300 * units
   forward : cost ≤ length (form_code program.literals f)
 
-operand_simulated : (program : Program) (f : Form) → SimulatesOperand program f → Simulates program f
+operand_simulated : (program : ProgramRows) (f : Form) → SimulatesOperand program f → Simulates program f
 operand_simulated program f o = record {
   v = integer o.n;
   bytes = [];
@@ -178,7 +178,7 @@ operand_simulated program f o = record {
   plain = tt;
 }
 
-integer_simulated : (program : Program) (id : ℕ) (p : Place) (n : ℤ) → Within 99999999 n → slice_get program.literals id ≡ Some (row.Datum (datum.item p (datum.integer n))) → SimulatesOperand program (literal id)
+integer_simulated : (program : ProgramRows) (id : ℕ) (p : Place) (n : ℤ) → Within 99999999 n → slice_get program.literals id ≡ Some (row.Datum (datum.item p (datum.integer n))) → SimulatesOperand program (literal id)
 unfolding form_code
 integer_simulated program id p n small h = record {
   n = n;
@@ -192,7 +192,7 @@ integer_simulated program id p n small h = record {
 }
 
 -- a sum or a difference under a site
-module _ (program : Program) (site i j : ℕ) (p q : Place) (a b : ℤ) (x : Within 99999999 a) (y : Within 99999999 b) (h : slice_get program.literals i ≡ Some (row.Datum (datum.item p (datum.integer a)))) (k : slice_get program.literals j ≡ Some (row.Datum (datum.item q (datum.integer b)))) where
+module _ (program : ProgramRows) (site i j : ℕ) (p q : Place) (a b : ℤ) (x : Within 99999999 a) (y : Within 99999999 b) (h : slice_get program.literals i ≡ Some (row.Datum (datum.item p (datum.integer a)))) (k : slice_get program.literals j ≡ Some (row.Datum (datum.item q (datum.integer b)))) where
   added_simulated : SimulatesOperand program (sited site (prim Add (form_and (literal i) (form_and (literal j) no_form))))
   unfolding form_code
   added_simulated = record {
@@ -231,7 +231,7 @@ truth_short true = omega arith
 truth_short false = omega arith
 
 -- comparisons of two operands under a site
-module _ (program : Program) (site : ℕ) (f g : Form) (o : SimulatesOperand program f) (p : SimulatesOperand program g) where
+module _ (program : ProgramRows) (site : ℕ) (f g : Form) (o : SimulatesOperand program f) (p : SimulatesOperand program g) where
   equal_simulated : SimulatesTest program (sited site (prim NumberEqual (form_and f (form_and g no_form))))
   unfolding form_code
   equal_simulated = record {
@@ -260,7 +260,7 @@ module _ (program : Program) (site : ℕ) (f g : Form) (o : SimulatesOperand pro
 clause_length : (test body others : List ℕ) → length (clause_code test body others) ≡ length test + 14 + length body + length others
 clause_length test body others = placed_length test body others
 
-choice_simulated : (program : Program) (id : ℕ) (p : Place) (f g h : Form) → slice_get program.literals id ≡ Some (row.Datum (datum.item p (datum.symbol (Named (record { 0 = 0 }))))) → (test : SimulatesTest program f) → (so : Bool) → test.so ≡ so → Simulates program g → Simulates program h → Simulates program (clauses (clause_and f (with_body g) (clause_and (literal id) (with_body h) no_clause)))
+choice_simulated : (program : ProgramRows) (id : ℕ) (p : Place) (f g h : Form) → slice_get program.literals id ≡ Some (row.Datum (datum.item p (datum.symbol (Named (record { 0 = 0 }))))) → (test : SimulatesTest program f) → (so : Bool) → test.so ≡ so → Simulates program g → Simulates program h → Simulates program (clauses (clause_and f (with_body g) (clause_and (literal id) (with_body h) no_clause)))
 unfolding form_code
 choice_simulated program id p f g h e test true b s r = record {
   v = s.v;
@@ -326,23 +326,23 @@ test_grew : (texts : List (List ℕ)) (x : Item) (t : Tables) (f : Form) (t' : T
 test_grew texts x t f t' e = ⊎_elim (λ w. comparison_grew NumberEqual t f t' w) (λ w. comparison_grew NumberLess t f t' w) (was_test texts x t f t' e)
 
 -- forms that were found are simulated, in every program whose rows go on from theirs
-found_put_simulated : (program : Program) (t : Tables) (f : Form) (t' : Tables) → WasPut t f t' → Grew t'.literals program.literals → Simulates program f
+found_put_simulated : (program : ProgramRows) (t : Tables) (f : Form) (t' : Tables) → WasPut t f t' → Grew t'.literals program.literals → Simulates program f
 found_put_simulated program t f t' w g =
     let g' : Grew (t.literals ++ row.Datum (datum.item w.r (datum.character w.c)) ∷ []) program.literals = subst (λ x. Grew x.literals program.literals) w.tables g in
     subst (Simulates program) (sym w.form) (put_simulated program (next_site t) (next_site t + 1) (next_literal t) w.c w.r w.byte (row_there t.literals program.literals (row.Datum (datum.item w.r (datum.character w.c))) g'))
 
-found_integer_simulated : (program : Program) (t : Tables) (f : Form) (t' : Tables) → WasInteger t f t' → Grew t'.literals program.literals → SimulatesOperand program f
+found_integer_simulated : (program : ProgramRows) (t : Tables) (f : Form) (t' : Tables) → WasInteger t f t' → Grew t'.literals program.literals → SimulatesOperand program f
 found_integer_simulated program t f t' w g =
     let r : LiteralRow = row.Datum (datum.item w.p (datum.integer w.n)) in
     let g' : Grew (t.literals ++ r ∷ []) program.literals = subst (λ x. Grew x.literals program.literals) w.tables g in
     subst (SimulatesOperand program) (sym w.form) (integer_simulated program (next_literal t) w.p w.n w.small (row_there t.literals program.literals r g'))
 
 -- where the two rows of a sum stand
-record BothRows (program : Program) (t : Tables) (q r : Place) (a b : ℤ) : Type 0 where
+record BothRows (program : ProgramRows) (t : Tables) (q r : Place) (a b : ℤ) : Type 0 where
   left : slice_get program.literals (next_literal t) ≡ Some (row.Datum (datum.item q (datum.integer a)))
   right : slice_get program.literals (next_literal t + 1) ≡ Some (row.Datum (datum.item r (datum.integer b)))
 
-both_rows : (which : Primitive) (program : Program) (t : Tables) (f : Form) (t' : Tables) (w : WasSum which t f t') → Grew t'.literals program.literals → BothRows program t w.q w.r w.a w.b
+both_rows : (which : Primitive) (program : ProgramRows) (t : Tables) (f : Form) (t' : Tables) (w : WasSum which t f t') → Grew t'.literals program.literals → BothRows program t w.q w.r w.a w.b
 both_rows which program t f t' w g =
     let a : LiteralRow = row.Datum (datum.item w.q (datum.integer w.a)) in
     let b : LiteralRow = row.Datum (datum.item w.r (datum.integer w.b)) in
@@ -353,22 +353,22 @@ both_rows which program t f t' w g =
       right = subst (λ i. slice_get program.literals i ≡ Some b) l (row_there (t.literals ++ a ∷ []) program.literals b g');
     }
 
-found_added_simulated : (program : Program) (t : Tables) (f : Form) (t' : Tables) → WasSum Add t f t' → Grew t'.literals program.literals → SimulatesOperand program f
+found_added_simulated : (program : ProgramRows) (t : Tables) (f : Form) (t' : Tables) → WasSum Add t f t' → Grew t'.literals program.literals → SimulatesOperand program f
 found_added_simulated program t f t' w g =
     let rows = both_rows Add program t f t' w g in
     subst (SimulatesOperand program) (sym w.form) (added_simulated program (next_site t) (next_literal t) (next_literal t + 1) w.q w.r w.a w.b w.first w.second rows.left rows.right)
 
-found_subtracted_simulated : (program : Program) (t : Tables) (f : Form) (t' : Tables) → WasSum Subtract t f t' → Grew t'.literals program.literals → SimulatesOperand program f
+found_subtracted_simulated : (program : ProgramRows) (t : Tables) (f : Form) (t' : Tables) → WasSum Subtract t f t' → Grew t'.literals program.literals → SimulatesOperand program f
 found_subtracted_simulated program t f t' w g =
     let rows = both_rows Subtract program t f t' w g in
     subst (SimulatesOperand program) (sym w.form) (subtracted_simulated program (next_site t) (next_literal t) (next_literal t + 1) w.q w.r w.a w.b w.first w.second rows.left rows.right)
 
-found_operand_simulated : (program : Program) (t : Tables) (f : Form) (t' : Tables) → WasOperand t f t' → Grew t'.literals program.literals → SimulatesOperand program f
+found_operand_simulated : (program : ProgramRows) (t : Tables) (f : Form) (t' : Tables) → WasOperand t f t' → Grew t'.literals program.literals → SimulatesOperand program f
 found_operand_simulated program t f t' (was_number w) g = found_integer_simulated program t f t' w g
 found_operand_simulated program t f t' (was_added w) g = found_added_simulated program t f t' w g
 found_operand_simulated program t f t' (was_subtracted w) g = found_subtracted_simulated program t f t' w g
 
-found_test_simulated : (texts : List (List ℕ)) (program : Program) (x : Item) (t : Tables) (f : Form) (t' : Tables) → test_of texts x t ≡ Some (f, t') → Grew t'.literals program.literals → SimulatesTest program f
+found_test_simulated : (texts : List (List ℕ)) (program : ProgramRows) (x : Item) (t : Tables) (f : Form) (t' : Tables) → test_of texts x t ≡ Some (f, t') → Grew t'.literals program.literals → SimulatesTest program f
 found_test_simulated texts program x t f t' e g =
     ⊎_elim
     (λ w.
@@ -433,13 +433,13 @@ mutual
       grew_both (form_grew texts x t a.part a.tables a.first) (forms_grew texts xs a.tables m.part t' m.found)
 
 -- the sequence of one form
-single_simulated : (program : Program) (f : Form) → Simulates program f → Simulates program (sequence (form_and f no_form))
+single_simulated : (program : ProgramRows) (f : Form) → Simulates program f → Simulates program (sequence (form_and f no_form))
 single_simulated program f s = sequence_simulated program (form_and f no_form) (both_simulated program nil f no_form s (none_simulated program s.v))
 
 mutual
   unfolding form_of
 
-  pub form_simulated : (texts : List (List ℕ)) (program : Program) (x : Item) (t : Tables) (f : Form) (t' : Tables) → form_of texts x t ≡ Some (f, t') → Grew t'.literals program.literals → Simulates program f
+  pub form_simulated : (texts : List (List ℕ)) (program : ProgramRows) (x : Item) (t : Tables) (f : Form) (t' : Tables) → form_of texts x t ≡ Some (f, t') → Grew t'.literals program.literals → Simulates program f
   form_simulated texts program (item p (list (item_and h ts) no_tail)) t f t' e g =
       elim (was_headed (head_of texts h) (progn_form t (forms_of texts ts (with_site p t))) (format_char_form texts p ts t) (if_form texts p ts t) (sum_form Add p ts t) (sum_form Subtract p ts t) f t' e) [
         | was_progn k ↦ let m = was_made (λ fs. sited (next_site t) (sequence fs)) (forms_of texts ts (with_site p t)) f t' k in
@@ -451,7 +451,7 @@ mutual
       ]
   form_simulated texts program (item p c) t f t' e g = operand_simulated program f (found_integer_simulated program t f t' (was_integer (item p c) t f t' e) g)
 
-  if_simulated : (texts : List (List ℕ)) (program : Program) (p : Place) (ts : Items) (t : Tables) (f : Form) (t' : Tables) → if_form texts p ts t ≡ Some (f, t') → Grew t'.literals program.literals → Simulates program f
+  if_simulated : (texts : List (List ℕ)) (program : ProgramRows) (p : Place) (ts : Items) (t : Tables) (f : Form) (t' : Tables) → if_form texts p ts t ≡ Some (f, t') → Grew t'.literals program.literals → Simulates program f
   if_simulated texts program p no_item t f t' e g = absurd (cc)
   if_simulated texts program p (item_and x no_item) t f t' e g = absurd (cc)
   if_simulated texts program p (item_and x (item_and a no_item)) t f t' e g = absurd (cc)
@@ -467,7 +467,7 @@ mutual
       subst (Simulates program) w.made (sited_simulated program (next_site t) _ (choice_simulated program (next_literal w.v) p w.test (sequence (form_and w.one no_form)) (sequence (form_and w.two no_form)) (row_there w.v.literals program.literals r g2) test test.so refl (single_simulated program w.one one) (single_simulated program w.two two)))
   if_simulated texts program p (item_and x (item_and a (item_and b (item_and c cs)))) t f t' e g = absurd (cc)
 
-  pub forms_simulated : (texts : List (List ℕ)) (program : Program) (xs : Items) (t : Tables) (fs : Forms) (t' : Tables) (last : Value) → forms_of texts xs t ≡ Some (fs, t') → Grew t'.literals program.literals → SimulatesAll program last fs
+  pub forms_simulated : (texts : List (List ℕ)) (program : ProgramRows) (xs : Items) (t : Tables) (fs : Forms) (t' : Tables) (last : Value) → forms_of texts xs t ≡ Some (fs, t') → Grew t'.literals program.literals → SimulatesAll program last fs
   forms_simulated texts program no_item t fs t' last e g = let h : ◌≡◌ {A = Forms × Tables} (no_form, t) (fs, t') = cc in subst (SimulatesAll program last) (ap (λ x. x.0) h) (none_simulated program last)
   forms_simulated texts program (item_and x xs) t fs t' last e g =
       let a = was_and (form_of texts x t) (λ f after. as_form (λ gs. form_and f gs) (forms_of texts xs after)) fs t' e in

@@ -2,7 +2,7 @@
 use Rattle.std.proofs.Common.{◌≡◌, ℕ, ◌+◌, ◌*◌, ◌≤◌, List, [], ◌∷◌, ◌++◌, length, refl, sym, ap, subst, ◌∙◌, arith, Some, None, ⊎_elim, length-append}
 use Rattle.isl_base.specs.declared.place.Place.{Place}
 use Rattle.isl_meaning.specs.declared.program.LiteralRow.{LiteralRow}
-use Rattle.isl_meaning.specs.declared.program.Program.{Program}
+use Rattle.isl_meaning.specs.declared.program.ProgramRows.{ProgramRows}
 use Rattle.isl_meaning.specs.Form.{Form, literal, sequence, sited}
 use Rattle.isl_meaning.specs.Form.{Forms, no_form, form_and}
 use Rattle.isl_meaning.specs.View.{forms, forms_list}
@@ -113,7 +113,7 @@ mutual
       subst (λ x'. length (forms_code rows x') ≤ 16 * items_size (item_and x xs)) m.made
       (omega (arith, form_short rows texts x t a.part a.tables a.first, forms_short rows texts xs a.tables m.part t' m.found, length-append (form_code rows a.part) (forms_code rows m.part)))
 
-found_small : (texts : List (List ℕ)) (ds : Items) (program : Program) (r : Found Forms) → forms_of texts ds no_tables ≡ r → program_with r ≡ Some program → items_size ds ≤ 200000 → length (program_code program.literals (forms program.main)) ≤ 4194304
+found_small : (texts : List (List ℕ)) (ds : Items) (program : ProgramRows) (r : Found Forms) → forms_of texts ds no_tables ≡ r → program_with r ≡ Some program → items_size ds ≤ 200000 → length (program_code program.literals (forms program.main)) ≤ 4194304
 found_small texts ds program None e h b = absurd (cc)
 found_small texts ds program (Some (fs, t)) e h b =
     let made : program_of_parts t.literals (forms_list fs) t.sites ≡ program = cc in
@@ -122,5 +122,5 @@ found_small texts ds program (Some (fs, t)) e h b =
     subst P again (omega (arith, b, forms_short program.literals texts ds no_tables fs t e, length-append (forms_code program.literals fs) (choose_halt ∷ environment ∷ [])))
 
 -- the code of a program of data with at most 200,000 parts fits the arena of a run
-pub small : (texts : List (List ℕ)) (ds : Items) (program : Program) → program_of texts ds ≡ Some program → items_size ds ≤ 200000 → length (program_code program.literals (forms program.main)) ≤ 4194304
+pub small : (texts : List (List ℕ)) (ds : Items) (program : ProgramRows) → program_of texts ds ≡ Some program → items_size ds ≤ 200000 → length (program_code program.literals (forms program.main)) ≤ 4194304
 small texts ds program e b = found_small texts ds program (forms_of texts ds no_tables) refl e b

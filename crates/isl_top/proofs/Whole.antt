@@ -10,7 +10,7 @@ use Rattle.rv_machine.specs.Memory.{bytes_of}
 use Rattle.rv_machine.specs.Words.{word_there}
 use Rattle.rv_machine.specs.Step.{step_of, fetched, decoded}
 use Rattle.rv_machine.specs.Run.{Moment, Ended, act, run_from, run_of, first}
-use Rattle.isl_meaning.specs.declared.program.Program.{Program}
+use Rattle.isl_meaning.specs.declared.program.ProgramRows.{ProgramRows}
 use Rattle.isl_meaning.specs.Form.{Forms, no_form, form_and}
 use Rattle.isl_meaning.specs.View.{forms, forms_list}
 use Rattle.isl_meaning.specs.Counts.{bound}
@@ -109,7 +109,7 @@ represents_plain arena nil p = refl
 represents_plain arena (object i) p = absurd p
 
 -- the state before the first form
-abbrev start_of : Program → List ℕ → State
+abbrev start_of : ProgramRows → List ℕ → State
 start_of program input = first_state (objects_at_start names program) input
 
 -- the laws of runs that the machine's crate proves
@@ -119,7 +119,7 @@ pub record RunLaws : Type 0 where
   pub gets : (j n : ℕ) (m : Moment) → j ≤ n → (run_from j m).at.gets ≤ (run_from n m).at.gets
 
 -- a program, its forms, and what they do
-module _ (laws : RunLaws) (program : Program) (fs : Forms) (main_is : program.main ≡ forms_list fs) (small : (k : ℕ) → get_or (program_code program.literals fs) k 0 < 2 ^ 32) (s : SimulatesAll program nil fs) where
+module _ (laws : RunLaws) (program : ProgramRows) (fs : Forms) (main_is : program.main ≡ forms_list fs) (small : (k : ℕ) → get_or (program_code program.literals fs) k 0 < 2 ^ 32) (s : SimulatesAll program nil fs) where
   image : List ℕ
   image = program_code program.literals fs
 
@@ -258,7 +258,7 @@ abbrev pub Fits32 : List ℕ → Type 0
 Fits32 list = (k : ℕ) → get_or list k 0 < 2 ^ 32
 
 -- for the forms that were found
-found_compiled : RunLaws → (texts : List (List ℕ)) (ds : Items) (program : Program) (r : Found Forms) → forms_of texts ds no_tables ≡ r → program_with r ≡ Some program → Fits32 (program_code program.literals (forms program.main)) → Compiled program (program_code program.literals (forms program.main)) entry
+found_compiled : RunLaws → (texts : List (List ℕ)) (ds : Items) (program : ProgramRows) (r : Found Forms) → forms_of texts ds no_tables ≡ r → program_with r ≡ Some program → Fits32 (program_code program.literals (forms program.main)) → Compiled program (program_code program.literals (forms program.main)) entry
 unfolding image
 found_compiled laws texts ds program None e h small = absurd (cc)
 found_compiled laws texts ds program (Some (fs, t)) e h small =
@@ -271,5 +271,5 @@ found_compiled laws texts ds program (Some (fs, t)) e h small =
     subst P again (λ fit arena n input fits most. faithful laws program fs main_is fit s arena fits most n input) small
 
 -- the image of the program of these trees is the program's
-pub compiled : RunLaws → (texts : List (List ℕ)) (ds : Items) (program : Program) → program_of texts ds ≡ Some program → Fits32 (program_code program.literals (forms program.main)) → Compiled program (program_code program.literals (forms program.main)) entry
+pub compiled : RunLaws → (texts : List (List ℕ)) (ds : Items) (program : ProgramRows) → program_of texts ds ≡ Some program → Fits32 (program_code program.literals (forms program.main)) → Compiled program (program_code program.literals (forms program.main)) entry
 compiled laws texts ds program e small = found_compiled laws texts ds program (forms_of texts ds no_tables) refl e small

@@ -3,7 +3,7 @@
 use Rattle.std.specs.Prelude.{◌≡◌, ℕ, ◌-◌, ◌≤◌, ◌⊎◌, List, ◌++◌, length}
 use Rattle.rv_machine.specs.declared.ending.Ending.TheVariants.{Halt, Budget}
 use Rattle.rv_machine.specs.Run.{Ended, run_of}
-use Rattle.isl_meaning.specs.declared.program.Program.{Program}
+use Rattle.isl_meaning.specs.declared.program.ProgramRows.{ProgramRows}
 use Rattle.isl_meaning.specs.Counts.{bound}
 use Rattle.isl_meaning.specs.Values.{Value}
 use Rattle.isl_meaning.specs.State.{words, unlimited}
@@ -24,7 +24,7 @@ pub record HaltsWith (run : Ended) (meant : Meant) : Type 0 where
   pub same : run.at.printed ≡ meant.printed
 
 -- a run of an image of so many words, beside the program's meaning with this input
-pub record Faithful (program : Program) (size arena n : ℕ) (input : List ℕ) (run : Ended) : Type 0 where
+pub record Faithful (program : ProgramRows) (size arena n : ℕ) (input : List ℕ) (run : Ended) : Type 0 where
   -- what is printed is a prefix of what the meaning prints
   pub prefix : IsPrefixOf run.at.printed (meaning names program input n unlimited).printed
   -- a halt carries the meaning's value, with the same bytes
@@ -42,6 +42,6 @@ pub record Faithful (program : Program) (size arena n : ℕ) (input : List ℕ) 
   pub forward : size ≤ n → (word : ℕ) × (run.ending ≡ Halt word)
 
 -- an image that is the program's
-abbrev pub Compiled : Program → List ℕ → ℕ → Type 0
+abbrev pub Compiled : ProgramRows → List ℕ → ℕ → Type 0
 Compiled program image entry =
     (arena n : ℕ) (input : List ℕ) → length image ≤ arena → arena ≤ 16777216 → Faithful program (length image) arena n input (run_of image entry arena input n)

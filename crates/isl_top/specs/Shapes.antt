@@ -12,7 +12,7 @@ use Rattle.isl_base.specs.declared.datum.Symbol.{Symbol}
 use Rattle.isl_base.specs.declared.datum.Symbol.TheVariants.{Named, Fresh}
 use Rattle.isl_meaning.specs.declared.program.LiteralRow.{LiteralRow}
 use Rattle.isl_meaning.specs.declared.program.LiteralRow.TheVariants as row
-use Rattle.isl_meaning.specs.declared.program.Program.{Program}
+use Rattle.isl_meaning.specs.declared.program.ProgramRows.{ProgramRows}
 use Rattle.isl_meaning.specs.declared.primitive.Primitive.TheVariants.{Add, Subtract, NumberEqual, NumberLess, StandardOutput, PutChar}
 use Rattle.isl_meaning.specs.declared.primitive.Primitive.{Primitive}
 use Rattle.isl_meaning.specs.Form.{Form, literal, clauses, sequence, prim, sited}
@@ -245,7 +245,7 @@ unfoldable mutual
   forms_of texts (item_and x xs) t = and_then (form_of texts x t) (λ f after. as_form (λ fs. form_and f fs) (forms_of texts xs after))
 
 -- a program of literals, main forms and sites alone
-abbrev pub program_of_parts : List LiteralRow → List Form → List Place → Program
+abbrev pub program_of_parts : List LiteralRow → List Form → List Place → ProgramRows
 program_of_parts literals main sites = record {
   literals = literals;
   procedures = [];
@@ -257,16 +257,16 @@ program_of_parts literals main sites = record {
 }
 
 -- the program of forms and tables
-abbrev pub program_with : Found Forms → Option Program
+abbrev pub program_with : Found Forms → Option ProgramRows
 program_with None = None
 program_with (Some found) =
     Some (program_of_parts found.1.literals (forms_list found.0) found.1.sites)
 
-abbrev pub program_of : List (List ℕ) → Items → Option Program
+abbrev pub program_of : List (List ℕ) → Items → Option ProgramRows
 program_of texts ds = program_with (forms_of texts ds no_tables)
 
 -- a program of this part of the language
-pub record IsFirstPath (program : Program) : Type 0 where
+pub record IsFirstPath (program : ProgramRows) : Type 0 where
   pub texts : List (List ℕ)
   pub file : Items
   pub meant : program_of texts file ≡ Some program

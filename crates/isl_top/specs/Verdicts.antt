@@ -9,7 +9,7 @@ use Rattle.isl_base.specs.declared.reason.Stop.{Stop}
 use Rattle.isl_base.specs.declared.reason.Stop.TheVariants.{Refused, NoMemory}
 use Rattle.isl_base.specs.Data.{Item, items_of, place_of}
 use Rattle.isl_base.specs.DataMeasures.{depth_of}
-use Rattle.isl_meaning.specs.declared.program.Program.{Program}
+use Rattle.isl_meaning.specs.declared.program.ProgramRows.{ProgramRows}
 use Rattle.isl_reader.specs.Characters.{place_behind}
 use Rattle.isl_reader.specs.Gaps.{Gap}
 use Rattle.isl_reader.specs.Reads.{ReadsNext}
@@ -26,7 +26,7 @@ pub data DataOf (names : List (List ℕ)) (text : List ℕ) : List Item → List
       → DataOf names text (ds ++ d ∷ []) after (place_behind (place_behind p r.gap) r.bytes)
 
 -- the data are this program: each is one of its forms, and none has more than 64 lists inside one another
-pub record AreProgram (names : List (List ℕ)) (ds : List Item) (program : Program) : Type 0 where
+pub record AreProgram (names : List (List ℕ)) (ds : List Item) (program : ProgramRows) : Type 0 where
   pub shallow : list_all (λ d. nat_le (depth_of d) 64) ds ≡ true
   pub meant : program_of names (items_of ds) ≡ Some program
 
@@ -38,11 +38,11 @@ pub record Begins (text : List ℕ) : Type 0 where
   pub rest : List ℕ
   pub place : Place
   pub read : DataOf names text data_before rest place
-  pub program : Program
+  pub program : ProgramRows
   pub are : AreProgram names data_before program
 
 -- the text is the program
-pub record Accepts (text : List ℕ) (program : Program) : Type 0 where
+pub record Accepts (text : List ℕ) (program : ProgramRows) : Type 0 where
   pub begins : Begins text
   pub at_end : Gap begins.rest []
   pub same : begins.program ≡ program

@@ -13,7 +13,7 @@ use crate::emit::append_forms;
 use crate::emit::instructions::{CHOOSE_HALT, ENVIRONMENT, NIL_WORD};
 use crate::emit::pieces::{MOST_WORDS, append, constant, list_of};
 use isl_base::{NoMemory, WordList};
-use isl_meaning::Program;
+use isl_meaning::ProgramRows;
 use rv_machine::{Image, law_budget};
 use std::alloc::Global;
 
@@ -27,7 +27,7 @@ const ENTRY: u32 = 8;
 /// and 26.4): on each machine that it fits, it prints what the program's meaning prints, and halts
 /// with the word of the meaning's value. `NoMemory` also where the image would have more than
 /// 16,777,216 words, which no arena has. The program is unchanged.
-pub fn first_build(alloc: Global, program: &Program) -> Result<Image, NoMemory>
+pub fn first_build(alloc: Global, program: &ProgramRows) -> Result<Image, NoMemory>
     requires first { IsFirstPath program.now }
     ensures compiled { IfOk result (λ image. Compiled program.now image.words image.entry) }
     ensures code { IfOk result (λ image.
@@ -53,7 +53,7 @@ fn words_fit(words: &[u32])
 }
 
 // The header, nil for an empty program, the code of the main forms, and the halt.
-fn program_code(alloc: Global, program: &Program) -> Result<WordList, NoMemory>
+fn program_code(alloc: Global, program: &ProgramRows) -> Result<WordList, NoMemory>
     ensures { IfOk result (λ code.
         code ≡ program_code program.now.literals (forms program.now.main)) }
 {

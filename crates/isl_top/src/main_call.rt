@@ -3,7 +3,7 @@
 ghost use Rattle.std.specs.Prelude.{◌≡◌, ◌≢◌, ◌≤◌, ◌⊎◌, ℕ, List, Some, None};
 ghost use Rattle.isl_base.specs.Outside.{Rose};
 ghost use Rattle.isl_base.specs.declared.reason.Refusal.{Refusal as RefusalValue};
-ghost use Rattle.isl_meaning.specs.declared.program.Program.{Program as ProgramValue};
+ghost use Rattle.isl_meaning.specs.declared.program.ProgramRows.{ProgramRows as ProgramValue};
 ghost use Rattle.isl_top.specs.Answers.{Accepted, Declined, Built, Halts, Spends, GivenAll, GivenFront};
 ghost use Rattle.isl_top.specs.Command.{Asked, asked as asked_of};
 ghost use Rattle.isl_top.specs.Lines.{WasGiven, line_of, status_of, refused_line, budget_line};

@@ -7,7 +7,7 @@ ghost use Rattle.isl_top.specs.Verdicts.{Accepts, IsStopped};
 use crate::shape::form_of;
 use crate::tables::Tables;
 use isl_base::{Datum, Names, Origin, Place, Reason, Refusal, Stop};
-use isl_meaning::{CoreList, Program};
+use isl_meaning::{CoreList, ProgramRows};
 use isl_reader::Reader;
 use std::alloc::Global;
 
@@ -24,7 +24,7 @@ const START: Place = Place { line: 1, column: 1 };
 
 /// The program that a text is. Refused, at its first offence: at 1:1 for its length; else at the
 /// text's fault, or at the first datum that is no form of this part of the language.
-pub(crate) fn read_program(alloc: Global, text: &[u8]) -> Result<Program, Stop>
+pub(crate) fn read_program(alloc: Global, text: &[u8]) -> Result<ProgramRows, Stop>
     ensures program { IfOk result (Accepts text.now) }
     ensures stopped { IfErr result (IsStopped text.now) }
 {
@@ -38,7 +38,7 @@ pub(crate) fn read_program(alloc: Global, text: &[u8]) -> Result<Program, Stop>
 }
 
 // The program of a text that is not too long.
-fn program_of(alloc: Global, text: &[u8]) -> Result<Program, Stop>
+fn program_of(alloc: Global, text: &[u8]) -> Result<ProgramRows, Stop>
     requires { length text.now ≤ 4096 }
     ensures program { IfOk result (Accepts text.now) }
     ensures stopped { IfErr result (IsStopped text.now) }

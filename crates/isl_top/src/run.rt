@@ -13,7 +13,7 @@ use crate::first_image::first_build;
 use crate::kept::Kept;
 use crate::status::Answer;
 use isl_base::{NoMemory, Sink, Source};
-use isl_meaning::Program;
+use isl_meaning::ProgramRows;
 use rv_machine::{Ending, Image, Machine, law_budget, law_split};
 use std::alloc::Global;
 
@@ -25,7 +25,7 @@ const ARENA_WORDS: u32 = 4_194_304;
 /// it was.
 pub(crate) fn run<S: Source, O: Sink>(
     alloc: Global,
-    program: &Program,
+    program: &ProgramRows,
     steps: u32,
     input: &mut S,
     out: &mut O,

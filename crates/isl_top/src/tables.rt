@@ -8,7 +8,7 @@ ghost use Rattle.isl_base.specs.Data.{place_of, content_of};
 use isl_base::{Datum, Kind, Name, NoMemory, Place, PlaceList, Symbol};
 use isl_meaning::{
     ClassRows, CoreList, FunctionRows, GenericRows, LiteralId, LiteralRow, LiteralRows,
-    ProcedureList, Program, SiteId,
+    ProcedureList, ProgramRows, SiteId,
 };
 use std::alloc::Global;
 use std::marker::Model;
@@ -77,10 +77,10 @@ impl Tables {
 
     /// The program of these main forms, with these tables.
     #[tactic(auto, using(isl_meaning::specs::View::forms_back))]
-    pub(crate) fn program(self, alloc: Global, main: CoreList) -> Program
+    pub(crate) fn program(self, alloc: Global, main: CoreList) -> ProgramRows
         ensures { Some result ≡ program_with (Some (forms main, self)) }
     {
-        Program {
+        ProgramRows {
             literals: self.literals,
             procedures: ProcedureList::new(alloc),
             classes: ClassRows::new(alloc),

@@ -9,7 +9,7 @@ use crate::first_image::first_build;
 use isl_base::{Bytes, Datum, ItemList, Kind, NoMemory, Place, PlaceList, SureSink, SureSource};
 use isl_meaning::{
     ClassRows, Core, CoreList, FunctionRows, GenericRows, LiteralRow, LiteralRows, Primitive,
-    ProcedureList, Program,
+    ProcedureList, ProgramRows,
 };
 use rv_machine::{Ending, Machine};
 use std::alloc::Global;
@@ -74,10 +74,10 @@ fn sites(alloc: Global) -> Result<PlaceList, NoMemory>
 }
 
 // A program of these alone.
-fn of_parts(alloc: Global, literals: LiteralRows, main: CoreList, sites: PlaceList) -> Program
+fn of_parts(alloc: Global, literals: LiteralRows, main: CoreList, sites: PlaceList) -> ProgramRows
     ensures { result ≡ program_of_parts literals main sites }
 {
-    Program {
+    ProgramRows {
         literals,
         procedures: ProcedureList::new(alloc),
         classes: ClassRows::new(alloc),
@@ -88,7 +88,7 @@ fn of_parts(alloc: Global, literals: LiteralRows, main: CoreList, sites: PlaceLi
     }
 }
 
-fn puts_y(alloc: Global) -> Result<Program, NoMemory>
+fn puts_y(alloc: Global) -> Result<ProgramRows, NoMemory>
     ensures { IfOk result IsFirstPath }
 {
     let literals = literals(alloc)?;

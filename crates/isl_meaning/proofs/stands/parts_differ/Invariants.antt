@@ -1,0 +1,11 @@
+-- It is left to see whether the rest differs.
+use Rattle.std.proofs.Common.{◌≡◌, length}
+use Rattle.isl_meaning.specs.Mentions.{same_part}
+use Rattle.isl_meaning.specs.Lookup.{all_differ}
+use Rattle.isl_meaning.proofs.stands.parts_differ.Given as goal
+
+abbrev pub invariant-loop-left : goal.invariant-loop-left
+invariant-loop-left l = all_differ same_part l.left ≡ all_differ same_part l.parts
+
+abbrev pub decreases-loop-left : goal.decreases-loop-left
+decreases-loop-left l = length l.left

@@ -1,0 +1,118 @@
+// What each form says of itself: rows and sites that are there, and as many arguments as are taken.
+
+ghost use Rattle.std.specs.Prelude.{◌≡◌};
+ghost use Rattle.isl_meaning.specs.View.{forms, clauses_of, maybe_form, bindings_of, dynamics_of};
+ghost use Rattle.isl_meaning.specs.Fits.{fits, forms_fit, clauses_fit, body_fits, bindings_fit, dynamics_fit};
+
+use crate::core_form::{BindingList, ClauseList, Core, CoreForm, CoreList, DynBindings};
+use crate::program::ProgramRows;
+
+impl Core {
+    // Whether its rows and sites are there, and its arguments as many as are taken.
+    #[cycle(fits)]
+    #[tactic(auto, using(crate::proofs::Lengths::forms_counted))]
+    pub(crate) fn fits(&self, rows: &ProgramRows) -> bool
+        ensures { result ≡ fits rows.now self.now }
+    {
+        match &self.form {
+            CoreForm::Local(_)
+            | CoreForm::Global(_)
+            | CoreForm::Dynamic(_)
+            | CoreForm::Go(_, _)
+            | CoreForm::NextMethod
+            | CoreForm::HasNext => true,
+            CoreForm::Literal(id) => *id < rows.literals.len(),
+            CoreForm::Lambda(id, _) => *id < rows.procedures.len(),
+            CoreForm::SetLocal(_, form)
+            | CoreForm::SetGlobal(_, form)
+            | CoreForm::DefGlobal(_, form)
+            | CoreForm::SetDynamic(_, form)
+            | CoreForm::DefDynamic(_, form)
+            | CoreForm::Block(_, form)
+            | CoreForm::Return(_, form) => form.fits(rows),
+            CoreForm::Apply(first, second)
+            | CoreForm::While(first, second)
+            | CoreForm::Catch(first, second)
+            | CoreForm::Throw(first, second)
+            | CoreForm::Unwind(first, second)
+            | CoreForm::WithHandler(first, second)
+            | CoreForm::Signal(first, second)
+            | CoreForm::Continue(first, second) => first.fits(rows) && second.fits(rows),
+            CoreForm::Clauses(list) => clauses_fit(list, rows),
+            CoreForm::Sequence(list) | CoreForm::Call(_, list) | CoreForm::Tagbody(_, list) => {
+                forms_fit(list, rows)
+            }
+            CoreForm::CallValue(list) => 1 <= list.len() && forms_fit(list, rows),
+            CoreForm::Prim(which, list) => {
+                list.len() == which.arity() as usize && forms_fit(list, rows)
+            }
+            CoreForm::Let(list, body) => bindings_fit(list, rows) && body.fits(rows),
+            CoreForm::DynamicLet(list, body) => dynamics_fit(list, rows) && body.fits(rows),
+            CoreForm::Sited(site, inner) => {
+                1 <= *site && *site <= rows.sites.len() && inner.fits(rows)
+            }
+        }
+    }
+}
+
+#[cycle(fits)]
+#[tactic(auto, using(crate::proofs::Turns::form_turn))]
+fn forms_fit(list: &CoreList, rows: &ProgramRows) -> bool
+    ensures { result ≡ forms_fit rows.now (forms list.now) }
+{
+    for form in list.as_slice() {
+        if !form.fits(rows) {
+            return false;
+        }
+    }
+    true
+}
+
+#[cycle(fits)]
+#[tactic(auto, using(crate::proofs::Turns::test_turn, crate::proofs::Turns::body_turn))]
+fn clauses_fit(list: &ClauseList, rows: &ProgramRows) -> bool
+    ensures { result ≡ clauses_fit rows.now (clauses_of list.now) }
+{
+    for clause in list.as_slice() {
+        if !clause.test.fits(rows) || !body_fits(&clause.body, rows) {
+            return false;
+        }
+    }
+    true
+}
+
+#[cycle(fits)]
+fn body_fits(body: &Option<Core>, rows: &ProgramRows) -> bool
+    ensures { result ≡ body_fits rows.now (maybe_form body.now) }
+{
+    match body {
+        None => true,
+        Some(form) => form.fits(rows),
+    }
+}
+
+#[cycle(fits)]
+#[tactic(auto, using(crate::proofs::Turns::binding_turn))]
+fn bindings_fit(list: &BindingList, rows: &ProgramRows) -> bool
+    ensures { result ≡ bindings_fit rows.now (bindings_of list.now) }
+{
+    for binding in list.as_slice() {
+        if !binding.value.fits(rows) {
+            return false;
+        }
+    }
+    true
+}
+
+#[cycle(fits)]
+#[tactic(auto, using(crate::proofs::Turns::dynamic_turn))]
+fn dynamics_fit(list: &DynBindings, rows: &ProgramRows) -> bool
+    ensures { result ≡ dynamics_fit rows.now (dynamics_of list.now) }
+{
+    for binding in list.as_slice() {
+        if !binding.value.fits(rows) {
+            return false;
+        }
+    }
+    true
+}

@@ -1,0 +1,167 @@
+// What a form mentions of what is around it.
+
+ghost use Rattle.std.specs.Prelude.{◌≡◌, option_to_list};
+ghost use Rattle.std.specs.List.{list_any};
+ghost use Rattle.isl_meaning.specs.declared.part.Part.TheVariants.{Variable};
+ghost use Rattle.isl_meaning.specs.View.{forms, clauses_of, maybe_form, bindings_of, dynamics_of};
+ghost use Rattle.isl_meaning.specs.Mentions.{binds, mentions, forms_mention, clauses_mention, body_mentions, bindings_mention, dynamics_mention, same_part, captures_part};
+ghost use Rattle.isl_meaning.specs.Signals.{variables};
+
+use crate::core_form::{BindingList, ClauseList, Core, CoreForm, CoreList, DynBindings};
+use crate::part::{Part, Var};
+use crate::program::Procedure;
+use crate::scope::has_part;
+
+impl Core {
+    // Whether the part is mentioned and not bound inside.
+    #[cycle(mentions)]
+    pub(crate) fn mentions(&self, part: Part) -> bool
+        ensures { result ≡ mentions part self.now }
+    {
+        match &self.form {
+            CoreForm::Literal(_) | CoreForm::Global(_) | CoreForm::Dynamic(_) => false,
+            CoreForm::Local(var) => part.same(Part::Variable(*var)),
+            CoreForm::SetLocal(var, form) => {
+                part.same(Part::Variable(*var)) || form.mentions(part)
+            }
+            CoreForm::SetGlobal(_, form)
+            | CoreForm::DefGlobal(_, form)
+            | CoreForm::SetDynamic(_, form)
+            | CoreForm::DefDynamic(_, form)
+            | CoreForm::Sited(_, form) => form.mentions(part),
+            CoreForm::Apply(first, second)
+            | CoreForm::While(first, second)
+            | CoreForm::Catch(first, second)
+            | CoreForm::Throw(first, second)
+            | CoreForm::Unwind(first, second)
+            | CoreForm::WithHandler(first, second)
+            | CoreForm::Signal(first, second)
+            | CoreForm::Continue(first, second) => first.mentions(part) || second.mentions(part),
+            CoreForm::Clauses(list) => clauses_mention(list, part),
+            CoreForm::Sequence(list)
+            | CoreForm::Call(_, list)
+            | CoreForm::CallValue(list)
+            | CoreForm::Prim(_, list) => forms_mention(list, part),
+            CoreForm::Let(list, body) => {
+                bindings_mention(list, part) || (!binds(list, part) && body.mentions(part))
+            }
+            CoreForm::DynamicLet(list, body) => {
+                dynamics_mention(list, part) || body.mentions(part)
+            }
+            CoreForm::Lambda(_, parts) => has_part(part, parts.as_slice()),
+            CoreForm::Block(exit, body) => !part.same(Part::Exit(*exit)) && body.mentions(part),
+            CoreForm::Return(exit, form) => part.same(Part::Exit(*exit)) || form.mentions(part),
+            CoreForm::Tagbody(exit, list) => {
+                !part.same(Part::Exit(*exit)) && forms_mention(list, part)
+            }
+            CoreForm::Go(exit, _) => part.same(Part::Exit(*exit)),
+            CoreForm::NextMethod | CoreForm::HasNext => part.same(Part::Method),
+        }
+    }
+}
+
+#[cycle(mentions)]
+#[tactic(auto, using(crate::proofs::Turns::form_turn))]
+fn forms_mention(list: &CoreList, part: Part) -> bool
+    ensures { result ≡ forms_mention part (forms list.now) }
+{
+    for form in list.as_slice() {
+        if form.mentions(part) {
+            return true;
+        }
+    }
+    false
+}
+
+#[cycle(mentions)]
+#[tactic(auto, using(crate::proofs::Turns::test_turn, crate::proofs::Turns::body_turn))]
+fn clauses_mention(list: &ClauseList, part: Part) -> bool
+    ensures { result ≡ clauses_mention part (clauses_of list.now) }
+{
+    for clause in list.as_slice() {
+        if clause.test.mentions(part) || body_mentions(&clause.body, part) {
+            return true;
+        }
+    }
+    false
+}
+
+#[cycle(mentions)]
+fn body_mentions(body: &Option<Core>, part: Part) -> bool
+    ensures { result ≡ body_mentions part (maybe_form body.now) }
+{
+    match body {
+        None => false,
+        Some(form) => form.mentions(part),
+    }
+}
+
+#[cycle(mentions)]
+#[tactic(auto, using(crate::proofs::Turns::binding_turn))]
+fn bindings_mention(list: &BindingList, part: Part) -> bool
+    ensures { result ≡ bindings_mention part (bindings_of list.now) }
+{
+    for binding in list.as_slice() {
+        if binding.value.mentions(part) {
+            return true;
+        }
+    }
+    false
+}
+
+#[cycle(mentions)]
+#[tactic(auto, using(crate::proofs::Turns::dynamic_turn))]
+fn dynamics_mention(list: &DynBindings, part: Part) -> bool
+    ensures { result ≡ dynamics_mention part (dynamics_of list.now) }
+{
+    for binding in list.as_slice() {
+        if binding.value.mentions(part) {
+            return true;
+        }
+    }
+    false
+}
+
+// Whether bindings bind the part.
+fn binds(list: &BindingList, part: Part) -> bool
+    ensures { result ≡ binds part (bindings_of list.now) }
+{
+    for binding in list.as_slice() {
+        if part.same(Part::Variable(binding.var)) {
+            return true;
+        }
+    }
+    false
+}
+
+impl Procedure {
+    // Whether its body mentions a part that is none of its own variables.
+    pub(crate) fn captures(&self, part: Part) -> bool
+        ensures { result ≡ captures_part self.now part }
+    {
+        !self.owns(part) && self.body.mentions(part)
+    }
+
+    // Whether the part is one of its own variables.
+    #[tactic(auto, using(crate::proofs::Lists::any_of_both))]
+    fn owns(&self, part: Part) -> bool
+        ensures { result ≡ list_any (λ v. same_part part (Variable v)) (variables self.now) }
+    {
+        are_variables(self.required.as_slice(), part) || is_variable(self.rest, part)
+    }
+}
+
+fn are_variables(vars: &[Var], part: Part) -> bool
+    ensures { result ≡ list_any (λ v. same_part part (Variable v)) vars.now }
+{
+    vars.iter().any(|var| part.same(Part::Variable(*var)))
+}
+
+fn is_variable(var: Option<Var>, part: Part) -> bool
+    ensures { result ≡ list_any (λ v. same_part part (Variable v)) (option_to_list var) }
+{
+    match var {
+        None => false,
+        Some(var) => part.same(Part::Variable(var)),
+    }
+}
