@@ -1,0 +1,5 @@
+pub mod Names
+pub mod Judging
+pub mod Adding
+pub mod Defining
+pub mod BuiltIns

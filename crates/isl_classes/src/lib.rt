@@ -1,0 +1,18 @@
+// Classes of a program: their precedence lists and their slots.
+#![tactic(auto)]
+
+mod builtin;
+mod classes;
+mod definition;
+mod judged;
+mod line;
+mod place;
+mod row;
+mod slot_spec;
+mod slots;
+mod table;
+#[cfg(test)]
+mod tests;
+
+pub use classes::Classes;
+pub use slot_spec::{SlotSpec, SlotSpecs};
