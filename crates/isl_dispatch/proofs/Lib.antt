@@ -1,0 +1,7 @@
+pub mod Alike
+pub mod Texts
+pub mod Naming
+pub mod Taking
+pub mod Picking
+pub mod Placing
+pub mod Making

@@ -1,0 +1,15 @@
+-- The tables so far.
+use Rattle.std.proofs.Common.{◌≡◌, ℕ, Some, length, slice_get}
+use Rattle.isl_meaning.specs.declared.program.GenericRow.{GenericRow}
+use Rattle.isl_meaning.specs.OfClasses.{with_classes}
+use Rattle.isl_dispatch.specs.declared.table.Table.{Table}
+use Rattle.isl_dispatch.specs.Tables.{IsTableOf}
+use Rattle.isl_dispatch.proofs.build.tables.Given as goal
+
+abbrev pub invariant-loop-at : goal.invariant-loop-at
+invariant-loop-at l =
+    record {
+      count : length l.found ≡ l.at;
+      each : (i : ℕ) → (g : GenericRow) → (t : Table) → slice_get l.generics i ≡ Some g → slice_get l.found i ≡ Some t
+          → IsTableOf (with_classes l.classes) g t;
+    }

@@ -1,0 +1,8 @@
+-- The rest has one where all have one.
+use Rattle.std.proofs.Common.{◌≡◌, drop}
+use Rattle.isl_meaning.specs.Lookup.{some_of}
+use Rattle.isl_dispatch.specs.Methods.{is_same}
+use Rattle.isl_dispatch.proofs.methods.is_among.Given as goal
+
+abbrev pub invariant-loop-at : goal.invariant-loop-at
+invariant-loop-at l = some_of (is_same l.method) (drop l.at l.methods) ≡ some_of (is_same l.method) l.methods

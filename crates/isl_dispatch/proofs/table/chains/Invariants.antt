@@ -1,0 +1,12 @@
+-- The chains of the tuples so far, and then those of the others.
+use Rattle.std.proofs.Common.{◌≡◌, ◌++◌, map, drop}
+use Rattle.isl_meaning.specs.Classes.{chain}
+use Rattle.isl_meaning.specs.Cells.{tuples}
+use Rattle.isl_meaning.specs.OfClasses.{with_classes}
+use Rattle.isl_dispatch.specs.Chains.{maybe_seen}
+use Rattle.isl_dispatch.proofs.table.chains.Given as goal
+
+abbrev pub invariant-loop-index : goal.invariant-loop-index
+invariant-loop-index l =
+    map maybe_seen l.cells ++ map (chain (with_classes l.classes) l.generic) (drop l.index (tuples l.lists))
+    ≡ map (chain (with_classes l.classes) l.generic) (tuples l.lists)

@@ -1,0 +1,5 @@
+pub mod Methods
+pub mod NameNumbers
+pub mod Chains
+pub mod Alike
+pub mod Tables

@@ -1,0 +1,48 @@
+// Dispatch tables: how a call of a generic function finds its methods.
+
+ghost use Rattle.std.specs.Prelude.{◌≡◌, List, Some, MatchOption, slice_get};
+ghost use Rattle.isl_meaning.specs.declared.program.ClassRow.{ClassRow as Class};
+ghost use Rattle.isl_meaning.specs.declared.program.GenericRow.{GenericRow as Generic};
+ghost use Rattle.isl_meaning.specs.Classes.{chain};
+ghost use Rattle.isl_meaning.specs.OfClasses.{with_classes};
+ghost use Rattle.isl_dispatch.specs.Chains.{seen};
+ghost use Rattle.isl_dispatch.specs.Tables.{AreTablesOf, AreCalled};
+
+use crate::chain::Chain;
+use crate::table::Table;
+use isl_base::ItemList;
+use isl_meaning::{ClassId, GenericId};
+
+/// The tables of generic functions: for each argument the group of each class, and for each tuple
+/// of groups the chain.
+#[derive(Drop)]
+pub struct Tables {
+    tables: ItemList<Table>,
+}
+
+impl Tables {
+    /// Tables that are made.
+    pub(crate) fn of(tables: ItemList<Table>) -> Tables
+        ensures { result ≡ record { tables = tables } }
+    {
+        Tables { tables }
+    }
+
+    /// The chain of a call of that generic function with arguments of these classes; none exactly
+    /// where no primary method applies (ISO/IEC 13816:2007, 15.3.4). Condition: the number is that
+    /// of a generic function, and there are as many classes as required arguments. Takes no memory,
+    /// and no time that grows with the number of methods.
+    pub fn chain(&self, generic: GenericId, classes: &[ClassId]) -> Option<&Chain>
+        ensures { (generics : List Generic) → (rows : List Class) → (g : Generic)
+            → AreTablesOf (with_classes rows) generics self.now
+            → slice_get generics generic ≡ Some g
+            → AreCalled (with_classes rows) g classes.now
+            → MatchOption result (chain (with_classes rows) g classes.now ≡ None)
+            (λ c. chain (with_classes rows) g classes.now ≡ Some (seen c.now)) }
+    {
+        match self.tables.get(generic) {
+            Some(table) => table.chain(classes),
+            None => None,
+        }
+    }
+}

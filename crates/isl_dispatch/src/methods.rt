@@ -1,0 +1,88 @@
+// Which methods a generic function takes.
+
+ghost use Rattle.std.specs.Prelude.{◌≡◌, ◌<◌, ◌++◌, ◌∷◌, [], length, OnOk, OnErr};
+ghost use Rattle.isl_meaning.specs.Values.{same_text};
+ghost use Rattle.isl_meaning.specs.Lookup.{some_of};
+ghost use Rattle.isl_meaning.specs.Classes.{is_qualifier};
+ghost use Rattle.isl_dispatch.specs.Methods.{takes, is_same, with_method};
+
+use isl_base::{ItemList, NoMemory};
+use isl_meaning::{ClassIds, GenericId, GenericRow, GenericRows, MethodRow, MethodRows, Qualifier};
+use std::alloc::Global;
+
+// Whether the method is congruent, and not there already.
+pub fn takes(row: &GenericRow, rest: bool, method: &MethodRow) -> bool
+    ensures { result ≡ takes row.now rest method.now }
+{
+    method.classes.len() == row.required as usize
+        && rest == row.rest
+        && !is_among(&row.methods, method)
+}
+
+// Whether one of the methods has the same qualifier and classes.
+fn is_among(methods: &MethodRows, method: &MethodRow) -> bool
+    ensures { result ≡ some_of (is_same method.now) methods.now }
+{
+    for at in 0..methods.len() {
+        let Some(other) = methods.get(at) else {
+            unreachable!()
+        };
+        if is_same(method, other) {
+            return true;
+        }
+    }
+    false
+}
+
+// Whether both have the same qualifier and classes.
+fn is_same(method: &MethodRow, other: &MethodRow) -> bool
+    ensures { result ≡ is_same method.now other.now }
+{
+    is_qualifier(method.qualifier, other.qualifier) && same_classes(&method.classes, &other.classes)
+}
+
+/// Whether both are the same qualifier.
+pub fn is_qualifier(kind: Qualifier, other: Qualifier) -> bool
+    ensures { result ≡ is_qualifier kind other }
+{
+    match (kind, other) {
+        (Qualifier::Primary, Qualifier::Primary)
+        | (Qualifier::Around, Qualifier::Around)
+        | (Qualifier::Before, Qualifier::Before)
+        | (Qualifier::After, Qualifier::After) => true,
+        _ => false,
+    }
+}
+
+// Whether both are the same classes.
+fn same_classes(classes: &ClassIds, others: &ClassIds) -> bool
+    ensures { result ≡ same_text classes.now others.now }
+{
+    classes.as_slice() == others.as_slice()
+}
+
+// Puts the method at the end of the row's methods; unchanged after `NoMemory`.
+pub fn push_method(
+    alloc: Global,
+    rows: &mut GenericRows,
+    generic: GenericId,
+    method: MethodRow,
+) -> Result<(), NoMemory>
+    requires { generic < length rows.old }
+    ensures ok { OnOk result (rows.new ≡ with_method rows.old generic method) }
+    ensures err { OnErr result (rows.new ≡ rows.old) }
+{
+    let Some(row) = rows.get(generic) else {
+        unreachable!()
+    };
+    let empty = GenericRow {
+        name: row.name,
+        required: 0,
+        rest: false,
+        methods: ItemList::new(alloc),
+    };
+    let mut row = rows.replace(generic, empty);
+    let outcome = row.methods.push(method);
+    rows.replace(generic, row);
+    outcome
+}

@@ -1,0 +1,120 @@
+// The methods that apply to a tuple of classes, the most specific one first.
+
+ghost use Rattle.std.specs.Prelude.{◌≡◌, ◌==◌, ◌≤◌, List, IfOk, length};
+ghost use Rattle.isl_meaning.specs.Lookup.{place_in};
+ghost use Rattle.isl_meaning.specs.Classes.{precedence, more_specific, applicable};
+ghost use Rattle.isl_meaning.specs.OfClasses.{with_classes};
+ghost use Rattle.isl_meaning.specs.declared.program.MethodRow.{MethodRow};
+ghost use Rattle.isl_dispatch.specs.Chains.{ArePicked};
+
+use isl_base::NoMemory;
+use isl_meaning::{ClassId, ClassIds, ClassRows, GenericRow, MethodRow, applies};
+use std::alloc::Global;
+
+/// The numbers of the methods that apply, in the order of their specificity.
+pub fn applicable(
+    alloc: Global,
+    generic: &GenericRow,
+    classes: &ClassRows,
+    tuple: &ClassIds,
+) -> Result<Vec<usize>, NoMemory>
+    ensures { IfOk result (λ order. ArePicked generic.now.methods order.items
+        (applicable (with_classes classes.now) tuple.now generic.now.methods)) }
+{
+    let mut order = Vec::new(alloc);
+    let count = generic.methods.len();
+    for step in 0..count {
+        let at = count - 1 - step;
+        let Some(method) = generic.methods.get(at) else {
+            unreachable!()
+        };
+        if applies(classes, tuple, &method.classes) {
+            let place = place_for(generic, classes, tuple, &order, method);
+            let Ok(()) = order.insert(place, at) else {
+                return Err(NoMemory);
+            };
+        }
+    }
+    Ok(order)
+}
+
+// The place of the first method that is less specific than this one.
+fn place_for(
+    generic: &GenericRow,
+    classes: &ClassRows,
+    tuple: &ClassIds,
+    order: &Vec<usize>,
+    method: &MethodRow,
+) -> usize
+    ensures within { result ≤ length order.now.items }
+    ensures place { (picked : List MethodRow)
+        → ArePicked generic.now.methods order.now.items picked
+        → result ≡ place_in (λ n. more_specific (with_classes classes.now) tuple.now
+        method.now.classes n.classes) picked }
+{
+    for at in 0..order.len() {
+        let Some(number) = order.get(at) else {
+            unreachable!()
+        };
+        let Some(other) = generic.methods.get(*number) else {
+            return at;
+        };
+        if is_more_specific(classes, tuple, &method.classes, &other.classes) {
+            return at;
+        }
+    }
+    order.len()
+}
+
+// Whether a method of these classes is more specific than one of the others: at the first argument
+// whose classes differ, its class stands earlier above the argument's class.
+fn is_more_specific(
+    classes: &ClassRows,
+    tuple: &ClassIds,
+    method: &ClassIds,
+    other: &ClassIds,
+) -> bool
+    ensures { result
+        ≡ more_specific (with_classes classes.now) tuple.now method.now other.now }
+{
+    for at in 0..tuple.len() {
+        let Some(class) = tuple.get(at) else {
+            unreachable!()
+        };
+        let Some(first) = method.get(at) else {
+            return false;
+        };
+        let Some(second) = other.get(at) else {
+            return false;
+        };
+        if *first != *second {
+            return place_above(classes, *class, *first) < place_above(classes, *class, *second);
+        }
+    }
+    false
+}
+
+// The place of a class in the precedence list of another.
+fn place_above(classes: &ClassRows, class: ClassId, above: ClassId) -> usize
+    ensures { result
+        ≡ place_in (λ d. d == above) (precedence (with_classes classes.now) class) }
+{
+    match classes.get(class) {
+        Some(row) => place_of(&row.precedence, above),
+        None => 0,
+    }
+}
+
+fn place_of(list: &ClassIds, wanted: ClassId) -> usize
+    ensures { result ≡ place_in (λ d. d == wanted) list.now }
+{
+    for at in 0..list.len() {
+        let Some(class) = list.get(at) else {
+            unreachable!()
+        };
+        if *class == wanted {
+            return at;
+        }
+    }
+    list.len()
+}
