@@ -1,0 +1,381 @@
+-- What a step keeps: its result is in form, its names are in the table, and a later table changes nothing.
+use Rattle.std.specs.Prelude.{◌≡◌, ℕ, zero, suc, ◌+◌, ◌<◌, ◌≤◌, true, false, List, [], ◌∷◌, ◌++◌, length, Option, Some, None, slice_get, if◌then◌else◌, refl}
+use Rattle.std.specs.Str.{bytes_eq}
+use Rattle.std.proofs.Common.{arith, ap, ◌∙◌, sym, subst, length-append}
+use Rattle.isl_base.specs.declared.place.Place.{Place}
+use Rattle.isl_base.specs.declared.datum.Symbol.{Symbol}
+use Rattle.isl_base.specs.declared.datum.Symbol.TheVariants.{Named, Fresh}
+use Rattle.isl_base.specs.Names.{Extends}
+use Rattle.isl_base.specs.Data.{Item, item, Content, integer, character, symbol, string, vector, nil, list, Items, no_item, item_and, items_list, Tail, no_tail, dotted, place_of}
+use Rattle.isl_base.specs.DataMeasures.{Formed, AllFormed, FormedTail, NamesBelow, NamesBelowInside, AllNamesBelow, NamesBelowTail, SymbolBelow}
+use Rattle.isl_meaning.specs.DerivedPieces.{Piece, word, made, taken, parens, Pieces, no_piece, piece_and, Right, in_parens, Builds, BuildsAll}
+use Rattle.isl_meaning.specs.DerivedRows.{text_of}
+use Rattle.isl_meaning.specs.Derived.{Rows, table, rows_in, rows_of, rows_under, by_rows, judged, Derivation, plain, unfit, becomes, list_derivation, derivation, Derives, new_symbols}
+use Rattle.isl_derived.specs.declared.one_step.Step.TheVariants.{Derived}
+use Rattle.isl_derived.specs.Steps.{IsStep, IsWhole}
+use Rattle.isl_derived.proofs.Taken.{AllIn, OfTail, AllOf, GoesDown, of_list, Taken, AllTaken, TakenRight, if_too, and_too, or_too, let_row_too, case_too, case_using_too, for_too, setf_too, flet_too, labels_too, ignore_errors_too, assure_too, the_too, convert_too, quasiquote_too}
+use Rattle.isl_derived.proofs.Same.{Alike, case_same, case_using_same, setf_same, quasiquote_same}
+
+-- what holds of all rows of the table
+
+abbrev AllRows : (Rows → Type 0) → List (List ℕ × Rows) → Type 0
+AllRows Q [] = Unit {0}
+AllRows Q (r ∷ rs) = Q r.1 × AllRows Q rs
+
+abbrev OfRows : (Rows → Type 0) → Option Rows → Type 0
+OfRows Q None = Unit {0}
+OfRows Q (Some rows) = Q rows
+
+found : (Q : Rows → Type 0) (rs : List (List ℕ × Rows)) → AllRows Q rs → (name : List ℕ) → OfRows Q (rows_in rs name)
+found Q [] h name = tt
+found Q (r ∷ rs) h name =
+    elim (bytes_eq name r.0) as (λ b. OfRows Q (if b then Some r.1 else rows_in rs name)) [ true ↦ h.0 | false ↦ found Q rs h.1 name ]
+
+found_under : (Q : Rows → Type 0) → AllRows Q table → (name : Option (List ℕ)) → OfRows Q (rows_under name)
+unfolding rows_of
+found_under Q h None = tt
+found_under Q h (Some name) = found Q table h name
+
+-- what a step takes over
+
+abbrev TakenRows : (Item → Type 0) → Rows → Type 0
+TakenRows P rows = (names : List (List ℕ)) (s : ℕ) (ds : List Item) → AllOf P ds → TakenRight P (rows names s ds)
+
+all_rows_taken : (P : Item → Type 0) → GoesDown P → AllRows (TakenRows P) table
+all_rows_taken P g = (
+  λ names s ds. if_too P ds,
+  (
+    λ names s ds. and_too P ds,
+    (
+      λ names s ds. or_too P ds,
+      (
+        λ names s ds. let_row_too P g ds,
+        (
+          λ names s ds. case_too P g names s ds,
+          (
+            λ names s ds. case_using_too P g names s ds,
+            (
+              λ names s ds. for_too P g s ds,
+              (
+                λ names s ds. setf_too P g names s ds,
+                (
+                  λ names s ds. flet_too P g s ds,
+                  (
+                    λ names s ds. labels_too P g s ds,
+                    (
+                      λ names s ds. ignore_errors_too P s ds,
+                      (
+                        λ names s ds. assure_too P s ds,
+                        (
+                          λ names s ds. the_too P ds,
+                          (
+                            λ names s ds. convert_too P ds,
+                            (λ names s ds. quasiquote_too P g names ds, tt),
+                          ),
+                        ),
+                      ),
+                    ),
+                  ),
+                ),
+              ),
+            ),
+          ),
+        ),
+      ),
+    ),
+  ),
+)
+
+abbrev TakenDerivation : (Item → Type 0) → Derivation → Type 0
+TakenDerivation P plain = Unit {0}
+TakenDerivation P unfit = Unit {0}
+TakenDerivation P (becomes r) = Taken P r.piece
+
+judged_too : (P : Item → Type 0) (r : Option Right) → TakenRight P r → TakenDerivation P (judged r)
+judged_too P None h = tt
+judged_too P (Some r) h = h
+
+by_rows_too : (P : Item → Type 0) (names : List (List ℕ)) (s : ℕ) (rows : Option Rows) (ds : List Item) (t : Tail) → OfRows (TakenRows P) rows → AllOf P ds
+    → TakenDerivation P (by_rows names s rows ds t)
+by_rows_too P names s None ds t f h = tt
+by_rows_too P names s (Some rows) ds no_tail f h = judged_too P (rows names s ds) (f names s ds h)
+by_rows_too P names s (Some rows) ds (dotted d) f h = tt
+
+list_too : (P : Item → Type 0) → GoesDown P → (names : List (List ℕ)) (s : ℕ) (ds : List Item) (t : Tail) → AllOf P ds
+    → TakenDerivation P (list_derivation names s ds t)
+list_too P g names s [] t h = tt
+list_too P g names s (d ∷ ds) t h =
+    by_rows_too P names s (rows_under (text_of names d)) ds t (found_under (TakenRows P) (all_rows_taken P g) (text_of names d)) h.1
+
+derivation_too : (P : Item → Type 0) → GoesDown P → (names : List (List ℕ)) (s : ℕ) (d : Item) → P d → TakenDerivation P (derivation names s d)
+unfolding derivation
+derivation_too P g names s (item p (integer n)) h = tt
+derivation_too P g names s (item p (character c)) h = tt
+derivation_too P g names s (item p (symbol x)) h = tt
+derivation_too P g names s (item p (string bytes)) h = tt
+derivation_too P g names s (item p (vector ds)) h = tt
+derivation_too P g names s (item p nil) h = tt
+derivation_too P g names s (item p (list ds t)) h = list_too P g names s (items_list ds) t (of_list P ds (g.of_items p ds t h))
+
+-- what is built of it
+
+record GoesUp (n : ℕ) (P : Item → Type 0) : Type 0 where
+  over_name : (p : Place) (k : ℕ) → k < n → P (item p (symbol (Named (record { 0 = k }))))
+  over_fresh : (p : Place) (i : ℕ) → P (item p (symbol (Fresh 0 i)))
+  over_items : (p : Place) (ds : Items) → AllIn P ds → P (item p (in_parens ds))
+
+get_below : {X : Type 0} (xs : List X) (i : ℕ) (x : X) → slice_get xs i ≡ Some x → i < length xs
+get_below [] i x h = absurd (cc)
+get_below (y ∷ ys) zero x h = omega arith
+get_below (y ∷ ys) (suc i) x h = omega (arith, get_below ys i x h)
+
+mutual
+  unfolding Builds
+
+  builds_too : (P : Item → Type 0) (names : List (List ℕ)) → GoesUp (length names) P → (p : Place) (x : Piece) (d : Item)
+      → Builds names p x d → Taken P x → P d
+  builds_too P names g p (word text) d b h = subst P (sym b.1.1) (g.over_name p b.0 (get_below names b.0 text b.1.0))
+  builds_too P names g p (made serial) d b h = subst P (sym b) (g.over_fresh p serial)
+  builds_too P names g p (taken e) d b h = subst P (sym b) h
+  builds_too P names g p (parens xs) d b h = subst P (sym b.1.1) (g.over_items p b.0 (all_built_too P names g p xs b.0 b.1.0 h))
+
+  all_built_too : (P : Item → Type 0) (names : List (List ℕ)) → GoesUp (length names) P → (p : Place) (xs : Pieces) (ds : Items)
+      → BuildsAll names p xs ds → AllTaken P xs → AllIn P ds
+  all_built_too P names g p no_piece ds b h = let Q : Items → Type 0 = AllIn P in subst Q (sym b) tt
+  all_built_too P names g p (piece_and x xs) ds b h =
+      let Q : Items → Type 0 = AllIn P in
+      subst Q (sym b.1.1.2) (builds_too P names g p x b.0 b.1.1.0 h.0, all_built_too P names g p xs b.1.0 b.1.1.1 h.1)
+
+step_too : (P : Item → Type 0) → GoesDown P → (names : List (List ℕ)) → GoesUp (length names) P → (d : Item) (s : ℕ) (e : Item) (s2 : ℕ)
+    → P d → Derives names d s e s2 → P e
+step_too P down names up d s e s2 h x =
+    let Q : Derivation → Type 0 = TakenDerivation P in
+    builds_too P names up (place_of d) x.right.piece e x.builds (subst Q x.fits (derivation_too P down names s d h))
+
+-- data in form
+
+all_formed : (ds : Items) → AllFormed ds → AllIn Formed ds
+unfolding Formed
+all_formed no_item h = tt
+all_formed (item_and d ds) h = (h.0, all_formed ds h.1)
+
+formed_all : (ds : Items) → AllIn Formed ds → AllFormed ds
+unfolding Formed
+formed_all no_item h = tt
+formed_all (item_and d ds) h = (h.0, formed_all ds h.1)
+
+formed_tail : (t : Tail) → FormedTail t → OfTail Formed t
+unfolding Formed
+formed_tail no_tail h = tt
+formed_tail (dotted (item p c)) h = h.1
+
+formed_down : GoesDown Formed
+unfolding Formed
+formed_down = record {
+  of_items = λ p ds t h. all_formed ds h.1;
+  of_tail = λ p ds t h. formed_tail t h.2;
+  of_vector = λ p ds h. all_formed ds h;
+}
+
+formed_over : (p : Place) (ds : Items) → AllIn Formed ds → Formed (item p (in_parens ds))
+unfolding Formed
+formed_over p no_item h = tt
+formed_over p (item_and d ds) h = (λ e. absurd (cc), formed_all (item_and d ds) h, tt)
+
+formed_up : (n : ℕ) → GoesUp n Formed
+unfolding Formed
+formed_up n = record { over_name = λ p k h. tt; over_fresh = λ p i. tt; over_items = formed_over }
+
+pub step_formed : (names : List (List ℕ)) (d : Item) (s : ℕ) (e : Item) (s2 : ℕ) → Formed d → Derives names d s e s2 → Formed e
+step_formed names d s e s2 h x = step_too Formed formed_down names (formed_up (length names)) d s e s2 h x
+
+-- names of the table
+
+all_below : (n : ℕ) (ds : Items) → AllNamesBelow n ds → AllIn (NamesBelow n) ds
+unfolding NamesBelow
+all_below n no_item h = tt
+all_below n (item_and d ds) h = (h.0, all_below n ds h.1)
+
+below_all : (n : ℕ) (ds : Items) → AllIn (NamesBelow n) ds → AllNamesBelow n ds
+unfolding NamesBelow
+below_all n no_item h = tt
+below_all n (item_and d ds) h = (h.0, below_all n ds h.1)
+
+tail_below : (n : ℕ) (t : Tail) → NamesBelowTail n t → OfTail (NamesBelow n) t
+unfolding NamesBelow
+tail_below n no_tail h = tt
+tail_below n (dotted d) h = h
+
+below_down : (n : ℕ) → GoesDown (NamesBelow n)
+unfolding NamesBelow
+below_down n = record {
+  of_items = λ p ds t h. all_below n ds h.0;
+  of_tail = λ p ds t h. tail_below n t h.1;
+  of_vector = λ p ds h. all_below n ds h;
+}
+
+below_over : (n : ℕ) (p : Place) (ds : Items) → AllIn (NamesBelow n) ds → NamesBelow n (item p (in_parens ds))
+unfolding NamesBelow
+below_over n p no_item h = tt
+below_over n p (item_and d ds) h = (below_all n (item_and d ds) h, tt)
+
+below_up : (n : ℕ) → GoesUp n (NamesBelow n)
+unfolding NamesBelow
+below_up n = record { over_name = λ p k h. h; over_fresh = λ p i. tt; over_items = below_over n }
+
+symbol_later : (n m : ℕ) (s : Symbol) → n ≤ m → SymbolBelow n s → SymbolBelow m s
+symbol_later n m (Named name) e h = omega arith
+symbol_later n m (Fresh expansion serial) e h = tt
+
+mutual
+  unfolding NamesBelow
+
+  pub below_later : (n m : ℕ) (d : Item) → n ≤ m → NamesBelow n d → NamesBelow m d
+  below_later n m (item p c) e h = inside_later n m c e h
+
+  inside_later : (n m : ℕ) (c : Content) → n ≤ m → NamesBelowInside n c → NamesBelowInside m c
+  inside_later n m (integer z) e h = tt
+  inside_later n m (character z) e h = tt
+  inside_later n m (symbol s) e h = symbol_later n m s e h
+  inside_later n m (string bytes) e h = tt
+  inside_later n m (vector ds) e h = items_later n m ds e h
+  inside_later n m nil e h = tt
+  inside_later n m (list ds t) e h = (items_later n m ds e h.0, tail_later n m t e h.1)
+
+  items_later : (n m : ℕ) (ds : Items) → n ≤ m → AllNamesBelow n ds → AllNamesBelow m ds
+  items_later n m no_item e h = tt
+  items_later n m (item_and d ds) e h = (below_later n m d e h.0, items_later n m ds e h.1)
+
+  tail_later : (n m : ℕ) (t : Tail) → n ≤ m → NamesBelowTail n t → NamesBelowTail m t
+  tail_later n m no_tail e h = tt
+  tail_later n m (dotted d) e h = below_later n m d e h
+
+pub step_named : (names : List (List ℕ)) (d : Item) (s : ℕ) (e : Item) (s2 : ℕ) → NamesBelow (length names) d → Derives names d s e s2
+    → NamesBelow (length names) e
+step_named names d s e s2 h x =
+    step_too (NamesBelow (length names)) (below_down (length names)) names (below_up (length names)) d s e s2 h x
+
+-- a later table
+
+abbrev SameRows : List (List ℕ) → List (List ℕ) → (Item → Type 0) → Rows → Type 0
+SameRows A B P rows = (s : ℕ) (ds : List Item) → AllOf P ds → rows A s ds ≡ rows B s ds
+
+all_rows_same : (A B : List (List ℕ)) (P : Item → Type 0) → Alike A B P → AllRows (SameRows A B P) table
+all_rows_same A B P a = (
+  λ s ds h. refl,
+  (
+    λ s ds h. refl,
+    (
+      λ s ds h. refl,
+      (
+        λ s ds h. refl,
+        (
+          case_same A B P a,
+          (
+            case_using_same A B P a,
+            (
+              λ s ds h. refl,
+              (
+                setf_same A B P a,
+                (
+                  λ s ds h. refl,
+                  (
+                    λ s ds h. refl,
+                    (
+                      λ s ds h. refl,
+                      (
+                        λ s ds h. refl,
+                        (
+                          λ s ds h. refl,
+                          (
+                            λ s ds h. refl,
+                            (λ s ds h. quasiquote_same A B P a ds h, tt),
+                          ),
+                        ),
+                      ),
+                    ),
+                  ),
+                ),
+              ),
+            ),
+          ),
+        ),
+      ),
+    ),
+  ),
+)
+
+by_rows_same : (A B : List (List ℕ)) (P : Item → Type 0) (s : ℕ) (rows : Option Rows) (ds : List Item) (t : Tail) → OfRows (SameRows A B P) rows → AllOf P ds
+    → by_rows A s rows ds t ≡ by_rows B s rows ds t
+by_rows_same A B P s None ds t f h = refl
+by_rows_same A B P s (Some rows) ds no_tail f h = ap judged (f s ds h)
+by_rows_same A B P s (Some rows) ds (dotted d) f h = refl
+
+list_same : (A B : List (List ℕ)) (P : Item → Type 0) → Alike A B P → (s : ℕ) (ds : List Item) (t : Tail) → AllOf P ds
+    → list_derivation A s ds t ≡ list_derivation B s ds t
+list_same A B P a s [] t h = refl
+list_same A B P a s (d ∷ ds) t h =
+    by_rows_same A B P s (rows_under (text_of A d)) ds t (found_under (SameRows A B P) (all_rows_same A B P a) (text_of A d)) h.1
+    ∙ ap (λ (name : Option (List ℕ)). by_rows B s (rows_under name) ds t) (a.same d h.0)
+
+derivation_same : (A B : List (List ℕ)) (P : Item → Type 0) → Alike A B P → (s : ℕ) (d : Item) → P d → derivation A s d ≡ derivation B s d
+unfolding derivation
+derivation_same A B P a s (item p (integer n)) h = refl
+derivation_same A B P a s (item p (character c)) h = refl
+derivation_same A B P a s (item p (symbol x)) h = refl
+derivation_same A B P a s (item p (string bytes)) h = refl
+derivation_same A B P a s (item p (vector ds)) h = refl
+derivation_same A B P a s (item p nil) h = refl
+derivation_same A B P a s (item p (list ds t)) h = list_same A B P a s (items_list ds) t (of_list P ds (a.down.of_items p ds t h))
+
+front_get : {X : Type 0} (xs ys : List X) (i : ℕ) → i < length xs → slice_get xs i ≡ slice_get (xs ++ ys) i
+front_get [] ys i h = absurd (omega arith)
+front_get (x ∷ xs) ys zero h = refl
+front_get (x ∷ xs) ys (suc i) h = front_get xs ys i (omega arith)
+
+text_same : (old new : List (List ℕ)) → Extends old new → (d : Item) → NamesBelow (length old) d → text_of old d ≡ text_of new d
+unfolding NamesBelow
+text_same old new e (item p (integer n)) h = refl
+text_same old new e (item p (character c)) h = refl
+text_same old new e (item p (symbol (Named name))) h = front_get old e.added name.0 h ∙ ap (λ (names : List (List ℕ)). slice_get names name.0) (sym e.begins)
+text_same old new e (item p (symbol (Fresh expansion serial))) h = refl
+text_same old new e (item p (string bytes)) h = refl
+text_same old new e (item p (vector ds)) h = refl
+text_same old new e (item p nil) h = refl
+text_same old new e (item p (list ds t)) h = refl
+
+-- what the table says of a datum stays under a later table of names
+pub derivation_later : (old new : List (List ℕ)) (s : ℕ) (d : Item) → Extends old new → NamesBelow (length old) d
+    → derivation old s d ≡ derivation new s d
+derivation_later old new s d e h =
+    derivation_same old new (NamesBelow (length old)) (record { down = below_down (length old); same = text_same old new e }) s d h
+
+pub length_later : (old new : List (List ℕ)) → Extends old new → length old ≤ length new
+length_later old new e = rw e.begins (omega (arith, length-append old e.added))
+
+-- a step that is taken, under the names that there are afterwards
+pub step_taken : (old new : List (List ℕ)) (d e : Item) (p : Place) (fresh after : List Symbol) (r : Right)
+    → Extends old new → NamesBelow (length old) d → becomes r ≡ derivation old (length fresh) d → p ≡ place_of d → Builds new p r.piece e
+    → after ≡ fresh ++ new_symbols (length fresh) r.count
+    → IsStep new d fresh (Derived e) after
+step_taken old new d e p fresh after r later below fits place builds appended =
+    let P : Place → Type 0 = λ q. Builds new q r.piece e in (
+      r.count,
+      (
+        record {
+          right = r;
+          fits = sym (derivation_later old new (length fresh) d later below) ∙ sym fits;
+          builds = subst P place builds;
+          serials = refl;
+        },
+        appended,
+      ),
+    )
+
+-- what it gives is in form, and its names are in the table
+pub step_whole : (old new : List (List ℕ)) (d e : Item) (fresh after : List Symbol) → Extends old new → Formed d → NamesBelow (length old) d
+    → IsStep new d fresh (Derived e) after → IsWhole (length new) (Derived e)
+step_whole old new d e fresh after later formed below h = (
+  step_formed new d (length fresh) e (length fresh + h.0) formed h.1.0,
+  step_named new d (length fresh) e (length fresh + h.0) (below_later (length old) (length new) d (length_later old new later) below) h.1.0,
+)

@@ -1,0 +1,9 @@
+pub mod Lists
+pub mod Templates
+pub mod Taken
+pub mod Same
+pub mod Building
+pub mod Kept
+pub mod OneStep
+pub mod Apart
+pub mod Ends

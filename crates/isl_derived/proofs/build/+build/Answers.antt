@@ -1,0 +1,24 @@
+-- A part of each kind is built; a loop builds one more at each turn.
+use Rattle.std.proofs.Common.{rules}
+use Rattle.isl_base.specs.Names.{Extends-same, Extends-then}
+use Rattle.isl_derived.proofs.Building.{made_built, parens_built, none_built, built_turn, copy_built}
+use Rattle.isl_derived.proofs.build.+build.Goals as goal
+
+pub build-returns-in-Made-clause-builds : goal.build-returns-in-Made-clause-builds
+build-returns-in-Made-clause-builds t c = made_built _ _ _ c.in-Made.serial _ (search rules) c.made.ensures
+
+pub build-returns-in-Taken-clause-builds : goal.build-returns-in-Taken-clause-builds
+build-returns-in-Taken-clause-builds t c = copy_built _ _ _ c.in-Taken.datum.now _ (search rules) c.copy.ensures
+
+pub build-returns-in_ok-items-in-Parens-clause-builds : goal.build-returns-in_ok-items-in-Parens-clause-builds
+build-returns-in_ok-items-in-Parens-clause-builds t c =
+    parens_built _ _ _ c.in-Parens.pieces c.in_ok-items-in-Parens.items _ (search rules) c.in_ok-items-in-Parens.ensures.builds c.parenthesized.ensures
+
+pub build_all-loop-at-init : goal.build_all-loop-at-init
+build_all-loop-at-init t c = record { built = rw c.new-items.ensures (none_built _ _); later = Extends-same _ }
+
+pub build_all-loop-at-preserved : goal.build_all-loop-at-preserved
+build_all-loop-at-preserved t c = record {
+  built = built_turn _ _ _ _ _ _ c.loop-at.items _ _ c.in-Some.ensures c.in_ok-build.ensures.names c.loop-at.invariant.built c.in_ok-build.ensures.builds c.in_ok-push.ensures.ok;
+  later = Extends-then _ _ _ c.loop-at.invariant.later c.in_ok-build.ensures.names;
+}

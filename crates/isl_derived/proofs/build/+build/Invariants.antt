@@ -1,0 +1,18 @@
+-- The sizes of the parts fall; a loop has built what it has passed, under the names that it has then.
+use Rattle.std.proofs.Common.{take}
+use Rattle.isl_base.specs.Data.{items_of}
+use Rattle.isl_base.specs.Names.{Extends}
+use Rattle.isl_meaning.specs.DerivedPieces.{piece_size, pieces_size, pieces_of, BuildsAll}
+use Rattle.isl_derived.proofs.build.+build.Given as goal
+
+abbrev pub decreases-build : goal.decreases-build
+decreases-build l = piece_size l.piece.now
+
+abbrev pub decreases-build_all : goal.decreases-build_all
+decreases-build_all l = pieces_size (pieces_of l.pieces.now)
+
+abbrev pub invariant-build_all-loop-at : goal.invariant-build_all-loop-at
+invariant-build_all-loop-at l = record {
+  built : BuildsAll l.names l.place (pieces_of (take l.at l.pieces)) (items_of l.items);
+  later : Extends l.initial.names l.names;
+}

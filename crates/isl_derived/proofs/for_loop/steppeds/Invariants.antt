@@ -1,0 +1,10 @@
+use Rattle.std.proofs.Common.{◌≡◌, length}
+use Rattle.isl_meaning.specs.DerivedRows.{steppeds}
+use Rattle.isl_derived.specs.Fronts.{before}
+use Rattle.isl_derived.proofs.for_loop.steppeds.Given as goal
+
+abbrev pub invariant-loop-item : goal.invariant-loop-item
+invariant-loop-item l = before l.list (steppeds l.rest) ≡ steppeds l.items
+
+abbrev pub decreases-loop-item : goal.decreases-loop-item
+decreases-loop-item l = length l.rest

@@ -1,0 +1,14 @@
+use Rattle.isl_derived.proofs.Ends.{no_endless_steps, further_smaller, built_size, parts_smaller}
+use Rattle.isl_derived.proofs.laws.law_steps_end.Goals as goal
+
+pub returns-clause-ends : goal.returns-clause-ends
+returns-clause-ends c = no_endless_steps
+
+pub returns-clause-falls : goal.returns-clause-falls
+returns-clause-falls c = further_smaller
+
+pub returns-clause-built : goal.returns-clause-built
+returns-clause-built c = built_size
+
+pub returns-clause-parts : goal.returns-clause-parts
+returns-clause-parts c = parts_smaller

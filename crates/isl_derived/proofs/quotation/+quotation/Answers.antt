@@ -1,0 +1,31 @@
+-- A list of two items; the turns of the loop over the items behind the first one.
+use Rattle.std.proofs.Common.{◌≡◌, [], ◌∷◌, ◌∙◌, arith, ap, sym}
+use Rattle.isl_base.specs.Data.{items_of, items_size}
+use Rattle.isl_meaning.specs.DerivedPieces.{pieces_of, no_piece}
+use Rattle.isl_meaning.specs.DerivedQuotation.{template_list}
+use Rattle.isl_derived.proofs.Templates.{pair_list, parts_turn, parts_last, parts_end}
+use Rattle.isl_derived.proofs.quotation.+quotation.Goals as goal
+
+pub template_list-returns-in-Some-only_of : goal.template_list-returns-in-Some-only_of
+template_list-returns-in-Some-only_of t c =
+    let pair : template_list c.args.names.now c.args.level (items_of c.args.items.now) (pieces_of c.args.behind)
+    ≡ template_list c.args.names.now c.args.level (items_of (c.in-Some.first.now ∷ c.in-Some-only_of.second.now ∷ [])) no_piece =
+    ap (λ ds. template_list c.args.names.now c.args.level (items_of ds) (pieces_of c.args.behind)) c.in-Some.ensures.cases.0
+    ∙ pair_list c.args.names.now c.args.level c.in-Some.first.now c.in-Some-only_of.second.now c.in-Some.rest.now (pieces_of c.args.behind) (sym c.in-Some-only_of.ensures) in
+    rw pair c.template_pair.ensures
+
+pub parts-loop-item-preserved : goal.parts-loop-item-preserved
+parts-loop-item-preserved t c =
+    let size : items_size (items_of c.loop-item.rest.now) ≡ items_size (items_of (c.in-Some.item.now ∷ c.in-Some.others.now)) =
+    ap (λ ds. items_size (items_of ds)) c.in-Some.ensures.cases.0 in
+    record {
+      before = parts_turn _ _ _ _ c.in-Some.item.now _ _ c.loop-item.list _ c.in_ok-part.field-0 c.in-Some.ensures.cases.0 (sym c.in_default-unquote_left.ensures) c.in_ok-part.ensures c.in_ok-push-2.ensures.ok c.loop-item.invariant.before;
+      smaller = omega arith;
+    }
+
+pub parts-returns-in-Some-unquote_left : goal.parts-returns-in-Some-unquote_left
+parts-returns-in-Some-unquote_left t c =
+    parts_last _ _ _ _ c.in-Some.item.now _ _ _ c.loop-item.list _ c.in_ok-unquoted.field-0 c.in-Some.ensures.cases.0 (sym c.in-Some-unquote_left.ensures) c.in_ok-unquoted.ensures c.in_ok-push.ensures.ok c.loop-item.invariant.before
+
+pub parts-returns : goal.parts-returns
+parts-returns t c = parts_end _ _ _ _ c.loop-item.list _ _ c.in_default.ensures.cases c.in_ok-append_list.ensures.ok c.loop-item.invariant.before

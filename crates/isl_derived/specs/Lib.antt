@@ -1,0 +1,12 @@
+pub mod PieceCode
+pub mod PieceView
+pub mod PieceFalls
+pub mod Heads
+pub mod Tests
+pub mod Fronts
+pub mod Shown
+pub mod RowCodes
+pub mod ForLoops
+pub mod Setters
+pub mod Templates
+pub mod Steps

@@ -1,0 +1,37 @@
+-- What a call of `derive` has done.
+use Rattle.std.specs.Prelude.{◌≡◌, ℕ, ◌+◌, List, ◌++◌, length}
+use Rattle.isl_base.specs.declared.datum.Symbol.{Symbol}
+use Rattle.isl_base.specs.declared.reason.Reason.TheVariants.{BadShape}
+use Rattle.isl_base.specs.declared.reason.Stop.{Stop}
+use Rattle.isl_base.specs.declared.reason.Stop.TheVariants.{Refused, NoMemory}
+use Rattle.isl_base.specs.Data.{Item, place_of}
+use Rattle.isl_base.specs.DataMeasures.{Formed, NamesBelow}
+use Rattle.isl_meaning.specs.Derived.{Derivation, plain, unfit, becomes, derivation, Derives, new_symbols}
+use Rattle.isl_derived.specs.declared.one_step.Derivation.{Derivation as Found}
+use Rattle.isl_derived.specs.declared.one_step.Derivation.TheVariants.{Plain as found_plain, Unfit, Becomes}
+use Rattle.isl_derived.specs.declared.one_step.Step.{Step}
+use Rattle.isl_derived.specs.declared.one_step.Step.TheVariants.{Derived, Plain}
+
+-- what the table says of the datum
+abbrev pub shown : Found → Derivation
+shown found_plain = plain
+shown Unfit = unfit
+shown (Becomes right) = becomes right
+
+-- the datum is no derived form, and no symbol is new; or it becomes the right side of its row, and the new
+-- symbols of that are appended
+abbrev pub IsStep : List (List ℕ) → Item → List Symbol → Step → List Symbol → Type 0
+IsStep names d fresh Plain after = (derivation names (length fresh) d ≡ plain) × (after ≡ fresh)
+IsStep names d fresh (Derived d2) after =
+    (n : ℕ) × (Derives names d (length fresh) d2 (length fresh + n) × (after ≡ fresh ++ new_symbols (length fresh) n))
+
+-- the form fits no row, and is refused at its place; or there is no memory
+abbrev pub IsStop : List (List ℕ) → Item → ℕ → Stop → Type 0
+IsStop names d s (Refused refusal) =
+    (derivation names s d ≡ unfit) × (refusal ≡ record { place = place_of d; reason = BadShape })
+IsStop names d s NoMemory = Unit {0}
+
+-- a datum that is given is in form, and its names are below that number
+abbrev pub IsWhole : ℕ → Step → Type 0
+IsWhole n Plain = Unit {0}
+IsWhole n (Derived d) = Formed d × NamesBelow n d

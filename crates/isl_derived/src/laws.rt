@@ -1,0 +1,43 @@
+// Laws of the table of derived forms, for all forms.
+
+ghost use Rattle.std.specs.Prelude.{◌≡◌, ℕ, ◌+◌, ◌<◌, List, length};
+ghost use Rattle.isl_base.specs.declared.place.Place.{Place};
+ghost use Rattle.isl_base.specs.Data.{Item};
+ghost use Rattle.isl_base.specs.DataMeasures.{NamesBelow, size_of};
+ghost use Rattle.isl_base.specs.Names.{IsTable, Extends};
+ghost use Rattle.isl_meaning.specs.Derived.{Derives, becomes, derivation};
+ghost use Rattle.isl_meaning.specs.DerivedEnds.{AllFurther, AllParts, Leaves, piece_weight};
+ghost use Rattle.isl_meaning.specs.DerivedPieces.{Builds, Piece, Right};
+
+/// A datum fits at most one row, and the step is one datum with one number of new symbols.
+pub fn law_one_step()
+    ensures { (names : List (List ℕ)) (d : Item) (s : ℕ) (d2 e2 : Item) (s2 t2 : ℕ) → IsTable names →
+        Derives names d s d2 s2 → Derives names d s e2 t2 → (d2 ≡ e2) × (s2 ≡ t2) }
+{}
+
+/// What the table says of a datum stays under every later table of names.
+pub fn law_names_apart()
+    ensures { (old new : List (List ℕ)) (s : ℕ) (d : Item) → Extends old new → NamesBelow (length old) d →
+        derivation old s d ≡ derivation new s d }
+{}
+
+/// A step that was taken stays one under every later table of names.
+pub fn law_step_stays()
+    ensures { (old new : List (List ℕ)) (d : Item) (s : ℕ) (d2 : Item) (s2 : ℕ) → Extends old new →
+        NamesBelow (length old) d → Derives old d s d2 s2 → Derives new d s d2 s2 }
+{}
+
+/// Steps end: there is no endless sequence of data in which each is left to be derived by a step of
+/// the one before it, or is a part of the one before it. What falls is the size: each part of a form
+/// that a step takes over, and each form that it writes under a derived name, is smaller than the
+/// form; what is built of a part has the size that is counted for it; and a part of a datum is
+/// smaller than the datum. All else that a step writes in parentheses has no derived name in front,
+/// or a part of the form, and then it is a clause, a binding or a quoted datum, and no form.
+pub fn law_steps_end()
+    ensures ends { (f : ℕ → Item) → ((i : ℕ) → Leaves (f i) (f (i + 1))) → ⊥ }
+    ensures falls { (names : List (List ℕ)) (s : ℕ) (d : Item) (r : Right) → derivation names s d ≡ becomes r →
+        AllFurther (λ x. piece_weight x < size_of d) r.piece }
+    ensures built { (names : List (List ℕ)) (p : Place) (x : Piece) (d : Item) → Builds names p x d →
+        size_of d ≡ piece_weight x }
+    ensures parts { (d : Item) → AllParts (λ e. size_of e < size_of d) d }
+{}

@@ -1,0 +1,242 @@
+// Parts of right sides: what a step writes, makes and takes over.
+
+ghost use Rattle.std.specs.Prelude.{◌≡◌, ◌≤◌, ◌++◌, ◌∷◌, [], length, IfOk};
+ghost use Rattle.isl_meaning.specs.DerivedPieces.{word, made, taken, listed, form, all_taken};
+ghost use Rattle.isl_derived.specs.PieceView.{view_piece};
+
+use isl_base::{Bytes, Datum, ItemList, NoMemory};
+use std::alloc::Global;
+use std::marker::Model;
+
+/// A part of a right side; a text has at most the 263 bytes of a name. Contracts see it as the
+/// `Piece` of the table of derived forms.
+#[derive(Drop)]
+#[cycle(piece)]
+pub(crate) struct Piece<'a> {
+    pub(crate) kind: PieceKind<'a>,
+}
+
+/// The symbol of a text, of a text that was put together, or of a serial; a part of the form; or
+/// parts in parentheses.
+#[derive(Drop)]
+#[cycle(piece)]
+pub(crate) enum PieceKind<'a> {
+    Word(&'static [u8]),
+    Named(Bytes),
+    Made(u64),
+    Taken(&'a Datum),
+    Parens(PieceList<'a>),
+}
+
+/// Parts of right sides.
+pub(crate) type PieceList<'a> = ItemList<Piece<'a>>;
+
+impl<'a> Model for Piece<'a> {
+    ghost use Rattle.isl_meaning.specs.DerivedPieces.{Piece as PieceOf};
+
+    ghost Value = { PieceOf };
+
+    ghost use Rattle.isl_derived.specs.PieceCode.{piece_code};
+
+    ghost coded = { piece_code };
+
+    ghost use Rattle.isl_derived.specs.PieceView.{view_piece};
+
+    ghost view = { λ p. view_piece p.kind };
+
+    ghost use Rattle.std.specs.Prelude.{◌≤◌};
+    ghost use Rattle.isl_derived.specs.PieceView.{text_length};
+
+    ghost invariant = { λ p. text_length p.kind ≤ 263 };
+
+    ghost use Rattle.isl_meaning.specs.DerivedPieces.{piece_size};
+
+    ghost size = { piece_size };
+
+    ghost use Rattle.isl_derived.specs.PieceFalls.{falls};
+
+    ghost size_decreases = { λ c h. falls c.kind };
+}
+
+/// The symbol of a text.
+pub(crate) fn word<'a>(text: &'static [u8]) -> Piece<'a>
+    requires { length text.now ≤ 263 }
+    ensures { result ≡ word text.now }
+{
+    Piece {
+        kind: PieceKind::Word(text),
+    }
+}
+
+/// The symbol of a text that was put together.
+pub(crate) fn named<'a>(text: Bytes) -> Piece<'a>
+    requires { length text ≤ 263 }
+    ensures { result ≡ word text }
+{
+    Piece {
+        kind: PieceKind::Named(text),
+    }
+}
+
+/// The new symbol of a serial.
+pub(crate) fn made<'a>(serial: u64) -> Piece<'a>
+    ensures { result ≡ made serial }
+{
+    Piece {
+        kind: PieceKind::Made(serial),
+    }
+}
+
+/// A part of the form.
+pub(crate) fn taken<'a>(datum: &'a Datum) -> Piece<'a>
+    ensures { result ≡ taken datum.now }
+{
+    Piece {
+        kind: PieceKind::Taken(datum),
+    }
+}
+
+/// Parts in parentheses.
+pub(crate) fn parens<'a>(pieces: PieceList<'a>) -> Piece<'a>
+    ensures { result ≡ listed pieces.entry }
+{
+    Piece {
+        kind: PieceKind::Parens(pieces),
+    }
+}
+
+/// `()`, which is nil.
+pub(crate) fn nil<'a>(alloc: Global) -> Piece<'a>
+    ensures { result ≡ listed [] }
+{
+    parens(PieceList::new(alloc))
+}
+
+/// One part.
+pub(crate) fn one<'a>(alloc: Global, first: Piece<'a>) -> Result<PieceList<'a>, NoMemory>
+    ensures { IfOk result (λ list. list ≡ first.entry ∷ []) }
+{
+    let mut list = PieceList::new(alloc);
+    list.push(first)?;
+    Ok(list)
+}
+
+/// Two parts.
+pub(crate) fn two<'a>(
+    alloc: Global,
+    first: Piece<'a>,
+    second: Piece<'a>,
+) -> Result<PieceList<'a>, NoMemory>
+    ensures { IfOk result (λ list. list ≡ first.entry ∷ second.entry ∷ []) }
+{
+    let mut list = one(alloc, first)?;
+    list.push(second)?;
+    Ok(list)
+}
+
+/// Three parts.
+pub(crate) fn three<'a>(
+    alloc: Global,
+    first: Piece<'a>,
+    second: Piece<'a>,
+    third: Piece<'a>,
+) -> Result<PieceList<'a>, NoMemory>
+    ensures { IfOk result (λ list. list ≡ first.entry ∷ second.entry ∷ third.entry ∷ []) }
+{
+    let mut list = two(alloc, first, second)?;
+    list.push(third)?;
+    Ok(list)
+}
+
+/// A part, and those behind it.
+pub(crate) fn front<'a>(
+    alloc: Global,
+    first: Piece<'a>,
+    rest: PieceList<'a>,
+) -> Result<PieceList<'a>, NoMemory>
+    ensures { IfOk result (λ list. list ≡ first.entry ∷ rest.entry) }
+{
+    let mut list = PieceList::new(alloc);
+    list.push(first)?;
+    list.append_list(rest)?;
+    Ok(list)
+}
+
+/// A form: a name, and what stands behind it.
+pub(crate) fn form<'a>(
+    alloc: Global,
+    name: &'static [u8],
+    rest: PieceList<'a>,
+) -> Result<Piece<'a>, NoMemory>
+    requires { length name.now ≤ 263 }
+    ensures { IfOk result (λ piece. piece ≡ form name.now rest.entry) }
+{
+    Ok(parens(front(alloc, word(name), rest)?))
+}
+
+/// Two parts in parentheses.
+pub(crate) fn pair<'a>(
+    alloc: Global,
+    first: Piece<'a>,
+    second: Piece<'a>,
+) -> Result<Piece<'a>, NoMemory>
+    ensures { IfOk result (λ piece. piece ≡ listed (first.entry ∷ second.entry ∷ [])) }
+{
+    Ok(parens(two(alloc, first, second)?))
+}
+
+/// A new symbol and its value, in parentheses.
+pub(crate) fn bound<'a>(alloc: Global, serial: u64, value: Piece<'a>) -> Result<Piece<'a>, NoMemory>
+    ensures { IfOk result (λ piece. piece ≡ listed (made serial ∷ value.entry ∷ [])) }
+{
+    pair(alloc, made(serial), value)
+}
+
+/// A form with one part.
+pub(crate) fn form_one<'a>(
+    alloc: Global,
+    name: &'static [u8],
+    first: Piece<'a>,
+) -> Result<Piece<'a>, NoMemory>
+    requires { length name.now ≤ 263 }
+    ensures { IfOk result (λ piece. piece ≡ form name.now (first.entry ∷ [])) }
+{
+    form(alloc, name, one(alloc, first)?)
+}
+
+/// A form with two parts.
+pub(crate) fn form_two<'a>(
+    alloc: Global,
+    name: &'static [u8],
+    first: Piece<'a>,
+    second: Piece<'a>,
+) -> Result<Piece<'a>, NoMemory>
+    requires { length name.now ≤ 263 }
+    ensures { IfOk result (λ piece. piece ≡ form name.now (first.entry ∷ second.entry ∷ [])) }
+{
+    form(alloc, name, two(alloc, first, second)?)
+}
+
+/// A form with a part, and those behind it.
+pub(crate) fn form_front<'a>(
+    alloc: Global,
+    name: &'static [u8],
+    first: Piece<'a>,
+    rest: PieceList<'a>,
+) -> Result<Piece<'a>, NoMemory>
+    requires { length name.now ≤ 263 }
+    ensures { IfOk result (λ piece. piece ≡ form name.now (first.entry ∷ rest.entry)) }
+{
+    form(alloc, name, front(alloc, first, rest)?)
+}
+
+/// Parts of the form, in their order.
+pub(crate) fn all_taken<'a>(alloc: Global, items: &'a [Datum]) -> Result<PieceList<'a>, NoMemory>
+    ensures { IfOk result (λ list. list ≡ all_taken items.now) }
+{
+    let mut list = PieceList::new(alloc);
+    for item in items {
+        list.push(taken(item))?;
+    }
+    Ok(list)
+}

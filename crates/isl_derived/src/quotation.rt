@@ -1,0 +1,277 @@
+// Quasiquotation (ISO/IEC 13816:2007, 13.2): the form that makes the datum of a template.
+
+ghost use Rattle.std.specs.Prelude.{◌≡◌, ◌≤◌, ◌+◌, ◌∷◌, [], length, Some, IfOk, codes};
+ghost use Rattle.isl_derived.specs.Templates.{only_of, splicing, last_unquoted};
+ghost use Rattle.isl_derived.specs.Shown.{datum_shown};
+ghost use Rattle.isl_base.specs.Data.{items_of};
+ghost use Rattle.isl_base.specs.DataView.{tail_of};
+ghost use Rattle.isl_meaning.specs.DerivedPieces.{form, taken, pieces_of};
+ghost use Rattle.isl_meaning.specs.DerivedQuotation.{kept_prefix, quoted_word, appended, template, tail_part, template_list, unquoted, spliced, part, parts};
+ghost use Rattle.isl_meaning.specs.Derived.{quasiquote_row};
+
+use crate::piece::{Piece, PieceList, form_front, form_one, form_two, nil, one, taken, word};
+use crate::right::{Right, later, plainly};
+use crate::shape::{is_word, list_items};
+use isl_base::{Datum, Kind, Names, NoMemory};
+use std::alloc::Global;
+
+// `(%list (quote name) x)`
+fn kept_prefix<'a>(
+    alloc: Global,
+    name: &'static [u8],
+    datum: Piece<'a>,
+) -> Result<Piece<'a>, NoMemory>
+    requires { length name.now ≤ 263 }
+    ensures { IfOk result (λ piece. piece ≡ kept_prefix name.now datum.entry) }
+{
+    let quoted = form_one(alloc, b"quote", word(name))?;
+    form_two(alloc, b"%list", quoted, datum)
+}
+
+// `(quote d)`
+fn quoted<'a>(alloc: Global, datum: &'a Datum) -> Result<Piece<'a>, NoMemory>
+    ensures { IfOk result (λ piece. piece ≡ form (codes "quote") (taken datum.now ∷ [])) }
+{
+    form_one(alloc, b"quote", taken(datum))
+}
+
+// The one datum that is left, with no dot behind it.
+#[tactic(auto, using(crate::proofs::Templates::only_none, crate::proofs::Templates::no_pieces))]
+fn only_of<'a>(items: &'a [Datum], behind: &PieceList) -> Option<&'a Datum>
+    ensures { datum_shown result ≡ only_of items.now (pieces_of behind.now) }
+{
+    if behind.len() > 0 {
+        return None;
+    }
+    match items {
+        [datum] => Some(datum),
+        _ => None,
+    }
+}
+
+// The e of a last `unquote e`.
+fn last_unquoted<'a>(names: &Names, first: &Datum, last: &'a Datum) -> Option<&'a Datum>
+    ensures { datum_shown result ≡ last_unquoted names.now first.now (Some last.now) }
+{
+    if is_word(names, b"unquote", first) {
+        Some(last)
+    } else {
+        None
+    }
+}
+
+// The e where `unquote e` is all that is left, with no dot behind it.
+fn unquote_left<'a>(
+    names: &Names,
+    first: &Datum,
+    others: &'a [Datum],
+    behind: &PieceList,
+) -> Option<&'a Datum>
+    ensures { datum_shown result ≡ last_unquoted names.now first.now (only_of others.now (pieces_of behind.now)) }
+{
+    match only_of(others, behind) {
+        Some(last) => last_unquoted(names, first, last),
+        None => None,
+    }
+}
+
+// The e of `(unquote-splicing e)`.
+fn splicing<'a>(names: &Names, datum: &'a Datum) -> Option<&'a Datum>
+    ensures { datum_shown result ≡ splicing names.now datum.now }
+{
+    let Some([first, second]) = list_items(datum) else {
+        return None;
+    };
+    if is_word(names, b"unquote-splicing", first) {
+        Some(second)
+    } else {
+        None
+    }
+}
+
+// The form that makes the datum of a template, so many quasiquotations deep.
+#[cycle(quotation)]
+#[tactic(auto, unfolding(isl_meaning::specs::DerivedQuotation::template))]
+fn template<'a>(
+    alloc: Global,
+    names: &Names,
+    level: u64,
+    datum: &'a Datum,
+) -> Result<Piece<'a>, NoMemory>
+    ensures { IfOk result (λ piece. piece ≡ template names.now level datum.now) }
+{
+    match &datum.kind {
+        Kind::Int(_) => quoted(alloc, datum),
+        Kind::Char(_) => quoted(alloc, datum),
+        Kind::Sym(_) => quoted(alloc, datum),
+        Kind::Str(_) => quoted(alloc, datum),
+        Kind::Nil => quoted(alloc, datum),
+        Kind::Vector(items) => {
+            let behind = PieceList::new(alloc);
+            let list = template_list(alloc, names, level, items.as_slice(), behind)?;
+            form_one(alloc, b"%list-vector", list)
+        }
+        Kind::List { items, tail } => {
+            let behind = tail_part(alloc, names, level, tail)?;
+            template_list(alloc, names, level, items.as_slice(), behind)
+        }
+    }
+}
+
+// The part of what stands behind the dot, where there is a dot.
+#[cycle(quotation)]
+#[tactic(auto, unfolding(isl_meaning::specs::DerivedQuotation::tail_part))]
+fn tail_part<'a>(
+    alloc: Global,
+    names: &Names,
+    level: u64,
+    tail: &'a Option<Box<Datum>>,
+) -> Result<PieceList<'a>, NoMemory>
+    ensures { IfOk result (λ list. pieces_of list ≡ tail_part names.now level (tail_of tail.now)) }
+{
+    match tail {
+        None => Ok(PieceList::new(alloc)),
+        Some(datum) => one(alloc, template(alloc, names, level, datum)?),
+    }
+}
+
+// A list of these items, with that part behind the dot.
+#[cycle(quotation)]
+#[tactic(auto, using(crate::proofs::Templates::pair_list, crate::proofs::Templates::other_list, crate::proofs::Templates::only_smaller), unfolding(isl_meaning::specs::DerivedQuotation::template_list))]
+fn template_list<'a>(
+    alloc: Global,
+    names: &Names,
+    level: u64,
+    items: &'a [Datum],
+    behind: PieceList<'a>,
+) -> Result<Piece<'a>, NoMemory>
+    ensures { IfOk result (λ piece. piece ≡ template_list names.now level (items_of items.now) (pieces_of behind.entry)) }
+{
+    let Some((first, rest)) = items.split_first() else {
+        return form_one(alloc, b"quote", nil(alloc));
+    };
+    if let Some(second) = only_of(rest, &behind) {
+        return template_pair(alloc, names, level, first, second);
+    }
+    let first = part(alloc, names, level, first)?;
+    let rest = parts(alloc, names, level, rest, behind)?;
+    form_front(alloc, b"%append", first, rest)
+}
+
+// A list of two items.
+#[cycle(quotation)]
+#[tactic(auto, unfolding(isl_meaning::specs::DerivedQuotation::template_list))]
+fn template_pair<'a>(
+    alloc: Global,
+    names: &Names,
+    level: u64,
+    first: &'a Datum,
+    second: &'a Datum,
+) -> Result<Piece<'a>, NoMemory>
+    ensures { IfOk result (λ piece. piece ≡ template_list names.now level (items_of (first.now ∷ second.now ∷ [])) (pieces_of [])) }
+{
+    if is_word(names, b"unquote", first) {
+        return unquoted(alloc, names, level, second);
+    }
+    if is_word(names, b"quasiquote", first) {
+        let inner = template(alloc, names, later(level, 1)?, second)?;
+        return kept_prefix(alloc, b"quasiquote", inner);
+    }
+    let first = part(alloc, names, level, first)?;
+    let second = part(alloc, names, level, second)?;
+    form_two(alloc, b"%append", first, second)
+}
+
+// `(unquote e)`
+#[cycle(quotation)]
+#[tactic(auto, unfolding(isl_meaning::specs::DerivedQuotation::unquoted))]
+fn unquoted<'a>(
+    alloc: Global,
+    names: &Names,
+    level: u64,
+    datum: &'a Datum,
+) -> Result<Piece<'a>, NoMemory>
+    ensures { IfOk result (λ piece. piece ≡ unquoted names.now level datum.now) }
+{
+    if level == 0 {
+        return Ok(taken(datum));
+    }
+    let inner = template(alloc, names, level - 1, datum)?;
+    kept_prefix(alloc, b"unquote", inner)
+}
+
+// `(unquote-splicing e)`
+#[cycle(quotation)]
+#[tactic(auto, unfolding(isl_meaning::specs::DerivedQuotation::spliced))]
+fn spliced<'a>(
+    alloc: Global,
+    names: &Names,
+    level: u64,
+    datum: &'a Datum,
+) -> Result<Piece<'a>, NoMemory>
+    ensures { IfOk result (λ piece. piece ≡ spliced names.now level datum.now) }
+{
+    if level == 0 {
+        return Ok(taken(datum));
+    }
+    let inner = template(alloc, names, level - 1, datum)?;
+    let kept = kept_prefix(alloc, b"unquote-splicing", inner)?;
+    form_one(alloc, b"%list", kept)
+}
+
+// What an item of a list adds to it.
+#[cycle(quotation)]
+#[tactic(auto, using(crate::proofs::Templates::part_spliced, crate::proofs::Templates::part_other, crate::proofs::Templates::spliced_smaller))]
+fn part<'a>(
+    alloc: Global,
+    names: &Names,
+    level: u64,
+    datum: &'a Datum,
+) -> Result<Piece<'a>, NoMemory>
+    ensures { IfOk result (λ piece. piece ≡ part names.now level datum.now) }
+{
+    if let Some(inner) = splicing(names, datum) {
+        return spliced(alloc, names, level, inner);
+    }
+    form_one(alloc, b"%list", template(alloc, names, level, datum)?)
+}
+
+// What the items behind the first one add.
+#[cycle(quotation)]
+#[tactic(auto, using(crate::proofs::Templates::last_smaller))]
+fn parts<'a>(
+    alloc: Global,
+    names: &Names,
+    level: u64,
+    items: &'a [Datum],
+    behind: PieceList<'a>,
+) -> Result<PieceList<'a>, NoMemory>
+    ensures { IfOk result (λ list. pieces_of list ≡ parts names.now level (items_of items.now) (pieces_of behind.entry)) }
+{
+    let mut list = PieceList::new(alloc);
+    let mut rest = items;
+    while let Some((item, others)) = rest.split_first() {
+        if let Some(last) = unquote_left(names, item, others, &behind) {
+            list.push(unquoted(alloc, names, level, last)?)?;
+            return Ok(list);
+        }
+        list.push(part(alloc, names, level, item)?)?;
+        rest = others;
+    }
+    list.append_list(behind)?;
+    Ok(list)
+}
+
+/// The row of `quasiquote`.
+pub(crate) fn quasiquote_row<'a>(
+    alloc: Global,
+    names: &Names,
+    arguments: &'a [Datum],
+) -> Result<Option<Right<'a>>, NoMemory>
+    ensures { IfOk result (λ right. right ≡ quasiquote_row names.now arguments.now) }
+{
+    match arguments {
+        [datum] => Ok(plainly(template(alloc, names, 0, datum)?)),
+        _ => Ok(None),
+    }
+}

@@ -1,0 +1,44 @@
+// Right sides of rows, with the number of their new symbols.
+
+ghost use Rattle.std.specs.Prelude.{◌≡◌, ◌+◌, Some, IfOk};
+ghost use Rattle.isl_meaning.specs.DerivedPieces.{plainly};
+
+use crate::piece::Piece;
+use isl_base::NoMemory;
+use std::marker::Model;
+
+/// A right side, and how many new symbols it has.
+#[derive(Drop)]
+pub(crate) struct Right<'a> {
+    pub(crate) piece: Piece<'a>,
+    pub(crate) count: u64,
+}
+
+impl<'a> Model for Right<'a> {
+    ghost use Rattle.isl_meaning.specs.DerivedPieces.{Right as RightOf};
+
+    ghost Value = { RightOf };
+
+    ghost use Rattle.isl_derived.specs.PieceCode.{right_code};
+
+    ghost coded = { right_code };
+
+    ghost view = { λ r. record { piece = r.piece; count = r.count } };
+}
+
+/// A right side without a new symbol.
+pub(crate) fn plainly<'a>(piece: Piece<'a>) -> Option<Right<'a>>
+    ensures { result ≡ Some (plainly piece.entry) }
+{
+    Some(Right { piece, count: 0 })
+}
+
+/// A serial so many later. No memory holds so many symbols that there is none.
+pub(crate) fn later(serial: u64, by: u64) -> Result<u64, NoMemory>
+    ensures { IfOk result (λ n. n ≡ serial + by) }
+{
+    match serial.checked_add(by) {
+        Some(n) => Ok(n),
+        None => Err(NoMemory),
+    }
+}
