@@ -15,8 +15,9 @@ use isl_base::NoMemory;
 use std::alloc::Global;
 use std::marker::Model;
 
-/// A program: rows whose ids are in range, whose primitives have their arguments, whose names are
-/// bound where they stand, and whose sizes are within their limits. Contracts see it as its rows.
+/// A program: rows whose ids are in range, whose primitives have their arguments, and whose sizes are
+/// within their limits; names are bound in all that its main forms, functions, methods and initforms
+/// reach. Contracts see it as its rows.
 #[derive(Drop)]
 pub struct Program {
     rows: ProgramRows,
