@@ -1,6 +1,6 @@
 -- The facts of the worked programs compute.
 use Rattle.std.proofs.Common.{refl}
-use Rattle.isl_meaning.specs.WorkedFacts.{WorkedAreWhole, TooFewArguments, GoOutside, NoSuchSegment, GoToABlock, Captured, NotThere, NodesOfOneApplication, NotReached, CellsOfMethods}
+use Rattle.isl_meaning.specs.WorkedFacts.{WorkedAreWhole, TooFewArguments, GoOutside, NoSuchSegment, GoToABlock, Captured, Uncalled, MadeByUncalled, NotThere, NodesOfOneApplication, NotReached, CellsOfMethods}
 use Rattle.isl_base.specs.DataMeasures.{size_of}
 
 pub worked_are_whole : WorkedAreWhole
@@ -26,6 +26,14 @@ go_to_a_block = refl
 pub captured : Captured
 unfolding size_of
 captured = (refl, refl)
+
+pub uncalled_procedures : Uncalled
+unfolding size_of
+uncalled_procedures = (refl, refl, refl, refl)
+
+pub made_by_uncalled : MadeByUncalled
+unfolding size_of
+made_by_uncalled = (refl, refl, refl)
 
 pub not_there : NotThere
 unfolding size_of

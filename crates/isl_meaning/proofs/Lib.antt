@@ -8,6 +8,7 @@ pub mod Examples
 pub mod Lists
 pub mod Turns
 pub mod Bodies
+pub mod Places
 pub mod Bounds
 pub mod FirstClasses
 pub mod Lengths

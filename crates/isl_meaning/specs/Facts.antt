@@ -26,6 +26,7 @@ use Rattle.isl_meaning.specs.Counts.{depth}
 use Rattle.isl_meaning.specs.Fits.{fits}
 use Rattle.isl_meaning.specs.ProgramCounts.{program_nodes}
 use Rattle.isl_meaning.specs.Lookup.{all_differ}
+use Rattle.isl_meaning.specs.Placed.{procedures_placed}
 use Rattle.isl_meaning.specs.Standing.{stands_alone, is_alone}
 use Rattle.isl_meaning.specs.Values.{same_text}
 
@@ -113,13 +114,14 @@ rows_fit rows =
     && nat_le (length rows.sites) 100000
     && nat_le (program_nodes rows) 100000
 
--- and where its bodies stand
+-- and where its bodies stand, those of procedures that no row calls too
 abbrev pub bodies_stand : ProgramRows → Bool
 bodies_stand rows =
     list_all (class_fits rows) rows.classes
     && list_all (generic_fits rows) rows.generics
     && list_all (λ f. callee_fits rows f.callee) rows.functions
     && list_all (λ f. body_fits rows f && stands_alone rows false f) rows.main
+    && procedures_placed rows
 
 -- all of it
 abbrev pub is_whole : ProgramRows → Bool

@@ -27,6 +27,7 @@ pub mod Cells
 pub mod Fits
 pub mod Mentions
 pub mod Standing
+pub mod Placed
 pub mod Facts
 pub mod WorkedFacts
 pub mod Reached

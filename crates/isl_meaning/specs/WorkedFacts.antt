@@ -1,6 +1,7 @@
 -- Which programs that are written out are whole, and which are not.
-use Rattle.std.specs.Prelude.{◌≡◌, ℕ, ◌+◌, ◌*◌, true, false, [], ◌∷◌}
-use Rattle.isl_meaning.specs.declared.part.Part.TheVariants.{Exit}
+use Rattle.std.specs.Prelude.{◌≡◌, ℕ, ◌+◌, ◌*◌, true, false, List, [], ◌∷◌}
+use Rattle.isl_meaning.specs.declared.part.Part.TheVariants.{Variable, Exit}
+use Rattle.isl_meaning.specs.declared.program.Procedure.{Procedure}
 use Rattle.isl_meaning.specs.declared.program.ProgramRows.{ProgramRows}
 use Rattle.isl_meaning.specs.declared.primitive.Primitive.TheVariants.{Cons}
 use Rattle.isl_meaning.specs.Form.{Form, literal, local, lambda, call_value, prim, block, tagbody, go, next_method, sited}
@@ -22,9 +23,12 @@ WorkedAreWhole =
     × list_all is_whole (without_itself ∷ continued ∷ not_continuable ∷ returning ∷ cleanup_runs ∷ no_catch_left ∷ replaced ∷ handler_fails ∷ []) ≡ true
     × list_all is_whole (methods_in_order ∷ seen_through_a_call ∷ one_application ∷ one_cons ∷ []) ≡ true
 
--- a program of one main form
+-- a program of one main form, and one with a procedure besides that goes to an exit around it
 abbrev pub one_form : Form → ProgramRows
-one_form f = a_program (a_number 1 ∷ []) (a_procedure (0 ∷ []) (go 0 0 ∷ []) ∷ []) [] (f ∷ [])
+one_form f = a_program (a_number 1 ∷ []) [] [] (f ∷ [])
+
+abbrev pub one_function : Form → ProgramRows
+one_function f = a_program (a_number 1 ∷ []) (a_procedure (0 ∷ []) (go 0 0 ∷ []) ∷ []) [] (f ∷ [])
 
 -- (cons 1): an argument is wanting
 abbrev pub TooFewArguments : Type 0
@@ -43,8 +47,27 @@ GoToABlock = is_whole (one_form (block 0 (body (go 0 0 ∷ [])))) ≡ false
 -- a function that captures its tagbody's exit says so
 abbrev pub Captured : Type 0
 Captured =
-    is_whole (one_form (tagbody 0 (forms (body (lambda 0 (Exit 0 ∷ []) ∷ []) ∷ [])))) ≡ true
-    × is_whole (one_form (tagbody 0 (forms (body (lambda 0 [] ∷ []) ∷ [])))) ≡ false
+    is_whole (one_function (tagbody 0 (forms (body (lambda 0 (Exit 0 ∷ []) ∷ []) ∷ [])))) ≡ true
+    × is_whole (one_function (tagbody 0 (forms (body (lambda 0 [] ∷ []) ∷ [])))) ≡ false
+
+-- a program whose procedures no main form mentions and no row calls
+abbrev pub uncalled : List Procedure → ProgramRows
+uncalled procedures = a_program (a_number 1 ∷ []) procedures [] (literal 0 ∷ [])
+
+-- in a procedure that nothing calls, names are bound too
+abbrev pub Uncalled : Type 0
+Uncalled =
+    is_whole (uncalled (a_procedure (0 ∷ []) (local 0 ∷ []) ∷ [])) ≡ true
+    × is_whole (uncalled (a_procedure (0 ∷ []) (local 1 ∷ []) ∷ [])) ≡ false
+    × is_whole (uncalled (a_procedure [] (go 0 0 ∷ []) ∷ [])) ≡ false
+    × is_whole (uncalled (a_procedure [] (next_method ∷ []) ∷ [])) ≡ false
+
+-- one that such a procedure makes may name what it captures; two that make one another have no place
+abbrev pub MadeByUncalled : Type 0
+MadeByUncalled =
+    is_whole (uncalled (a_procedure (0 ∷ []) (lambda 1 (Variable 0 ∷ []) ∷ []) ∷ a_procedure [] (local 0 ∷ []) ∷ [])) ≡ true
+    × is_whole (uncalled (a_procedure (0 ∷ []) (lambda 1 [] ∷ []) ∷ a_procedure [] (local 0 ∷ []) ∷ [])) ≡ false
+    × is_whole (uncalled (a_procedure [] (lambda 1 [] ∷ []) ∷ a_procedure [] (lambda 0 [] ∷ []) ∷ [])) ≡ false
 
 -- rows, sites and variables that are not there; a call of nothing; a next method outside a method
 abbrev pub NotThere : Type 0
@@ -67,8 +90,8 @@ NodesOfOneApplication = program_nodes one_application ≡ 4 + (2 + 4) + 1 + buil
 -- a procedure that no main form mentions, of 2 nodes and 4 more, is not reached
 abbrev pub NotReached : Type 0
 NotReached =
-    program_nodes (one_form (literal 0)) ≡ 1 + (2 + 4) + 1 + built_in_nodes
-    × reached_nodes [] (one_form (literal 0)) ≡ 1 + 1 + built_in_nodes
+    program_nodes (one_function (literal 0)) ≡ 1 + (2 + 4) + 1 + built_in_nodes
+    × reached_nodes [] (one_function (literal 0)) ≡ 1 + 1 + built_in_nodes
 
 -- one argument is specialised, by `<a>` and `<b>` of 36 classes; for a `<b>` all seven methods apply, for an
 -- `<a>` three, and for all others none

@@ -110,8 +110,8 @@ fn stands_alone(alloc: Global, rows: &ProgramRows, form: &Core) -> Result<bool, 
     form.stands(alloc, rows, rows.procedures.len(), &nothing)
 }
 
-// Whether a procedure that no `lambda` makes is there and stands by itself.
-fn is_alone(
+/// Whether a procedure that no `lambda` makes is there and stands by itself.
+pub(crate) fn is_alone(
     alloc: Global,
     rows: &ProgramRows,
     in_method: bool,

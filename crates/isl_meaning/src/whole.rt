@@ -16,8 +16,8 @@ use std::alloc::Global;
 use std::marker::Model;
 
 /// A program: rows whose ids are in range, whose primitives have their arguments, and whose sizes are
-/// within their limits; names are bound in all that its main forms, functions, methods and initforms
-/// reach. Contracts see it as its rows.
+/// within their limits; in every form of theirs all names are bound where they stand. Contracts see it
+/// as its rows.
 #[derive(Drop)]
 pub struct Program {
     rows: ProgramRows,
@@ -69,7 +69,7 @@ impl Program {
 
 impl ProgramRows {
     /// Whether the rows are those of a program. The time grows with the ways on which functions
-    /// stand inside functions.
+    /// stand inside functions, and with the product of procedures and forms.
     pub fn is_whole(&self, alloc: Global) -> Result<bool, NoMemory>
         ensures { IfOk result (λ yes. yes ≡ is_whole self.now) }
     {
@@ -108,7 +108,10 @@ impl ProgramRows {
         if !self.functions_fit(alloc)? {
             return Ok(false);
         }
-        self.main_fits(alloc)
+        if !self.main_fits(alloc)? {
+            return Ok(false);
+        }
+        self.procedures_placed(alloc)
     }
 
     // The tables that choose methods are not too large.

@@ -4,7 +4,7 @@ ghost use Rattle.isl_meaning.specs.WorkedExits.{InnerFirst, InnerCatch, OuterCat
 ghost use Rattle.isl_meaning.specs.WorkedConditions.{WithoutItself, Continued, NotContinuable, Returning, CleanupRuns, NoCatchLeft, Replaced, HandlerFails};
 ghost use Rattle.isl_meaning.specs.WorkedCalls.{MethodsInOrder, SeenThroughACall, OneApplication, FullAtTheForm, FullAtTheCons};
 ghost use Rattle.isl_meaning.specs.WorkedData.{DottedList, StringInAVector, ChangedLiteral, RestList, Applied, AppliedToADottedList, TooManyArguments, Floors, Overflow, NoFunction, NoValue, Counting, CountingWords, SetBinding, SlotPlaces, SlotInitarg, SlotForm, UnboundSlot, SetSlot, TwoBytes};
-ghost use Rattle.isl_meaning.specs.WorkedFacts.{WorkedAreWhole, TooFewArguments, GoOutside, NoSuchSegment, GoToABlock, Captured, NotThere, NodesOfOneApplication, NotReached, CellsOfMethods};
+ghost use Rattle.isl_meaning.specs.WorkedFacts.{WorkedAreWhole, TooFewArguments, GoOutside, NoSuchSegment, GoToABlock, Captured, Uncalled, MadeByUncalled, NotThere, NodesOfOneApplication, NotReached, CellsOfMethods};
 
 /// Programs of transfers and cleanups do what their comments in `specs/WorkedExits.antt` say.
 pub fn worked_exits()
@@ -38,8 +38,8 @@ pub fn worked_calls()
     ensures full_at_the_cons { FullAtTheCons }
 {}
 
-/// The worked programs are whole ones, and programs with a name out of its place, a wrong number of
-/// arguments or wrong captured parts are not; and nodes, reached nodes and cells as counted by hand.
+/// The worked programs are whole ones, and programs with a name out of its place, in procedures that
+/// nothing calls too, a wrong number of arguments or wrong captured parts are not; and nodes, reached nodes and cells as counted by hand.
 pub fn worked_programs()
     ensures worked_are_whole { WorkedAreWhole }
     ensures too_few_arguments { TooFewArguments }
@@ -47,6 +47,8 @@ pub fn worked_programs()
     ensures no_such_segment { NoSuchSegment }
     ensures go_to_a_block { GoToABlock }
     ensures captured { Captured }
+    ensures uncalled { Uncalled }
+    ensures made_by_uncalled { MadeByUncalled }
     ensures not_there { NotThere }
     ensures nodes_of_one_application { NodesOfOneApplication }
     ensures not_reached { NotReached }

@@ -181,8 +181,12 @@ fn bound(alloc: Global, var: usize, body: Core) -> Result<Core, NoMemory> {
 }
 
 fn lambda(alloc: Global, parts: &[Part]) -> Result<Core, NoMemory> {
+    lambda_of(alloc, 0, parts)
+}
+
+fn lambda_of(alloc: Global, procedure: usize, parts: &[Part]) -> Result<Core, NoMemory> {
     let parts = list_of(alloc, parts)?;
-    Ok(Core::new(CoreForm::Lambda(0, parts)))
+    Ok(Core::new(CoreForm::Lambda(procedure, parts)))
 }
 
 // Sequences inside one another, with a literal innermost: so many forms deep.
@@ -202,6 +206,19 @@ fn main_is_whole(alloc: Global, main: Core) -> Result<bool, NoMemory> {
 // Whether that of a procedure and a main form is.
 fn both_are_whole(alloc: Global, body: Core, main: Core) -> Result<bool, NoMemory> {
     with_procedure(alloc, body, main)?.is_whole(alloc)
+}
+
+// Whether that of two procedures is which no main form, function, method or initform mentions: the
+// first has the variable 0, the second none.
+fn uncalled_are_whole(alloc: Global, first: Core, second: Core) -> Result<bool, NoMemory> {
+    let mut rows = with_procedure(alloc, first, Core::literal(0))?;
+    rows.procedures.push(Procedure {
+        name: None,
+        required: ItemList::new(alloc),
+        rest: None,
+        body: second,
+    })?;
+    rows.is_whole(alloc)
 }
 
 // Whether that of methods is.
@@ -295,6 +312,43 @@ fn captured_parts(rt: HostRuntime) -> Result<(), Fail> {
     assert!(rt; !both_are_whole(a, local(0), own)?, "its own variable");
     let exit = tagbody(a, lambda(a, &[Part::Exit(7)])?)?;
     assert!(rt; both_are_whole(a, go(0), exit)?, "a tagbody's exit");
+    Ok(())
+}
+
+#[test]
+fn uncalled_procedures(rt: HostRuntime) -> Result<(), Fail> {
+    let a = rt.alloc();
+    let nothing = Core::literal(0);
+    assert!(rt;
+        uncalled_are_whole(a, local(0), nothing)?,
+        "its own variable"
+    );
+    let nothing = Core::literal(0);
+    assert!(rt;
+        !uncalled_are_whole(a, local(1), nothing)?,
+        "a free variable"
+    );
+    let nothing = Core::literal(0);
+    assert!(rt;
+        !uncalled_are_whole(a, go(0), nothing)?,
+        "go without a tagbody"
+    );
+    let nothing = Core::literal(0);
+    let next = Core::new(CoreForm::HasNext);
+    assert!(rt; !uncalled_are_whole(a, next, nothing)?, "outside a method");
+    let made = lambda_of(a, 1, &[Part::Variable(0)])?;
+    assert!(rt; uncalled_are_whole(a, made, local(0))?, "what it makes");
+    let seen = bound(a, 5, lambda_of(a, 1, &[Part::Variable(5)])?)?;
+    assert!(rt; uncalled_are_whole(a, seen, local(5))?, "made in a `let`");
+    let less = lambda_of(a, 1, &[])?;
+    assert!(rt; !uncalled_are_whole(a, less, local(0))?, "not captured");
+    let itself = lambda_of(a, 1, &[])?;
+    assert!(rt;
+        !uncalled_are_whole(a, Core::literal(0), itself)?,
+        "one that makes itself"
+    );
+    let (one, other) = (lambda_of(a, 1, &[])?, lambda_of(a, 0, &[])?);
+    assert!(rt; !uncalled_are_whole(a, one, other)?, "each makes the other");
     Ok(())
 }
 

@@ -1,4 +1,4 @@
-use Rattle.isl_meaning.proofs.ExampleFacts.{worked_are_whole, too_few_arguments, go_outside, no_such_segment, go_to_a_block, captured, not_there, nodes_of_one_application, not_reached, cells_of_methods}
+use Rattle.isl_meaning.proofs.ExampleFacts.{worked_are_whole, too_few_arguments, go_outside, no_such_segment, go_to_a_block, captured, uncalled_procedures, made_by_uncalled, not_there, nodes_of_one_application, not_reached, cells_of_methods}
 use Rattle.isl_meaning.proofs.worked.worked_programs.Goals as goal
 
 pub returns-clause-worked_are_whole : goal.returns-clause-worked_are_whole
@@ -18,6 +18,12 @@ returns-clause-go_to_a_block c = go_to_a_block
 
 pub returns-clause-captured : goal.returns-clause-captured
 returns-clause-captured c = captured
+
+pub returns-clause-uncalled : goal.returns-clause-uncalled
+returns-clause-uncalled c = uncalled_procedures
+
+pub returns-clause-made_by_uncalled : goal.returns-clause-made_by_uncalled
+returns-clause-made_by_uncalled c = made_by_uncalled
 
 pub returns-clause-not_there : goal.returns-clause-not_there
 returns-clause-not_there c = not_there
