@@ -1,4 +1,5 @@
--- One step of a derived form: the row of the table that the form fits, with its right side.
+-- One step of a derived form: the row of the table that the form fits, with its right side (ISO/IEC 13816:2007, 12.7,
+-- 13.4, 14, 16, 17 and 29.2).
 use Rattle.std.specs.Prelude.{◌≡◌, ℕ, zero, suc, ◌+◌, List, [], ◌∷◌, Option, Some, None, if◌then◌else◌, codes}
 use Rattle.std.specs.Str.{bytes_eq}
 use Rattle.isl_base.specs.declared.datum.Symbol.{Symbol}

@@ -1,4 +1,4 @@
--- Quasiquotation: the form that makes the datum of a template (ISO/IEC 13816:2007, 13.2). A number n with a
+-- Quasiquotation: the form that makes the datum of a template (ISO/IEC 13816:2007, 16). A number n with a
 -- template says how many quasiquotations stand around the one that the innermost `unquote` would end.
 use Rattle.std.specs.Prelude.{ℕ, zero, suc, ◌+◌, List, [], ◌∷◌, if◌then◌else◌, codes}
 use Rattle.isl_base.specs.declared.place.Place.{Place}

@@ -1,4 +1,6 @@
--- The table of derived forms: for each name the parts that may stand behind it, and what the form becomes.
+-- The table of derived forms: for each name the parts that may stand behind it, and what the form becomes. The standard
+-- describes these forms (ISO/IEC 13816:2007, 12.7, 13.4, 14, 17 and 29.2); that they stand for just these others is this
+-- profile's choice.
 use Rattle.std.specs.Prelude.{ℕ, ◌+◌, nat_le, Bool, true, false, List, [], ◌∷◌, ◌++◌, length, Option, Some, None, slice_get, if◌then◌else◌, codes}
 use Rattle.std.specs.Str.{bytes_eq}
 use Rattle.isl_base.specs.declared.datum.Symbol.{Symbol}

@@ -1,5 +1,5 @@
--- What a program has to be: data in form, ids in range, arguments as many as they are taken, names bound where they stand,
--- captured parts as they are, and sizes within their limits.
+-- What a program has to be (ISO/IEC 13816:2007, 11, 12 and 15): data in form, ids in range, arguments as many as they are
+-- taken, names bound where they stand, captured parts as they are, and sizes within the limits of this profile.
 use Rattle.std.specs.Prelude.{ℕ, ◌==◌, Bool, true, false, not, ◌&&◌, nat_le, nat_lt, List, [], ◌∷◌, Option, Some, None, length, slice_get, is_some, if◌then◌else◌}
 use Rattle.std.specs.List.{list_all}
 use Rattle.isl_base.specs.declared.datum.Name.{Name}

@@ -1,4 +1,5 @@
--- What each form says of itself: rows and sites that are there, and as many arguments as are taken.
+-- What each form says of itself (ISO/IEC 13816:2007, 12): rows and sites that are there, and as many arguments as are
+-- taken.
 use Rattle.std.specs.Prelude.{Bool, true, ◌&&◌, nat_eq, nat_le, nat_lt, length}
 use Rattle.isl_meaning.specs.declared.program.ProgramRows.{ProgramRows}
 use Rattle.isl_meaning.specs.Form.{Form, literal, local, set_local, global, set_global, def_global, clauses, sequence, let_form, lambda, call, call_value, apply, prim, while_form, block, return_from, tagbody, go, catch_form, throw, unwind, dynamic_let, dynamic, set_dynamic, def_dynamic, with_handler, signal_form, continue_form, next_method, has_next, sited}

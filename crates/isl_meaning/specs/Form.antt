@@ -1,4 +1,5 @@
--- Core forms as contracts see them.
+-- Core forms as contracts see them: the forms of ISO/IEC 13816:2007, 12, 14, 15 and 29 that all others stand for.
+-- `sited` is this profile's own; it marks the place of a form.
 use Rattle.std.specs.Prelude.{ℕ, ◌+◌, List, [], ◌∷◌}
 use Rattle.isl_meaning.specs.declared.primitive.Primitive.{Primitive}
 use Rattle.isl_meaning.specs.declared.part.Part.{Part}

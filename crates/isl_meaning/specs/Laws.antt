@@ -1,4 +1,5 @@
--- What holds of all runs, as the laws say it.
+-- What holds of all runs, as the laws say it: of levels and charges, which are this profile's own, of what is printed,
+-- and of exits (ISO/IEC 13816:2007, 14.8).
 use Rattle.std.specs.Prelude.{◌≡◌, ◌≤◌, ◌<◌, ◌⊎◌, ⊤, ℕ, List, [], ◌∷◌, ◌++◌}
 use Rattle.isl_meaning.specs.declared.program.ProgramRows.{ProgramRows}
 use Rattle.isl_meaning.specs.Objects.{Object}

@@ -1,5 +1,5 @@
--- Literals are constants (ISO/IEC 13816:2007, 14.1). The objects that are there before the first form: classes, streams, functions, literals, and what each
--- slot says of the instances to come.
+-- Literals are constants (ISO/IEC 13816:2007, 14.1). The objects that are there before the first form: classes, streams,
+-- functions, literals, and what each slot says of the instances to come.
 use Rattle.std.specs.Prelude.{ℕ, zero, suc, ◌+◌, ◌-◌, ◌*◌, List, [], ◌∷◌, ◌++◌, Option, Some, None, length, map, flat_map, drop, take, sum_by, slice_get, if◌then◌else◌}
 use Rattle.isl_base.specs.Data as datum
 use Rattle.isl_base.specs.declared.datum.Symbol.{Symbol}

@@ -1,5 +1,7 @@
 // Each constructor of core forms and each call, once.
 
+mod methods;
+
 use crate::{
     ClassRows, ClauseList, Core, CoreForm, CoreList, FunctionRows, GenericRows, LiteralRow,
     LiteralRows, Primitive, Procedure, ProcedureList, ProgramRows, VarList, class_text,
