@@ -5,14 +5,14 @@ use Rattle.isl_meaning.specs.DerivedPieces.{Piece, word, made, taken, parens, Pi
 use Rattle.isl_meaning.specs.Derived.{Rows, rows_of}
 
 mutual
-  -- as what a part stands: as no form (a name, a parameter list, a quoted datum), as a form, or as a list
+  -- the role of a part: no form (a name, a parameter list, a quoted datum), a form, or a list of such parts
   pub data Role : Type 0 where
     no_form : Role
     a_form : Role
     a_list : Shape → Role
 
-  -- as what the parts of a list stand: there is no part, each stands so, or the first one so and the others
-  -- by the rest of the shape
+  -- the roles of the parts of a list: there is no part, each part has this role, or the first part has it
+  -- and the others have those of the rest
   pub data Shape : Type 0 where
     no_part : Shape
     each : Role → Shape
@@ -26,7 +26,7 @@ clause = a_list (each a_form)
 abbrev pub binding : Role
 binding = a_list (first no_form (first a_form no_part))
 
--- behind the name of a special form
+-- what stands behind the name of a special form
 abbrev pub shapes : List (List ℕ × Shape)
 shapes =
     -- (quote d)
@@ -51,24 +51,23 @@ shapes =
     ∷ (codes "cond", each clause)
     ∷ []
 
--- behind each other name: f*
+-- behind each other name all parts are forms: f*
 abbrev pub shape_in : List (List ℕ × Shape) → List ℕ → Shape
 shape_in [] name = each a_form
 shape_in (row ∷ rows) name = if bytes_eq name row.0 then row.1 else shape_in rows name
 
--- a form under a derived name is derived itself, and so are the forms that it becomes
+-- behind a derived name nothing is asked: the form is derived itself
 abbrev pub shape_by : Option Rows → List ℕ → Shape
 shape_by (Some rows) name = each no_form
 shape_by None name = shape_in shapes name
 
--- as what the parts behind a written name stand
+-- the roles of the parts behind a written name
 unfoldable pub shape_of : List ℕ → Shape
 shape_of name = shape_by (rows_of name) name
 
--- `StandsAs role x`: the part x of a right side stands so. What stands as a form is a symbol, nil, a part of
--- the form, or a list with a written name in front, in which the parts behind the name stand by its shape.
--- A list in parentheses stands by its shape too, and may be a part of the form as a whole.
 abbrev mutual
+  -- `StandsAs role x`: the part x of a right side has this role. A form is a symbol, nil, a part of the form
+  -- that the step was taken of, or a list with a written name in front.
   pub StandsAs : Role → Piece → Type 0
   StandsAs no_form x = Unit {0}
   StandsAs a_form (word text) = Unit {0}
@@ -80,6 +79,7 @@ abbrev mutual
   StandsAs (a_list shape) (taken d) = Unit {0}
   StandsAs (a_list shape) (parens xs) = StandBy shape xs
 
+  -- a list as a form: the parts behind the name have the roles of its shape; `()` is nil
   pub StandsNamed : Pieces → Type 0
   StandsNamed no_piece = Unit {0}
   StandsNamed (piece_and (word text) xs) = StandBy (shape_of text) xs
@@ -87,6 +87,7 @@ abbrev mutual
   StandsNamed (piece_and (taken d) xs) = ⊥
   StandsNamed (piece_and (parens ys) xs) = ⊥
 
+  -- the parts of a list have the roles of the shape
   pub StandBy : Shape → Pieces → Type 0
   StandBy no_part no_piece = Unit {0}
   StandBy no_part (piece_and x xs) = ⊥
