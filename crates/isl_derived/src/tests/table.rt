@@ -384,6 +384,7 @@ pub(crate) const PLAIN: &[Row] = &[
     (b"5", b"plain"),
     (b"nil", b"plain"),
     (b"#3", b"plain"),
+    (b"if", b"plain"),
     (b"[if a b]", b"plain"),
     (b"(f a b)", b"plain"),
     (b"(cond (a b))", b"plain"),
