@@ -1,15 +1,15 @@
 -- What a step leaves to be derived is smaller than the form.
-use Rattle.std.specs.Prelude.{◌≡◌, ◌≢◌, ℕ, zero, suc, ◌+◌, ◌≤◌, ◌<◌, true, false, List, [], ◌∷◌, Option, Some, None, if◌then◌else◌, refl, codes}
-use Rattle.std.specs.Str.{bytes_eq}
+use Rattle.std.specs.Prelude.{◌≡◌, ◌≢◌, ℕ, zero, suc, ◌+◌, ◌≤◌, ◌<◌, List, [], ◌∷◌, Option, Some, None, refl, codes}
 use Rattle.std.proofs.Common.{arith, ap, ◌∙◌, subst}
 use Rattle.isl_base.specs.declared.place.Place.{Place}
 use Rattle.isl_base.specs.Data.{Item, item, integer, character, symbol, string, vector, nil, list, Items, no_item, item_and, items_list, Tail, no_tail, dotted}
 use Rattle.isl_base.specs.DataMeasures.{size_of, sizes_of, size_of_tail}
 use Rattle.isl_meaning.specs.DerivedPieces.{Piece, word, made, taken, parens, Pieces, no_piece, piece_and, pieces_of, listed, form, all_taken, Right, in_parens, Builds, BuildsAll}
 use Rattle.isl_meaning.specs.DerivedRows.{text_of, list_items, if_row, and_row, or_row, let_in_order, let_in_order_row, case_row, case_using_row, for_row, setf_row, flet_row, labels_row, ignore_errors_row, assure_row, the_row, convert_row}
-use Rattle.isl_meaning.specs.Derived.{Rows, table, rows_in, rows_of, rows_under, by_rows, judged, Derivation, plain, unfit, becomes, list_derivation, derivation, quasiquote_row}
+use Rattle.isl_meaning.specs.Derived.{Rows, table, rows_of, rows_under, by_rows, judged, Derivation, plain, unfit, becomes, list_derivation, derivation, quasiquote_row}
 use Rattle.isl_meaning.specs.DerivedEnds.{piece_weight, pieces_weight, rows_at, UnderRows, AllFurther, AllFurtherIn, AllItems, OfDotted, AllParts, Leaves, by_step, by_part}
-use Rattle.isl_derived.proofs.Taken.{AllIn, OfTail, AllOf, GoesDown, of_list, Taken, AllTaken, TakenRight, if_too, and_too, or_too, let_row_too, case_too, case_using_too, for_too, setf_too, flet_too, labels_too, ignore_errors_too, assure_too, the_too, convert_too, quasiquote_too}
+use Rattle.isl_derived.proofs.Taken.{AllOf, GoesDown, of_list, Taken, AllTaken, TakenRight}
+use Rattle.isl_derived.proofs.Rows.{AllRows, OfRows, found_under, TakenRows, all_rows_taken}
 use Rattle.isl_derived.proofs.Apart.{NoRows, Apart, AllApart, ApartRight, if_apart, case_apart, case_using_apart, for_apart, setf_apart, flet_apart, labels_apart, ignore_errors_apart, assure_apart, the_apart, convert_apart, quasiquote_apart}
 
 -- sizes of data
@@ -38,20 +38,12 @@ parts_smaller (item p nil) = tt
 parts_smaller (item p (list ds t)) =
     (items_below (1 + (sizes_of ds + size_of_tail t)) ds (omega arith), tail_below (1 + (sizes_of ds + size_of_tail t)) t (omega arith))
 
-all_in : (P : Item → Type 0) (ds : Items) → AllItems P ds → AllIn P ds
-all_in P no_item h = tt
-all_in P (item_and d ds) h = (h.0, all_in P ds h.1)
-
-of_tail : (P : Item → Type 0) (t : Tail) → OfDotted P t → OfTail P t
-of_tail P no_tail h = tt
-of_tail P (dotted d) h = h
-
 below_goes_down : (n : ℕ) → GoesDown (Below n)
 unfolding size_of
 below_goes_down n = record {
-  of_items = λ p ds t h. all_in (Below n) ds (items_below n ds (omega arith));
-  of_tail = λ p ds t h. of_tail (Below n) t (tail_below n t (omega arith));
-  of_vector = λ p ds h. all_in (Below n) ds (items_below n ds (omega arith));
+  of_items = λ p ds t h. items_below n ds (omega arith);
+  of_tail = λ p ds t h. tail_below n t (omega arith);
+  of_vector = λ p ds h. items_below n ds (omega arith);
 }
 
 -- the sizes of data in a list
@@ -211,74 +203,8 @@ let_row_written n (bs ∷ fs) h = let_written n (list_items bs) fs (omega (arith
 
 -- all rows
 
-abbrev AllRows : (Rows → Type 0) → List (List ℕ × Rows) → Type 0
-AllRows Q [] = Unit {0}
-AllRows Q (r ∷ rs) = Q r.1 × AllRows Q rs
-
-abbrev OfRows : (Rows → Type 0) → Option Rows → Type 0
-OfRows Q None = Unit {0}
-OfRows Q (Some rows) = Q rows
-
-found : (Q : Rows → Type 0) (rs : List (List ℕ × Rows)) → AllRows Q rs → (name : List ℕ) → OfRows Q (rows_in rs name)
-found Q [] h name = tt
-found Q (r ∷ rs) h name =
-    elim (bytes_eq name r.0) as (λ b. OfRows Q (if b then Some r.1 else rows_in rs name)) [ true ↦ h.0 | false ↦ found Q rs h.1 name ]
-
-found_under : (Q : Rows → Type 0) → AllRows Q table → (name : Option (List ℕ)) → OfRows Q (rows_under name)
-unfolding rows_of
-found_under Q h None = tt
-found_under Q h (Some name) = found Q table h name
-
-abbrev TakenRows : ℕ → Rows → Type 0
-TakenRows n rows = (names : List (List ℕ)) (s : ℕ) (ds : List Item) → AllOf (Below n) ds → TakenRight (Below n) (rows names s ds)
-
 abbrev WrittenRows : ℕ → Rows → Type 0
 WrittenRows n rows = (names : List (List ℕ)) (s : ℕ) (ds : List Item) → 1 + sizes_in ds < n → WrittenRight (Light n) (rows names s ds)
-
-rows_taken : (n : ℕ) → GoesDown (Below n) → AllRows (TakenRows n) table
-rows_taken n g = (
-  λ names s ds. if_too (Below n) ds,
-  (
-    λ names s ds. and_too (Below n) ds,
-    (
-      λ names s ds. or_too (Below n) ds,
-      (
-        λ names s ds. let_row_too (Below n) g ds,
-        (
-          λ names s ds. case_too (Below n) g names s ds,
-          (
-            λ names s ds. case_using_too (Below n) g names s ds,
-            (
-              λ names s ds. for_too (Below n) g s ds,
-              (
-                λ names s ds. setf_too (Below n) g names s ds,
-                (
-                  λ names s ds. flet_too (Below n) g s ds,
-                  (
-                    λ names s ds. labels_too (Below n) g s ds,
-                    (
-                      λ names s ds. ignore_errors_too (Below n) s ds,
-                      (
-                        λ names s ds. assure_too (Below n) s ds,
-                        (
-                          λ names s ds. the_too (Below n) ds,
-                          (
-                            λ names s ds. convert_too (Below n) ds,
-                            (λ names s ds. quasiquote_too (Below n) g names ds, tt),
-                          ),
-                        ),
-                      ),
-                    ),
-                  ),
-                ),
-              ),
-            ),
-          ),
-        ),
-      ),
-    ),
-  ),
-)
 
 rows_written : (n : ℕ) → AllRows (WrittenRows n) table
 rows_written n = (
@@ -336,7 +262,7 @@ judged_further : (n : ℕ) (r : Option Right) → TakenRight (Below n) r → Wri
 judged_further n None g h = tt
 judged_further n (Some r) g h = both_further (Light n) r.piece g h
 
-rows_further : (n : ℕ) (names : List (List ℕ)) (s : ℕ) (rows : Option Rows) (ds : List Item) (t : Tail) → OfRows (TakenRows n) rows → OfRows (WrittenRows n) rows
+rows_further : (n : ℕ) (names : List (List ℕ)) (s : ℕ) (rows : Option Rows) (ds : List Item) (t : Tail) → OfRows (TakenRows (Below n)) rows → OfRows (WrittenRows n) rows
     → AllOf (Below n) ds → 1 + sizes_in ds < n → FurtherDerivation n (by_rows names s rows ds t)
 rows_further n names s None ds t f g h b = tt
 rows_further n names s (Some rows) ds no_tail f g h b = judged_further n (rows names s ds) (f names s ds h) (g names s ds b)
@@ -347,7 +273,7 @@ list_further : (n : ℕ) (names : List (List ℕ)) (s : ℕ) (ds : List Item) (t
 list_further n names s [] t h b = tt
 list_further n names s (d ∷ ds) t h b =
     rows_further n names s (rows_under (text_of names d)) ds t
-    (found_under (TakenRows n) (rows_taken n (below_goes_down n)) (text_of names d))
+    (found_under (TakenRows (Below n)) (all_rows_taken (Below n) (below_goes_down n)) (text_of names d))
     (found_under (WrittenRows n) (rows_written n) (text_of names d))
     h.1 (omega (arith, size_above d))
 
@@ -362,7 +288,7 @@ derivation_further names s (item p nil) = tt
 derivation_further names s (item p (list ds t)) =
     list_further (1 + (sizes_of ds + size_of_tail t)) names s (items_list ds) t
     (of_list (Below (1 + (sizes_of ds + size_of_tail t))) ds
-    (all_in (Below (1 + (sizes_of ds + size_of_tail t))) ds (items_below (1 + (sizes_of ds + size_of_tail t)) ds (omega arith))))
+    (items_below (1 + (sizes_of ds + size_of_tail t)) ds (omega arith)))
     (omega (arith, sizes_listed ds))
 
 pub further_smaller : (names : List (List ℕ)) (s : ℕ) (d : Item) (r : Right) → derivation names s d ≡ becomes r

@@ -1,6 +1,5 @@
 -- What a step keeps: its result is in form, its names are in the table, and a later table changes nothing.
-use Rattle.std.specs.Prelude.{◌≡◌, ℕ, zero, suc, ◌+◌, ◌<◌, ◌≤◌, true, false, List, [], ◌∷◌, ◌++◌, length, Option, Some, None, slice_get, if◌then◌else◌, refl}
-use Rattle.std.specs.Str.{bytes_eq}
+use Rattle.std.specs.Prelude.{◌≡◌, ℕ, zero, suc, ◌+◌, ◌<◌, ◌≤◌, List, [], ◌∷◌, ◌++◌, length, Option, Some, None, slice_get, refl}
 use Rattle.std.proofs.Common.{arith, ap, ◌∙◌, sym, subst, length-append}
 use Rattle.isl_base.specs.declared.place.Place.{Place}
 use Rattle.isl_base.specs.declared.datum.Symbol.{Symbol}
@@ -10,81 +9,15 @@ use Rattle.isl_base.specs.Data.{Item, item, Content, integer, character, symbol,
 use Rattle.isl_base.specs.DataMeasures.{Formed, AllFormed, FormedTail, NamesBelow, NamesBelowInside, AllNamesBelow, NamesBelowTail, SymbolBelow}
 use Rattle.isl_meaning.specs.DerivedPieces.{Piece, word, made, taken, parens, Pieces, no_piece, piece_and, Right, in_parens, Builds, BuildsAll}
 use Rattle.isl_meaning.specs.DerivedRows.{text_of}
-use Rattle.isl_meaning.specs.Derived.{Rows, table, rows_in, rows_of, rows_under, by_rows, judged, Derivation, plain, unfit, becomes, list_derivation, derivation, Derives, new_symbols}
+use Rattle.isl_meaning.specs.Derived.{Rows, table, rows_under, by_rows, judged, Derivation, plain, unfit, becomes, list_derivation, derivation, Derives, new_symbols}
 use Rattle.isl_derived.specs.declared.one_step.Step.TheVariants.{Derived}
 use Rattle.isl_derived.specs.Steps.{IsStep, IsWhole}
-use Rattle.isl_derived.proofs.Taken.{AllIn, OfTail, AllOf, GoesDown, of_list, Taken, AllTaken, TakenRight, if_too, and_too, or_too, let_row_too, case_too, case_using_too, for_too, setf_too, flet_too, labels_too, ignore_errors_too, assure_too, the_too, convert_too, quasiquote_too}
+use Rattle.isl_meaning.specs.DerivedEnds.{AllItems, OfDotted}
+use Rattle.isl_derived.proofs.Taken.{AllOf, GoesDown, of_list, Taken, AllTaken, TakenRight}
+use Rattle.isl_derived.proofs.Rows.{AllRows, OfRows, found_under, TakenRows, all_rows_taken}
 use Rattle.isl_derived.proofs.Same.{Alike, case_same, case_using_same, setf_same, quasiquote_same}
 
--- what holds of all rows of the table
-
-abbrev AllRows : (Rows → Type 0) → List (List ℕ × Rows) → Type 0
-AllRows Q [] = Unit {0}
-AllRows Q (r ∷ rs) = Q r.1 × AllRows Q rs
-
-abbrev OfRows : (Rows → Type 0) → Option Rows → Type 0
-OfRows Q None = Unit {0}
-OfRows Q (Some rows) = Q rows
-
-found : (Q : Rows → Type 0) (rs : List (List ℕ × Rows)) → AllRows Q rs → (name : List ℕ) → OfRows Q (rows_in rs name)
-found Q [] h name = tt
-found Q (r ∷ rs) h name =
-    elim (bytes_eq name r.0) as (λ b. OfRows Q (if b then Some r.1 else rows_in rs name)) [ true ↦ h.0 | false ↦ found Q rs h.1 name ]
-
-found_under : (Q : Rows → Type 0) → AllRows Q table → (name : Option (List ℕ)) → OfRows Q (rows_under name)
-unfolding rows_of
-found_under Q h None = tt
-found_under Q h (Some name) = found Q table h name
-
 -- what a step takes over
-
-abbrev TakenRows : (Item → Type 0) → Rows → Type 0
-TakenRows P rows = (names : List (List ℕ)) (s : ℕ) (ds : List Item) → AllOf P ds → TakenRight P (rows names s ds)
-
-all_rows_taken : (P : Item → Type 0) → GoesDown P → AllRows (TakenRows P) table
-all_rows_taken P g = (
-  λ names s ds. if_too P ds,
-  (
-    λ names s ds. and_too P ds,
-    (
-      λ names s ds. or_too P ds,
-      (
-        λ names s ds. let_row_too P g ds,
-        (
-          λ names s ds. case_too P g names s ds,
-          (
-            λ names s ds. case_using_too P g names s ds,
-            (
-              λ names s ds. for_too P g s ds,
-              (
-                λ names s ds. setf_too P g names s ds,
-                (
-                  λ names s ds. flet_too P g s ds,
-                  (
-                    λ names s ds. labels_too P g s ds,
-                    (
-                      λ names s ds. ignore_errors_too P s ds,
-                      (
-                        λ names s ds. assure_too P s ds,
-                        (
-                          λ names s ds. the_too P ds,
-                          (
-                            λ names s ds. convert_too P ds,
-                            (λ names s ds. quasiquote_too P g names ds, tt),
-                          ),
-                        ),
-                      ),
-                    ),
-                  ),
-                ),
-              ),
-            ),
-          ),
-        ),
-      ),
-    ),
-  ),
-)
 
 abbrev TakenDerivation : (Item → Type 0) → Derivation → Type 0
 TakenDerivation P plain = Unit {0}
@@ -122,7 +55,7 @@ derivation_too P g names s (item p (list ds t)) h = list_too P g names s (items_
 record GoesUp (n : ℕ) (P : Item → Type 0) : Type 0 where
   over_name : (p : Place) (k : ℕ) → k < n → P (item p (symbol (Named (record { 0 = k }))))
   over_fresh : (p : Place) (i : ℕ) → P (item p (symbol (Fresh 0 i)))
-  over_items : (p : Place) (ds : Items) → AllIn P ds → P (item p (in_parens ds))
+  over_items : (p : Place) (ds : Items) → AllItems P ds → P (item p (in_parens ds))
 
 get_below : {X : Type 0} (xs : List X) (i : ℕ) (x : X) → slice_get xs i ≡ Some x → i < length xs
 get_below [] i x h = absurd (cc)
@@ -140,10 +73,10 @@ mutual
   builds_too P names g p (parens xs) d b h = subst P (sym b.1.1) (g.over_items p b.0 (all_built_too P names g p xs b.0 b.1.0 h))
 
   all_built_too : (P : Item → Type 0) (names : List (List ℕ)) → GoesUp (length names) P → (p : Place) (xs : Pieces) (ds : Items)
-      → BuildsAll names p xs ds → AllTaken P xs → AllIn P ds
-  all_built_too P names g p no_piece ds b h = let Q : Items → Type 0 = AllIn P in subst Q (sym b) tt
+      → BuildsAll names p xs ds → AllTaken P xs → AllItems P ds
+  all_built_too P names g p no_piece ds b h = let Q : Items → Type 0 = AllItems P in subst Q (sym b) tt
   all_built_too P names g p (piece_and x xs) ds b h =
-      let Q : Items → Type 0 = AllIn P in
+      let Q : Items → Type 0 = AllItems P in
       subst Q (sym b.1.1.2) (builds_too P names g p x b.0 b.1.1.0 h.0, all_built_too P names g p xs b.1.0 b.1.1.1 h.1)
 
 step_too : (P : Item → Type 0) → GoesDown P → (names : List (List ℕ)) → GoesUp (length names) P → (d : Item) (s : ℕ) (e : Item) (s2 : ℕ)
@@ -154,17 +87,17 @@ step_too P down names up d s e s2 h x =
 
 -- data in form
 
-all_formed : (ds : Items) → AllFormed ds → AllIn Formed ds
+all_formed : (ds : Items) → AllFormed ds → AllItems Formed ds
 unfolding Formed
 all_formed no_item h = tt
 all_formed (item_and d ds) h = (h.0, all_formed ds h.1)
 
-formed_all : (ds : Items) → AllIn Formed ds → AllFormed ds
+formed_all : (ds : Items) → AllItems Formed ds → AllFormed ds
 unfolding Formed
 formed_all no_item h = tt
 formed_all (item_and d ds) h = (h.0, formed_all ds h.1)
 
-formed_tail : (t : Tail) → FormedTail t → OfTail Formed t
+formed_tail : (t : Tail) → FormedTail t → OfDotted Formed t
 unfolding Formed
 formed_tail no_tail h = tt
 formed_tail (dotted (item p c)) h = h.1
@@ -177,7 +110,7 @@ formed_down = record {
   of_vector = λ p ds h. all_formed ds h;
 }
 
-formed_over : (p : Place) (ds : Items) → AllIn Formed ds → Formed (item p (in_parens ds))
+formed_over : (p : Place) (ds : Items) → AllItems Formed ds → Formed (item p (in_parens ds))
 unfolding Formed
 formed_over p no_item h = tt
 formed_over p (item_and d ds) h = (λ e. absurd (cc), formed_all (item_and d ds) h, tt)
@@ -191,17 +124,17 @@ step_formed names d s e s2 h x = step_too Formed formed_down names (formed_up (l
 
 -- names of the table
 
-all_below : (n : ℕ) (ds : Items) → AllNamesBelow n ds → AllIn (NamesBelow n) ds
+all_below : (n : ℕ) (ds : Items) → AllNamesBelow n ds → AllItems (NamesBelow n) ds
 unfolding NamesBelow
 all_below n no_item h = tt
 all_below n (item_and d ds) h = (h.0, all_below n ds h.1)
 
-below_all : (n : ℕ) (ds : Items) → AllIn (NamesBelow n) ds → AllNamesBelow n ds
+below_all : (n : ℕ) (ds : Items) → AllItems (NamesBelow n) ds → AllNamesBelow n ds
 unfolding NamesBelow
 below_all n no_item h = tt
 below_all n (item_and d ds) h = (h.0, below_all n ds h.1)
 
-tail_below : (n : ℕ) (t : Tail) → NamesBelowTail n t → OfTail (NamesBelow n) t
+tail_below : (n : ℕ) (t : Tail) → NamesBelowTail n t → OfDotted (NamesBelow n) t
 unfolding NamesBelow
 tail_below n no_tail h = tt
 tail_below n (dotted d) h = h
@@ -214,7 +147,7 @@ below_down n = record {
   of_vector = λ p ds h. all_below n ds h;
 }
 
-below_over : (n : ℕ) (p : Place) (ds : Items) → AllIn (NamesBelow n) ds → NamesBelow n (item p (in_parens ds))
+below_over : (n : ℕ) (p : Place) (ds : Items) → AllItems (NamesBelow n) ds → NamesBelow n (item p (in_parens ds))
 unfolding NamesBelow
 below_over n p no_item h = tt
 below_over n p (item_and d ds) h = (below_all n (item_and d ds) h, tt)

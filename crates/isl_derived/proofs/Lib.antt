@@ -3,7 +3,9 @@ pub mod Templates
 pub mod Taken
 pub mod Same
 pub mod Building
+pub mod Rows
 pub mod Kept
 pub mod OneStep
 pub mod Apart
 pub mod Ends
+pub mod Placed

@@ -7,7 +7,8 @@ use Rattle.isl_meaning.specs.DerivedPieces.{Piece, word, made, taken, Pieces, no
 use Rattle.isl_meaning.specs.DerivedRows.{is_word, is_text, is_symbol, text_of, list_items, in_front, keys_clause, else_clause, clause_row, case_clauses, case_right, case_row, case_using_right, case_using_row, setter, setf_right, setf_list, setf_row}
 use Rattle.isl_meaning.specs.DerivedQuotation.{template, template_of, tail_part, template_list, unquoted, spliced, part, parts, kept_prefix, one_piece, appended}
 use Rattle.isl_meaning.specs.Derived.{quasiquote_row}
-use Rattle.isl_derived.proofs.Taken.{AllIn, OfTail, AllOf, AllOfSome, GoesDown, items_too}
+use Rattle.isl_meaning.specs.DerivedEnds.{AllItems, OfDotted}
+use Rattle.isl_derived.proofs.Taken.{AllOf, AllOfSome, GoesDown, items_too}
 
 -- the two tables have the same name of each such datum
 pub record Alike (A B : List (List ℕ)) (P : Item → Type 0) : Type 0 where
@@ -111,11 +112,11 @@ mutual
       template_list_same A B P a n ds (tail_part A n t) (a.down.of_items p ds t h)
       ∙ ap (template_list B n ds) (tail_part_same A B P a n t (a.down.of_tail p ds t h))
 
-  tail_part_same : (A B : List (List ℕ)) (P : Item → Type 0) → Alike A B P → (n : ℕ) (t : Tail) → OfTail P t → tail_part A n t ≡ tail_part B n t
+  tail_part_same : (A B : List (List ℕ)) (P : Item → Type 0) → Alike A B P → (n : ℕ) (t : Tail) → OfDotted P t → tail_part A n t ≡ tail_part B n t
   tail_part_same A B P a n no_tail h = refl
   tail_part_same A B P a n (dotted d) h = ap one_piece (template_same A B P a n d h)
 
-  template_list_same : (A B : List (List ℕ)) (P : Item → Type 0) → Alike A B P → (n : ℕ) (ds : Items) (behind : Pieces) → AllIn P ds
+  template_list_same : (A B : List (List ℕ)) (P : Item → Type 0) → Alike A B P → (n : ℕ) (ds : Items) (behind : Pieces) → AllItems P ds
       → template_list A n ds behind ≡ template_list B n ds behind
   template_list_same A B P a n no_item behind h = refl
   template_list_same A B P a n (item_and x no_item) behind h =
@@ -162,7 +163,7 @@ mutual
   part_same A B P a n (item p (list (item_and x (item_and e (item_and d ds))) t)) h =
       in_list (template_of_same A B P a n p (list (item_and x (item_and e (item_and d ds))) t) h)
 
-  parts_same : (A B : List (List ℕ)) (P : Item → Type 0) → Alike A B P → (n : ℕ) (ds : Items) (behind : Pieces) → AllIn P ds
+  parts_same : (A B : List (List ℕ)) (P : Item → Type 0) → Alike A B P → (n : ℕ) (ds : Items) (behind : Pieces) → AllItems P ds
       → parts A n ds behind ≡ parts B n ds behind
   parts_same A B P a n no_item behind h = refl
   parts_same A B P a n (item_and x no_item) behind h = ap (λ (y : Piece). piece_and y behind) (part_same A B P a n x h.0)

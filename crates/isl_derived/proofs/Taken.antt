@@ -9,16 +9,9 @@ use Rattle.isl_meaning.specs.DerivedRows.{setter, arguments_bound, arguments_mad
 use Rattle.isl_meaning.specs.DerivedRows.{LocalFunction, function_of, functions, functions_of, lambda_of, functions_bound, functions_unset, functions_set, functions_named, flet_right, flet_row, labels_right, labels_row, ignore_errors_row, assure_row, the_row, convert_row}
 use Rattle.isl_meaning.specs.DerivedQuotation.{template, template_of, tail_part, template_list, unquoted, spliced, part, parts, kept_prefix, one_piece}
 use Rattle.isl_meaning.specs.Derived.{quasiquote_row}
+use Rattle.isl_meaning.specs.DerivedEnds.{AllItems, OfDotted}
 
 -- it holds of each
-abbrev pub AllIn : (Item → Type 0) → Items → Type 0
-AllIn P no_item = Unit {0}
-AllIn P (item_and d ds) = P d × AllIn P ds
-
-abbrev pub OfTail : (Item → Type 0) → Tail → Type 0
-OfTail P no_tail = Unit {0}
-OfTail P (dotted d) = P d
-
 abbrev pub AllOf : (Item → Type 0) → List Item → Type 0
 AllOf P [] = Unit {0}
 AllOf P (d ∷ ds) = P d × AllOf P ds
@@ -29,9 +22,9 @@ AllOfSome P (Some ds) = AllOf P ds
 
 -- what holds of a datum holds of its parts
 pub record GoesDown (P : Item → Type 0) : Type 0 where
-  pub of_items : (p : Place) (ds : Items) (t : Tail) → P (item p (list ds t)) → AllIn P ds
-  pub of_tail : (p : Place) (ds : Items) (t : Tail) → P (item p (list ds t)) → OfTail P t
-  pub of_vector : (p : Place) (ds : Items) → P (item p (vector ds)) → AllIn P ds
+  pub of_items : (p : Place) (ds : Items) (t : Tail) → P (item p (list ds t)) → AllItems P ds
+  pub of_tail : (p : Place) (ds : Items) (t : Tail) → P (item p (list ds t)) → OfDotted P t
+  pub of_vector : (p : Place) (ds : Items) → P (item p (vector ds)) → AllItems P ds
 
 -- it holds of all that a part of a right side takes over
 abbrev mutual
@@ -62,7 +55,7 @@ TakenRight P (Some r) = Taken P r.piece
 
 -- lists
 
-pub of_list : (P : Item → Type 0) (ds : Items) → AllIn P ds → AllOf P (items_list ds)
+pub of_list : (P : Item → Type 0) (ds : Items) → AllItems P ds → AllOf P (items_list ds)
 of_list P no_item h = tt
 of_list P (item_and d ds) h = (h.0, of_list P ds h.1)
 
@@ -463,11 +456,11 @@ mutual
   template_of_too P g names n p (list ds t) h =
       template_list_too P g names n ds (tail_part names n t) (g.of_items p ds t h) (tail_part_too P g names n t (g.of_tail p ds t h))
 
-  tail_part_too : (P : Item → Type 0) → GoesDown P → (names : List (List ℕ)) (n : ℕ) (t : Tail) → OfTail P t → AllTaken P (tail_part names n t)
+  tail_part_too : (P : Item → Type 0) → GoesDown P → (names : List (List ℕ)) (n : ℕ) (t : Tail) → OfDotted P t → AllTaken P (tail_part names n t)
   tail_part_too P g names n no_tail h = tt
   tail_part_too P g names n (dotted d) h = (template_too P g names n d h, tt)
 
-  template_list_too : (P : Item → Type 0) → GoesDown P → (names : List (List ℕ)) (n : ℕ) (ds : Items) (behind : Pieces) → AllIn P ds → AllTaken P behind
+  template_list_too : (P : Item → Type 0) → GoesDown P → (names : List (List ℕ)) (n : ℕ) (ds : Items) (behind : Pieces) → AllItems P ds → AllTaken P behind
       → Taken P (template_list names n ds behind)
   template_list_too P g names n no_item behind h b = (tt, (tt, tt))
   template_list_too P g names n (item_and x no_item) behind h b = (tt, (part_too P g names n x h.0, b))
@@ -515,7 +508,7 @@ mutual
   part_too P g names n (item p (list (item_and x (item_and e (item_and d ds))) t)) h =
       (tt, (template_of_too P g names n p (list (item_and x (item_and e (item_and d ds))) t) h, tt))
 
-  parts_too : (P : Item → Type 0) → GoesDown P → (names : List (List ℕ)) (n : ℕ) (ds : Items) (behind : Pieces) → AllIn P ds → AllTaken P behind
+  parts_too : (P : Item → Type 0) → GoesDown P → (names : List (List ℕ)) (n : ℕ) (ds : Items) (behind : Pieces) → AllItems P ds → AllTaken P behind
       → AllTaken P (parts names n ds behind)
   parts_too P g names n no_item behind h b = b
   parts_too P g names n (item_and x no_item) behind h b = (part_too P g names n x h.0, b)

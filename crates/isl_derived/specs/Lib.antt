@@ -10,3 +10,4 @@ pub mod ForLoops
 pub mod Setters
 pub mod Templates
 pub mod Steps
+pub mod FormPlaces

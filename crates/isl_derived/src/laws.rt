@@ -1,13 +1,14 @@
 // Laws of the table of derived forms, for all forms.
 
-ghost use Rattle.std.specs.Prelude.{◌≡◌, ℕ, ◌+◌, ◌<◌, List, length};
+ghost use Rattle.std.specs.Prelude.{◌≡◌, ℕ, ◌+◌, ◌<◌, List, length, None};
 ghost use Rattle.isl_base.specs.declared.place.Place.{Place};
 ghost use Rattle.isl_base.specs.Data.{Item};
 ghost use Rattle.isl_base.specs.DataMeasures.{NamesBelow, size_of};
 ghost use Rattle.isl_base.specs.Names.{IsTable, Extends};
-ghost use Rattle.isl_meaning.specs.Derived.{Derives, becomes, derivation};
+ghost use Rattle.isl_meaning.specs.Derived.{Derives, rows_of, plain, becomes, derivation};
 ghost use Rattle.isl_meaning.specs.DerivedEnds.{AllFurther, AllParts, Leaves, piece_weight};
-ghost use Rattle.isl_meaning.specs.DerivedPieces.{Builds, Piece, Right};
+ghost use Rattle.isl_meaning.specs.DerivedPieces.{Builds, Piece, word, parens, Pieces, piece_and, Right};
+ghost use Rattle.isl_derived.specs.FormPlaces.{a_form, StandsAs};
 
 /// A datum fits at most one row, and the step is one datum with one number of new symbols.
 pub fn law_one_step()
@@ -29,10 +30,12 @@ pub fn law_step_stays()
 
 /// Steps end: there is no endless sequence of data in which each is left to be derived by a step of
 /// the one before it, or is a part of the one before it. What falls is the size: each part of a form
-/// that a step takes over, and each form that it writes under a derived name, is smaller than the
+/// that a step takes over, and each list that it writes under a derived name, is smaller than the
 /// form; what is built of a part has the size that is counted for it; and a part of a datum is
-/// smaller than the datum. All else that a step writes in parentheses has no derived name in front,
-/// or a part of the form, and then it is a clause, a binding or a quoted datum, and no form.
+/// smaller than the datum. Nothing else is left to be derived: what stands as a form in a right side
+/// is a symbol, nil, a part of the form, or a list with a written name in front, in which the forms
+/// stand where the shape of that name has them; and what is built under a name that is no derived
+/// one is no derived form.
 pub fn law_steps_end()
     ensures ends { (f : ℕ → Item) → ((i : ℕ) → Leaves (f i) (f (i + 1))) → ⊥ }
     ensures falls { (names : List (List ℕ)) (s : ℕ) (d : Item) (r : Right) → derivation names s d ≡ becomes r →
@@ -40,4 +43,8 @@ pub fn law_steps_end()
     ensures built { (names : List (List ℕ)) (p : Place) (x : Piece) (d : Item) → Builds names p x d →
         size_of d ≡ piece_weight x }
     ensures parts { (d : Item) → AllParts (λ e. size_of e < size_of d) d }
+    ensures placed { (names : List (List ℕ)) (s : ℕ) (d : Item) (r : Right) → derivation names s d ≡ becomes r →
+        StandsAs a_form r.piece }
+    ensures others { (names : List (List ℕ)) (s : ℕ) (p : Place) (text : List ℕ) (xs : Pieces) (d : Item) →
+        rows_of text ≡ None → Builds names p (parens (piece_and (word text) xs)) d → derivation names s d ≡ plain }
 {}

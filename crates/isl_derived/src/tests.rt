@@ -7,7 +7,7 @@ mod table;
 
 use crate::{Step, derive};
 use formed::is_formed;
-use isl_base::{Datum, FreshList, Names, NoMemory, Stop, Symbol};
+use isl_base::{Datum, FreshList, Name, Names, NoMemory, Stop, Symbol};
 use read::read;
 use show::{Places, show};
 use std::alloc::Global;
@@ -135,22 +135,51 @@ fn places_of_parts(rt: HostRuntime) -> Result<(), Fail> {
 }
 
 #[test]
+fn judged_later(rt: HostRuntime) -> Result<(), Fail> {
+    steps(&rt, rt.alloc(), table::JUDGED_LATER, false)
+}
+
+// One after the other, with three new symbols at first: each form with its step, and how many new
+// symbols there are then.
+#[test]
 fn serials_go_on(rt: HostRuntime) -> Result<(), Fail> {
     let mut fresh = made(rt.alloc(), 3)?;
-    let got = step(rt.alloc(), b"(case-using p k)", &mut fresh, false)?;
-    assert!(rt;
-        got.as_slice() == b"(let ((#3 p) (#4 k)) (cond))".as_slice(),
-        "{got:?}"
-    );
-    assert_eq!(rt; fresh.len(), 5);
-    let wanted = Symbol::Fresh {
-        expansion: 0,
-        serial: 4,
-    };
-    assert_eq!(rt; fresh.get(4), Some(&wanted));
-    let got = step(rt.alloc(), b"(case)", &mut fresh, false)?;
-    assert!(rt; got.as_slice() == b"BadShape@0".as_slice(), "{got:?}");
-    assert_eq!(rt; fresh.len(), 5);
+    for (text, wanted, count) in table::SERIALS {
+        let got = step(rt.alloc(), text, &mut fresh, false)?;
+        assert!(rt; got.as_slice() == *wanted, "{text:?} gives {got:?}");
+        assert_eq!(rt; fresh.len(), *count);
+    }
+    for at in 0..fresh.len() {
+        let wanted = Symbol::Fresh {
+            expansion: 0,
+            serial: at as u64,
+        };
+        assert_eq!(rt; fresh.get(at), Some(&wanted));
+    }
+    Ok(())
+}
+
+// A form and one that fits no row, and the names that the first has brought.
+const STEP_AND_STOP: &[&[u8]] = &[b"(setf (f a) v)", b"(setf f)"];
+
+const NAMES: &[&[u8]] = &[b"setf", b"f", b"a", b"v"];
+
+// What stands in the table of names stays there, after a step and after a stop.
+#[test]
+fn names_stay(rt: HostRuntime) -> Result<(), Fail> {
+    let mut names = Names::new(rt.alloc());
+    let mut fresh = FreshList::new(rt.alloc());
+    for text in STEP_AND_STOP {
+        let datum = read(rt.alloc(), &mut names, text)?;
+        if !is_formed(&datum, names.len(), DEPTH) {
+            return Err(Fail::from("not in form"));
+        }
+        let _taken = derive(rt.alloc(), &datum, &mut names, &mut fresh);
+        for (at, name) in NAMES.iter().enumerate() {
+            assert_eq!(rt; names.text(Name(at)), Some(*name));
+        }
+    }
+    assert_eq!(rt; fresh.len(), 2);
     Ok(())
 }
 

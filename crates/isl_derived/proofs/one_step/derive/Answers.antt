@@ -5,7 +5,7 @@ use Rattle.isl_derived.proofs.one_step.derive.Goals as goal
 
 pub returns-in_ok-derived-in-Becomes-clause-step : goal.returns-in_ok-derived-in-Becomes-clause-step
 returns-in_ok-derived-in-Becomes-clause-step c =
-    step_taken c.args.names.now _ c.args.datum.now _ c.datum.inside.place c.args.fresh.now _ c.in-Becomes.right
+    step_taken c.args.names.now _ c.args.datum.now _ _ c.args.fresh.now _ c.in-Becomes.right
     c.in_ok-derived-in-Becomes.ensures.names c.requires.named (search rules) (search rules)
     c.in_ok-derived-in-Becomes.ensures.builds c.in_ok-derived-in-Becomes.ensures.ok
 
