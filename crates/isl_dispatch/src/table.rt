@@ -65,7 +65,7 @@ pub struct Table {
 
 impl Table {
     /// The chain of a call with arguments of these classes, none exactly where no primary method
-    /// applies. Takes no memory.
+    /// applies. Takes no memory, and looks at one cell.
     pub fn chain(&self, classes: &[ClassId]) -> Option<&Chain>
         ensures { (program : ProgramRows) → (g : Generic) → IsTableOf program g self.now
             → AreCalled program g classes.now
@@ -89,7 +89,8 @@ fn chain_in(cell: &Option<Chain>) -> Option<&Chain>
     }
 }
 
-// The number of the tuple of the groups of these classes.
+// The number of the tuple of the groups of these classes: one look at the map of each argument, and
+// one at the number that it has for the class.
 fn index_of(arguments: &ItemList<ArgumentMap>, classes: &[ClassId]) -> usize
     ensures { (program : ProgramRows) → (g : Generic) → AreMapsOf program g arguments.now
         → AreCalled program g classes.now → length (tuples_of program g) ≤ 262144
