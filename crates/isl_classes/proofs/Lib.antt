@@ -3,3 +3,4 @@ pub mod Judging
 pub mod Adding
 pub mod Defining
 pub mod BuiltIns
+pub mod Ordering

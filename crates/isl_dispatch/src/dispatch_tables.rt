@@ -1,6 +1,6 @@
 // Dispatch tables: how a call of a generic function finds its methods.
 
-ghost use Rattle.std.specs.Prelude.{◌≡◌, List, Some, MatchOption, slice_get};
+ghost use Rattle.std.specs.Prelude.{◌≡◌, ◌≤◌, List, Some, MatchOption, length, slice_get};
 ghost use Rattle.isl_meaning.specs.declared.program.ClassRow.{ClassRow as Class};
 ghost use Rattle.isl_meaning.specs.declared.program.GenericRow.{GenericRow as Generic};
 ghost use Rattle.isl_meaning.specs.Classes.{chain};
@@ -45,9 +45,17 @@ impl Tables {
             → MatchOption result (chain (with_classes rows) g classes.now ≡ None)
             (λ c. chain (with_classes rows) g classes.now ≡ Some (seen c.now)) }
     {
-        match self.tables.get(generic) {
+        match self.of_generic(generic) {
             Some(table) => table.chain(classes),
             None => None,
         }
+    }
+
+    // The table of that generic function.
+    fn of_generic(&self, generic: GenericId) -> Option<&Table>
+        ensures { MatchOption result (length self.now.tables ≤ generic)
+            (λ table. slice_get self.now.tables generic ≡ Some table.now) }
+    {
+        self.tables.get(generic)
     }
 }

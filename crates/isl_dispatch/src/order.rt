@@ -1,6 +1,6 @@
 // The methods that apply to a tuple of classes, the most specific one first.
 
-ghost use Rattle.std.specs.Prelude.{◌≡◌, ◌==◌, ◌≤◌, ◌+◌, List, IfOk, MatchOption, length};
+ghost use Rattle.std.specs.Prelude.{◌≡◌, ◌==◌, ◌≤◌, ◌+◌, List, IfOk, MatchOption, length, nat_lt};
 ghost use Rattle.isl_meaning.specs.Lookup.{place_in};
 ghost use Rattle.isl_meaning.specs.Classes.{precedence, more_specific, applicable};
 ghost use Rattle.isl_meaning.specs.OfClasses.{with_classes};
@@ -111,7 +111,16 @@ fn decision_at(
     if *first == *second {
         return None;
     }
-    Some(place_above(classes, *class, *first) < place_above(classes, *class, *second))
+    Some(stands_earlier(classes, *class, *first, *second))
+}
+
+// Whether one class stands earlier than another in the precedence list of a third.
+fn stands_earlier(classes: &ClassRows, class: ClassId, first: ClassId, second: ClassId) -> bool
+    ensures { result
+        ≡ nat_lt (place_in (λ d. d == first) (precedence (with_classes classes.now) class))
+        (place_in (λ d. d == second) (precedence (with_classes classes.now) class)) }
+{
+    place_above(classes, class, first) < place_above(classes, class, second)
 }
 
 // The place of a class in the precedence list of another.

@@ -1,6 +1,6 @@
 // The table of one generic function.
 
-ghost use Rattle.std.specs.Prelude.{◌≡◌, ◌≤◌, ◌++◌, ◌∷◌, [], List, IfOk, OnOk, MatchOption, map, length, slice_index_or};
+ghost use Rattle.std.specs.Prelude.{◌≡◌, ◌≤◌, ◌++◌, ◌∷◌, [], List, IfOk, OnOk, MatchOption, map, length, slice_get, slice_index_or};
 ghost use Rattle.isl_meaning.specs.declared.program.ProgramRows.{ProgramRows};
 ghost use Rattle.isl_meaning.specs.declared.program.GenericRow.{GenericRow as Generic};
 ghost use Rattle.isl_meaning.specs.Objects.{count_up};
@@ -72,10 +72,18 @@ impl Table {
             → MatchOption result (chain program g classes.now ≡ None)
             (λ c. chain program g classes.now ≡ Some (seen c.now)) }
     {
-        match self.cells.get(index_of(&self.arguments, classes)) {
+        match self.cell(index_of(&self.arguments, classes)) {
             Some(cell) => chain_in(cell),
             None => None,
         }
+    }
+
+    // The cell of that number.
+    fn cell(&self, index: usize) -> Option<&Option<Chain>>
+        ensures { MatchOption result (length self.now.cells ≤ index)
+            (λ cell. slice_get self.now.cells index ≡ Some cell.now) }
+    {
+        self.cells.get(index)
     }
 }
 

@@ -199,7 +199,10 @@ fn slots_of_superclasses_fill_the_limit(rt: HostRuntime) -> Result<(), Stop> {
         with_slots(alloc, &mut classes, 102, &[34, 35], 129, 4),
         refused(5, Reason::BadSlot)
     );
-    assert_eq!(rt; with_slots(alloc, &mut classes, 102, &[34, 35], 0, 0), Ok(36));
+    assert_eq!(rt;
+        with_slots(alloc, &mut classes, 102, &[34, 35], 0, 0),
+        Ok(36)
+    );
     assert_eq!(rt; slot_count(&classes, 36), 64);
     Ok(())
 }

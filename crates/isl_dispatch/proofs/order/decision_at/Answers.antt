@@ -26,7 +26,7 @@ returns-then-first-second c =
 
 pub returns : goal.returns
 returns c =
-    rw (c.place_above.ensures, c.place_above-2.ensures)
+    rw c.stands_earlier.ensures
     (differ_here (with_classes c.args.classes.now) c.args.tuple.now c.args.method.now c.args.other.now c.args.at
     c.in-Some.class.now c.in-Some-get.first.now c.in-Some-get-2.second.now c.in-Some.ensures c.in-Some-get.ensures c.in-Some-get-2.ensures
     (number_differs c.in-Some-get.first.now c.in-Some-get-2.second.now c.if-first-second.false))
