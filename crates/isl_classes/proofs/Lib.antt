@@ -4,3 +4,4 @@ pub mod Adding
 pub mod Defining
 pub mod BuiltIns
 pub mod Ordering
+pub mod Inheriting

@@ -1,24 +1,24 @@
 -- Precedence lists are an order of the classes.
 use Rattle.std.proofs.Common.{◌≡◌, ℕ, zero, suc, ◌+◌, ◌==◌, ◌<◌, ◌≤◌, ◌⊎◌, inl, inr, ⊎_elim, Bool, true, false, ◌&&◌, List, [], ◌∷◌, ◌++◌, Option, Some, None, All, length, take, slice_get, slice_index_or, if◌then◌else◌, refl, sym, ap, ◌∙◌, arith}
 use Rattle.std.proofs.lemmas.Bool.Decides.{nat_tests}
-use Rattle.std.proofs.lemmas.Option.{slice_get-get_or, get_or_from_slice_get}
+use Rattle.std.proofs.lemmas.Option.{get_or_from_slice_get}
 use Rattle.std.proofs.lemmas.List.Elements.{All-head, All-tail}
 use Rattle.isl_meaning.specs.declared.program.ClassRow.{ClassRow}
 use Rattle.isl_meaning.specs.BuiltIn.{built_in_precedence}
 use Rattle.isl_meaning.specs.Classes.{precedence_of}
-use Rattle.isl_meaning.specs.Lookup.{all_of, all_differ, is_in, some_of}
-use Rattle.isl_meaning.specs.Objects.{built_in_classes, count_up}
+use Rattle.isl_meaning.specs.Lookup.{all_of, all_differ, is_in}
+use Rattle.isl_meaning.specs.Objects.{count_up}
 use Rattle.isl_meaning.specs.InheritedPrecedence.{above, each_last, joined, superclasses, precedence_below}
-use Rattle.isl_meaning.specs.InheritedClasses.{Hierarchy, IsHierarchy, IsRow, IsBelow}
+use Rattle.isl_meaning.specs.InheritedClasses.{Hierarchy, IsHierarchy, IsBelow}
 use Rattle.isl_classes.specs.Lines.{line}
 
-number_is : (a b : ℕ) → (a == b) ≡ true → a ≡ b
+pub number_is : (a b : ℕ) → (a == b) ≡ true → a ≡ b
 number_is a b h = grind (arith, nat_tests)
 
 number_itself : (a : ℕ) → (a == a) ≡ true
 number_itself a = grind (arith, nat_tests)
 
-or_right : (a b : Bool) → b ≡ true → (if a then true else b) ≡ true
+pub or_right : (a b : Bool) → b ≡ true → (if a then true else b) ≡ true
 or_right true b h = refl
 or_right false b h = h
 
@@ -129,7 +129,7 @@ pub record HasRow (o : Option ClassRow) (x : ℕ) : Type 0 where
   pub is : o ≡ Some row
   pub holds : is_in x row.precedence ≡ true
 
-has_row : (o : Option ClassRow) (x : ℕ) → is_in x (precedence_of o) ≡ true → HasRow o x
+pub has_row : (o : Option ClassRow) (x : ℕ) → is_in x (precedence_of o) ≡ true → HasRow o x
 has_row None x h = absurd (cc)
 has_row (Some row) x h = record { row = row; is = refl; holds = h }
 
