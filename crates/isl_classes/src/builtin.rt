@@ -108,14 +108,22 @@ fn add_own(alloc: Global, names: &mut Names, own: &mut SlotRows, text: &str) -> 
     ensures extends { Extends names.old names.new }
 {
     let name = names.intern(text.as_bytes())?;
-    let mut initargs = NameList::new(alloc);
-    initargs.push(name)?;
+    let initargs = one_initarg(alloc, name)?;
     own.push(SlotRow {
         name,
         initargs,
         initform: None,
     })?;
     Ok(())
+}
+
+// The name alone.
+fn one_initarg(alloc: Global, name: Name) -> Result<NameList, NoMemory>
+    ensures { IfOk result (λ initargs. initargs ≡ name ∷ []) }
+{
+    let mut initargs = NameList::new(alloc);
+    initargs.push(name)?;
+    Ok(initargs)
 }
 
 // The classes above a built-in class, in order.

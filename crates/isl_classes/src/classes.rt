@@ -50,7 +50,8 @@ impl Classes {
         Ok(Classes { alloc, table })
     }
 
-    /// The class of a name; none exactly where no class has it. Takes no memory.
+    /// The class of a name; none exactly where no class has it. Takes no memory, and looks the name
+    /// up in an ordered map.
     pub fn find(&self, name: Name) -> Option<ClassId>
         ensures class { result ≡ class_named self.now.rows name }
         ensures hierarchy { IsHierarchy self.now }
@@ -67,7 +68,7 @@ impl Classes {
     }
 
     /// The precedence list of a class: the class itself, and what stands above it (ISO/IEC
-    /// 13816:2007, 15). Takes no memory.
+    /// 13816:2007, 15). Takes no memory: it is the list that the row of the class keeps.
     pub fn precedence(&self, class: ClassId) -> &[ClassId]
         requires { class < length self.now.rows }
         ensures { result.now ≡ precedence_of (slice_get self.now.rows class) }
@@ -75,7 +76,8 @@ impl Classes {
         precedence_of(self.table.rows(), class)
     }
 
-    /// Whether a class is `above` or stands below it. Takes no memory.
+    /// Whether a class is `above` or stands below it. Takes no memory, and looks at the precedence
+    /// list of the class alone.
     pub fn is_subclass(&self, class: ClassId, above: ClassId) -> bool
         requires { class < length self.now.rows }
         ensures { result ≡ is_in above (precedence_of (slice_get self.now.rows class)) }
@@ -84,7 +86,7 @@ impl Classes {
     }
 
     /// The place of the slot of a name in the instances of a class; none exactly where the class
-    /// has no such slot. Takes no memory.
+    /// has no such slot. Takes no memory, and looks at the slots of the class alone, at most 64.
     pub fn slot_place(&self, class: ClassId, slot: Name) -> Option<u32>
         requires { class < length self.now.rows }
         ensures { result ≡ place_of_slot (slots_of (slice_get self.now.rows class)) slot }

@@ -5,6 +5,7 @@ mod builtin;
 mod classes;
 mod definition;
 mod judged;
+pub mod laws;
 mod line;
 mod place;
 mod row;

@@ -1,6 +1,6 @@
 // What stands above a class: the superclasses that go together, and their precedence lists joined.
 
-ghost use Rattle.std.specs.Prelude.{◌≡◌, ◌++◌, OnOk, OnErr, IfOk, slice_get};
+ghost use Rattle.std.specs.Prelude.{◌≡◌, ◌+◌, ◌<◌, ◌++◌, OnOk, OnErr, IfOk, drop, get_or, length, slice_get};
 ghost use Rattle.isl_meaning.specs.Classes.{precedence_of};
 ghost use Rattle.isl_meaning.specs.Lookup.{all_of, all_differ};
 ghost use Rattle.isl_meaning.specs.Lookup.{some_of, is_in};
@@ -166,10 +166,17 @@ fn each_last(alloc: Global, classes: &[ClassId]) -> Result<ClassIds, NoMemory>
 {
     let mut kept = ClassIds::new(alloc);
     for at in 0..classes.len() {
-        let class = classes[at];
-        if !is_among(class, &classes[at + 1..]) {
-            kept.push(class)?;
+        if !comes_again(classes, at) {
+            kept.push(classes[at])?;
         }
     }
     Ok(kept)
+}
+
+// Whether the class at that place stands once more behind it.
+fn comes_again(classes: &[ClassId], at: usize) -> bool
+    requires { at < length classes.now }
+    ensures { result ≡ is_in (get_or classes.now at 0) (drop (at + 1) classes.now) }
+{
+    is_among(classes[at], &classes[at + 1..])
 }

@@ -5,3 +5,4 @@ pub mod Taking
 pub mod Picking
 pub mod Placing
 pub mod Making
+pub mod Ordering

@@ -24,7 +24,7 @@ set_back [] i g held h = absurd (cc)
 set_back (r ∷ rows) zero g held h = let same : r ≡ g = cc in rw same refl
 set_back (r ∷ rows) (suc i) g held h = ap (λ rs. r ∷ rs) (set_back rows i g held h)
 
-both : (a b : Bool) → (a && b) ≡ true → (a ≡ true) × (b ≡ true)
+pub both : (a b : Bool) → (a && b) ≡ true → (a ≡ true) × (b ≡ true)
 both true b h = (refl, h)
 both false b h = absurd (cc)
 
@@ -66,7 +66,7 @@ text-sym (x ∷ xs) (y ∷ ys) = let e : (x == y) ≡ (y == x) = equal-sym x y i
 same-sym : (m n : MethodRow) → is_same m n ≡ is_same n m
 same-sym m n = rw (qualifier-sym m.qualifier n.qualifier, text-sym m.classes n.classes) refl
 
-neither : (a b : Bool) → (if a then true else b) ≡ false → (a ≡ false) × (b ≡ false)
+pub neither : (a b : Bool) → (if a then true else b) ≡ false → (a ≡ false) × (b ≡ false)
 neither true b h = absurd (cc)
 neither false b h = (refl, h)
 
@@ -77,7 +77,7 @@ some_of-more p (y ∷ ys) x h k =
     let rest : some_of p (ys ++ x ∷ []) ≡ false = some_of-more p ys x parts.1 k in
     rw (parts.0, rest) refl
 
-is_false : (a : Bool) → not a ≡ true → a ≡ false
+pub is_false : (a : Bool) → not a ≡ true → a ≡ false
 is_false true h = absurd (cc)
 is_false false h = refl
 

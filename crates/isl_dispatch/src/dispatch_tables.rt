@@ -1,6 +1,6 @@
 // Dispatch tables: how a call of a generic function finds its methods.
 
-ghost use Rattle.std.specs.Prelude.{◌≡◌, List, Some, MatchOption, slice_get};
+ghost use Rattle.std.specs.Prelude.{◌≡◌, ◌≤◌, List, Some, MatchOption, length, slice_get};
 ghost use Rattle.isl_meaning.specs.declared.program.ClassRow.{ClassRow as Class};
 ghost use Rattle.isl_meaning.specs.declared.program.GenericRow.{GenericRow as Generic};
 ghost use Rattle.isl_meaning.specs.Classes.{chain};
@@ -30,8 +30,13 @@ impl Tables {
 
     /// The chain of a call of that generic function with arguments of these classes; none exactly
     /// where no primary method applies (ISO/IEC 13816:2007, 15.3.4). Condition: the number is that
-    /// of a generic function, and there are as many classes as required arguments. Takes no memory,
-    /// and no time that grows with the number of methods.
+    /// of a generic function, and there are as many classes as required arguments, each the number of
+    /// a class.
+    ///
+    /// Takes no memory. Its steps are one look at the table of the generic function, for each
+    /// required argument one at the map of the argument and one at the number that the map has for
+    /// the class, and one at the cell of the number that these make. So its time grows with the
+    /// required arguments alone: no method, no precedence list and no other class is looked at.
     pub fn chain(&self, generic: GenericId, classes: &[ClassId]) -> Option<&Chain>
         ensures { (generics : List Generic) → (rows : List Class) → (g : Generic)
             → AreTablesOf (with_classes rows) generics self.now
@@ -40,9 +45,17 @@ impl Tables {
             → MatchOption result (chain (with_classes rows) g classes.now ≡ None)
             (λ c. chain (with_classes rows) g classes.now ≡ Some (seen c.now)) }
     {
-        match self.tables.get(generic) {
+        match self.of_generic(generic) {
             Some(table) => table.chain(classes),
             None => None,
         }
+    }
+
+    // The table of that generic function.
+    fn of_generic(&self, generic: GenericId) -> Option<&Table>
+        ensures { MatchOption result (length self.now.tables ≤ generic)
+            (λ table. slice_get self.now.tables generic ≡ Some table.now) }
+    {
+        self.tables.get(generic)
     }
 }

@@ -5,6 +5,7 @@ pub mod build;
 pub mod chain;
 pub mod dispatch_tables;
 pub mod generics;
+pub mod laws;
 mod methods;
 mod order;
 mod table;

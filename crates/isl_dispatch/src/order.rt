@@ -1,11 +1,11 @@
 // The methods that apply to a tuple of classes, the most specific one first.
 
-ghost use Rattle.std.specs.Prelude.{◌≡◌, ◌==◌, ◌≤◌, List, IfOk, length};
+ghost use Rattle.std.specs.Prelude.{◌≡◌, ◌==◌, ◌≤◌, ◌+◌, List, IfOk, MatchOption, length, nat_lt};
 ghost use Rattle.isl_meaning.specs.Lookup.{place_in};
 ghost use Rattle.isl_meaning.specs.Classes.{precedence, more_specific, applicable};
 ghost use Rattle.isl_meaning.specs.OfClasses.{with_classes};
 ghost use Rattle.isl_meaning.specs.declared.program.MethodRow.{MethodRow};
-ghost use Rattle.isl_dispatch.specs.Chains.{ArePicked};
+ghost use Rattle.isl_dispatch.specs.Chains.{ArePicked, more_specific_from};
 
 use isl_base::NoMemory;
 use isl_meaning::{ClassId, ClassIds, ClassRows, GenericRow, MethodRow, applies};
@@ -66,8 +66,8 @@ fn place_for(
     order.len()
 }
 
-// Whether a method of these classes is more specific than one of the others: at the first argument
-// whose classes differ, its class stands earlier above the argument's class.
+// Whether a method of these classes is more specific than one of the others: the first argument
+// that decides does.
 fn is_more_specific(
     classes: &ClassRows,
     tuple: &ClassIds,
@@ -78,20 +78,49 @@ fn is_more_specific(
         ≡ more_specific (with_classes classes.now) tuple.now method.now other.now }
 {
     for at in 0..tuple.len() {
-        let Some(class) = tuple.get(at) else {
-            unreachable!()
-        };
-        let Some(first) = method.get(at) else {
-            return false;
-        };
-        let Some(second) = other.get(at) else {
-            return false;
-        };
-        if *first != *second {
-            return place_above(classes, *class, *first) < place_above(classes, *class, *second);
+        if let Some(answer) = decision_at(classes, tuple, method, other, at) {
+            return answer;
         }
     }
     false
+}
+
+// What the argument at that place decides: nothing where the classes of both methods are the same
+// there, and else whether the first one's stands earlier above the argument's class.
+fn decision_at(
+    classes: &ClassRows,
+    tuple: &ClassIds,
+    method: &ClassIds,
+    other: &ClassIds,
+    at: usize,
+) -> Option<bool>
+    ensures { MatchOption result
+        (more_specific_from classes.now at tuple.now method.now other.now
+        ≡ more_specific_from classes.now (at + 1) tuple.now method.now other.now)
+        (λ answer. more_specific_from classes.now at tuple.now method.now other.now ≡ answer) }
+{
+    let Some(class) = tuple.get(at) else {
+        return Some(false);
+    };
+    let Some(first) = method.get(at) else {
+        return Some(false);
+    };
+    let Some(second) = other.get(at) else {
+        return Some(false);
+    };
+    if *first == *second {
+        return None;
+    }
+    Some(stands_earlier(classes, *class, *first, *second))
+}
+
+// Whether one class stands earlier than another in the precedence list of a third.
+fn stands_earlier(classes: &ClassRows, class: ClassId, first: ClassId, second: ClassId) -> bool
+    ensures { result
+        ≡ nat_lt (place_in (λ d. d == first) (precedence (with_classes classes.now) class))
+        (place_in (λ d. d == second) (precedence (with_classes classes.now) class)) }
+{
+    place_above(classes, class, first) < place_above(classes, class, second)
 }
 
 // The place of a class in the precedence list of another.

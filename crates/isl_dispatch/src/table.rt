@@ -1,6 +1,6 @@
 // The table of one generic function.
 
-ghost use Rattle.std.specs.Prelude.{◌≡◌, ◌≤◌, ◌++◌, ◌∷◌, [], List, IfOk, OnOk, MatchOption, map, length, slice_index_or};
+ghost use Rattle.std.specs.Prelude.{◌≡◌, ◌≤◌, ◌++◌, ◌∷◌, [], List, IfOk, OnOk, MatchOption, map, length, slice_get, slice_index_or};
 ghost use Rattle.isl_meaning.specs.declared.program.ProgramRows.{ProgramRows};
 ghost use Rattle.isl_meaning.specs.declared.program.GenericRow.{GenericRow as Generic};
 ghost use Rattle.isl_meaning.specs.Objects.{count_up};
@@ -65,17 +65,25 @@ pub struct Table {
 
 impl Table {
     /// The chain of a call with arguments of these classes, none exactly where no primary method
-    /// applies. Takes no memory.
+    /// applies. Takes no memory, and looks at one cell.
     pub fn chain(&self, classes: &[ClassId]) -> Option<&Chain>
         ensures { (program : ProgramRows) → (g : Generic) → IsTableOf program g self.now
             → AreCalled program g classes.now
             → MatchOption result (chain program g classes.now ≡ None)
             (λ c. chain program g classes.now ≡ Some (seen c.now)) }
     {
-        match self.cells.get(index_of(&self.arguments, classes)) {
+        match self.cell(index_of(&self.arguments, classes)) {
             Some(cell) => chain_in(cell),
             None => None,
         }
+    }
+
+    // The cell of that number.
+    fn cell(&self, index: usize) -> Option<&Option<Chain>>
+        ensures { MatchOption result (length self.now.cells ≤ index)
+            (λ cell. slice_get self.now.cells index ≡ Some cell.now) }
+    {
+        self.cells.get(index)
     }
 }
 
@@ -89,7 +97,8 @@ fn chain_in(cell: &Option<Chain>) -> Option<&Chain>
     }
 }
 
-// The number of the tuple of the groups of these classes.
+// The number of the tuple of the groups of these classes: one look at the map of each argument, and
+// one at the number that it has for the class.
 fn index_of(arguments: &ItemList<ArgumentMap>, classes: &[ClassId]) -> usize
     ensures { (program : ProgramRows) → (g : Generic) → AreMapsOf program g arguments.now
         → AreCalled program g classes.now → length (tuples_of program g) ≤ 262144

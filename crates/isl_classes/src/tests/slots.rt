@@ -1,8 +1,8 @@
 // Slots: what a class inherits, and which definitions are refused.
 
-use super::{built_in, define, no_slots, refused, slot};
+use super::{at, built_in, define, no_slots, refused, slot};
 use crate::{Classes, SlotSpecs};
-use isl_base::{Name, Reason, Stop};
+use isl_base::{Name, Names, Reason, Stop};
 use isl_meaning::ClassId;
 use std::alloc::Global;
 
@@ -181,4 +181,114 @@ fn inherited_slots_count(rt: HostRuntime) -> Result<(), Stop> {
     );
     assert_eq!(rt; classes.rows().len(), 37);
     Ok(())
+}
+
+// Two superclasses with 32 slots each: a class of theirs has 64, and no slot of its own.
+#[test]
+fn slots_of_superclasses_fill_the_limit(rt: HostRuntime) -> Result<(), Stop> {
+    let alloc = rt.alloc();
+    let mut classes = built_in(alloc)?;
+    assert_eq!(rt; with_slots(alloc, &mut classes, 100, &[], 100, 32), Ok(34));
+    assert_eq!(rt; with_slots(alloc, &mut classes, 101, &[], 200, 32), Ok(35));
+    assert_eq!(rt;
+        with_slots(alloc, &mut classes, 102, &[34, 35], 0, 1),
+        refused(2, Reason::BadSlot)
+    );
+    // The first three are there already.
+    assert_eq!(rt;
+        with_slots(alloc, &mut classes, 102, &[34, 35], 129, 4),
+        refused(5, Reason::BadSlot)
+    );
+    assert_eq!(rt;
+        with_slots(alloc, &mut classes, 102, &[34, 35], 0, 0),
+        Ok(36)
+    );
+    assert_eq!(rt; slot_count(&classes, 36), 64);
+    Ok(())
+}
+
+fn slot_count(classes: &Classes, class: ClassId) -> usize {
+    match classes.rows().get(class) {
+        Some(row) => row.slots.len(),
+        None => 0,
+    }
+}
+
+// Where several offences stand in one definition, the superclasses come first, then too many
+// slots of the superclasses, and then the first wrong slot.
+#[test]
+fn order_of_refusals(rt: HostRuntime) -> Result<(), Stop> {
+    let alloc = rt.alloc();
+    let mut classes = built_in(alloc)?;
+    assert_eq!(rt; with_slots(alloc, &mut classes, 100, &[], 100, 40), Ok(34));
+    assert_eq!(rt; with_slots(alloc, &mut classes, 101, &[], 200, 40), Ok(35));
+    let slots = repeated(alloc)?;
+    assert_eq!(rt;
+        define(&mut classes, 102, &[34, 35, 34], &slots),
+        refused(1, Reason::BadSupers)
+    );
+    assert_eq!(rt;
+        define(&mut classes, 102, &[34, 35], &slots),
+        refused(1, Reason::BadSlot)
+    );
+    assert_eq!(rt;
+        define(&mut classes, 102, &[34], &slots),
+        refused(4, Reason::BadSlot)
+    );
+    // A repeated slot behind the one past the limit, and in front of it.
+    let mut late = slots_from(alloc, 0, 26)?;
+    late.push(slot(alloc, 90, 0, &[], None)?)?;
+    assert_eq!(rt;
+        define(&mut classes, 102, &[34], &late),
+        refused(26, Reason::BadSlot)
+    );
+    let mut early = slots_from(alloc, 0, 24)?;
+    early.push(slot(alloc, 80, 3, &[], None)?)?;
+    early.push(slot(alloc, 90, 30, &[], None)?)?;
+    assert_eq!(rt;
+        define(&mut classes, 102, &[34], &early),
+        refused(80, Reason::BadSlot)
+    );
+    Ok(())
+}
+
+// A class below `<simple-error>` has its two slots first, and may say more of them.
+#[test]
+fn slots_below_a_condition(rt: HostRuntime) -> Result<(), Stop> {
+    let alloc = rt.alloc();
+    let mut names = Names::new(alloc);
+    let mut classes = Classes::builtin(alloc, &mut names)?;
+    let text = names.intern(b"format-string")?;
+    let arguments = names.intern(b"format-arguments")?;
+    let code = names.intern(b"code")?;
+    let own = names.intern(b"<failure>")?;
+    let mut slots = no_slots(alloc);
+    slots.push(slot(alloc, 2, code.0, &[], None)?)?;
+    slots.push(slot(alloc, 3, arguments.0, &[code.0], Some(4))?)?;
+    assert_eq!(rt; define(&mut classes, own.0, &[25], &slots), Ok(34));
+    assert!(rt; has_slot(&classes, 34, 0, text.0, &[text], None));
+    assert!(rt; has_slot(&classes, 34, 1, arguments.0, &[arguments, code], Some(4)));
+    assert!(rt; has_slot(&classes, 34, 2, code.0, &[], None));
+    assert!(rt; has_slot(&classes, 25, 1, arguments.0, &[arguments], None));
+    Ok(())
+}
+
+#[test]
+fn abstract_classes(rt: HostRuntime) -> Result<(), Stop> {
+    let mut classes = built_in(rt.alloc())?;
+    let slots = no_slots(rt.alloc());
+    assert!(rt; classes.find(Name(100)).is_none());
+    assert_eq!(rt; classes.define(Name(100), at(1), &[], &slots, true), Ok(34));
+    assert_eq!(rt; define(&mut classes, 101, &[34], &slots), Ok(35));
+    for (class, wanted) in [(17, false), (34, true), (35, false)] {
+        assert_eq!(rt; is_abstract(&classes, class), Some(wanted));
+    }
+    Ok(())
+}
+
+fn is_abstract(classes: &Classes, class: ClassId) -> Option<bool> {
+    match classes.rows().get(class) {
+        Some(row) => Some(row.abstract_class),
+        None => None,
+    }
 }

@@ -10,6 +10,6 @@ returns-clause-own c = λ ts s.
     let later : Extends c.args.names.now c.intern.new.self =
     subst (Extends c.args.names.now) (sym c.in_ok-name.ensures.after) (Extends-with_text c.args.names.now c.as_bytes.result.now) in
     let text : slice_get c.intern.new.self c.in_ok-name.name.0 ≡ Some c.args.text.now = c.in_ok-name.ensures.name ∙ ap Some c.as_bytes.ensures.value in
-    let initargs : c.push.new.self ≡ c.in_ok-name.name ∷ [] = c.in_ok-push.ensures.ok ∙ ap (λ ns. ns ++ c.in_ok-name.name ∷ []) c.new-initargs.ensures in
-    let slots : c.push-2.new.self ≡ c.args.own.now ++ own_initarg c.in_ok-name.name ∷ [] = c.in_ok-push-2.ensures.ok ∙ rw initargs refl in
-    says-more c.args.names.now c.intern.new.self ts c.args.own.now c.push-2.new.self c.in_ok-name.name c.args.text.now later text slots s
+    let initargs : c.in_ok-initargs.initargs ≡ c.in_ok-name.name ∷ [] = c.in_ok-initargs.ensures in
+    let slots : c.push.new.self ≡ c.args.own.now ++ own_initarg c.in_ok-name.name ∷ [] = c.in_ok-push.ensures.ok ∙ rw initargs refl in
+    says-more c.args.names.now c.intern.new.self ts c.args.own.now c.push.new.self c.in_ok-name.name c.args.text.now later text slots s

@@ -1,10 +1,10 @@
--- The rest decides.
-use Rattle.std.proofs.Common.{◌≡◌, drop}
+-- The arguments that are left decide.
+use Rattle.std.proofs.Common.{◌≡◌}
 use Rattle.isl_meaning.specs.Classes.{more_specific}
 use Rattle.isl_meaning.specs.OfClasses.{with_classes}
+use Rattle.isl_dispatch.specs.Chains.{more_specific_from}
 use Rattle.isl_dispatch.proofs.order.is_more_specific.Given as goal
 
 abbrev pub invariant-loop-at : goal.invariant-loop-at
 invariant-loop-at l =
-    more_specific (with_classes l.classes) (drop l.at l.tuple) (drop l.at l.method) (drop l.at l.other)
-    ≡ more_specific (with_classes l.classes) l.tuple l.method l.other
+    more_specific_from l.classes l.at l.tuple l.method l.other ≡ more_specific (with_classes l.classes) l.tuple l.method l.other

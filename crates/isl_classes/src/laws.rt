@@ -1,0 +1,28 @@
+// Laws of precedence lists and slots, for all hierarchies of classes.
+
+ghost use Rattle.std.specs.Prelude.{◌≡◌, ◌<◌, ◌==◌, ℕ, true, length};
+ghost use Rattle.isl_meaning.specs.Lookup.{all_differ, is_in};
+ghost use Rattle.isl_meaning.specs.InheritedClasses.{Hierarchy, IsHierarchy};
+ghost use Rattle.isl_base.specs.declared.datum.Name.{Name};
+ghost use Rattle.isl_meaning.specs.InheritedSlots.{has_name, same_name};
+ghost use Rattle.isl_classes.specs.Lines.{line, slots_named};
+
+/// Precedence lists are an order of the classes (ISO/IEC 13816:2007, 15). A class stands in its own
+/// list, and no class stands in a list twice. What stands in the list of a class that a list has
+/// stands in that list too. And of two classes at most one stands below the other.
+pub fn law_precedence()
+    ensures itself { (h : Hierarchy) (c : ℕ) → IsHierarchy h → c < length h.rows → is_in c (line h c) ≡ true }
+    ensures once { (h : Hierarchy) (c : ℕ) → IsHierarchy h → all_differ (λ d e. d == e) (line h c) ≡ true }
+    ensures through { (h : Hierarchy) (c d e : ℕ) → IsHierarchy h →
+        is_in d (line h c) ≡ true → is_in e (line h d) ≡ true → is_in e (line h c) ≡ true }
+    ensures one_way { (h : Hierarchy) (c d : ℕ) → IsHierarchy h →
+        is_in d (line h c) ≡ true → is_in c (line h d) ≡ true → c ≡ d }
+{}
+
+/// Slots are inherited (ISO/IEC 13816:2007, 15): a class has each slot of the classes above it, and no
+/// slot twice.
+pub fn law_slots()
+    ensures once { (h : Hierarchy) (c : ℕ) → IsHierarchy h → all_differ same_name (slots_named h c) ≡ true }
+    ensures inherited { (h : Hierarchy) (c d : ℕ) (n : Name) → IsHierarchy h → is_in d (line h c) ≡ true →
+        has_name n (slots_named h d) ≡ true → has_name n (slots_named h c) ≡ true }
+{}

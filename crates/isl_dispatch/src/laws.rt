@@ -1,0 +1,26 @@
+// Laws of the methods that apply to a call, for all programs.
+
+ghost use Rattle.std.specs.Prelude.{◌≡◌, ◌<◌, ℕ, true, false, List, Some, filter, slice_get};
+ghost use Rattle.isl_meaning.specs.declared.program.ProgramRows.{ProgramRows};
+ghost use Rattle.isl_meaning.specs.declared.program.GenericRow.{GenericRow};
+ghost use Rattle.isl_meaning.specs.declared.program.MethodRow.{MethodRow};
+ghost use Rattle.isl_meaning.specs.Classes.{applies, applicable, more_specific};
+ghost use Rattle.isl_meaning.specs.ProgramCounts.{total};
+ghost use Rattle.isl_dispatch.specs.Methods.{row_is_whole};
+
+/// The methods that a call finds are the ones that apply, in the order of their specificity (ISO/IEC
+/// 13816:2007, 15.3.4). They are the same methods, each as often: whatever is added up over them has
+/// the same sum. Of two of one qualifier the one that stands earlier is more specific, and of two
+/// methods at most one is more specific than the other.
+pub fn law_order()
+    ensures same { (program : ProgramRows) (g : GenericRow) (cs : List ℕ) (count : MethodRow → ℕ) →
+        total count (applicable program cs g.methods)
+        ≡ total count (filter (λ m. applies program cs m.classes) g.methods) }
+    ensures order { (program : ProgramRows) (g : GenericRow) (cs : List ℕ) (i j : ℕ) (m n : MethodRow) →
+        row_is_whole g ≡ true → i < j →
+        slice_get (applicable program cs g.methods) i ≡ Some m →
+        slice_get (applicable program cs g.methods) j ≡ Some n →
+        m.qualifier ≡ n.qualifier → more_specific program cs m.classes n.classes ≡ true }
+    ensures one_way { (program : ProgramRows) (cs ms ns : List ℕ) →
+        more_specific program cs ms ns ≡ true → more_specific program cs ns ms ≡ false }
+{}
