@@ -1,4 +1,4 @@
-// Quasiquotation (ISO/IEC 13816:2007, 13.2): the form that makes the datum of a template.
+// Quasiquotation (ISO/IEC 13816:2007, 16): the form that makes the datum of a template.
 
 ghost use Rattle.std.specs.Prelude.{◌≡◌, ◌≤◌, ◌+◌, ◌∷◌, [], length, Some, IfOk, codes};
 ghost use Rattle.isl_derived.specs.Templates.{only_of, splicing, last_unquoted};
