@@ -1,9 +1,12 @@
 // Each row of the table of derived forms with its step, and each way to fit none.
 
 mod formed;
+mod later;
+mod new_parts;
 mod read;
 mod show;
 mod table;
+mod templates;
 
 use crate::{Step, derive};
 use formed::is_formed;
@@ -120,8 +123,8 @@ fn conditions_and_classes(rt: HostRuntime) -> Result<(), Fail> {
 }
 
 #[test]
-fn templates(rt: HostRuntime) -> Result<(), Fail> {
-    steps(&rt, rt.alloc(), table::QUASIQUOTE, false)
+fn quasiquotations(rt: HostRuntime) -> Result<(), Fail> {
+    steps(&rt, rt.alloc(), templates::QUASIQUOTE, false)
 }
 
 #[test]
@@ -131,12 +134,12 @@ fn no_derived_forms(rt: HostRuntime) -> Result<(), Fail> {
 
 #[test]
 fn places_of_parts(rt: HostRuntime) -> Result<(), Fail> {
-    steps(&rt, rt.alloc(), table::PLACES, true)
+    steps(&rt, rt.alloc(), new_parts::PLACES, true)
 }
 
 #[test]
 fn judged_later(rt: HostRuntime) -> Result<(), Fail> {
-    steps(&rt, rt.alloc(), table::JUDGED_LATER, false)
+    steps(&rt, rt.alloc(), later::JUDGED_LATER, false)
 }
 
 // One after the other, with three new symbols at first: each form with its step, and how many new
@@ -144,7 +147,7 @@ fn judged_later(rt: HostRuntime) -> Result<(), Fail> {
 #[test]
 fn serials_go_on(rt: HostRuntime) -> Result<(), Fail> {
     let mut fresh = made(rt.alloc(), 3)?;
-    for (text, wanted, count) in table::SERIALS {
+    for (text, wanted, count) in new_parts::SERIALS {
         let got = step(rt.alloc(), text, &mut fresh, false)?;
         assert!(rt; got.as_slice() == *wanted, "{text:?} gives {got:?}");
         assert_eq!(rt; fresh.len(), *count);
