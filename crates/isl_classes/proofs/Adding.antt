@@ -10,8 +10,8 @@ use Rattle.isl_base.specs.declared.datum.Name.{Name}
 use Rattle.isl_base.specs.Names.{slice_get-push}
 use Rattle.isl_meaning.specs.declared.program.ClassRow.{ClassRow}
 use Rattle.isl_meaning.specs.declared.program.SlotRow.{SlotRow}
-use Rattle.isl_meaning.specs.InheritedClasses.{Hierarchy, IsRow, AreClasses, class_named}
-use Rattle.isl_meaning.specs.InheritedSlots.{same_name}
+use Rattle.isl_classes.specs.InheritedClasses.{Hierarchy, IsRow, AreClasses, class_named}
+use Rattle.isl_classes.specs.InheritedSlots.{same_name}
 use Rattle.isl_classes.specs.Table.{IsIndexed}
 use Rattle.isl_classes.proofs.Names.{either}
 

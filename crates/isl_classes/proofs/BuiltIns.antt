@@ -12,9 +12,9 @@ use Rattle.isl_meaning.specs.BuiltIn.{built_in_precedence, built_in_slots, class
 use Rattle.isl_meaning.specs.Lookup.{all_of, all_differ}
 use Rattle.isl_meaning.specs.Lookup.{some_of}
 use Rattle.isl_meaning.specs.Values.{same_text}
-use Rattle.isl_meaning.specs.InheritedSlots.{same_name, has_name, each_first, without_name, names_of, said_by, own_slots, united}
-use Rattle.isl_meaning.specs.InheritedClasses.{Hierarchy, IsRow, AreClasses, IsBuiltIn, class_named, slot_limit}
-use Rattle.isl_meaning.specs.InheritedBuiltIn.{SaysSlots, AreBuiltIn, built_in_own, own_initarg, texts_of}
+use Rattle.isl_classes.specs.InheritedSlots.{same_name, has_name, each_first, without_name, names_of, said_by, own_slots, united}
+use Rattle.isl_classes.specs.InheritedClasses.{Hierarchy, IsRow, AreClasses, IsBuiltIn, class_named, slot_limit}
+use Rattle.isl_classes.specs.InheritedBuiltIn.{SaysSlots, AreBuiltIn, built_in_own, own_initarg, texts_of}
 use Rattle.isl_classes.specs.FirstClasses.{AreFirst, IsMade}
 use Rattle.isl_classes.proofs.Names.{either}
 use Rattle.isl_classes.proofs.Defining.{said-own, length-united, names-append}

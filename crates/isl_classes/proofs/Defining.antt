@@ -9,9 +9,9 @@ use Rattle.isl_meaning.specs.declared.program.SlotRow.{SlotRow}
 use Rattle.isl_meaning.specs.Classes.{precedence_of}
 use Rattle.isl_meaning.specs.Lookup.{is_in}
 use Rattle.isl_meaning.specs.Objects.{standard_object_class}
-use Rattle.isl_meaning.specs.InheritedPrecedence.{above, each_last, joined, superclasses, precedence_below, supers_fit}
-use Rattle.isl_meaning.specs.InheritedSlots.{each_first, names_of, slots_of, said_by, own_slots, slots_said_by, united}
-use Rattle.isl_meaning.specs.InheritedClasses.{GivenSlot, Hierarchy, IsHierarchy, IsRow, AreClasses, inherited_names, row_of, slot_limit, slots_given, with_own, with_class}
+use Rattle.isl_classes.specs.InheritedPrecedence.{above, each_last, joined, superclasses, precedence_below, supers_fit}
+use Rattle.isl_classes.specs.InheritedSlots.{each_first, names_of, slots_of, said_by, own_slots, slots_said_by, united}
+use Rattle.isl_classes.specs.InheritedClasses.{GivenSlot, Hierarchy, IsHierarchy, IsRow, AreClasses, inherited_names, row_of, slot_limit, slots_given, with_own, with_class}
 use Rattle.isl_classes.specs.declared.slot_spec.SlotSpec.{SlotSpec}
 use Rattle.isl_classes.specs.Given.{given, spec_names}
 

@@ -6,8 +6,8 @@ use Rattle.isl_meaning.specs.declared.program.ClassRow.{ClassRow}
 use Rattle.isl_meaning.specs.declared.program.SlotRow.{SlotRow}
 use Rattle.isl_meaning.specs.Classes.{precedence_of}
 use Rattle.isl_meaning.specs.Lookup.{all_differ, is_in}
-use Rattle.isl_meaning.specs.InheritedSlots.{same_name, has_name, without_name, each_first, names_of, slots_of, said_by, own_slots, slots_said_by, united}
-use Rattle.isl_meaning.specs.InheritedClasses.{Hierarchy, IsHierarchy}
+use Rattle.isl_classes.specs.InheritedSlots.{same_name, has_name, without_name, each_first, names_of, slots_of, said_by, own_slots, slots_said_by, united}
+use Rattle.isl_classes.specs.InheritedClasses.{Hierarchy, IsHierarchy}
 use Rattle.isl_classes.specs.Lines.{line, slots_named, names_in}
 use Rattle.isl_classes.proofs.Defining.{names-append}
 use Rattle.isl_classes.proofs.Ordering.{number_is, or_right, through, no_higher}

@@ -9,8 +9,8 @@ use Rattle.isl_base.specs.declared.place.Place.{Place}
 use Rattle.isl_base.specs.declared.reason.Stop.{Stop}
 use Rattle.isl_base.specs.declared.reason.Stop.TheVariants.{Refused, NoMemory}
 use Rattle.isl_classes.specs.declared.slot_spec.SlotSpec.{SlotSpec}
-use Rattle.isl_meaning.specs.InheritedClasses.{GivenSlot, first_wrong, bad_slot, slot_limit, slots_refusal}
-use Rattle.isl_meaning.specs.InheritedSlots.{with_name, each_first}
+use Rattle.isl_classes.specs.InheritedClasses.{GivenSlot, first_wrong, bad_slot, slot_limit, slots_refusal}
+use Rattle.isl_classes.specs.InheritedSlots.{with_name, each_first}
 use Rattle.isl_classes.specs.Given.{given, spec_names, is_wrong, StopsBy}
 use Rattle.isl_classes.proofs.Names.{each_first-push}
 

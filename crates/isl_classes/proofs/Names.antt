@@ -6,7 +6,7 @@ use Rattle.std.proofs.lemmas.List.Elements.{filter-append}
 use Rattle.std.proofs.lemmas.List.Concat.{flat_map-append}
 use Rattle.isl_base.specs.declared.datum.Name.{Name}
 use Rattle.isl_meaning.specs.declared.program.SlotRow.{SlotRow}
-use Rattle.isl_meaning.specs.InheritedSlots.{same_name, has_name, with_name, with_names, without_name, each_first, of_name, initargs_of, initform_of, last_initform, names_of}
+use Rattle.isl_classes.specs.InheritedSlots.{same_name, has_name, with_name, with_names, without_name, each_first, of_name, initargs_of, initform_of, last_initform, names_of}
 
 -- a test is true or false
 pub either : (b : Bool) → (b ≡ true) ⊎ (b ≡ false)

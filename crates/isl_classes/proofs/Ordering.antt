@@ -8,8 +8,8 @@ use Rattle.isl_meaning.specs.BuiltIn.{built_in_precedence}
 use Rattle.isl_meaning.specs.Classes.{precedence_of}
 use Rattle.isl_meaning.specs.Lookup.{all_of, all_differ, is_in}
 use Rattle.isl_meaning.specs.Objects.{count_up}
-use Rattle.isl_meaning.specs.InheritedPrecedence.{above, each_last, joined, superclasses, precedence_below}
-use Rattle.isl_meaning.specs.InheritedClasses.{Hierarchy, IsHierarchy, IsBelow}
+use Rattle.isl_classes.specs.InheritedPrecedence.{above, each_last, joined, superclasses, precedence_below}
+use Rattle.isl_classes.specs.InheritedClasses.{Hierarchy, IsHierarchy, IsBelow}
 use Rattle.isl_classes.specs.Lines.{line}
 
 pub number_is : (a b : ℕ) → (a == b) ≡ true → a ≡ b

@@ -2,9 +2,9 @@
 use Rattle.std.specs.Prelude.{◌≡◌, ℕ, List, ◌∷◌, ◌++◌, Some, length, slice_get}
 use Rattle.isl_meaning.specs.declared.program.ClassRow.{ClassRow}
 use Rattle.isl_meaning.specs.declared.program.SlotRow.{SlotRow}
-use Rattle.isl_meaning.specs.InheritedSlots.{said_by, united}
-use Rattle.isl_meaning.specs.InheritedClasses.{Hierarchy, AreClasses, IsBuiltIn}
-use Rattle.isl_meaning.specs.InheritedBuiltIn.{AreNamed}
+use Rattle.isl_classes.specs.InheritedSlots.{said_by, united}
+use Rattle.isl_classes.specs.InheritedClasses.{Hierarchy, AreClasses, IsBuiltIn}
+use Rattle.isl_classes.specs.InheritedBuiltIn.{AreNamed}
 
 -- the first n of them
 pub record AreFirst (texts : List (List ℕ)) (h : Hierarchy) (n : ℕ) : Type 0 where

@@ -5,8 +5,8 @@ use Rattle.isl_base.specs.declared.reason.Refusal.{Refusal}
 use Rattle.isl_base.specs.declared.reason.Stop.{Stop}
 use Rattle.isl_base.specs.declared.reason.Stop.TheVariants.{Refused, NoMemory}
 use Rattle.isl_classes.specs.declared.slot_spec.SlotSpec.{SlotSpec}
-use Rattle.isl_meaning.specs.InheritedClasses.{GivenSlot, slot_limit}
-use Rattle.isl_meaning.specs.InheritedSlots.{has_name, with_name}
+use Rattle.isl_classes.specs.InheritedClasses.{GivenSlot, slot_limit}
+use Rattle.isl_classes.specs.InheritedSlots.{has_name, with_name}
 
 -- the slots of a definition with their places, and their names
 abbrev pub given_slot : SlotSpec → GivenSlot

@@ -1,3 +1,7 @@
+pub mod InheritedPrecedence
+pub mod InheritedSlots
+pub mod InheritedClasses
+pub mod InheritedBuiltIn
 pub mod Given
 pub mod Table
 pub mod FirstClasses

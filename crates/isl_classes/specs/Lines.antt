@@ -3,8 +3,8 @@ use Rattle.std.specs.Prelude.{ℕ, List, Option, slice_get}
 use Rattle.isl_base.specs.declared.datum.Name.{Name}
 use Rattle.isl_meaning.specs.declared.program.ClassRow.{ClassRow}
 use Rattle.isl_meaning.specs.Classes.{precedence_of, slots_of}
-use Rattle.isl_meaning.specs.InheritedSlots.{names_of}
-use Rattle.isl_meaning.specs.InheritedClasses.{Hierarchy}
+use Rattle.isl_classes.specs.InheritedSlots.{names_of}
+use Rattle.isl_classes.specs.InheritedClasses.{Hierarchy}
 
 -- the precedence list of a class
 abbrev pub line : Hierarchy → ℕ → List ℕ

@@ -4,7 +4,7 @@ use Rattle.std.specs.Ordering.{nat_cmp}
 use Rattle.std.specs.BTreeMap as tree
 use Rattle.std.specs.BTreeMap.{BTreeMap}
 use Rattle.isl_base.specs.declared.datum.Name.{Name}
-use Rattle.isl_meaning.specs.InheritedClasses.{Hierarchy, AreClasses, class_named}
+use Rattle.isl_classes.specs.InheritedClasses.{Hierarchy, AreClasses, class_named}
 
 pub record IsIndexed (h : Hierarchy) (numbers : BTreeMap ℕ ℕ) : Type 0 where
   pub classes : AreClasses h

@@ -3,7 +3,7 @@
 ghost use Rattle.std.specs.Prelude.{◌≡◌, ℕ, List, ◌+◌, ◌<◌, ◌≤◌, ◌++◌, [], ◌∷◌, Some, None, false, length, slice_get, OnOk, IfOk};
 ghost use Rattle.isl_base.specs.Names.{Extends};
 ghost use Rattle.isl_meaning.specs.BuiltIn.{built_in_precedence, class_texts};
-ghost use Rattle.isl_meaning.specs.InheritedBuiltIn.{SaysSlots, built_in_own};
+ghost use Rattle.isl_classes.specs.InheritedBuiltIn.{SaysSlots, built_in_own};
 ghost use Rattle.isl_classes.specs.FirstClasses.{AreFirst, IsMade};
 
 use crate::row::row_of;

@@ -3,10 +3,10 @@
 ghost use Rattle.std.specs.Prelude.{◌≡◌, ◌<◌, None, All, length, slice_get, OnOk, OnErr, IfOk, MatchResult};
 ghost use Rattle.isl_meaning.specs.Classes.{precedence_of, slots_of};
 ghost use Rattle.isl_meaning.specs.Lookup.{is_in};
-ghost use Rattle.isl_meaning.specs.InheritedPrecedence.{supers_fit};
-ghost use Rattle.isl_meaning.specs.InheritedClasses.{IsHierarchy, class_named, place_of_slot, refusal, with_class};
+ghost use Rattle.isl_classes.specs.InheritedPrecedence.{supers_fit};
+ghost use Rattle.isl_classes.specs.InheritedClasses.{IsHierarchy, class_named, place_of_slot, refusal, with_class};
 ghost use Rattle.isl_base.specs.Names.{Extends};
-ghost use Rattle.isl_meaning.specs.InheritedBuiltIn.{AreBuiltIn};
+ghost use Rattle.isl_classes.specs.InheritedBuiltIn.{AreBuiltIn};
 ghost use Rattle.isl_classes.specs.Given.{given, StopsBy};
 
 use crate::builtin::all_built_in;
@@ -29,7 +29,7 @@ pub struct Classes {
 }
 
 impl Model for Classes {
-    ghost use Rattle.isl_meaning.specs.InheritedClasses.{Hierarchy, IsHierarchy};
+    ghost use Rattle.isl_classes.specs.InheritedClasses.{Hierarchy, IsHierarchy};
 
     ghost Value = { Hierarchy };
 

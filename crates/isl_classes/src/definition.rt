@@ -1,10 +1,10 @@
 // What a class definition comes to: a class, or a refusal.
 
 ghost use Rattle.std.specs.Prelude.{◌≡◌, ◌<◌, ◌≤◌, ◌++◌, [], ◌∷◌, None, true, All, length, OnOk, IfOk, MatchResult};
-ghost use Rattle.isl_meaning.specs.InheritedPrecedence as inherited;
-ghost use Rattle.isl_meaning.specs.InheritedPrecedence.{above, precedence_below};
-ghost use Rattle.isl_meaning.specs.InheritedSlots.{each_first, said_by, united};
-ghost use Rattle.isl_meaning.specs.InheritedClasses.{IsHierarchy, IsRow, inherited_names, refusal, row_of, slot_limit, slots_given, with_own};
+ghost use Rattle.isl_classes.specs.InheritedPrecedence as inherited;
+ghost use Rattle.isl_classes.specs.InheritedPrecedence.{above, precedence_below};
+ghost use Rattle.isl_classes.specs.InheritedSlots.{each_first, said_by, united};
+ghost use Rattle.isl_classes.specs.InheritedClasses.{IsHierarchy, IsRow, inherited_names, refusal, row_of, slot_limit, slots_given, with_own};
 ghost use Rattle.isl_classes.specs.Given.{given, spec_names, StopsBy};
 
 use crate::judged::{judge_slots, own_slots, refused};

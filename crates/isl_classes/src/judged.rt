@@ -1,8 +1,8 @@
 // The slots of a definition: what it says of them, and which of them is refused.
 
 ghost use Rattle.std.specs.Prelude.{◌≡◌, ◌+◌, ◌≤◌, ◌++◌, Some, None, true, false, length, OnOk, OnErr, IfOk, MatchResult, if◌then◌else◌};
-ghost use Rattle.isl_meaning.specs.InheritedSlots.{each_first, names_of, with_name, has_name};
-ghost use Rattle.isl_meaning.specs.InheritedClasses.{bad_slot, slot_limit, slots_refusal, slots_given};
+ghost use Rattle.isl_classes.specs.InheritedSlots.{each_first, names_of, with_name, has_name};
+ghost use Rattle.isl_classes.specs.InheritedClasses.{bad_slot, slot_limit, slots_refusal, slots_given};
 ghost use Rattle.isl_classes.specs.Given.{given, spec_names, is_wrong, StopsBy};
 
 use crate::slot_spec::SlotSpec;

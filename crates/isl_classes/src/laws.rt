@@ -2,9 +2,9 @@
 
 ghost use Rattle.std.specs.Prelude.{◌≡◌, ◌<◌, ◌==◌, ℕ, true, length};
 ghost use Rattle.isl_meaning.specs.Lookup.{all_differ, is_in};
-ghost use Rattle.isl_meaning.specs.InheritedClasses.{Hierarchy, IsHierarchy};
+ghost use Rattle.isl_classes.specs.InheritedClasses.{Hierarchy, IsHierarchy};
 ghost use Rattle.isl_base.specs.declared.datum.Name.{Name};
-ghost use Rattle.isl_meaning.specs.InheritedSlots.{has_name, same_name};
+ghost use Rattle.isl_classes.specs.InheritedSlots.{has_name, same_name};
 ghost use Rattle.isl_classes.specs.Lines.{line, slots_named};
 
 /// Precedence lists are an order of the classes (ISO/IEC 13816:2007, 15). A class stands in its own

@@ -4,7 +4,7 @@ ghost use Rattle.std.specs.Prelude.{◌≡◌, ◌+◌, ◌<◌, ◌++◌, OnOk,
 ghost use Rattle.isl_meaning.specs.Classes.{precedence_of};
 ghost use Rattle.isl_meaning.specs.Lookup.{all_of, all_differ};
 ghost use Rattle.isl_meaning.specs.Lookup.{some_of, is_in};
-ghost use Rattle.isl_meaning.specs.InheritedPrecedence as inherited;
+ghost use Rattle.isl_classes.specs.InheritedPrecedence as inherited;
 
 use isl_base::NoMemory;
 use isl_meaning::{ClassId, ClassIds, ClassRows};

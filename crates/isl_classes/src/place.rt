@@ -1,7 +1,7 @@
 // The place of a slot among those of its class.
 
 ghost use Rattle.std.specs.Prelude.{◌≡◌, ◌<◌, length, IfSome};
-ghost use Rattle.isl_meaning.specs.InheritedClasses.{place_of_slot};
+ghost use Rattle.isl_classes.specs.InheritedClasses.{place_of_slot};
 
 use isl_base::Name;
 use isl_meaning::SlotRow;

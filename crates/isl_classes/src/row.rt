@@ -1,7 +1,7 @@
 // The row of a class, made of what stands above it and what is said of its slots.
 
 ghost use Rattle.std.specs.Prelude.{◌≡◌, ◌++◌, ◌∷◌, IfOk};
-ghost use Rattle.isl_meaning.specs.InheritedSlots.{united};
+ghost use Rattle.isl_classes.specs.InheritedSlots.{united};
 
 use crate::line::append;
 use crate::slots::{append_copies, slot_names, slots_of};

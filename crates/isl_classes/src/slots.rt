@@ -1,7 +1,7 @@
 // Slots as a class has them, by all that is said of them.
 
 ghost use Rattle.std.specs.Prelude.{◌≡◌, ◌++◌, [], ◌∷◌, OnOk, OnErr, IfOk, slice_get, is_some, if◌then◌else◌};
-ghost use Rattle.isl_meaning.specs.InheritedSlots as inherited;
+ghost use Rattle.isl_classes.specs.InheritedSlots as inherited;
 
 use isl_base::{ItemList, Name, NameList, NoMemory};
 use isl_meaning::{ClassId, ProcedureId, SlotRow, SlotRows};

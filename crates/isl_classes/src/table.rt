@@ -1,7 +1,7 @@
 // Classes by their numbers, found by their names too.
 
 ghost use Rattle.std.specs.Prelude.{◌≡◌, ◌++◌, [], ◌∷◌, None, length, OnOk, OnErr, IfOk};
-ghost use Rattle.isl_meaning.specs.InheritedClasses.{IsRow, AreClasses, class_named};
+ghost use Rattle.isl_classes.specs.InheritedClasses.{IsRow, AreClasses, class_named};
 
 use crate::slots::OwnSlots;
 use isl_base::{Name, NoMemory};
@@ -19,7 +19,7 @@ pub struct ClassTable {
 }
 
 impl Model for ClassTable {
-    ghost use Rattle.isl_meaning.specs.InheritedClasses.{Hierarchy};
+    ghost use Rattle.isl_classes.specs.InheritedClasses.{Hierarchy};
 
     ghost Value = { Hierarchy };
 

@@ -4,7 +4,6 @@ pub mod Applied
 pub mod Answers
 pub mod Forms
 pub mod Levels
-pub mod Examples
 pub mod Lists
 pub mod Turns
 pub mod Bodies
@@ -13,8 +12,6 @@ pub mod Bounds
 pub mod FirstClasses
 pub mod Lengths
 pub mod Totals
-pub mod ExampleFacts
-pub mod ExampleData
 pub mod GroupTurns
 pub mod Decoding
 pub mod ChainCounts

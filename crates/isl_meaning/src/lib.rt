@@ -22,7 +22,6 @@ mod stands;
 mod tests;
 pub mod tuples;
 mod whole;
-pub mod worked;
 
 pub use applying::{applies, chain_length, is_below};
 pub use cells::{CELLS_LIMIT, generic_cells};

@@ -9,8 +9,8 @@ use Rattle.rv_machine.specs.State.{State, Counted, start}
 use Rattle.rv_machine.specs.Step.{Result, environment_call, step_of}
 use Rattle.rv_machine.specs.Run.{Moment, Ended, act, stop, run_from, first, Feeds, Outside, IsNoFault, Gave, CutOff}
 use Rattle.isl_meaning.specs.declared.program.ProgramRows.{ProgramRows}
-use Rattle.isl_top.specs.Claims.{IsPrefixOf, Compiled}
-use Rattle.isl_top.specs.Answers.{arena_words, the_run, Built, Halts, Spends, GivenAll, GivenFront}
+use Rattle.isl_top.specs.Limits.{arena_words}
+use Rattle.isl_top.specs.Theorem.{IsPrefixOf, Compiled, the_run, Built, Halts, Spends, GivenAll, GivenPrefix, sent_to}
 
 -- the laws of runs that the machine's crate proves
 pub record Laws : Type 0 where
@@ -21,9 +21,9 @@ pub record Laws : Type 0 where
 pub built : (program : ProgramRows) (image : Image) → Compiled program image.words image.entry → length image.words ≤ arena_words → Built program (Some image)
 built program image compiled fits = record { image = image; is_kept = refl; compiled = compiled; fits = fits }
 
-with_front : (told told' : Option (List ℕ)) (writes writes' : ℕ) (front whole : List ℕ) → IsPrefixOf front whole → IfSome told' (λ after. Gave told writes front after writes') → IfSome told' (λ after. (f : List ℕ) × IsPrefixOf f whole × Gave told writes f after writes')
-with_front told None writes writes' front whole p g = tt
-with_front told (Some after) writes writes' front whole p g = (front, p, g)
+with_prefix : (given given' : Option (List ℕ)) (writes writes' : ℕ) (first whole : List ℕ) → IsPrefixOf first whole → IfSome given' (λ after. Gave given writes first after writes') → IfSome given' (λ after. (f : List ℕ) × IsPrefixOf f whole × Gave given writes f after writes')
+with_prefix given None writes writes' first whole p g = tt
+with_prefix given (Some after) writes writes' first whole p g = (first, p, g)
 
 after_get : (r : Result) (m : Moment) → r ≡ environment_call 2 → (act stop r m).at.gets ≡ m.gets + 1
 after_get r m e = rw e refl
@@ -41,8 +41,8 @@ module _ (program : ProgramRows) (image : Image) (compiled : Compiled program im
       subst (λ s. (run_from n (first s input)).at.gets ≡ 0) (sym begin) f.unread
 
   -- so any input feeds it
-  pub fed : (told : Option (List ℕ)) (n : ℕ) (input : List ℕ) → Feeds told input (run_from n (first state input))
-  fed told n input = inr (unread n input)
+  pub fed : (left : Option (List ℕ)) (n : ℕ) (input : List ℕ) → Feeds left input (run_from n (first state input))
+  fed left n input = inr (unread n input)
 
   -- and it does not stop before a get-byte
   pub no_read_fault : (laws : Laws) (steps : ℕ) (old new : Counted) (o o' : Outside) (Other : Moment → Type 0) → old.state ≡ state → CutOff 2 steps old new o o' Other → ⊥
@@ -59,10 +59,10 @@ module _ (program : ProgramRows) (image : Image) (compiled : Compiled program im
       absurd (omega arith)
 
   -- the whole run: what was given, how it ended where it halted, and where it was spent
-  pub whole : (steps : ℕ) (told told' : Option (List ℕ)) (writes writes' : ℕ) → ((input : List ℕ) → IfSome told' (λ after. Gave told writes (run_from steps (first state input)).at.printed after writes')) → GivenAll (built program image compiled fits) steps told writes told' writes'
+  pub whole : (steps : ℕ) (given given' : Option (List ℕ)) (writes writes' : ℕ) → ((input : List ℕ) → IfSome given' (λ after. Gave given writes (run_from steps (first state input)).at.printed after writes')) → GivenAll (built program image compiled fits) steps (sent_to given writes given' writes')
   unfolding built
-  whole steps told told' writes writes' g =
-      λ input. subst (λ (s : State). IfSome told' (λ after. Gave told writes (run_from steps (first s input)).at.printed after writes')) begin (g input)
+  whole steps given given' writes writes' g =
+      λ input. subst (λ (s : State). IfSome given' (λ after. Gave given writes (run_from steps (first s input)).at.printed after writes')) begin (g input)
 
   pub halted : (steps word : ℕ) → ((input : List ℕ) → Halt word ≡ (run_from steps (first state input)).ending) → Halts (built program image compiled fits) steps
   unfolding built
@@ -83,8 +83,8 @@ module _ (program : ProgramRows) (image : Image) (compiled : Compiled program im
       (λ p. no_halt p.0 (same ∙ p.1))
       (compiled arena_words steps [] fits (omega arith)).only
 
-  -- the front that was given where a write cut it off
-  pub cut_off : (laws : Laws) (steps : ℕ) (old new : Counted) (o o' : Outside) (Other : Moment → Type 0) → old.state ≡ state → CutOff 1 steps old new o o' Other → GivenFront (built program image compiled fits) steps o.given o.writes o'.given o'.writes
+  -- the prefix that was given where a write cut it off
+  pub cut_off : (laws : Laws) (steps : ℕ) (old new : Counted) (o o' : Outside) (Other : Moment → Type 0) → old.state ≡ state → CutOff 1 steps old new o o' Other → GivenPrefix (built program image compiled fits) steps (sent_to o.given o.writes o'.given o'.writes)
   unfolding built
   cut_off laws steps old new o o' Other here c =
       λ input.
@@ -92,7 +92,7 @@ module _ (program : ProgramRows) (image : Image) (compiled : Compiled program im
       let stood = c.stands input feeds in
       let p = laws.printed c.turns steps (first old.state input) (omega (arith, c.below)) in
       let whole = subst (λ (s : State). IsPrefixOf (run_from c.turns (first old.state input)).at.printed (run_from steps (first s input)).at.printed) (here ∙ begin) p in
-      with_front o.given o'.given o.writes o'.writes (run_from c.turns (first old.state input)).at.printed (the_run image steps input).at.printed whole stood.1.given
+      with_prefix o.given o'.given o.writes o'.writes (run_from c.turns (first old.state input)).at.printed (the_run image steps input).at.printed whole stood.1.given
 
   -- what a cut run says of the source where nothing was read
   pub cut_other : (steps : ℕ) (old new : Counted) (o o' : Outside) (Same : Type 0) → old.state ≡ state → CutOff 1 steps old new o o' (λ m. m.gets ≡ 0 → Same) → Same

@@ -22,7 +22,7 @@ use Rattle.isl_top.specs.Shapes.{program_of_parts, names, no_tables, Found, form
 use Rattle.isl_base.specs.Data.{Items}
 use Rattle.isl_top.specs.Code.{program_code, entry, constant, nil_word, forms_code, choose_halt, environment}
 use Rattle.isl_top.specs.Represents.{Represents}
-use Rattle.isl_top.specs.Claims.{IsPrefixOf, HaltsWith, Faithful, Compiled}
+use Rattle.isl_top.specs.Theorem.{IsPrefixOf, HaltsWith, Faithful, Compiled}
 use Rattle.isl_top.proofs.Instructions.{is_choose_halt, is_environment}
 use Rattle.isl_top.proofs.Runs.{Point, at, word_in, Comes, HasAt, one, and_on}
 use Rattle.isl_top.proofs.Yields.{Yields, Ready, has_front, has_back, same, other, constant_yields}

@@ -2,15 +2,12 @@
 -- with `-`, and N is one or more decimal digits of a number of at most 4,294,967,295.
 use Rattle.std.specs.Prelude.{ℕ, ◌+◌, ◌-◌, ◌*◌, Bool, false, not, ◌&&◌, ◌==◌, nat_le, List, [], ◌∷◌, Option, Some, None, if◌then◌else◌, codes}
 use Rattle.std.specs.Str.{bytes_eq}
+use Rattle.isl_top.specs.Limits.{usual_steps, most_steps}
 
 -- what a command asks for: a file, and how many instructions its run may execute
 pub record Asked : Type 0 where
   pub steps : ℕ
   pub file : List ℕ
-
--- the instructions of a run where no number is given
-abbrev pub usual_steps : ℕ
-usual_steps = 50000000
 
 abbrev pub names_file : List ℕ → Bool
 names_file [] = false
@@ -31,7 +28,7 @@ up_to limit (Some n) = if nat_le n limit then Some n else None
 
 abbrev pub steps_in : List ℕ → Option ℕ
 steps_in [] = None
-steps_in (b ∷ bs) = up_to 4294967295 (decimal_from 0 (b ∷ bs))
+steps_in (b ∷ bs) = up_to most_steps (decimal_from 0 (b ∷ bs))
 
 -- `run FILE` behind a number of instructions
 abbrev pub asked_run : Option ℕ → List ℕ → List ℕ → Option Asked

@@ -30,14 +30,23 @@ refused_line r =
 abbrev pub budget_line : ℕ → List ℕ
 budget_line n = line (codes "budget " ++ decimal n)
 
+abbrev pub usage_line : List ℕ
+usage_line = line (codes "usage: isl [--steps N] [--arena W] ACTION FILE")
+
+abbrev pub file_fault_line : List ℕ
+file_fault_line = line (codes "file fault")
+
+abbrev pub no_memory_line : List ℕ
+no_memory_line = line (codes "no memory")
+
 abbrev pub line_of : Answer → List ℕ
 line_of answer.Done = []
-line_of answer.Usage = line (codes "usage: isl [--steps N] [--arena W] ACTION FILE")
+line_of answer.Usage = usage_line
 line_of (answer.Refused r) = refused_line r
 line_of (answer.Budget n) = budget_line n
-line_of answer.FileFault = line (codes "file fault")
+line_of answer.FileFault = file_fault_line
 line_of answer.WriteFault = []
-line_of answer.NoMemory = line (codes "no memory")
+line_of answer.NoMemory = no_memory_line
 
 abbrev pub status_of : Answer → Status
 status_of answer.Done = Done
@@ -57,6 +66,6 @@ number_of FileFault = 6
 number_of WriteFault = 8
 number_of NoMemory = 9
 
--- a sink that tells now told before, and was given these bytes since
+-- a sink that is observed now was observed before, and was given these bytes since
 abbrev pub WasGiven : Option (List ℕ) → List ℕ → Option (List ℕ) → Type 0
-WasGiven told bytes told' = IfSome told' (λ after. (before : List ℕ) × (told ≡ Some before) × (after ≡ before ++ bytes))
+WasGiven given bytes given' = IfSome given' (λ after. (before : List ℕ) × (given ≡ Some before) × (after ≡ before ++ bytes))

@@ -1,5 +1,6 @@
--- What is taken of a file: all of it, or its first 1,048,577 bytes where it is longer.
-use Rattle.std.specs.Prelude.{◌≡◌, ℕ, List, take, Option, IfSome}
+-- What is taken of a file: all of it, or one byte more than a source may have where it is longer.
+use Rattle.std.specs.Prelude.{◌≡◌, ℕ, ◌+◌, List, take, Option, IfSome}
+use Rattle.isl_top.specs.Limits.{longest_source}
 
 abbrev pub IsTaken : Option (List ℕ) → List ℕ → Type 0
-IsTaken held text = IfSome held (λ file. text ≡ take 1048577 file)
+IsTaken held text = IfSome held (λ file. text ≡ take (longest_source + 1) file)

@@ -15,6 +15,7 @@ use Rattle.isl_reader.specs.Gaps.{Gap}
 use Rattle.isl_reader.specs.Reads.{ReadsNext}
 use Rattle.isl_reader.specs.Readers.{first_place}
 use Rattle.isl_reader.specs.Stops.{StopsFirst}
+use Rattle.isl_top.specs.Limits.{longest_source, longest_program, deepest_program}
 use Rattle.isl_top.specs.Shapes.{program_of}
 
 -- `DataOf names text ds rest p`: the text begins with the data ds; what is left of it stands at place p.
@@ -27,12 +28,12 @@ pub data DataOf (names : List (List ℕ)) (text : List ℕ) : List Item → List
 
 -- the data are this program: each is one of its forms, and none has more than 64 lists inside one another
 pub record AreProgram (names : List (List ℕ)) (ds : List Item) (program : ProgramRows) : Type 0 where
-  pub shallow : list_all (λ d. nat_le (depth_of d) 64) ds ≡ true
+  pub shallow : list_all (λ d. nat_le (depth_of d) deepest_program) ds ≡ true
   pub meant : program_of names (items_of ds) ≡ Some program
 
 -- a text that begins with the data of a program
 pub record Begins (text : List ℕ) : Type 0 where
-  pub short : length text ≤ 4096
+  pub short : length text ≤ longest_program
   pub names : List (List ℕ)
   pub data_before : List Item
   pub rest : List ℕ
@@ -53,7 +54,7 @@ pub record OffendsNext (text : List ℕ) (at : Place) : Type 0 where
   pub offending : Item
   pub after : List ℕ
   pub reads : ReadsNext begins.names begins.rest begins.place offending after
-  pub is_none : (64 < depth_of offending) ⊎ (program_of begins.names (items_of (begins.data_before ++ offending ∷ [])) ≡ None)
+  pub is_none : (deepest_program < depth_of offending) ⊎ (program_of begins.names (items_of (begins.data_before ++ offending ∷ [])) ≡ None)
   pub stands : place_of offending ≡ at
 
 -- the text stops being one behind the data before, and before another datum is whole
@@ -63,8 +64,8 @@ pub record StopsNext (text : List ℕ) (at : Place) (r : Reason) : Type 0 where
 
 -- `Refuses text at r`: the text's first offence is at that place, and has that reason
 pub data Refuses (text : List ℕ) (at : Place) : Reason → Type 0 where
-  source_too_long : 1048576 < length text → at ≡ first_place File → Refuses text at SourceTooLong
-  program_too_long : length text ≤ 1048576 → 4096 < length text → at ≡ first_place File → Refuses text at NotBuilt
+  source_too_long : longest_source < length text → at ≡ first_place File → Refuses text at SourceTooLong
+  program_too_long : length text ≤ longest_source → longest_program < length text → at ≡ first_place File → Refuses text at NotBuilt
   text_fault : (r : Reason) → StopsNext text at r → Refuses text at r
   not_built : OffendsNext text at → Refuses text at NotBuilt
 

@@ -2,7 +2,7 @@
 
 ghost use Rattle.std.specs.Prelude.{◌≡◌, ℕ, ◌<◌, ◌^◌, IfOk, slice_index};
 ghost use Rattle.isl_meaning.specs.View.{forms};
-ghost use Rattle.isl_top.specs.Claims.{Compiled};
+ghost use Rattle.isl_top.specs.Theorem.{Compiled};
 ghost use Rattle.isl_top.specs.Code.{program_code};
 ghost use Rattle.isl_top.specs.Shapes.{IsFirstPath};
 

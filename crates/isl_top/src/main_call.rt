@@ -4,9 +4,10 @@ ghost use Rattle.std.specs.Prelude.{◌≡◌, ◌≢◌, ◌≤◌, ◌⊎◌, 
 ghost use Rattle.isl_base.specs.Outside.{Rose};
 ghost use Rattle.isl_base.specs.declared.reason.Refusal.{Refusal as RefusalValue};
 ghost use Rattle.isl_meaning.specs.declared.program.ProgramRows.{ProgramRows as ProgramValue};
-ghost use Rattle.isl_top.specs.Answers.{Accepted, Declined, Built, Halts, Spends, GivenAll, GivenFront};
-ghost use Rattle.isl_top.specs.Command.{Asked, asked as asked_of};
-ghost use Rattle.isl_top.specs.Lines.{WasGiven, line_of, status_of, refused_line, budget_line};
+ghost use Rattle.isl_top.specs.Theorem.{Accepted, Declined, IsDone, IsSpent, IsBudget, IsRefused, IsCutOff, IsUsage, sent_to};
+ghost use Rattle.isl_top.specs.Answers.{RunHalts, RunSpends, RunIsCutOff};
+ghost use Rattle.isl_top.specs.Command.{asked as asked_of};
+ghost use Rattle.isl_top.specs.Lines.{WasGiven, line_of, status_of, file_fault_line, no_memory_line};
 ghost use Rattle.isl_top.specs.declared.status.Answer.{Answer as AnswerValue};
 ghost use Rattle.isl_top.specs.declared.status.Answer.TheVariants as answer;
 ghost use Rattle.isl_top.specs.declared.status.Status.TheVariants.{Done, Usage, Refused, Budget, FileFault, WriteFault, NoMemory as WantsMemory};
@@ -34,54 +35,44 @@ pub fn isl_main<F: Shelf, S: Source, O: Sink, E: Sink>(
     kept: &mut Kept,
 ) -> Status
     // The words are judged first: where they are no command, nothing else is touched.
-    ensures usage { result ≡ Usage → (asked_of words.now ≡ None)
-        × WasGiven (E.given err.old) (line_of answer.Usage) (E.given err.new) }
+    ensures usage { result ≡ Usage → IsUsage words.now (E.given err.old) (E.given err.new) }
     ensures words_first { asked_of words.now ≡ None →
         ((result ≡ Usage) ⊎ (result ≡ WriteFault))
         × (shelf.new ≡ shelf.old) × (out.new ≡ out.old) × (kept.new.image ≡ None) }
 
     // The file's text is a program, its image is kept, the run of it halts with the meaning's value,
     // and all that it prints was given.
-    ensures done { result ≡ Done → (command : Asked) × ((asked_of words.now ≡ Some command)
-        × ((program : ProgramValue) × (Accepted (F.holds shelf.old command.file) program
-        × ((built : Built program kept.new.image) × (Halts built command.steps
-        × GivenAll built command.steps (O.given out.old) (O.writes out.old) (O.given out.new) (O.writes out.new))))))
-        × WasGiven (E.given err.old) (line_of answer.Done) (E.given err.new) }
+    ensures done { result ≡ Done → IsDone words.now (F.holds shelf.old) kept.new.image
+        (sent_to (O.given out.old) (O.writes out.old) (O.given out.new) (O.writes out.new))
+        (E.given err.old) (E.given err.new) }
 
     // The same with a run that does not end within its instructions; the line says how many.
-    ensures budget { result ≡ Budget → (command : Asked) × ((asked_of words.now ≡ Some command)
-        × ((program : ProgramValue) × (Accepted (F.holds shelf.old command.file) program
-        × ((built : Built program kept.new.image) × (Spends built command.steps
-        × GivenAll built command.steps (O.given out.old) (O.writes out.old) (O.given out.new) (O.writes out.new)))))
-        × WasGiven (E.given err.old) (budget_line command.steps) (E.given err.new)) }
+    ensures budget { result ≡ Budget → IsBudget words.now (F.holds shelf.old) kept.new.image
+        (sent_to (O.given out.old) (O.writes out.old) (O.given out.new) (O.writes out.new))
+        (E.given err.old) (E.given err.new) }
 
     // The file's text is refused; the line says where and why.
-    ensures refused { result ≡ Refused → (command : Asked) × ((asked_of words.now ≡ Some command)
-        × ((refusal : RefusalValue) × (Declined (F.holds shelf.old command.file) refusal
-        × WasGiven (E.given err.old) (refused_line refusal) (E.given err.new)))
-        × (out.new ≡ out.old) × (kept.new.image ≡ None)) }
+    ensures refused { result ≡ Refused →
+        IsRefused words.now (F.holds shelf.old) (E.given err.old) (E.given err.new)
+        × (out.new ≡ out.old) × (kept.new.image ≡ None) }
 
     ensures file_fault { result ≡ FileFault → Rose (F.faults shelf.old) (F.faults shelf.new)
         × (out.new ≡ out.old) × (kept.new.image ≡ None)
-        × WasGiven (E.given err.old) (line_of answer.FileFault) (E.given err.new) }
+        × WasGiven (E.given err.old) file_fault_line (E.given err.new) }
 
     // A line could not be written with nothing given to `out`; or the run's output was cut off behind
-    // a front of it; or the line of a run that was spent could not be written.
+    // a prefix of it; or the line of a run that was spent could not be written.
     ensures write_fault { result ≡ WriteFault →
         (Rose (E.faults err.old) (E.faults err.new) × (out.new ≡ out.old))
         ⊎ ((Rose (O.faults out.old) (O.faults out.new)
-        × ((command : Asked) × ((asked_of words.now ≡ Some command)
-        × ((program : ProgramValue) × (Accepted (F.holds shelf.old command.file) program
-        × ((built : Built program kept.new.image)
-        × GivenFront built command.steps (O.given out.old) (O.writes out.old) (O.given out.new) (O.writes out.new)))))))
+        × IsCutOff words.now (F.holds shelf.old) kept.new.image
+        (sent_to (O.given out.old) (O.writes out.old) (O.given out.new) (O.writes out.new)))
         ⊎ (Rose (E.faults err.old) (E.faults err.new)
-        × ((command : Asked) × ((asked_of words.now ≡ Some command)
-        × ((program : ProgramValue) × (Accepted (F.holds shelf.old command.file) program
-        × ((built : Built program kept.new.image) × (Spends built command.steps
-        × GivenAll built command.steps (O.given out.old) (O.writes out.old) (O.given out.new) (O.writes out.new))))))))) }
+        × IsSpent words.now (F.holds shelf.old) kept.new.image
+        (sent_to (O.given out.old) (O.writes out.old) (O.given out.new) (O.writes out.new)))) }
 
     ensures no_memory { result ≡ WantsMemory → (out.new ≡ out.old)
-        × WasGiven (E.given err.old) (line_of answer.NoMemory) (E.given err.new) }
+        × WasGiven (E.given err.old) no_memory_line (E.given err.new) }
     // The line is that of an answer with this status.
     ensures line { result ≢ WriteFault → (told : AnswerValue) × ((result ≡ status_of told)
         × WasGiven (E.given err.old) (line_of told) (E.given err.new)) }
@@ -110,12 +101,12 @@ fn run_file<F: Shelf, S: Source, O: Sink>(
     requires { kept.old.image ≡ None }
     ensures done { result ≡ answer.Done →
         (program : ProgramValue) × (Accepted (F.holds shelf.old file.now) program
-        × ((built : Built program kept.new.image) × (Halts built steps
-        × GivenAll built steps (O.given out.old) (O.writes out.old) (O.given out.new) (O.writes out.new)))) }
+        × RunHalts program kept.new.image steps
+        (sent_to (O.given out.old) (O.writes out.old) (O.given out.new) (O.writes out.new))) }
     ensures budget { (n : ℕ) → result ≡ answer.Budget n → (n ≡ steps)
         × ((program : ProgramValue) × (Accepted (F.holds shelf.old file.now) program
-        × ((built : Built program kept.new.image) × (Spends built steps
-        × GivenAll built steps (O.given out.old) (O.writes out.old) (O.given out.new) (O.writes out.new))))) }
+        × RunSpends program kept.new.image steps
+        (sent_to (O.given out.old) (O.writes out.old) (O.given out.new) (O.writes out.new)))) }
     ensures refused { (refusal : RefusalValue) → result ≡ answer.Refused refusal →
         Declined (F.holds shelf.old file.now) refusal
         × (out.new ≡ out.old) × (kept.new.image ≡ None) }
@@ -123,8 +114,8 @@ fn run_file<F: Shelf, S: Source, O: Sink>(
         × (out.new ≡ out.old) × (kept.new.image ≡ None) }
     ensures cut_off { result ≡ answer.WriteFault → Rose (O.faults out.old) (O.faults out.new)
         × ((program : ProgramValue) × (Accepted (F.holds shelf.old file.now) program
-        × ((built : Built program kept.new.image)
-        × GivenFront built steps (O.given out.old) (O.writes out.old) (O.given out.new) (O.writes out.new)))) }
+        × RunIsCutOff program kept.new.image steps
+        (sent_to (O.given out.old) (O.writes out.old) (O.given out.new) (O.writes out.new)))) }
     ensures no_memory { result ≡ answer.NoMemory → out.new ≡ out.old }
     ensures no_usage { result ≢ answer.Usage }
     ensures input { input.new ≡ input.old }

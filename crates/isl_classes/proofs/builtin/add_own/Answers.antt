@@ -1,7 +1,7 @@
 -- One slot more, under its name.
 use Rattle.std.proofs.Common.{◌≡◌, Some, [], ◌∷◌, ◌++◌, slice_get, refl, sym, ap, ◌∙◌, subst}
 use Rattle.isl_base.specs.Names.{Extends, Extends-with_text}
-use Rattle.isl_meaning.specs.InheritedBuiltIn.{own_initarg}
+use Rattle.isl_classes.specs.InheritedBuiltIn.{own_initarg}
 use Rattle.isl_classes.proofs.BuiltIns.{says-more}
 use Rattle.isl_classes.proofs.builtin.add_own.Goals as goal
 

@@ -1,6 +1,6 @@
 -- One slot behind none.
 use Rattle.std.proofs.Common.{[], sym, subst}
-use Rattle.isl_meaning.specs.InheritedBuiltIn.{SaysSlots}
+use Rattle.isl_classes.specs.InheritedBuiltIn.{SaysSlots}
 use Rattle.isl_classes.proofs.BuiltIns.{says-nothing}
 use Rattle.isl_classes.proofs.builtin.own_one.Goals as goal
 

@@ -1,6 +1,6 @@
 -- None of the slots so far has the name.
 use Rattle.std.proofs.Common.{◌≡◌, drop}
-use Rattle.isl_meaning.specs.InheritedSlots.{has_name}
+use Rattle.isl_classes.specs.InheritedSlots.{has_name}
 use Rattle.isl_classes.specs.Given.{spec_names}
 use Rattle.isl_classes.proofs.judged.is_repeated.Given as goal
 

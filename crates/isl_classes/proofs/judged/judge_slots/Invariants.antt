@@ -1,7 +1,7 @@
 -- The names of the slots so far, none of which is wrong.
 use Rattle.std.proofs.Common.{◌≡◌, ◌++◌, ◌≤◌, [], take, drop, length}
-use Rattle.isl_meaning.specs.InheritedSlots.{each_first, names_of}
-use Rattle.isl_meaning.specs.InheritedClasses.{first_wrong, slot_limit}
+use Rattle.isl_classes.specs.InheritedSlots.{each_first, names_of}
+use Rattle.isl_classes.specs.InheritedClasses.{first_wrong, slot_limit}
 use Rattle.isl_classes.specs.Given.{given, spec_names}
 use Rattle.isl_classes.proofs.judged.judge_slots.Given as goal
 

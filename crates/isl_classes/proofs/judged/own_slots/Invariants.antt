@@ -1,6 +1,6 @@
 -- The slots so far.
 use Rattle.std.proofs.Common.{◌≡◌, take}
-use Rattle.isl_meaning.specs.InheritedClasses.{slots_given}
+use Rattle.isl_classes.specs.InheritedClasses.{slots_given}
 use Rattle.isl_classes.specs.Given.{given}
 use Rattle.isl_classes.proofs.judged.own_slots.Given as goal
 

@@ -1,7 +1,7 @@
 -- All classes so far may have subclasses.
 use Rattle.std.proofs.Common.{◌≡◌, drop}
 use Rattle.isl_meaning.specs.Lookup.{all_of}
-use Rattle.isl_meaning.specs.InheritedPrecedence.{is_open}
+use Rattle.isl_classes.specs.InheritedPrecedence.{is_open}
 use Rattle.isl_classes.proofs.line.all_open.Given as goal
 
 abbrev pub invariant-loop-class : goal.invariant-loop-class

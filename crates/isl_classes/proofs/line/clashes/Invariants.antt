@@ -1,7 +1,7 @@
 -- None of the classes so far clashes.
 use Rattle.std.proofs.Common.{◌≡◌, drop}
 use Rattle.isl_meaning.specs.Lookup.{some_of}
-use Rattle.isl_meaning.specs.InheritedPrecedence.{clash}
+use Rattle.isl_classes.specs.InheritedPrecedence.{clash}
 use Rattle.isl_classes.proofs.line.clashes.Given as goal
 
 abbrev pub invariant-loop-other : goal.invariant-loop-other

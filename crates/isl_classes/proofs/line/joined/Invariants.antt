@@ -1,6 +1,6 @@
 -- The lists of the classes so far.
 use Rattle.std.proofs.Common.{◌≡◌, take}
-use Rattle.isl_meaning.specs.InheritedPrecedence.{joined}
+use Rattle.isl_classes.specs.InheritedPrecedence.{joined}
 use Rattle.isl_classes.proofs.line.joined.Given as goal
 
 abbrev pub invariant-loop-class : goal.invariant-loop-class

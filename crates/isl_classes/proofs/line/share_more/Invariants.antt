@@ -1,6 +1,6 @@
 -- None of the classes so far is shared.
 use Rattle.std.proofs.Common.{◌≡◌, drop}
-use Rattle.isl_meaning.specs.InheritedPrecedence.{share_more}
+use Rattle.isl_classes.specs.InheritedPrecedence.{share_more}
 use Rattle.isl_classes.proofs.line.share_more.Given as goal
 
 abbrev pub invariant-loop-class : goal.invariant-loop-class

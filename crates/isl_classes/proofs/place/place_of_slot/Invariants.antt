@@ -1,7 +1,7 @@
 -- None of the slots so far has the name.
 use Rattle.std.proofs.Common.{◌≡◌, ◌+◌, drop}
 use Rattle.std.specs.Option.{option_map}
-use Rattle.isl_meaning.specs.InheritedClasses.{place_of_slot}
+use Rattle.isl_classes.specs.InheritedClasses.{place_of_slot}
 use Rattle.isl_classes.proofs.place.place_of_slot.Given as goal
 
 abbrev pub invariant-loop-at : goal.invariant-loop-at

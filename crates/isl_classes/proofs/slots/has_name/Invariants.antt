@@ -1,6 +1,6 @@
 -- None of the names so far is it.
 use Rattle.std.proofs.Common.{◌≡◌, drop}
-use Rattle.isl_meaning.specs.InheritedSlots.{has_name}
+use Rattle.isl_classes.specs.InheritedSlots.{has_name}
 use Rattle.isl_classes.proofs.slots.has_name.Given as goal
 
 abbrev pub invariant-loop-other : goal.invariant-loop-other

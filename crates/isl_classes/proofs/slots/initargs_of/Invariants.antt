@@ -1,6 +1,6 @@
 -- The initargs of the slots so far.
 use Rattle.std.proofs.Common.{◌≡◌, take}
-use Rattle.isl_meaning.specs.InheritedSlots.{initargs_of}
+use Rattle.isl_classes.specs.InheritedSlots.{initargs_of}
 use Rattle.isl_classes.proofs.slots.initargs_of.Given as goal
 
 abbrev pub invariant-loop-slot : goal.invariant-loop-slot

@@ -1,6 +1,6 @@
 -- The names that are left are still to come.
 use Rattle.std.proofs.Common.{◌≡◌, drop}
-use Rattle.isl_meaning.specs.InheritedSlots.{with_names}
+use Rattle.isl_classes.specs.InheritedSlots.{with_names}
 use Rattle.isl_classes.proofs.slots.push_all_new.Given as goal
 
 abbrev pub invariant-loop-name : goal.invariant-loop-name

@@ -1,6 +1,6 @@
 -- What the classes from this one on say.
 use Rattle.std.proofs.Common.{◌≡◌, drop}
-use Rattle.isl_meaning.specs.InheritedSlots.{said_by}
+use Rattle.isl_classes.specs.InheritedSlots.{said_by}
 use Rattle.isl_classes.proofs.slots.said_by.Given as goal
 
 abbrev pub invariant-loop-at : goal.invariant-loop-at

@@ -1,6 +1,6 @@
 -- The slots of the names so far.
 use Rattle.std.proofs.Common.{◌≡◌, take}
-use Rattle.isl_meaning.specs.InheritedSlots.{slots_of}
+use Rattle.isl_classes.specs.InheritedSlots.{slots_of}
 use Rattle.isl_classes.proofs.slots.slots_of.Given as goal
 
 abbrev pub invariant-loop-name : goal.invariant-loop-name

@@ -1,6 +1,6 @@
 -- The words are those of the image that is the program's.
 use Rattle.std.proofs.Common.{ℕ, List, ◌∙◌, sym, subst}
-use Rattle.isl_top.specs.Claims.{Compiled}
+use Rattle.isl_top.specs.Theorem.{Compiled}
 use Rattle.isl_top.specs.Code.{entry}
 use Rattle.isl_top.proofs.Whole.{RunLaws, Fits32, compiled}
 use Rattle.isl_top.proofs.first_image.first_build.Goals as goal

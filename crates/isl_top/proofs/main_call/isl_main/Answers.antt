@@ -16,8 +16,15 @@ returns-in-Some-clause-refused g c =
     let told = c.run_file-answer.ensures.refused was.0 was.1 in
     let line = c.end_with-in-Some.ensures.line (λ x. let k : Refused ≡ WriteFault = sym e ∙ x in absurd (cc)) in
     let P : Answer → Type 0 = λ a. WasGiven (g.E.Sink.given c.args.err.now) (line_of a) (g.E.Sink.given c.end_with-in-Some.new.err) in (
-      record { steps = c.in-Some.command.steps; file = c.in-Some.command.file.now },
-      (c.in-Some.ensures, (was.0, (told.0, subst P was.1 line)), told.1, told.2),
+      record {
+        command = record { steps = c.in-Some.command.steps; file = c.in-Some.command.file.now };
+        asked_for = c.in-Some.ensures;
+        refusal = was.0;
+        declined = told.0;
+        line = subst P was.1 line;
+      },
+      told.1,
+      told.2,
     )
 
 pub returns-in-Some-clause-write_fault : goal.returns-in-Some-clause-write_fault
@@ -30,8 +37,26 @@ returns-in-Some-clause-write_fault g c =
     (λ h. (of_file.file_fault h).1)
     of_file.no_memory
     of_file.no_usage
-    (λ h. let k = of_file.cut_off h in (k.0, (asked, (c.in-Some.ensures, k.1))))
-    (λ n h. let k = of_file.budget n h in (asked, (c.in-Some.ensures, k.1)))
+    (λ h. let k = of_file.cut_off h in (
+      k.0,
+      record {
+        command = asked;
+        asked_for = c.in-Some.ensures;
+        program = k.1.0;
+        accepted = k.1.1.0;
+        built = k.1.1.1.built;
+        printed = k.1.1.1.printed;
+      },
+    ))
+    (λ n h. let k = of_file.budget n h in record {
+      command = asked;
+      asked_for = c.in-Some.ensures;
+      program = k.1.0;
+      accepted = k.1.1.0;
+      built = k.1.1.1.built;
+      spends = k.1.1.1.spends;
+      printed = k.1.1.1.printed;
+    })
 
 pub returns-in-Some-clause-line : goal.returns-in-Some-clause-line
 returns-in-Some-clause-line g c =

@@ -1,7 +1,7 @@
 -- What the machine's run says, as what a run of the program says.
 use Rattle.std.proofs.Common.{◌≤◌, [], length, ap, arith, refl}
 use Rattle.rv_machine.specs.Run.{IsNoFault}
-use Rattle.isl_top.specs.Answers.{arena_words}
+use Rattle.isl_top.specs.Limits.{arena_words}
 use Rattle.isl_top.proofs.Ran.{Laws, built, whole, halted, spent, only, cut_off, cut_other, no_read_fault, no_fault, fed, unread}
 use Rattle.isl_top.proofs.run.run.Goals as goal
 
@@ -14,13 +14,11 @@ returns-in-Halt-clause-done g c =
     let begin = c.in-Ok-started.ensures.state in
     let compiled = c.in-Ok.ensures.compiled in
     let feeds = fed c.args.program.now c.in-Ok.image compiled fits _ begin (g.S.Source.left c.args.input.now) c.args.steps in
-    λ e. (
-      built c.args.program.now c.in-Ok.image compiled fits,
-      (
-        halted c.args.program.now c.in-Ok.image compiled fits _ begin c.args.steps c.in-Halt.field-0 (λ input. c.in-Halt.ensures.ending tt input (feeds input)),
-        whole c.args.program.now c.in-Ok.image compiled fits _ begin c.args.steps _ _ _ _ (λ input. (c.in-Halt.ensures.stands tt input (feeds input)).given),
-      ),
-    )
+    λ e. record {
+      built = built c.args.program.now c.in-Ok.image compiled fits;
+      halts = halted c.args.program.now c.in-Ok.image compiled fits _ begin c.args.steps c.in-Halt.field-0 (λ input. c.in-Halt.ensures.ending tt input (feeds input));
+      printed = whole c.args.program.now c.in-Ok.image compiled fits _ begin c.args.steps _ _ _ _ (λ input. (c.in-Halt.ensures.stands tt input (feeds input)).given);
+    }
 
 pub returns-in-Halt-clause-input : goal.returns-in-Halt-clause-input
 returns-in-Halt-clause-input g c =
@@ -35,13 +33,11 @@ returns-in-Budget-clause-budget g c =
     let feeds = fed c.args.program.now c.in-Ok.image compiled fits _ begin (g.S.Source.left c.args.input.now) c.args.steps in
     λ n e. (
       cc,
-      (
-        built c.args.program.now c.in-Ok.image compiled fits,
-        (
-          spent c.args.program.now c.in-Ok.image compiled fits _ begin c.args.steps (λ input. c.in-Budget.ensures.ending tt input (feeds input)),
-          whole c.args.program.now c.in-Ok.image compiled fits _ begin c.args.steps _ _ _ _ (λ input. (c.in-Budget.ensures.stands tt input (feeds input)).given),
-        ),
-      ),
+      record {
+        built = built c.args.program.now c.in-Ok.image compiled fits;
+        spends = spent c.args.program.now c.in-Ok.image compiled fits _ begin c.args.steps (λ input. c.in-Budget.ensures.ending tt input (feeds input));
+        printed = whole c.args.program.now c.in-Ok.image compiled fits _ begin c.args.steps _ _ _ _ (λ input. (c.in-Budget.ensures.stands tt input (feeds input)).given);
+      },
     )
 
 pub returns-in-Budget-clause-input : goal.returns-in-Budget-clause-input
@@ -53,10 +49,10 @@ pub returns-in-WriteFault-clause-cut_off : goal.returns-in-WriteFault-clause-cut
 returns-in-WriteFault-clause-cut_off g c =
     let laws : Laws = record { printed = c.law_budget.ensures.printed; split = c.law_split.ensures } in
     let fits : length c.in-Ok.image.words ≤ arena_words = omega (arith, ap length c.in-Ok.ensures.code, c.requires.small) in
-    λ e. (
-      built c.args.program.now c.in-Ok.image c.in-Ok.ensures.compiled fits,
-      cut_off c.args.program.now c.in-Ok.image c.in-Ok.ensures.compiled fits _ c.in-Ok-started.ensures.state laws c.args.steps _ _ _ _ _ refl (c.in-WriteFault.ensures.write_fault refl),
-    )
+    λ e. record {
+      built = built c.args.program.now c.in-Ok.image c.in-Ok.ensures.compiled fits;
+      printed = cut_off c.args.program.now c.in-Ok.image c.in-Ok.ensures.compiled fits _ c.in-Ok-started.ensures.state laws c.args.steps _ _ _ _ _ refl (c.in-WriteFault.ensures.write_fault refl);
+    }
 
 pub returns-in-WriteFault-clause-input : goal.returns-in-WriteFault-clause-input
 returns-in-WriteFault-clause-input g c =

@@ -1,6 +1,6 @@
 -- A class more behind the others.
 use Rattle.std.proofs.Common.{sym, ap, ◌∙◌, subst}
-use Rattle.isl_meaning.specs.InheritedClasses.{IsHierarchy, with_class}
+use Rattle.isl_classes.specs.InheritedClasses.{IsHierarchy, with_class}
 use Rattle.isl_classes.specs.Given.{given}
 use Rattle.isl_classes.proofs.Defining.{either_way, hierarchy_more, is_with_class}
 use Rattle.isl_classes.proofs.classes.Classes.define.Goals as goal

@@ -1,5 +1,5 @@
-use Rattle.isl_meaning.proofs.ExampleData.{dotted_list, string_in_a_vector, changed_literal, rest_list, applied, applied_to_a_dotted_list, too_many_arguments, floors, overflow, no_function, no_value, counting, counting_words, set_binding, slot_places, slot_initarg, slot_form, unbound_slot, set_slot, two_bytes}
-use Rattle.isl_meaning.proofs.worked.worked_data.Goals as goal
+use Rattle.isl_worked.proofs.ExampleData.{dotted_list, string_in_a_vector, changed_literal, rest_list, applied, applied_to_a_dotted_list, too_many_arguments, floors, overflow, no_function, no_value, counting, counting_words, set_binding, slot_places, slot_initarg, slot_form, unbound_slot, set_slot, two_bytes}
+use Rattle.isl_worked.proofs.worked.worked_data.Goals as goal
 
 pub returns-clause-dotted_list : goal.returns-clause-dotted_list
 returns-clause-dotted_list c = dotted_list

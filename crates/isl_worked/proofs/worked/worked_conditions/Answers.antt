@@ -1,5 +1,5 @@
-use Rattle.isl_meaning.proofs.Examples.{without_itself, continued, not_continuable, returning, cleanup_runs, no_catch_left, replaced, handler_fails}
-use Rattle.isl_meaning.proofs.worked.worked_conditions.Goals as goal
+use Rattle.isl_worked.proofs.Examples.{without_itself, continued, not_continuable, returning, cleanup_runs, no_catch_left, replaced, handler_fails}
+use Rattle.isl_worked.proofs.worked.worked_conditions.Goals as goal
 
 pub returns-clause-without_itself : goal.returns-clause-without_itself
 returns-clause-without_itself c = without_itself

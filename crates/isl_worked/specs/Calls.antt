@@ -12,7 +12,7 @@ use Rattle.isl_meaning.specs.View.{forms}
 use Rattle.isl_meaning.specs.Values.{integer, nil}
 use Rattle.isl_meaning.specs.State.{words, unlimited}
 use Rattle.isl_meaning.specs.Meaning.{with_value, for_words, meaning}
-use Rattle.isl_meaning.specs.ByHand.{name, a_number, a_char, a_procedure, a_function, a_class, built_in_rows, a_program, put, body, Does}
+use Rattle.isl_worked.specs.ByHand.{name, a_number, a_char, a_procedure, a_function, a_class, built_in_rows, a_program, put, body, Does}
 
 -- (defclass <a> () ()) (defclass <b> (<a>) ()) (defgeneric g (x)), and methods of g that put a character each:
 -- for <a> a primary one, 1, one before, 3, and one after, 5; for <b> a primary one, 2, and then the next

@@ -5,9 +5,9 @@ use Rattle.isl_meaning.specs.declared.program.ClassRow.{ClassRow}
 use Rattle.isl_meaning.specs.declared.program.SlotRow.{SlotRow}
 use Rattle.isl_meaning.specs.BuiltIn.{class_texts}
 use Rattle.isl_meaning.specs.Objects.{built_in_classes, domain_error_class}
-use Rattle.isl_meaning.specs.InheritedPrecedence.{simple_error_class}
-use Rattle.isl_meaning.specs.InheritedSlots.{names_of}
-use Rattle.isl_meaning.specs.InheritedClasses.{Hierarchy, IsHierarchy}
+use Rattle.isl_classes.specs.InheritedPrecedence.{simple_error_class}
+use Rattle.isl_classes.specs.InheritedSlots.{names_of}
+use Rattle.isl_classes.specs.InheritedClasses.{Hierarchy, IsHierarchy}
 
 abbrev pub undefined_entity_class : ℕ
 undefined_entity_class = 30

@@ -1,9 +1,9 @@
 -- The worked programs compute.
 use Rattle.std.proofs.Common.{refl}
 use Rattle.isl_meaning.specs.Meaning.{meaning, mean, meaning_at}
-use Rattle.isl_meaning.specs.WorkedExits.{InnerFirst, InnerCatch, OuterCatch, EarlierTurn, TooFewLevels, StaleExit, ManyCleanups}
-use Rattle.isl_meaning.specs.WorkedConditions.{WithoutItself, Continued, NotContinuable, Returning, CleanupRuns, NoCatchLeft, Replaced, HandlerFails}
-use Rattle.isl_meaning.specs.WorkedCalls.{MethodsInOrder, SeenThroughACall, OneApplication, FullAtTheForm, FullAtTheCons}
+use Rattle.isl_worked.specs.Exits.{InnerFirst, InnerCatch, OuterCatch, EarlierTurn, TooFewLevels, StaleExit, ManyCleanups}
+use Rattle.isl_worked.specs.Conditions.{WithoutItself, Continued, NotContinuable, Returning, CleanupRuns, NoCatchLeft, Replaced, HandlerFails}
+use Rattle.isl_worked.specs.Calls.{MethodsInOrder, SeenThroughACall, OneApplication, FullAtTheForm, FullAtTheCons}
 
 pub inner_first : InnerFirst
 unfolding meaning mean meaning_at

@@ -11,7 +11,7 @@ use Rattle.isl_meaning.specs.View.{forms}
 use Rattle.isl_meaning.specs.Values.{integer, character, symbol, named}
 use Rattle.isl_meaning.specs.State.{unlimited, no_place}
 use Rattle.isl_meaning.specs.Meaning.{with_value, by_class, ended_value, meaning}
-use Rattle.isl_meaning.specs.ByHand.{name, a_number, a_char, a_symbol, a_procedure, built_in_rows, a_program, put, body, site_at, Does}
+use Rattle.isl_worked.specs.ByHand.{name, a_number, a_char, a_symbol, a_procedure, built_in_rows, a_program, put, body, site_at, Does}
 
 -- data at no place
 abbrev pub number : ℕ → datum.Item

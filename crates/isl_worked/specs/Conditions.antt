@@ -8,7 +8,7 @@ use Rattle.isl_meaning.specs.View.{forms}
 use Rattle.isl_meaning.specs.Values.{integer}
 use Rattle.isl_meaning.specs.State.{unlimited}
 use Rattle.isl_meaning.specs.Meaning.{with_value, by_class}
-use Rattle.isl_meaning.specs.ByHand.{a_number, a_char, a_symbol, a_nil, a_procedure, a_program, put, body, site_at, Does}
+use Rattle.isl_worked.specs.ByHand.{a_number, a_char, a_symbol, a_nil, a_procedure, a_program, put, body, site_at, Does}
 
 -- (%allocate (class <simple-error>)), with the literal of the class
 abbrev pub an_error : ℕ → Form

@@ -1,5 +1,5 @@
-use Rattle.isl_meaning.proofs.Examples.{methods_in_order, seen_through_a_call, one_application, full_at_the_form, full_at_the_cons}
-use Rattle.isl_meaning.proofs.worked.worked_calls.Goals as goal
+use Rattle.isl_worked.proofs.Examples.{methods_in_order, seen_through_a_call, one_application, full_at_the_form, full_at_the_cons}
+use Rattle.isl_worked.proofs.worked.worked_calls.Goals as goal
 
 pub returns-clause-methods_in_order : goal.returns-clause-methods_in_order
 returns-clause-methods_in_order c = methods_in_order

@@ -1,5 +1,5 @@
-use Rattle.isl_meaning.proofs.ExampleFacts.{worked_are_whole, too_few_arguments, go_outside, no_such_segment, go_to_a_block, captured, uncalled_procedures, made_by_uncalled, not_there, nodes_of_one_application, not_reached, cells_of_methods}
-use Rattle.isl_meaning.proofs.worked.worked_programs.Goals as goal
+use Rattle.isl_worked.proofs.ExampleFacts.{worked_are_whole, too_few_arguments, go_outside, no_such_segment, go_to_a_block, captured, uncalled_procedures, made_by_uncalled, not_there, nodes_of_one_application, not_reached, cells_of_methods}
+use Rattle.isl_worked.proofs.worked.worked_programs.Goals as goal
 
 pub returns-clause-worked_are_whole : goal.returns-clause-worked_are_whole
 returns-clause-worked_are_whole c = worked_are_whole

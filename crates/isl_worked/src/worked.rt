@@ -1,12 +1,12 @@
 // Worked programs: what some programs that are written out do, as the contracts of functions that do nothing.
 
-ghost use Rattle.isl_meaning.specs.WorkedExits.{InnerFirst, InnerCatch, OuterCatch, EarlierTurn, TooFewLevels, StaleExit, ManyCleanups};
-ghost use Rattle.isl_meaning.specs.WorkedConditions.{WithoutItself, Continued, NotContinuable, Returning, CleanupRuns, NoCatchLeft, Replaced, HandlerFails};
-ghost use Rattle.isl_meaning.specs.WorkedCalls.{MethodsInOrder, SeenThroughACall, OneApplication, FullAtTheForm, FullAtTheCons};
-ghost use Rattle.isl_meaning.specs.WorkedData.{DottedList, StringInAVector, ChangedLiteral, RestList, Applied, AppliedToADottedList, TooManyArguments, Floors, Overflow, NoFunction, NoValue, Counting, CountingWords, SetBinding, SlotPlaces, SlotInitarg, SlotForm, UnboundSlot, SetSlot, TwoBytes};
-ghost use Rattle.isl_meaning.specs.WorkedFacts.{WorkedAreWhole, TooFewArguments, GoOutside, NoSuchSegment, GoToABlock, Captured, Uncalled, MadeByUncalled, NotThere, NodesOfOneApplication, NotReached, CellsOfMethods};
+ghost use Rattle.isl_worked.specs.Exits.{InnerFirst, InnerCatch, OuterCatch, EarlierTurn, TooFewLevels, StaleExit, ManyCleanups};
+ghost use Rattle.isl_worked.specs.Conditions.{WithoutItself, Continued, NotContinuable, Returning, CleanupRuns, NoCatchLeft, Replaced, HandlerFails};
+ghost use Rattle.isl_worked.specs.Calls.{MethodsInOrder, SeenThroughACall, OneApplication, FullAtTheForm, FullAtTheCons};
+ghost use Rattle.isl_worked.specs.Data.{DottedList, StringInAVector, ChangedLiteral, RestList, Applied, AppliedToADottedList, TooManyArguments, Floors, Overflow, NoFunction, NoValue, Counting, CountingWords, SetBinding, SlotPlaces, SlotInitarg, SlotForm, UnboundSlot, SetSlot, TwoBytes};
+ghost use Rattle.isl_worked.specs.Programs.{WorkedAreWhole, TooFewArguments, GoOutside, NoSuchSegment, GoToABlock, Captured, Uncalled, MadeByUncalled, NotThere, NodesOfOneApplication, NotReached, CellsOfMethods};
 
-/// Programs of transfers and cleanups do what their comments in `specs/WorkedExits.antt` say.
+/// Programs of transfers and cleanups do what their comments in `specs/Exits.antt` say.
 pub fn worked_exits()
     ensures inner_first { InnerFirst }
     ensures inner_catch { InnerCatch }
@@ -17,7 +17,7 @@ pub fn worked_exits()
     ensures many_cleanups { ManyCleanups }
 {}
 
-/// Programs of conditions and handlers do what their comments in `specs/WorkedConditions.antt` say.
+/// Programs of conditions and handlers do what their comments in `specs/Conditions.antt` say.
 pub fn worked_conditions()
     ensures without_itself { WithoutItself }
     ensures continued { Continued }
@@ -29,7 +29,7 @@ pub fn worked_conditions()
     ensures handler_fails { HandlerFails }
 {}
 
-/// Programs of methods, dynamic variables and charges do what their comments in `specs/WorkedCalls.antt` say.
+/// Programs of methods, dynamic variables and charges do what their comments in `specs/Calls.antt` say.
 pub fn worked_calls()
     ensures methods_in_order { MethodsInOrder }
     ensures seen_through_a_call { SeenThroughACall }
@@ -56,7 +56,7 @@ pub fn worked_programs()
 {}
 
 /// Programs of literals, data, variables and arguments do what their comments in
-/// `specs/WorkedData.antt` say.
+/// `specs/Data.antt` say.
 pub fn worked_data()
     ensures dotted_list { DottedList }
     ensures string_in_a_vector { StringInAVector }

@@ -11,10 +11,10 @@ use Rattle.isl_meaning.specs.ProgramCounts.{program_nodes}
 use Rattle.isl_meaning.specs.Reached.{reached_nodes}
 use Rattle.std.specs.List.{list_all}
 use Rattle.isl_meaning.specs.Facts.{is_whole}
-use Rattle.isl_meaning.specs.ByHand.{a_number, a_procedure, a_program, body}
-use Rattle.isl_meaning.specs.WorkedExits.{inner_first, inner_catch, outer_catch, earlier_turn, stale_exit, many_cleanups}
-use Rattle.isl_meaning.specs.WorkedConditions.{without_itself, continued, not_continuable, returning, cleanup_runs, no_catch_left, replaced, handler_fails}
-use Rattle.isl_meaning.specs.WorkedCalls.{methods_in_order, seen_through_a_call, one_application, one_cons}
+use Rattle.isl_worked.specs.ByHand.{a_number, a_procedure, a_program, body}
+use Rattle.isl_worked.specs.Exits.{inner_first, inner_catch, outer_catch, earlier_turn, stale_exit, many_cleanups}
+use Rattle.isl_worked.specs.Conditions.{without_itself, continued, not_continuable, returning, cleanup_runs, no_catch_left, replaced, handler_fails}
+use Rattle.isl_worked.specs.Calls.{methods_in_order, seen_through_a_call, one_application, one_cons}
 
 -- the worked programs are whole
 abbrev pub WorkedAreWhole : Type 0

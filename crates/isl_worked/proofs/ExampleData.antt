@@ -1,7 +1,7 @@
 -- The worked programs on data compute.
 use Rattle.std.proofs.Common.{refl}
 use Rattle.isl_meaning.specs.Meaning.{meaning, mean, meaning_at}
-use Rattle.isl_meaning.specs.WorkedData.{DottedList, StringInAVector, ChangedLiteral, RestList, Applied, AppliedToADottedList, TooManyArguments, Floors, Overflow, NoFunction, NoValue, Counting, CountingWords, SetBinding, SlotPlaces, SlotInitarg, SlotForm, UnboundSlot, SetSlot, TwoBytes}
+use Rattle.isl_worked.specs.Data.{DottedList, StringInAVector, ChangedLiteral, RestList, Applied, AppliedToADottedList, TooManyArguments, Floors, Overflow, NoFunction, NoValue, Counting, CountingWords, SetBinding, SlotPlaces, SlotInitarg, SlotForm, UnboundSlot, SetSlot, TwoBytes}
 
 pub dotted_list : DottedList
 unfolding meaning mean meaning_at

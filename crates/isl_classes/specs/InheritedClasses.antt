@@ -8,8 +8,8 @@ use Rattle.isl_meaning.specs.declared.program.ClassRow.{ClassRow}
 use Rattle.isl_meaning.specs.declared.program.SlotRow.{SlotRow}
 use Rattle.isl_meaning.specs.BuiltIn.{built_in_precedence, built_in_slots}
 use Rattle.isl_meaning.specs.Objects.{built_in_classes}
-use Rattle.isl_meaning.specs.InheritedPrecedence.{above, precedence_below, supers_fit}
-use Rattle.isl_meaning.specs.InheritedSlots.{same_name, has_name, each_first, names_of, said_by, united}
+use Rattle.isl_classes.specs.InheritedPrecedence.{above, precedence_below, supers_fit}
+use Rattle.isl_classes.specs.InheritedSlots.{same_name, has_name, each_first, names_of, said_by, united}
 
 -- the classes so far: the row of each, and what each says of slots in its own definition
 pub record Hierarchy : Type 0 where

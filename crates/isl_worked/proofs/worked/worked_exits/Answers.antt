@@ -1,5 +1,5 @@
-use Rattle.isl_meaning.proofs.Examples.{inner_first, inner_catch, outer_catch, earlier_turn, too_few_levels, stale_exit, many_cleanups}
-use Rattle.isl_meaning.proofs.worked.worked_exits.Goals as goal
+use Rattle.isl_worked.proofs.Examples.{inner_first, inner_catch, outer_catch, earlier_turn, too_few_levels, stale_exit, many_cleanups}
+use Rattle.isl_worked.proofs.worked.worked_exits.Goals as goal
 
 pub returns-clause-inner_first : goal.returns-clause-inner_first
 returns-clause-inner_first c = inner_first

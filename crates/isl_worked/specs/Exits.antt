@@ -8,7 +8,7 @@ use Rattle.isl_meaning.specs.View.{forms}
 use Rattle.isl_meaning.specs.Values.{integer}
 use Rattle.isl_meaning.specs.State.{unlimited}
 use Rattle.isl_meaning.specs.Meaning.{with_value, by_class, for_levels}
-use Rattle.isl_meaning.specs.ByHand.{a_number, a_char, a_symbol, a_nil, a_procedure, a_function, a_program, put, body, site_at, Does}
+use Rattle.isl_worked.specs.ByHand.{a_number, a_char, a_symbol, a_nil, a_procedure, a_function, a_program, put, body, site_at, Does}
 
 -- (block b (unwind-protect (unwind-protect (return-from b 1) (format-char (standard-output) #\a))
 --     (format-char (standard-output) #\b)))

@@ -1,6 +1,6 @@
 -- The facts of the worked programs compute.
 use Rattle.std.proofs.Common.{refl}
-use Rattle.isl_meaning.specs.WorkedFacts.{WorkedAreWhole, TooFewArguments, GoOutside, NoSuchSegment, GoToABlock, Captured, Uncalled, MadeByUncalled, NotThere, NodesOfOneApplication, NotReached, CellsOfMethods}
+use Rattle.isl_worked.specs.Programs.{WorkedAreWhole, TooFewArguments, GoOutside, NoSuchSegment, GoToABlock, Captured, Uncalled, MadeByUncalled, NotThere, NodesOfOneApplication, NotReached, CellsOfMethods}
 use Rattle.isl_base.specs.DataMeasures.{size_of}
 
 pub worked_are_whole : WorkedAreWhole

@@ -1,0 +1,169 @@
+-- The theorem of the top call: what stands after `isl_main` has answered, status by status.
+--
+-- It names the words of the command (`Command`), the verdict on a text (`Verdicts`), the meaning of a program (`isl_meaning`), the
+-- machine and its runs (`rv_machine`), and the lines of statuses (`Lines`), and nothing of how code is made.
+use Rattle.std.specs.Prelude.{◌≡◌, ℕ, ◌-◌, ◌≤◌, ◌⊎◌, List, [], ◌++◌, length, Option, Some, None, IfSome}
+use Rattle.isl_base.specs.declared.reason.Refusal.{Refusal}
+use Rattle.rv_machine.specs.declared.image.Image.{Image}
+use Rattle.rv_machine.specs.declared.ending.Ending.TheVariants.{Halt, Budget}
+use Rattle.rv_machine.specs.Run.{Ended, run_of, Gave}
+use Rattle.isl_meaning.specs.declared.program.ProgramRows.{ProgramRows}
+use Rattle.isl_meaning.specs.Counts.{bound}
+use Rattle.isl_meaning.specs.Values.{Value}
+use Rattle.isl_meaning.specs.State.{words, unlimited}
+use Rattle.isl_meaning.specs.Meaning.{Meant, ended_value, meaning}
+use Rattle.isl_top.specs.Command.{Asked, asked}
+use Rattle.isl_top.specs.Limits.{arena_words, most_arena_words}
+use Rattle.isl_top.specs.Lines.{WasGiven, usage_line, refused_line, budget_line}
+use Rattle.isl_top.specs.Loads.{IsTaken}
+use Rattle.isl_top.specs.Represents.{Represents}
+use Rattle.isl_top.specs.Shapes.{names}
+use Rattle.isl_top.specs.Verdicts.{Accepts, Refuses}
+
+-- An image and a program
+
+abbrev pub IsPrefixOf : List ℕ → List ℕ → Type 0
+IsPrefixOf first whole = (rest : List ℕ) × (first ++ rest ≡ whole)
+
+-- a run halts with the meaning's value and the same bytes
+pub record HaltsWith (run : Ended) (meant : Meant) : Type 0 where
+  pub word : ℕ
+  pub halts : run.ending ≡ Halt word
+  pub value : Value
+  pub ends : meant.end ≡ ended_value value
+  pub stands : Represents run.at.state.memory word value
+  pub same : run.at.printed ≡ meant.printed
+
+-- a run of an image of so many words, beside the program's meaning with this input
+pub record Faithful (program : ProgramRows) (size arena n : ℕ) (input : List ℕ) (run : Ended) : Type 0 where
+  -- what is printed is a prefix of what the meaning prints
+  pub prefix : IsPrefixOf run.at.printed (meaning names program input n unlimited).printed
+  -- a halt carries the meaning's value, with the same bytes
+  pub halt : (word : ℕ) → run.ending ≡ Halt word → HaltsWith run (meaning names program input n unlimited)
+  -- it ends in no other way, and traps nowhere
+  pub only : (run.ending ≡ Budget) ⊎ ((word : ℕ) × (run.ending ≡ Halt word))
+  -- it reads nothing
+  pub unread : run.at.gets ≡ 0
+  -- where the meaning has a value within the words that the arena has beside the image, or without a
+  -- limit, the run halts with it within its charged count
+  pub charged : (k : ℕ) (value : Value) → (meaning names program input k (words (arena - size))).end ≡ ended_value value → bound (meaning names program input k (words (arena - size))).units ≤ n → HaltsWith run (meaning names program input k (words (arena - size)))
+  pub charged_free : (k : ℕ) (value : Value) → (meaning names program input k unlimited).end ≡ ended_value value → bound (meaning names program input k unlimited).units ≤ n → HaltsWith run (meaning names program input k unlimited)
+  -- code of the first path only goes forward, so a run halts within as many instructions as the image
+  -- has words
+  pub forward : size ≤ n → (word : ℕ) × (run.ending ≡ Halt word)
+
+-- an image that is the program's: for every arena that it fits, every number of instructions and every input
+abbrev pub Compiled : ProgramRows → List ℕ → ℕ → Type 0
+Compiled program image entry =
+    (arena n : ℕ) (input : List ℕ) → length image ≤ arena → arena ≤ most_arena_words → Faithful program (length image) arena n input (run_of image entry arena input n)
+
+-- the image that was kept is the program's, and fits the arena
+pub record Built (program : ProgramRows) (kept : Option Image) : Type 0 where
+  pub image : Image
+  pub is_kept : kept ≡ Some image
+  pub compiled : Compiled program image.words image.entry
+  pub fits : length image.words ≤ arena_words
+
+-- Its run in the arena of a call, whatever the input
+
+abbrev pub the_run : Image → ℕ → List ℕ → Ended
+the_run image steps input = run_of image.words image.entry arena_words input steps
+
+-- it halts with the meaning's value and prints what the meaning prints
+abbrev pub Halts : {program : ProgramRows} {kept : Option Image} → Built program kept → ℕ → Type 0
+Halts {program} built steps =
+    (input : List ℕ) → HaltsWith (the_run built.image steps input) (meaning names program input steps unlimited)
+
+-- it does not end within so many instructions
+abbrev pub Spends : {program : ProgramRows} {kept : Option Image} → Built program kept → ℕ → Type 0
+Spends built steps = (input : List ℕ) → (the_run built.image steps input).ending ≡ Budget
+
+-- what an output was given: before a call and after it, where it can be observed, and in how many writes
+pub record Sent : Type 0 where
+  pub before : Option (List ℕ)
+  pub writes_before : ℕ
+  pub after : Option (List ℕ)
+  pub writes_after : ℕ
+
+abbrev pub sent_to : Option (List ℕ) → ℕ → Option (List ℕ) → ℕ → Sent
+sent_to before writes_before after writes_after = record {
+  before = before;
+  writes_before = writes_before;
+  after = after;
+  writes_after = writes_after;
+}
+
+-- an output that is observed was given all that the run printed, each byte by a write of its own
+abbrev pub GivenAll : {program : ProgramRows} {kept : Option Image} → Built program kept → ℕ → Sent → Type 0
+GivenAll built steps sent =
+    (input : List ℕ) → IfSome sent.after (λ after. Gave sent.before sent.writes_before (the_run built.image steps input).at.printed after sent.writes_after)
+
+-- an output that is observed was given a prefix of what the run printed, each byte by a write of its own
+abbrev pub GivenPrefix : {program : ProgramRows} {kept : Option Image} → Built program kept → ℕ → Sent → Type 0
+GivenPrefix built steps sent =
+    (input : List ℕ) → IfSome sent.after (λ after. (first : List ℕ) × IsPrefixOf first (the_run built.image steps input).at.printed × Gave sent.before sent.writes_before first after sent.writes_after)
+
+-- The file
+
+-- a text that was taken of the file is this program
+pub record Accepted (held : Option (List ℕ)) (program : ProgramRows) : Type 0 where
+  pub text : List ℕ
+  pub taken : IsTaken held text
+  pub accepts : Accepts text program
+
+-- a text that was taken of the file is refused so
+pub record Declined (held : Option (List ℕ)) (refusal : Refusal) : Type 0 where
+  pub text : List ℕ
+  pub taken : IsTaken held text
+  pub refuses : Refuses text refusal.place refusal.reason
+
+-- The statuses. A call has these command words, a shelf that holds these files, where it can be observed, and leaves this image; its
+-- output was sent this, and its error output had these bytes before and has those after it.
+
+-- Done: the command names a file that is a program, the run of its image halts, and all that it prints was given
+pub record IsDone (words : List (List ℕ)) (holds : List ℕ → Option (List ℕ)) (kept : Option Image) (sent : Sent) (said said' : Option (List ℕ)) : Type 0 where
+  pub command : Asked
+  pub asked_for : asked words ≡ Some command
+  pub program : ProgramRows
+  pub accepted : Accepted (holds command.file) program
+  pub built : Built program kept
+  pub halts : Halts built command.steps
+  pub printed : GivenAll built command.steps sent
+  pub line : WasGiven said [] said'
+
+-- the same with a run that does not end within its instructions, of which a line is still to be written
+pub record IsSpent (words : List (List ℕ)) (holds : List ℕ → Option (List ℕ)) (kept : Option Image) (sent : Sent) : Type 0 where
+  pub command : Asked
+  pub asked_for : asked words ≡ Some command
+  pub program : ProgramRows
+  pub accepted : Accepted (holds command.file) program
+  pub built : Built program kept
+  pub spends : Spends built command.steps
+  pub printed : GivenAll built command.steps sent
+
+-- Budget: a run is spent, and the line says after how many instructions
+pub record IsBudget (words : List (List ℕ)) (holds : List ℕ → Option (List ℕ)) (kept : Option Image) (sent : Sent) (said said' : Option (List ℕ)) : Type 0 where
+  pub spent : IsSpent words holds kept sent
+  pub line : WasGiven said (budget_line spent.command.steps) said'
+
+-- Refused: the command names a file that is none; the line says where its first offence stands, and which it is
+pub record IsRefused (words : List (List ℕ)) (holds : List ℕ → Option (List ℕ)) (said said' : Option (List ℕ)) : Type 0 where
+  pub command : Asked
+  pub asked_for : asked words ≡ Some command
+  pub refusal : Refusal
+  pub declined : Declined (holds command.file) refusal
+  pub line : WasGiven said (refused_line refusal) said'
+
+-- Write fault within a run: the output was cut off behind a prefix of what the run prints
+pub record IsCutOff (words : List (List ℕ)) (holds : List ℕ → Option (List ℕ)) (kept : Option Image) (sent : Sent) : Type 0 where
+  pub command : Asked
+  pub asked_for : asked words ≡ Some command
+  pub program : ProgramRows
+  pub accepted : Accepted (holds command.file) program
+  pub built : Built program kept
+  pub printed : GivenPrefix built command.steps sent
+
+-- Usage: the words are no command
+pub record IsUsage (words : List (List ℕ)) (said said' : Option (List ℕ)) : Type 0 where
+  pub asked_for : asked words ≡ None
+  pub line : WasGiven said usage_line said'
