@@ -21,6 +21,7 @@ pub mod Spelling
 pub mod Running
 pub mod Rows
 pub mod Putting
+pub mod Chaining
 pub mod Acting
 pub mod Leading
 pub mod Numbering

@@ -1,6 +1,7 @@
 // The reader: ISLISP text to data, with every text fault at its place.
 #![tactic(auto)]
 
+mod chain;
 mod characters;
 mod cursor;
 mod gap;

@@ -4,7 +4,7 @@ use Rattle.isl_base.specs.Data.{Item, item, list, items_of, Tail}
 use Rattle.isl_base.specs.DataView.{tail_of}
 use Rattle.isl_reader.specs.Meanings.{joined}
 use Rattle.isl_reader.proofs.Putting.{items-joined}
-use Rattle.isl_reader.proofs.turn.joined_list.Goals as goal
+use Rattle.isl_reader.proofs.chain.joined_list.Goals as goal
 
 -- a list behind the dot
 list-joined : (p at : Place) (d e : Item) (ds more all : List Item) (t : Tail) → e ≡ item p (list (items_of all) t)
