@@ -1,16 +1,59 @@
 // Puts the rows of each table to the calls that the table is of, and prints what they answer.
 #![tactic(auto)]
 
+mod assembler;
+mod data;
 mod escape;
+mod fields;
+mod lists;
 mod names;
+mod outside;
+mod placed;
 mod problem;
+mod read;
+mod reasons;
 mod row;
+mod texts;
+mod words;
 
+use data::DataTable;
+use fields::FieldsTable;
+use isl_base::Origin;
+use lists::ListsTable;
 use names::NamesTable;
+use outside::OutsideTable;
 use problem::Problem;
+use reasons::ReasonsTable;
 use row::put_table;
+use std::rt::Files;
+use texts::TextsTable;
+use words::WordsTable;
 
 fn main(rt: HostRuntime) -> Result<(), Problem> {
-    put_table(&rt, "names.txt", &NamesTable)?;
-    Ok(())
+    put_base(&rt)?;
+    put_reader(&rt)?;
+    put_instructions(&rt)
+}
+
+// Reasons, lists, the outside, names and data.
+fn put_base<R: Files + Print + AllocGlobal>(rt: &R) -> Result<(), Problem> {
+    put_table(rt, "reasons.txt", &ReasonsTable)?;
+    put_table(rt, "lists.txt", &ListsTable)?;
+    put_table(rt, "outside.txt", &OutsideTable)?;
+    put_table(rt, "names.txt", &NamesTable)?;
+    put_table(rt, "data.txt", &DataTable)
+}
+
+// Texts, with their data or their stop.
+fn put_reader<R: Files + Print + AllocGlobal>(rt: &R) -> Result<(), Problem> {
+    let file = Origin::File;
+    let prelude = Origin::Prelude;
+    put_table(rt, "texts.txt", &TextsTable { origin: file })?;
+    put_table(rt, "prelude.txt", &TextsTable { origin: prelude })
+}
+
+// Words of the machine, and the fields of instructions.
+fn put_instructions<R: Files + Print + AllocGlobal>(rt: &R) -> Result<(), Problem> {
+    put_table(rt, "words.txt", &WordsTable)?;
+    put_table(rt, "fields.txt", &FieldsTable)
 }
