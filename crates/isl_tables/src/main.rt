@@ -5,6 +5,7 @@ mod assembler;
 mod data;
 mod escape;
 mod fields;
+mod images;
 mod lists;
 mod names;
 mod outside;
@@ -13,11 +14,14 @@ mod problem;
 mod read;
 mod reasons;
 mod row;
+mod running;
+mod runs;
 mod texts;
 mod words;
 
 use data::DataTable;
 use fields::FieldsTable;
+use images::ImagesTable;
 use isl_base::Origin;
 use lists::ListsTable;
 use names::NamesTable;
@@ -25,6 +29,7 @@ use outside::OutsideTable;
 use problem::Problem;
 use reasons::ReasonsTable;
 use row::put_table;
+use runs::RunsTable;
 use std::rt::Files;
 use texts::TextsTable;
 use words::WordsTable;
@@ -32,7 +37,8 @@ use words::WordsTable;
 fn main(rt: HostRuntime) -> Result<(), Problem> {
     put_base(&rt)?;
     put_reader(&rt)?;
-    put_instructions(&rt)
+    put_instructions(&rt)?;
+    put_machine(&rt)
 }
 
 // Reasons, lists, the outside, names and data.
@@ -56,4 +62,10 @@ fn put_reader<R: Files + Print + AllocGlobal>(rt: &R) -> Result<(), Problem> {
 fn put_instructions<R: Files + Print + AllocGlobal>(rt: &R) -> Result<(), Problem> {
     put_table(rt, "words.txt", &WordsTable)?;
     put_table(rt, "fields.txt", &FieldsTable)
+}
+
+// Programs of the machine, and images of programs.
+fn put_machine<R: Files + Print + AllocGlobal>(rt: &R) -> Result<(), Problem> {
+    put_table(rt, "runs.txt", &RunsTable)?;
+    put_table(rt, "images.txt", &ImagesTable)
 }
