@@ -80,14 +80,8 @@ fn all_in_front(links: Vec<Link>, items: DatumList) -> Result<DatumList, NoMemor
 {
     let mut links = links;
     let mut items = items;
-    while let Some(
-        Link {
-            place: _,
-            items: more,
-        },
-    ) = links.pop()
-    {
-        items.append_list(more)?;
+    while let Some(link) = links.pop() {
+        items.append_list(link.items)?;
     }
     Ok(items)
 }

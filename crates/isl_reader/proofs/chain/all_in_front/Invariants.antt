@@ -4,8 +4,8 @@ use Rattle.isl_reader.specs.Chains.{chained}
 use Rattle.isl_reader.specs.Meanings.{joined}
 use Rattle.isl_reader.proofs.chain.all_in_front.Given as goal
 
-abbrev pub invariant-loop-more : goal.invariant-loop-more
-invariant-loop-more l = (d : Item) → joined l.fn.items (chained (reverse l.fn.links.items) d) ≡ joined l.items (chained (reverse l.links.items) d)
+abbrev pub invariant-loop-link : goal.invariant-loop-link
+invariant-loop-link l = (d : Item) → joined l.fn.items (chained (reverse l.fn.links.items) d) ≡ joined l.items (chained (reverse l.links.items) d)
 
-abbrev pub decreases-loop-more : goal.decreases-loop-more
-decreases-loop-more l = vec_len l.links
+abbrev pub decreases-loop-link : goal.decreases-loop-link
+decreases-loop-link l = vec_len l.links

@@ -10,7 +10,7 @@ loop-open-preserved c = λ s.
     put-prefix c.loop-open.pending.items c.pop.new.self.items c.in-Some.open c.in-AtPrefix.place c.in-AtPrefix.name
     c.loop-open.datum c.new-datum.result c.in-Some.ensures.items c.in-AtPrefix.is
     (c.new-datum.ensures ∙ c.in_ok-made-in-AtPrefix.ensures
-     ∙ ap (prefix_item c.in-AtPrefix.place c.in-AtPrefix.name.0) c.in_ok-datum-in-AtPrefix.ensures) s
+    ∙ ap (prefix_item c.in-AtPrefix.place c.in-AtPrefix.name.0) c.in_ok-datum-in-AtPrefix.ensures) s
     ∙ c.loop-open.invariant s
 
 pub returns-in-InList : goal.returns-in-InList
