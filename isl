@@ -1,25 +1,50 @@
 #!/usr/bin/env bash
-# Runs the program with the words given and ends with its status. Where it is not built, or older than
-# the sources, `rt` proves and builds it first.
+# Runs the program with the words given, and ends with its status. Where it is built, that is the proved program; else
+# the words are tried at once on a program of which nothing is proved, for at most 60 seconds.
+# `isl --build` proves and builds; `rt ci` leaves the program built too.
 set -u
 top=$(dirname "$(readlink -f "$0")")
-program=$top/crates/isl_cli/out/isl_cli
+crate=$top/crates/isl_cli
+program=$crate/out/isl_cli
 
-# Whether a source is newer than the program, or there is no program.
+# Whether a source is newer than the program.
 is_old() {
-    [[ ! -x $program ]] && return 0
     [[ -n $(find "$top/crates.txt" "$top"/crates/*/src -newer "$program" -print -quit) ]]
 }
 
-# Builds the program by a run of it. Nothing is said on standard output.
+# Proves and builds the program, by a run of it.
 build() {
-    echo 'isl: proving and building the program; the first time takes some minutes' >&2
-    (cd "$top/crates/isl_cli" && rt run -- run data/yes.lsp) </dev/null >/dev/null &&
-        touch "$program"
+    (cd "$crate" && rt run -- run data/yes.lsp) </dev/null >&2 && touch "$program"
 }
 
-if is_old && ! build; then
-    echo 'isl: the program was not built' >&2
-    exit 1
+# Runs the words on a program that is not proved. A file that the last word names is passed on as a copy.
+try() {
+    local said last words=("$@") data=()
+    if [[ $# != 0 && ${words[-1]} != -* && -f ${words[-1]} ]]; then
+        data=(--data "program.lsp=$(realpath "${words[-1]}")")
+        words[-1]=program.lsp
+    fi
+    said=$(mktemp) || return 125
+    (cd "$crate" && rt try "${data[@]}" -- "${words[@]}") 2>"$said"
+    # behind what the program says stand two lines of rt, the last of them with the program's status
+    last=$(tail -n 1 "$said")
+    if [[ $last =~ ^run=ended\ status=([0-9]+) ]]; then
+        head -n -2 "$said" >&2
+        rm "$said"
+        return "${BASH_REMATCH[1]}"
+    fi
+    cat "$said" >&2
+    rm "$said"
+    echo 'isl: the run gave no answer' >&2
+    return 125
+}
+
+if [[ $# == 1 && $1 == --build ]]; then
+    build || exit 1
+elif [[ ! -x $program ]]; then
+    echo 'isl: nothing of this run is proved; ./isl --build proves and builds the program' >&2
+    try "$@"
+else
+    is_old && echo 'isl: a source is newer than the program; ./isl --build proves and builds it' >&2
+    exec -a isl "$program" "$@"
 fi
-exec "$program" "$@"

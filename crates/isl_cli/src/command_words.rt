@@ -8,19 +8,43 @@ use isl_base::Words;
 use isl_top::Answer;
 use std::alloc::Global;
 use std::env;
-use std::env::Args;
+use std::env::{Args, FillError};
 use std::io::ErrorKind;
 use std::rt::Env;
 
-/// The words behind the program's name. Else the answer of the call: `Usage` where one of them, or
-/// the name, is not UTF-8; `NoMemory` where memory is wanting.
+/// The words behind the program's name. Else the answer of the call: `Usage` where one of them is not
+/// UTF-8; `NoMemory` where memory is wanting. The name is not looked at, so it may have any bytes.
 pub fn command_words<R: Env + AllocGlobal>(rt: &R) -> Result<Words, Answer>
     ensures { IfErr result (λ answer. (answer ≡ Usage) ⊎ (answer ≡ WantsMemory)) }
 {
-    match env::args(rt) {
+    match env::args(&(Unnamed { whole: rt }, rt.alloc())) {
         Ok(args) => words_behind_name(rt.alloc(), args),
         Err(e) if e.kind() == ErrorKind::OutOfMemory => Err(Answer::NoMemory),
         Err(_) => Err(Answer::Usage),
+    }
+}
+
+// The environment with an empty name of the program.
+#[derive(Drop)]
+struct Unnamed<'a, R: Env> {
+    whole: &'a R,
+}
+
+impl<'a, R: Env> Env for Unnamed<'a, R> {
+    fn arg(&self, i: usize, buf: &mut [u8]) -> Result<usize, FillError> {
+        if i == 0 {
+            Ok(0)
+        } else {
+            self.whole.arg(i, buf)
+        }
+    }
+
+    fn var(&self, name: &str, buf: &mut [u8]) -> Result<usize, FillError> {
+        self.whole.var(name, buf)
+    }
+
+    fn var_at(&self, i: usize, buf: &mut [u8]) -> Result<usize, FillError> {
+        self.whole.var_at(i, buf)
     }
 }
 
