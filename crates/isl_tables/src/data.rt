@@ -2,13 +2,10 @@
 
 use crate::placed::push_placed;
 use crate::problem::Problem;
-use crate::read::read_data;
+use crate::read::{DEPTH, read_data};
 use crate::row::Table;
 use isl_base::Names;
 use std::alloc::Global;
-
-// How deep the data go at most.
-const DEPTH: u32 = 2000;
 
 /// Data. The answer for each is its size, its depth, whether it is in form, and a copy of it.
 #[derive(Clone, Copy)]

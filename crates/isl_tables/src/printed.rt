@@ -5,14 +5,11 @@ ghost use Rattle.std.specs.Prelude.{◌≤◌};
 use crate::escape::push_bytes;
 use crate::named::is_spelled;
 use crate::problem::Problem;
-use crate::read::read_data;
+use crate::read::{DEPTH, read_data};
 use crate::row::Table;
 use isl_base::{Datum, Names};
 use isl_reader::print_datum;
 use std::alloc::Global;
-
-// How deep the data go at most, item by item.
-const DEPTH: u32 = 2000;
 
 /// Data. The answer is each of them as it is printed, with a blank between them.
 #[derive(Clone, Copy)]

@@ -8,6 +8,9 @@ use std::alloc::Global;
 /// The bytes that a file may have.
 pub const LONGEST: usize = 1_048_576;
 
+/// How deep walks over the data of an input go at most, item by item.
+pub const DEPTH: u32 = 2000;
+
 /// All data of a text of a file. A text that is refused is `Problem::Row`.
 pub fn read_data(alloc: Global, names: &mut Names, text: &[u8]) -> Result<DatumList, Problem> {
     if text.len() > LONGEST {

@@ -7,15 +7,12 @@ use crate::fresh::{fresh_symbols, freshened};
 use crate::named::is_below;
 use crate::placed::push_place;
 use crate::problem::Problem;
-use crate::read::read_data;
+use crate::read::{DEPTH, read_data};
 use crate::row::Table;
 use crate::shown::{Places, push_shown, push_symbol};
 use isl_base::{Datum, FreshList, Kind, Name, Names, Stop};
 use isl_derived::{Step, derive};
 use std::alloc::Global;
-
-// How deep the data go at most, item by item.
-const DEPTH: u32 = 2000;
 
 /// One form. The answer is its step, `plain` for what is no derived form, or the reason and the place of
 /// a refusal; places of parts are shown or not.

@@ -2,14 +2,11 @@
 
 use crate::placed::{push_place, push_placed};
 use crate::problem::Problem;
-use crate::read::LONGEST;
+use crate::read::{DEPTH, LONGEST};
 use crate::row::Table;
 use isl_base::{Names, Origin, Stop};
 use isl_reader::Reader;
 use std::alloc::Global;
-
-// How deep the data go at most.
-const DEPTH: u32 = 2000;
 
 /// Texts of that origin. The answer is each datum with its places and then `end`, or `!` and the stop
 /// with its place. Where `last` says otherwise, or the stop is not answered again, it is said too.

@@ -3,7 +3,7 @@
 use crate::assembler::push_instr;
 use crate::problem::Problem;
 use crate::row::Table;
-use rv_encode::{Instr, decode, encode};
+use rv_encode::{decode, encode};
 use std::alloc::Global;
 use std::str;
 
@@ -18,18 +18,17 @@ impl Table for WordsTable {
         let word = u32::from_str_radix(digits, 16)?;
         match decode(word) {
             None => got.push_str("none")?,
-            Some(instr) => push_decoded(got, word, instr)?,
+            Some(instr) => push_instr(got, instr)?,
         }
-        Ok(())
+        push_back(got, word)
     }
 }
 
-// Appends the instruction of a word, and its word where that is another.
-fn push_decoded(got: &mut String, word: u32, instr: Instr) -> Result<(), Problem> {
-    push_instr(got, instr)?;
-    let back = encode(instr);
-    if back != word {
-        write!(got, " is {back:08x}")?;
+// Appends the word of the instruction of a word, where that is another.
+fn push_back(got: &mut String, word: u32) -> Result<(), Problem> {
+    match decode(word).map(encode) {
+        Some(back) if back != word => write!(got, " is {back:08x}")?,
+        _ => {}
     }
     Ok(())
 }
