@@ -1,8 +1,7 @@
 // Lists behind one another's dots, which are joined once.
 
-ghost use Rattle.std.specs.Prelude.{◌≡◌, reverse, IfOk, OnOk};
+ghost use Rattle.std.specs.Prelude.{◌≡◌, reverse, IfOk};
 ghost use Rattle.isl_base.specs.Data.{item, Item, list, items_of, dotted};
-ghost use Rattle.isl_base.specs.declared.place.Place.{Place as PlaceValue};
 ghost use Rattle.isl_reader.specs.Chains.{chained};
 ghost use Rattle.isl_reader.specs.Meanings.{joined};
 
@@ -50,12 +49,13 @@ impl Chain {
         }
     }
 
-    /// It goes behind the dot of a list with these items. After `NoMemory` it is as it was.
-    pub(crate) fn put_behind(&mut self, place: Place, items: DatumList) -> Result<(), NoMemory>
-        ensures { OnOk result (self.new ≡ item place (joined items self.old)) }
+    /// The list with these items and this datum behind its dot.
+    pub(crate) fn behind_dot(self, place: Place, items: DatumList) -> Result<Chain, NoMemory>
+        ensures { IfOk result (λ c. c ≡ item place (joined items self)) }
     {
-        match self.links.push(Link { place, items }) {
-            Ok(()) => Ok(()),
+        let mut chain = self;
+        match chain.links.push(Link { place, items }) {
+            Ok(()) => Ok(chain),
             Err(_) => Err(NoMemory),
         }
     }

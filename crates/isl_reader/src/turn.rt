@@ -1,13 +1,13 @@
 // What a lexeme does with the data that are open.
 
 ghost use Rattle.std.specs.Prelude.{◌≡◌, ◌≤◌, ◌<◌, ◌-◌, ℕ, List, [], ◌∷◌, ◌++◌, length, reverse, map, take, drop, Some, IfOk, OnOk, IsSome};
-ghost use Rattle.isl_base.specs.Data.{item, Item, list, items_of, dotted};
+ghost use Rattle.isl_base.specs.Data.{item};
 ghost use Rattle.isl_base.specs.DataView.{view_content};
 ghost use Rattle.isl_base.specs.Names.{IsTable};
 ghost use Rattle.isl_reader.specs.Atoms.{a_symbol};
 ghost use Rattle.isl_reader.specs.Lexemes.{atom_of};
 ghost use Rattle.isl_reader.specs.Characters.{folded as folded_of};
-ghost use Rattle.isl_reader.specs.Meanings.{number_in, atom_content, prefix_name, prefix_item, list_content, joined};
+ghost use Rattle.isl_reader.specs.Meanings.{number_in, atom_content, prefix_name, prefix_item, list_content};
 ghost use Rattle.isl_reader.specs.Machine.{State, Step, next, put, closing, dot_step, opening_step, atom_step, act, full_dot as full_dot_of};
 ghost use Rattle.isl_reader.specs.Turns.{IsLater, Turns, with_open, NameFits, open_state, IsContent, innermost_of, Begins};
 
@@ -100,15 +100,6 @@ fn proper_list(place: Place, items: DatumList) -> Datum
     }
 }
 
-// A list with a datum behind its dot.
-fn behind_dot(place: Place, items: DatumList, tail: Chain) -> Result<Chain, NoMemory>
-    ensures { IfOk result (λ d. d ≡ item place (joined items tail)) }
-{
-    let mut chain = tail;
-    chain.put_behind(place, items)?;
-    Ok(chain)
-}
-
 // A `)` at this place.
 fn close(alloc: Global, pending: &mut Vec<Pending>, place: Place) -> Result<Option<Datum>, Stop>
     ensures { Turns (λ s r. closing s place r (reverse pending.old.items)) result pending.new.items }
@@ -121,7 +112,7 @@ fn close(alloc: Global, pending: &mut Vec<Pending>, place: Place) -> Result<Opti
         Pending::AtDot(_, _, dot) => return Err(refused(dot, Reason::BadDot)),
         Pending::InList(at, items) => Chain::new(alloc, proper_list(at, items)),
         Pending::InVector(at, items) => Chain::new(alloc, Datum::new(at, Kind::Vector(items))),
-        Pending::AtTail(at, items, _, tail) => behind_dot(at, items, tail)?,
+        Pending::AtTail(at, items, _, tail) => tail.behind_dot(at, items)?,
     };
     Ok(put_datum(alloc, pending, datum)?)
 }
