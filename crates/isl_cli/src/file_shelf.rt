@@ -49,19 +49,3 @@ fn read_at<R: Files>(files: &R, name: &str, at: u64, buf: &mut [u8]) -> io::Resu
     file.seek(SeekFrom::Start(at))?;
     file.read(buf)
 }
-
-#[cfg(test)]
-mod tests {
-    use super::*;
-
-    #[test]
-    fn what_cannot_be_read_is_a_counted_fault(rt: HostRuntime) {
-        let mut shelf = FileShelf::new(&rt);
-        let mut buf = [0u8; 2];
-        assert_eq!(rt; shelf.read("/dev/null", 0, &mut buf), Ok(0));
-        assert_eq!(rt; shelf.faults.raised, 0);
-        assert_eq!(rt; shelf.read("/", 0, &mut buf), Err(Failed));
-        assert_eq!(rt; shelf.read("/no such file", 0, &mut buf), Err(Failed));
-        assert_eq!(rt; shelf.faults.raised, 2);
-    }
-}

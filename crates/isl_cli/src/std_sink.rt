@@ -43,20 +43,3 @@ impl<W: Write + Drop> Sink for StdSink<W> {
         }
     }
 }
-
-#[cfg(test)]
-mod tests {
-    use super::*;
-
-    #[test]
-    fn a_write_that_takes_nothing_is_a_counted_fault(rt: HostRuntime) {
-        let mut room = [0u8; 2];
-        let mut sink = StdSink::new(room.as_mut_slice());
-        assert_eq!(rt; sink.write(b"a"), Ok(1));
-        assert_eq!(rt; sink.write(b"bc"), Ok(1));
-        assert_eq!(rt; sink.write(b"c"), Err(Failed));
-        assert_eq!(rt; sink.write(b""), Ok(0));
-        assert_eq!(rt; sink.faults.raised, 1);
-        assert_eq!(rt; room, [b'a', b'b']);
-    }
-}

@@ -37,20 +37,3 @@ impl<R: Read + Drop> Source for StdSource<R> {
         }
     }
 }
-
-#[cfg(test)]
-mod tests {
-    use super::*;
-
-    #[test]
-    fn gives_what_the_reader_gives(rt: HostRuntime) {
-        let mut source = StdSource::new(b"abc".as_slice());
-        let mut buf = [0u8; 2];
-        assert_eq!(rt; source.read(&mut buf), Ok(2));
-        assert_eq!(rt; buf, [b'a', b'b']);
-        assert_eq!(rt; source.read(&mut buf), Ok(1));
-        assert_eq!(rt; buf[0], b'c');
-        assert_eq!(rt; source.read(&mut buf), Ok(0));
-        assert_eq!(rt; source.faults.raised, 0);
-    }
-}

@@ -4,7 +4,6 @@ pub mod PrintTrees
 pub mod PrintMeans
 pub mod PrintReads
 pub mod PrintLoops
-pub mod PrintTests
 pub mod Skips
 pub mod Shifting
 pub mod TokenRuns
@@ -21,6 +20,7 @@ pub mod Spelling
 pub mod Running
 pub mod Rows
 pub mod Putting
+pub mod Chaining
 pub mod Acting
 pub mod Leading
 pub mod Numbering

@@ -4,6 +4,7 @@ pub mod Tokens
 pub mod Atoms
 pub mod Trees
 pub mod Meanings
+pub mod Chains
 pub mod Reads
 pub mod Fronts
 pub mod Stops

@@ -1,6 +1,7 @@
 // The reader: ISLISP text to data, with every text fault at its place.
 #![tactic(auto)]
 
+mod chain;
 mod characters;
 mod cursor;
 mod gap;
@@ -13,8 +14,6 @@ mod quoted;
 pub mod reader;
 mod sharp;
 mod step;
-#[cfg(test)]
-mod tests;
 mod token;
 mod turn;
 

@@ -1,16 +1,17 @@
 // What a lexeme does with the data that are open.
 
 ghost use Rattle.std.specs.Prelude.{◌≡◌, ◌≤◌, ◌<◌, ◌-◌, ℕ, List, [], ◌∷◌, ◌++◌, length, reverse, map, take, drop, Some, IfOk, OnOk, IsSome};
-ghost use Rattle.isl_base.specs.Data.{item, Item, list, items_of, dotted};
+ghost use Rattle.isl_base.specs.Data.{item};
 ghost use Rattle.isl_base.specs.DataView.{view_content};
 ghost use Rattle.isl_base.specs.Names.{IsTable};
 ghost use Rattle.isl_reader.specs.Atoms.{a_symbol};
 ghost use Rattle.isl_reader.specs.Lexemes.{atom_of};
 ghost use Rattle.isl_reader.specs.Characters.{folded as folded_of};
-ghost use Rattle.isl_reader.specs.Meanings.{number_in, atom_content, prefix_name, prefix_item, list_content, joined};
+ghost use Rattle.isl_reader.specs.Meanings.{number_in, atom_content, prefix_name, prefix_item, list_content};
 ghost use Rattle.isl_reader.specs.Machine.{State, Step, next, put, closing, dot_step, opening_step, atom_step, act, full_dot as full_dot_of};
 ghost use Rattle.isl_reader.specs.Turns.{IsLater, Turns, with_open, NameFits, open_state, IsContent, innermost_of, Begins};
 
+use crate::chain::Chain;
 use crate::characters::folded;
 use crate::lexeme::Lexeme;
 use crate::opening::{Opening, Prefix};
@@ -54,7 +55,7 @@ fn prefixed(alloc: Global, place: Place, name: Name, datum: Datum) -> Result<Dat
 pub(crate) fn put_datum(
     alloc: Global,
     pending: &mut Vec<Pending>,
-    datum: Datum,
+    datum: Chain,
 ) -> Result<Option<Datum>, NoMemory>
     ensures { IfOk result (λ o. (s : State) → put s (reverse pending.old.items) datum ≡ next (with_open s o pending.new.items)) }
 {
@@ -62,15 +63,16 @@ pub(crate) fn put_datum(
     while let Some(open) = pending.pop() {
         match open {
             Pending::AtPrefix(place, name) => {
-                datum = prefixed(alloc, place, name, datum)?;
+                let made = prefixed(alloc, place, name, datum.datum(alloc)?)?;
+                datum = Chain::new(alloc, made);
             }
             Pending::InList(place, mut items) => {
-                items.push(datum)?;
+                items.push(datum.datum(alloc)?)?;
                 push(pending, Pending::InList(place, items))?;
                 return Ok(None);
             }
             Pending::InVector(place, mut items) => {
-                items.push(datum)?;
+                items.push(datum.datum(alloc)?)?;
                 push(pending, Pending::InVector(place, items))?;
                 return Ok(None);
             }
@@ -84,48 +86,7 @@ pub(crate) fn put_datum(
             }
         }
     }
-    Ok(Some(datum))
-}
-
-// A list with a datum behind its dot that is no list.
-fn with_tail(alloc: Global, place: Place, items: DatumList, tail: Datum) -> Result<Datum, NoMemory>
-    ensures { IfOk result (λ d. d ≡ item place (list (items_of items) (dotted tail))) }
-{
-    match Box::new(alloc, tail) {
-        Ok(tail) => Ok(Datum::new(
-            place,
-            Kind::List {
-                items,
-                tail: Some(tail),
-            },
-        )),
-        Err(_) => Err(NoMemory),
-    }
-}
-
-// A list with a datum behind its dot: a list there is joined.
-fn joined_list(
-    alloc: Global,
-    place: Place,
-    items: DatumList,
-    datum: Datum,
-) -> Result<Datum, NoMemory>
-    ensures { IfOk result (λ d. d ≡ item place (joined items datum)) }
-{
-    let Datum { place: at, kind } = datum;
-    let mut items = items;
-    match kind {
-        Kind::Int(n) => with_tail(alloc, place, items, Datum::new(at, Kind::Int(n))),
-        Kind::Char(c) => with_tail(alloc, place, items, Datum::new(at, Kind::Char(c))),
-        Kind::Sym(s) => with_tail(alloc, place, items, Datum::new(at, Kind::Sym(s))),
-        Kind::Str(bytes) => with_tail(alloc, place, items, Datum::new(at, Kind::Str(bytes))),
-        Kind::Vector(more) => with_tail(alloc, place, items, Datum::new(at, Kind::Vector(more))),
-        Kind::Nil => Ok(Datum::new(place, Kind::List { items, tail: None })),
-        Kind::List { items: more, tail } => {
-            items.append_list(more)?;
-            Ok(Datum::new(place, Kind::List { items, tail }))
-        }
-    }
+    Ok(Some(datum.datum(alloc)?))
 }
 
 // A whole list without a dot.
@@ -149,9 +110,9 @@ fn close(alloc: Global, pending: &mut Vec<Pending>, place: Place) -> Result<Opti
     let datum = match open {
         Pending::AtPrefix(_, _) => return Err(refused(place, Reason::StrayClose)),
         Pending::AtDot(_, _, dot) => return Err(refused(dot, Reason::BadDot)),
-        Pending::InList(at, items) => proper_list(at, items),
-        Pending::InVector(at, items) => Datum::new(at, Kind::Vector(items)),
-        Pending::AtTail(at, items, _, tail) => joined_list(alloc, at, items, tail)?,
+        Pending::InList(at, items) => Chain::new(alloc, proper_list(at, items)),
+        Pending::InVector(at, items) => Chain::new(alloc, Datum::new(at, Kind::Vector(items))),
+        Pending::AtTail(at, items, _, tail) => tail.behind_dot(at, items)?,
     };
     Ok(put_datum(alloc, pending, datum)?)
 }
@@ -319,7 +280,7 @@ fn atom(
         return Err(refused(dot, Reason::BadDot));
     }
     let kind = kind(alloc, names, word, lexeme)?;
-    Ok(put_datum(alloc, pending, Datum::new(place, kind))?)
+    Ok(put_datum(alloc, pending, Chain::new(alloc, Datum::new(place, kind)))?)
 }
 
 /// A lexeme of these bytes at this place. The answer is the datum that is then whole and stands in

@@ -7,8 +7,6 @@ ghost use Rattle.isl_top.specs.Code.{constant, nil_word, form_code, forms_code, 
 pub(crate) mod instructions;
 mod literal;
 pub(crate) mod pieces;
-#[cfg(test)]
-mod tests;
 
 use crate::emit::instructions::{NIL_WORD, STREAM_WORD};
 use crate::emit::literal::{row_byte, row_word};

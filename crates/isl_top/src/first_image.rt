@@ -6,9 +6,6 @@ ghost use Rattle.isl_top.specs.Theorem.{Compiled};
 ghost use Rattle.isl_top.specs.Code.{program_code};
 ghost use Rattle.isl_top.specs.Shapes.{IsFirstPath};
 
-#[cfg(test)]
-mod tests;
-
 use crate::emit::append_forms;
 use crate::emit::instructions::{CHOOSE_HALT, ENVIRONMENT, NIL_WORD};
 use crate::emit::pieces::{MOST_WORDS, append, constant, list_of};

@@ -6,8 +6,6 @@ pub mod image;
 pub mod laws;
 pub mod machine;
 pub mod run;
-#[cfg(test)]
-mod tests;
 mod turn;
 
 pub use ending::{Ending, StepEnd, TooBig, TrapKind};

@@ -1,0 +1,20 @@
+use Rattle.std.proofs.Common.{List, ◌≡◌, ◌∙◌, ◌++◌, ap}
+use Rattle.isl_base.specs.declared.place.Place.{Place}
+use Rattle.isl_base.specs.Data.{Item, item, list, items_of, Tail}
+use Rattle.isl_base.specs.DataView.{tail_of}
+use Rattle.isl_reader.specs.Meanings.{joined}
+use Rattle.isl_reader.proofs.Putting.{items-joined}
+use Rattle.isl_reader.proofs.chain.joined_list.Goals as goal
+
+-- a list behind the dot
+list-joined : (p at : Place) (d e : Item) (ds more all : List Item) (t : Tail) → e ≡ item p (list (items_of all) t)
+    → all ≡ ds ++ more → item at (list (items_of more) t) ≡ d → e ≡ item p (joined ds d)
+list-joined p at d e ds more all t h k l =
+    h ∙ ap (λ es. item p (list (items_of es) t)) k ∙ ap (λ es. item p (list es t)) (items-joined ds more)
+    ∙ ap (λ x. item p (joined ds x)) l
+
+pub returns-in_ok-append_list-in-List : goal.returns-in_ok-append_list-in-List
+returns-in_ok-append_list-in-List c =
+    list-joined c.args.place c.datum.inside.place c.args.datum c.new-in-List.result c.args.items c.in-List.more
+    c.append_list.new.self (tail_of c.in-List.tail) c.new-in-List.ensures c.in_ok-append_list-in-List.ensures.ok
+    (cc (c.datum.view_is, c.in-List.is))
