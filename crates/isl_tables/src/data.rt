@@ -4,7 +4,7 @@ use crate::placed::push_placed;
 use crate::problem::Problem;
 use crate::read::{DEPTH, read_data};
 use crate::row::Table;
-use isl_base::Names;
+use isl_base::{Datum, Names};
 use std::alloc::Global;
 
 /// Data. The answer for each is its size, its depth, whether it is in form, and a copy of it.
@@ -15,15 +15,21 @@ impl Table for DataTable {
     fn put(&self, alloc: Global, input: &[u8], got: &mut String) -> Result<(), Problem> {
         let mut names = Names::new(alloc);
         for datum in read_data(alloc, &mut names, input)?.as_slice() {
-            let (size, depth) = (datum.size(), datum.depth());
-            write!(got, "size {size} depth {depth} ")?;
-            got.push_str(if datum.is_formed() {
-                "in form "
-            } else {
-                "not in form "
-            })?;
-            push_placed(got, &names, &datum.copy(alloc)?, DEPTH)?;
+            put_datum(alloc, &names, datum, got)?;
         }
         Ok(())
     }
+}
+
+// Appends what is computed of a datum.
+fn put_datum(alloc: Global, names: &Names, datum: &Datum, got: &mut String) -> Result<(), Problem> {
+    let (size, depth) = (datum.size(), datum.depth());
+    write!(got, "size {size} depth {depth} ")?;
+    got.push_str(if datum.is_formed() {
+        "in form "
+    } else {
+        "not in form "
+    })?;
+    let copy = datum.copy(alloc)?;
+    push_placed(got, names, &copy, DEPTH)
 }

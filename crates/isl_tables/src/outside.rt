@@ -30,16 +30,12 @@ impl Table for OutsideTable {
         let (fails, held) = made.split_once(' ').ok_or(Problem::Row)?;
         let fails = calls_of(alloc, fails)?;
         match kind {
-            "source" => put_reads(
-                &mut MemSource::new(bytes_of(alloc, held)?, fails),
-                calls,
-                got,
-            ),
-            "sure-source" => put_reads(&mut SureSource::new(bytes_of(alloc, held)?), calls, got),
-            "sink" => put_sink(alloc, held.parse()?, fails, calls, got),
-            "sure-sink" => put_sure_sink(alloc, held.parse()?, calls, got),
-            "shelf" => put_shelf(&mut shelf(alloc, held, fails)?, calls, got),
-            "sure-shelf" => put_shelf(&mut SureShelf::new(bytes_of(alloc, held)?), calls, got),
+            "source" => put_source(bytes_of(alloc, held)?, fails, calls, got),
+            "sure-source" => put_sure_source(bytes_of(alloc, held)?, calls, got),
+            "sink" => put_sink(alloc, held, fails, calls, got),
+            "sure-sink" => put_sure_sink(alloc, held, calls, got),
+            "shelf" => put_named_shelf(alloc, bytes_of(alloc, held)?, fails, calls, got),
+            "sure-shelf" => put_sure_shelf(bytes_of(alloc, held)?, calls, got),
             _ => Err(Problem::Row),
         }
     }
@@ -58,10 +54,6 @@ fn calls_of(alloc: Global, text: &str) -> Result<CallList, Problem> {
         }
     }
     Ok(calls)
-}
-
-fn shelf(alloc: Global, held: &str, fails: CallList) -> Result<MemShelf, NoMemory> {
-    Ok(MemShelf::new(bytes_of(alloc, NAME)?, bytes_of(alloc, held)?, fails))
 }
 
 // Reads, each of so many bytes.
@@ -104,20 +96,46 @@ fn put_writes<S: Sink>(sink: &mut S, calls: &str, got: &mut String) -> Result<()
     Ok(())
 }
 
-fn put_sink(
+fn put_source(held: Bytes, fails: CallList, calls: &str, got: &mut String) -> Result<(), Problem> {
+    let mut source = MemSource::new(held, fails);
+    put_reads(&mut source, calls, got)
+}
+
+fn put_sure_source(held: Bytes, calls: &str, got: &mut String) -> Result<(), Problem> {
+    let mut source = SureSource::new(held);
+    put_reads(&mut source, calls, got)
+}
+
+fn put_named_shelf(
     alloc: Global,
-    room: usize,
+    held: Bytes,
     fails: CallList,
     calls: &str,
     got: &mut String,
 ) -> Result<(), Problem> {
-    let mut sink = MemSink::new(alloc, room, fails)?;
+    let mut shelf = MemShelf::new(bytes_of(alloc, NAME)?, held, fails);
+    put_shelf(&mut shelf, calls, got)
+}
+
+fn put_sure_shelf(held: Bytes, calls: &str, got: &mut String) -> Result<(), Problem> {
+    let mut shelf = SureShelf::new(held);
+    put_shelf(&mut shelf, calls, got)
+}
+
+fn put_sink(
+    alloc: Global,
+    room: &str,
+    fails: CallList,
+    calls: &str,
+    got: &mut String,
+) -> Result<(), Problem> {
+    let mut sink = MemSink::new(alloc, room.parse()?, fails)?;
     put_writes(&mut sink, calls, got)?;
     push_bytes(got, sink.bytes())
 }
 
-fn put_sure_sink(alloc: Global, room: usize, calls: &str, got: &mut String) -> Result<(), Problem> {
-    let mut sink = SureSink::new(alloc, room)?;
+fn put_sure_sink(alloc: Global, room: &str, calls: &str, got: &mut String) -> Result<(), Problem> {
+    let mut sink = SureSink::new(alloc, room.parse()?)?;
     put_writes(&mut sink, calls, got)?;
     push_bytes(got, sink.bytes())
 }

@@ -3,13 +3,25 @@
 
 use crate::escape::push_bytes;
 use crate::problem::Problem;
-use isl_base::{Datum, DatumList, Kind, Names, Place, Symbol};
+use isl_base::{Datum, DatumList, Kind, Names, Place, Stop, Symbol};
 
 /// Appends a place.
 pub fn push_place(got: &mut String, place: Place) -> Result<(), Problem> {
     let Place { line, column } = place;
     write!(got, "{line}:{column}")?;
     Ok(())
+}
+
+/// Appends the reason of a refusal and its place.
+pub fn push_stop(got: &mut String, stop: Stop) -> Result<(), Problem> {
+    match stop {
+        Stop::NoMemory => Err(Problem::Memory),
+        Stop::Refused(refusal) => {
+            got.push_str(refusal.reason.text())?;
+            got.push('@')?;
+            push_place(got, refusal.place)
+        }
+    }
 }
 
 /// Appends a datum whose parts are inside one another at most so deep.
@@ -55,10 +67,12 @@ fn push_all(got: &mut String, names: &Names, items: &DatumList, depth: u32) -> R
     if depth == 0 {
         return Err(Problem::Row);
     }
-    for (at, item) in items.as_slice().iter().enumerate() {
-        if at > 0 {
+    let mut is_first = true;
+    for item in items.as_slice() {
+        if !is_first {
             got.push(' ')?;
         }
+        is_first = false;
         push_placed(got, names, item, depth - 1)?;
     }
     Ok(())

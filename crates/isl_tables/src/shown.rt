@@ -57,10 +57,12 @@ fn push_all(
     if depth == 0 {
         return Err(Problem::Row);
     }
-    for (at, item) in items.as_slice().iter().enumerate() {
-        if at > 0 {
+    let mut is_first = true;
+    for item in items.as_slice() {
+        if !is_first {
             got.push(' ')?;
         }
+        is_first = false;
         push_shown(got, names, item, places, depth - 1)?;
     }
     Ok(())

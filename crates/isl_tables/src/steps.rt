@@ -5,7 +5,7 @@ ghost use Rattle.std.specs.Prelude.{length};
 use crate::escape::push_bytes;
 use crate::fresh::{fresh_symbols, freshened};
 use crate::named::is_below;
-use crate::placed::push_place;
+use crate::placed::push_stop;
 use crate::problem::Problem;
 use crate::read::{DEPTH, read_data};
 use crate::row::Table;
@@ -75,15 +75,21 @@ fn put_step(
     got: &mut String,
 ) -> Result<(), Problem> {
     let form = freshened(alloc, names, form, DEPTH)?;
-    match step_of(alloc, names, fresh, &form)? {
-        Ok(Step::Derived(derived)) => push_shown(got, names, &derived, places, DEPTH),
-        Ok(Step::Plain) => push_text(got, "plain"),
-        Err(Stop::NoMemory) => Err(Problem::Memory),
-        Err(Stop::Refused(refusal)) => {
-            push_text(got, refusal.reason.text())?;
-            got.push('@')?;
-            push_place(got, refusal.place)
-        }
+    let step = step_of(alloc, names, fresh, &form)?;
+    push_step(got, names, &step, places)
+}
+
+// Appends a step, or the refusal of one.
+fn push_step(
+    got: &mut String,
+    names: &Names,
+    step: &Result<Step, Stop>,
+    places: Places,
+) -> Result<(), Problem> {
+    match step {
+        Ok(Step::Derived(derived)) => push_shown(got, names, derived, places, DEPTH),
+        Ok(Step::Plain) => push_plain(got),
+        Err(stop) => push_stop(got, *stop),
     }
 }
 
@@ -101,8 +107,8 @@ fn step_of(
     Ok(derive(alloc, form, names, fresh))
 }
 
-fn push_text(got: &mut String, text: &str) -> Result<(), Problem> {
-    got.push_str(text)?;
+fn push_plain(got: &mut String) -> Result<(), Problem> {
+    got.push_str("plain")?;
     Ok(())
 }
 

@@ -1,6 +1,6 @@
 // Texts, and the data or the stop that the reader gives of them.
 
-use crate::placed::{push_place, push_placed};
+use crate::placed::{push_placed, push_stop};
 use crate::problem::Problem;
 use crate::read::{DEPTH, LONGEST};
 use crate::row::Table;
@@ -60,6 +60,7 @@ fn put_next(
         }
         Err(stop) => {
             push_unless(got, !is_last, "last? ")?;
+            got.push('!')?;
             push_stop(got, stop)?;
             let again = reader.next(alloc, names);
             push_unless(got, again.err() == Some(stop), " not again")?;
@@ -74,15 +75,4 @@ fn push_unless(got: &mut String, is_so: bool, words: &str) -> Result<(), Problem
         got.push_str(words)?;
     }
     Ok(())
-}
-
-fn push_stop(got: &mut String, stop: Stop) -> Result<(), Problem> {
-    match stop {
-        Stop::NoMemory => Err(Problem::Memory),
-        Stop::Refused(refusal) => {
-            let reason = refusal.reason.text();
-            write!(got, "!{reason}@")?;
-            push_place(got, refusal.place)
-        }
-    }
 }
