@@ -2,13 +2,12 @@
 
 ghost use Rattle.std.specs.Prelude.{◌<◌, ◌↔◌, All, IsTrue, length};
 
-use crate::answer::{
-    begin, push_found, push_number, push_stop, push_word, push_yes_no,
-};
-use crate::data::{command, data_of, id, items, name, name_list, text, word};
+use crate::answer::{begin, push_found, push_number, push_stop, push_word, push_yes_no};
+use crate::data::{command, data_of, items, name, text};
 use crate::problem::Problem;
 use crate::row::Table;
-use isl_base::{Datum, Name, NameList, Names};
+use crate::slots::slot_row;
+use isl_base::{Datum, Names};
 use isl_classes::{Classes, SlotSpec, SlotSpecs};
 use isl_meaning::{ClassId, ClassIds, SlotRow};
 use std::alloc::Global;
@@ -54,7 +53,13 @@ fn define(
     if classes.find(class).is_some() || !all_below(supers.as_slice(), classes.rows().len()) {
         return Err(Problem::Row);
     }
-    match classes.define(class, datum.place, supers.as_slice(), &slots, abstract_class) {
+    match classes.define(
+        class,
+        datum.place,
+        supers.as_slice(),
+        &slots,
+        abstract_class,
+    ) {
         Ok(_) => Ok(()),
         Err(stop) => push_stop(got, stop),
     }
@@ -90,34 +95,13 @@ fn slot_specs(alloc: Global, names: &Names, data: &[Datum]) -> Result<SlotSpecs,
 }
 
 fn slot_spec(alloc: Global, names: &Names, datum: &Datum) -> Result<SlotSpec, Problem> {
-    let mut slot = SlotSpec {
+    let slot = slot_row(alloc, names, datum)?;
+    Ok(SlotSpec {
         place: datum.place,
-        name: Name(0),
-        initargs: NameList::new(alloc),
-        initform: None,
-    };
-    match items(datum) {
-        Ok([own, options @ ..]) => {
-            slot.name = name(own)?;
-            take_options(names, &mut slot, options)?;
-        }
-        _ => slot.name = name(datum)?,
-    }
-    Ok(slot)
-}
-
-// The options of a slot: `:initarg NAME` and `:initform PROCEDURE`.
-fn take_options(names: &Names, slot: &mut SlotSpec, options: &[Datum]) -> Result<(), Problem> {
-    let mut left = options;
-    while let [key, value, rest @ ..] = left {
-        match word(names, key)? {
-            ":initarg" => slot.initargs.push(name(value)?)?,
-            ":initform" => slot.initform = Some(id(value)?),
-            _ => return Err(Problem::Row),
-        }
-        left = rest;
-    }
-    Ok(())
+        name: slot.name,
+        initargs: slot.initargs,
+        initform: slot.initform,
+    })
 }
 
 // Puts a question.

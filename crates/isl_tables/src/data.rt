@@ -33,10 +33,7 @@ pub fn items(datum: &Datum) -> Result<&[Datum], Problem> {
 }
 
 /// The word that a proper list begins with, and the items behind it.
-pub fn command<'a>(
-    names: &'a Names,
-    datum: &'a Datum,
-) -> Result<(&'a str, &'a [Datum]), Problem> {
+pub fn command<'a>(names: &'a Names, datum: &'a Datum) -> Result<(&'a str, &'a [Datum]), Problem> {
     match items(datum)? {
         [head, rest @ ..] => Ok((word(names, head)?, rest)),
         [] => Err(Problem::Row),
@@ -80,15 +77,6 @@ pub fn ids(alloc: Global, data: &[Datum]) -> Result<ItemList<usize>, Problem> {
     let mut list = ItemList::new(alloc);
     for datum in data {
         list.push(id(datum)?)?;
-    }
-    Ok(list)
-}
-
-/// The names that stand in these places.
-pub fn name_list(alloc: Global, data: &[Datum]) -> Result<ItemList<Name>, Problem> {
-    let mut list = ItemList::new(alloc);
-    for datum in data {
-        list.push(name(datum)?)?;
     }
     Ok(list)
 }

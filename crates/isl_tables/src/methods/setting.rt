@@ -1,19 +1,13 @@
 // The classes and the generic functions that a row has.
 
 use crate::answer::push_stop;
-use crate::data::{found, id, ids, items, name, number, word};
+use crate::data::{id, ids, items, name, number, word};
+use crate::method::method;
 use crate::problem::Problem;
 use isl_base::{Datum, Name, Names};
 use isl_dispatch::Generics;
-use isl_meaning::{ClassIds, ClassRow, ClassRows, GenericId, MethodRow, Qualifier, SlotRows};
+use isl_meaning::{ClassIds, ClassRow, ClassRows, GenericId, SlotRows};
 use std::alloc::Global;
-
-const QUALIFIERS: &[(&str, Qualifier)] = &[
-    ("primary", Qualifier::Primary),
-    ("around", Qualifier::Around),
-    ("before", Qualifier::Before),
-    ("after", Qualifier::After),
-];
 
 /// Classes by their precedence lists, and generic functions.
 #[derive(Drop)]
@@ -67,14 +61,11 @@ impl Setting {
 
     /// A new generic function: a name, its required arguments, and `rest` where it takes more.
     pub fn define(&mut self, names: &Names, parts: &[Datum]) -> Result<(), Problem> {
-        match parts {
-            [function, required] => self.define_one(name(function)?, number(required)?, false),
-            [function, required, rest] => {
-                is_rest(names, rest)?;
-                self.define_one(name(function)?, number(required)?, true)
-            }
-            _ => Err(Problem::Row),
-        }
+        let (parts, rest) = without_rest(names, parts);
+        let [function, required] = parts else {
+            return Err(Problem::Row);
+        };
+        self.define_one(name(function)?, number(required)?, rest)
     }
 
     fn define_one(&mut self, function: Name, required: u32, rest: bool) -> Result<(), Problem> {
@@ -111,7 +102,8 @@ impl Setting {
         datum: &Datum,
         got: &mut String,
     ) -> Result<(), Problem> {
-        let (row, rest) = method(alloc, names, items(datum)?)?;
+        let (parts, rest) = without_rest(names, items(datum)?);
+        let row = method(alloc, names, parts)?;
         if generic >= self.generics.rows().len() {
             return Err(Problem::Row);
         }
@@ -127,39 +119,15 @@ impl Setting {
     }
 }
 
-// A method: a qualifier, classes, a procedure, and `rest` where it has a rest name.
-fn method(alloc: Global, names: &Names, parts: &[Datum]) -> Result<(MethodRow, bool), Problem> {
-    match parts {
-        [kind, classes, procedure] => {
-            Ok((method_row(alloc, names, kind, classes, procedure)?, false))
-        }
-        [kind, classes, procedure, rest] => {
-            is_rest(names, rest)?;
-            Ok((method_row(alloc, names, kind, classes, procedure)?, true))
-        }
-        _ => Err(Problem::Row),
+// The items without the word `rest` at their end, and whether it stands there.
+fn without_rest<'a>(names: &Names, data: &'a [Datum]) -> (&'a [Datum], bool) {
+    match data {
+        [front @ .., last] if is_rest(names, last) => (front, true),
+        _ => (data, false),
     }
 }
 
-fn method_row(
-    alloc: Global,
-    names: &Names,
-    kind: &Datum,
-    classes: &Datum,
-    procedure: &Datum,
-) -> Result<MethodRow, Problem> {
-    Ok(MethodRow {
-        qualifier: found(QUALIFIERS, word(names, kind)?)?,
-        classes: ids(alloc, items(classes)?)?,
-        procedure: id(procedure)?,
-    })
-}
-
-// The word `rest`.
-fn is_rest(names: &Names, datum: &Datum) -> Result<(), Problem> {
-    if word(names, datum)? == "rest" {
-        Ok(())
-    } else {
-        Err(Problem::Row)
-    }
+// Whether it is the word `rest`.
+fn is_rest(names: &Names, datum: &Datum) -> bool {
+    matches!(word(names, datum), Ok("rest"))
 }
