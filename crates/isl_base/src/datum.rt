@@ -7,8 +7,6 @@ ghost use Rattle.isl_base.specs.DataView.{view_content};
 mod copies;
 mod formed;
 mod measures;
-#[cfg(test)]
-mod tests;
 
 use crate::lists::{Bytes, ItemList};
 use crate::place::Place;

@@ -16,8 +16,6 @@ pub mod outside;
 pub mod place;
 pub mod reason;
 pub mod sure;
-#[cfg(test)]
-mod tests;
 pub mod words;
 
 pub use calls::Calls;

@@ -3,9 +3,6 @@
 ghost use Rattle.std.specs.Prelude.{◌≡◌, ◌+◌, ◌≤◌, ℕ, false, List, [], ◌∷◌, ◌++◌, length, slice_get, Some, None, OnOk, OnErr, IfOk, MatchOption};
 ghost use Rattle.isl_base.specs.Names.{IsTable, has_text, with_text};
 
-#[cfg(test)]
-mod tests;
-
 use crate::datum::Name;
 use crate::faults::NoMemory;
 use crate::lists::{Bytes, ItemList};

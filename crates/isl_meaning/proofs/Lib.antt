@@ -19,3 +19,4 @@ pub mod GroupTurns
 pub mod Decoding
 pub mod ChainCounts
 pub mod Methods
+pub mod SuffixCells

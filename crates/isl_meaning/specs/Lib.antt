@@ -33,6 +33,7 @@ pub mod WorkedFacts
 pub mod Reached
 pub mod WorkedData
 pub mod OfClasses
+pub mod Suffixes
 pub mod TuplePlaces
 pub mod GroupNumbers
 pub mod ListTurns

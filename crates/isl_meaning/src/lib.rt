@@ -12,6 +12,7 @@ mod makes;
 mod mentions;
 pub mod nodes;
 pub mod part;
+mod passing;
 mod placed;
 pub mod primitive;
 pub mod program;

@@ -4,7 +4,6 @@ pub mod PrintTrees
 pub mod PrintMeans
 pub mod PrintReads
 pub mod PrintLoops
-pub mod PrintTests
 pub mod Skips
 pub mod Shifting
 pub mod TokenRuns

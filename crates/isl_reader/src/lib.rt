@@ -13,8 +13,6 @@ mod quoted;
 pub mod reader;
 mod sharp;
 mod step;
-#[cfg(test)]
-mod tests;
 mod token;
 mod turn;
 

@@ -12,9 +12,6 @@ ghost use Rattle.isl_reader.specs.Characters.{begins, is_token};
 ghost use Rattle.isl_reader.specs.Tokens.{is_dot};
 ghost use Rattle.isl_reader.specs.Printing.{gap_before, stays, is_bare, escapes, between, name_spelling, symbol_text, spelling, items_spelling, tail_spelling, IsSpelled, ReadAgain};
 
-#[cfg(test)]
-mod tests;
-
 use crate::characters::{is_capital, is_token};
 use crate::token::{is_float, is_integer};
 use isl_base::{Bytes, Datum, DatumList, Kind, Names, NoMemory, Symbol};

@@ -3,8 +3,9 @@
 ghost use Rattle.std.specs.Prelude.{◌<◌, ◌↔◌, All, IsTrue, length};
 
 use crate::answer::{begin, push_found, push_number, push_stop, push_word, push_yes_no};
-use crate::data::{command, data_of, items, name, text};
+use crate::inputs::{command, items, name, text};
 use crate::problem::Problem;
+use crate::read::read_data;
 use crate::row::Table;
 use crate::slots::slot_row;
 use isl_base::{Datum, Names};
@@ -20,7 +21,7 @@ impl Table for ClassesTable {
     fn put(&self, alloc: Global, input: &[u8], got: &mut String) -> Result<(), Problem> {
         let mut names = Names::new(alloc);
         let mut classes = Classes::builtin(alloc, &mut names)?;
-        let data = data_of(alloc, &mut names, input)?;
+        let data = read_data(alloc, &mut names, input)?;
         for datum in data.as_slice() {
             match command(&names, datum)? {
                 ("class", parts) => define(alloc, &names, &mut classes, datum, parts, false, got)?,

@@ -5,7 +5,8 @@ use isl_base::Bytes;
 use std::alloc::Global;
 
 /// The bytes that a text stands for: `\n` is byte 10, `\t` byte 9, `\s` a blank, `\\` a backslash,
-/// `\xHH` the byte of that hexadecimal number, and `\{N TEXT\}` what TEXT stands for, N times.
+/// `\#` a number sign, `\xHH` the byte of that hexadecimal number, and `\{N TEXT\}` what TEXT stands
+/// for, N times.
 pub fn unescaped(alloc: Global, text: &str) -> Result<Bytes, Problem> {
     let mut reading = Reading {
         bytes: Bytes::new(alloc),
@@ -99,7 +100,7 @@ impl Reading {
             b'n' => self.bytes.push(b'\n')?,
             b't' => self.bytes.push(b'\t')?,
             b's' => self.bytes.push(b' ')?,
-            b'\\' => self.bytes.push(b'\\')?,
+            b'\\' | b'#' => self.bytes.push(byte)?,
             b'}' => self.repeat(alloc)?,
             b'x' => return Ok(State::HighDigit),
             b'{' => {

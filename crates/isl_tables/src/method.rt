@@ -1,6 +1,6 @@
 // Methods as data.
 
-use crate::data::{found, id, ids, items, word};
+use crate::inputs::{found, id, ids, items, word};
 use crate::problem::Problem;
 use isl_base::{Datum, Names};
 use isl_meaning::{MethodRow, Qualifier};

@@ -3,8 +3,9 @@
 mod questions;
 mod setting;
 
-use crate::data::{command, data_of};
+use crate::inputs::command;
 use crate::problem::Problem;
+use crate::read::read_data;
 use crate::row::Table;
 use isl_base::Names;
 use questions::ask;
@@ -19,7 +20,7 @@ impl Table for MethodsTable {
     fn put(&self, alloc: Global, input: &[u8], got: &mut String) -> Result<(), Problem> {
         let mut names = Names::new(alloc);
         let mut setting = Setting::nothing(alloc);
-        let data = data_of(alloc, &mut names, input)?;
+        let data = read_data(alloc, &mut names, input)?;
         for datum in data.as_slice() {
             let (head, parts) = command(&names, datum)?;
             match head {

@@ -7,8 +7,9 @@ mod primitives;
 mod questions;
 mod rows;
 
-use crate::data::{command, data_of};
+use crate::inputs::command;
 use crate::problem::Problem;
+use crate::read::read_data;
 use crate::row::Table;
 use built_in::no_rows;
 use isl_base::Names;
@@ -24,7 +25,7 @@ impl Table for ProgramsTable {
     fn put(&self, alloc: Global, input: &[u8], got: &mut String) -> Result<(), Problem> {
         let mut names = Names::new(alloc);
         let mut rows = no_rows(alloc, &mut names)?;
-        let data = data_of(alloc, &mut names, input)?;
+        let data = read_data(alloc, &mut names, input)?;
         for datum in data.as_slice() {
             let (head, parts) = command(&names, datum)?;
             if !ask(alloc, &names, &rows, head, parts, got)? {

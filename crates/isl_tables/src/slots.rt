@@ -1,6 +1,6 @@
 // Slots as data: a name, or a name with its options.
 
-use crate::data::{id, items, name, word};
+use crate::inputs::{id, items, name, word};
 use crate::problem::Problem;
 use isl_base::{Datum, NameList, Names};
 use isl_meaning::SlotRow;

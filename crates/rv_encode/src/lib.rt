@@ -10,8 +10,6 @@ pub mod laws;
 mod opcodes;
 mod parts;
 mod signed;
-#[cfg(test)]
-mod tests;
 
 pub use decoding::decode;
 pub use encoding::encode;

@@ -3,7 +3,7 @@
 use crate::answer::{
     begin, push_found, push_list, push_number, push_numbers, push_word, push_yes_no,
 };
-use crate::data::{id, ids, items};
+use crate::inputs::{id, ids, items, name};
 use crate::methods::setting::Setting;
 use crate::problem::Problem;
 use isl_base::{Datum, ItemList};
@@ -75,7 +75,7 @@ fn ask_generic(
     got: &mut String,
 ) -> Result<(), Problem> {
     if question == "find" {
-        return push_found(got, setting.generics.find(crate::data::name(function)?));
+        return push_found(got, setting.generics.find(name(function)?));
     }
     let generic = setting.generic(function)?;
     let row = setting.generics.rows().get(generic).ok_or(Problem::Row)?;

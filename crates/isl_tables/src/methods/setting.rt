@@ -1,7 +1,7 @@
 // The classes and the generic functions that a row has.
 
 use crate::answer::push_stop;
-use crate::data::{id, ids, items, name, number, word};
+use crate::inputs::{id, ids, items, name, number, word};
 use crate::method::method;
 use crate::problem::Problem;
 use isl_base::{Datum, Name, Names};

@@ -1,6 +1,6 @@
 // Core forms as data: the word of a form, and its parts in order.
 
-use crate::data::{command, id, items, name, number};
+use crate::inputs::{command, id, items, name, number};
 use crate::problem::Problem;
 use crate::programs::lambda::lambda;
 use crate::programs::primitives::primitive;

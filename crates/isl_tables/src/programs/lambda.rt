@@ -1,6 +1,6 @@
 // A form that makes a function.
 
-use crate::data::{command, id};
+use crate::inputs::{command, id};
 use crate::problem::Problem;
 use isl_base::{Datum, Names};
 use isl_meaning::{CoreForm, Part, PartList};

@@ -1,6 +1,6 @@
 // Primitives by their names.
 
-use crate::data::{found, word};
+use crate::inputs::{found, word};
 use crate::problem::Problem;
 use isl_base::{Datum, Names};
 use isl_meaning::Primitive;

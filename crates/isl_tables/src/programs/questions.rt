@@ -1,7 +1,7 @@
 // What is asked of a program.
 
 use crate::answer::{push_number, push_yes_no};
-use crate::data::id;
+use crate::inputs::id;
 use crate::problem::Problem;
 use crate::programs::primitives::primitive;
 use isl_base::{Datum, Names};

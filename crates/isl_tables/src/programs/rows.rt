@@ -1,6 +1,6 @@
 // Rows of a program as data.
 
-use crate::data::{command, id, ids, items, name, number, word};
+use crate::inputs::{command, id, ids, items, name, number, word};
 use crate::method::method;
 use crate::problem::Problem;
 use crate::programs::forms::Forms;
