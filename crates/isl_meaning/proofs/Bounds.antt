@@ -27,7 +27,7 @@ pub cells_within : (d r : ℕ) → r ≡ min d 262145 → nat_le r 262144 ≡ na
 cells_within d r h = cut_off d r 262144 262145 h (omega arith)
 
 -- the cells of a program depend on its classes alone
-total_alike : {X : Type 0} (f g : X → ℕ) → ((x : X) → f x ≡ g x) → (xs : List X) → total f xs ≡ total g xs
+pub total_alike : {X : Type 0} (f g : X → ℕ) → ((x : X) → f x ≡ g x) → (xs : List X) → total f xs ≡ total g xs
 total_alike f g same [] = refl
 total_alike f g same (x ∷ xs) = ap (λ n. n + total f xs) (same x) ∙ ap (λ n. g x + n) (total_alike f g same xs)
 

@@ -55,7 +55,7 @@ all_kinds (m ∷ ms) = omega (arith, all_kinds ms, one_kind m.qualifier)
 abbrev pub size_of : List MethodRow → ℕ
 size_of ms = if count_of Primary ms == 0 then 0 else length ms
 
-length_of-chain : (ms : List MethodRow) (ps : List ℕ) → of_kind Primary ms ≡ ps → chain_length (chain_of ms ps) ≡ size_of ms
+pub length_of-chain : (ms : List MethodRow) (ps : List ℕ) → of_kind Primary ms ≡ ps → chain_length (chain_of ms ps) ≡ size_of ms
 length_of-chain ms [] e =
     let none : count_of Primary ms ≡ 0 = sym (length-kind Primary ms) ∙ ap length e in
     rw none refl

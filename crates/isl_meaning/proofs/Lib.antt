@@ -16,3 +16,4 @@ pub mod GroupTurns
 pub mod Decoding
 pub mod ChainCounts
 pub mod Methods
+pub mod SuffixCells

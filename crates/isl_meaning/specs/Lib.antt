@@ -27,6 +27,7 @@ pub mod Placed
 pub mod Facts
 pub mod Reached
 pub mod OfClasses
+pub mod Suffixes
 pub mod TuplePlaces
 pub mod GroupNumbers
 pub mod ListTurns

@@ -58,8 +58,8 @@ pub fn chain_length(generic: &GenericRow, classes: &ClassRows, tuple: &ClassIds)
     if primary == 0 { 0 } else { found }
 }
 
-// One for a primary method.
-fn primary_count(kind: Qualifier) -> usize
+/// One for a primary method.
+pub(crate) fn primary_count(kind: Qualifier) -> usize
     ensures { result ≡ (if is_qualifier Qualifier.Primary kind then 1 else 0) }
 {
     match kind {

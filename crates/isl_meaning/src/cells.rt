@@ -1,15 +1,16 @@
 // The cells of dispatch tables, counted without the tables.
 
-ghost use Rattle.std.specs.Prelude.{◌≡◌, ◌+◌, IfOk, length, map, filter, min};
+ghost use Rattle.std.specs.Prelude.{◌≡◌, ◌+◌, ◌<◌, ◌^◌, IfOk, length, map, filter, min};
 ghost use Rattle.isl_meaning.specs.Objects.{count_up};
 ghost use Rattle.isl_meaning.specs.ProgramCounts.{total};
 ghost use Rattle.isl_meaning.specs.Cells.{groups, is_specialised, tuples, tuple_cells, generic_cells};
 ghost use Rattle.isl_meaning.specs.OfClasses.{with_classes};
+ghost use Rattle.isl_meaning.specs.Suffixes.{rest_cells};
 
-use crate::applying::chain_length;
 use crate::groups::argument_groups;
-use crate::program::{ClassIds, ClassRows, GenericRow, GenericRows};
-use crate::tuples::{tuple_at, tuple_count};
+use crate::passing::{ended_count, passing};
+use crate::program::{ClassIds, ClassRows, GenericRow, GenericRows, MethodRows};
+use crate::tuples::tuple_count;
 use isl_base::{ItemList, NoMemory};
 use std::alloc::Global;
 
@@ -91,27 +92,41 @@ fn tuples_cells(
     ensures { IfOk result (λ n. n
         ≡ min (total (tuple_cells (with_classes classes.now) generic.now) (tuples lists.now)) 262145) }
 {
-    let count = tuple_count(lists);
-    if count as u64 >= CELLS_LIMIT {
+    if tuple_count(lists) as u64 >= CELLS_LIMIT {
         return Ok(CELLS_LIMIT);
     }
+    suffix_cells(alloc, classes, &generic.methods, 0, lists.as_slice())
+}
+
+// The cells of the tuples of these lists, which begin at that argument, where the methods are those
+// that fit all arguments in front.
+fn suffix_cells(
+    alloc: Global,
+    classes: &ClassRows,
+    methods: &MethodRows,
+    argument: usize,
+    lists: &[ClassIds],
+) -> Result<u64, NoMemory>
+    requires { argument + length lists.now < 2 ^ 64 }
+    ensures { IfOk result (λ n. n
+        ≡ min (total (rest_cells (with_classes classes.now) argument methods.now) (tuples lists.now)) 262145) }
+{
+    let [firsts, rest @ ..] = lists else {
+        return Ok(capped_sum(1, ended_count(methods, argument) as u64));
+    };
     let mut sum: u64 = 0;
-    for index in 0..count {
-        let tuple = tuple_at(alloc, lists, count, index)?;
-        sum = capped_sum(sum, tuple_cells(generic, classes, &tuple));
+    for at in 0..firsts.len() {
+        let Some(class) = firsts.get(at) else {
+            unreachable!()
+        };
+        let few = passing(alloc, classes, methods, argument, *class)?;
+        let more = suffix_cells(alloc, classes, &few, argument + 1, rest)?;
+        sum = capped_sum(sum, more);
         if sum == CELLS_LIMIT {
             return Ok(sum);
         }
     }
     Ok(sum)
-}
-
-// The cells of one tuple.
-fn tuple_cells(generic: &GenericRow, classes: &ClassRows, tuple: &ClassIds) -> u64
-    ensures { result
-        ≡ min (tuple_cells (with_classes classes.now) generic.now tuple.now) 262145 }
-{
-    capped_sum(1, chain_length(generic, classes, tuple) as u64)
 }
 
 // The sum up to the limit.

@@ -12,14 +12,13 @@ mod makes;
 mod mentions;
 pub mod nodes;
 pub mod part;
+mod passing;
 mod placed;
 pub mod primitive;
 pub mod program;
 mod rows;
 pub mod scope;
 mod stands;
-#[cfg(test)]
-mod tests;
 pub mod tuples;
 mod whole;
 

@@ -1,38 +1,48 @@
 // Puts the rows of each table to the calls that the table is of, and prints what they answer.
 #![tactic(auto)]
 
+mod answer;
 mod assembler;
+mod classes;
 mod data;
 mod escape;
 mod fields;
 mod fresh;
 mod images;
+mod inputs;
 mod lists;
+mod method;
+mod methods;
 mod named;
 mod names;
 mod outside;
 mod placed;
 mod printed;
 mod problem;
+mod programs;
 mod read;
 mod reasons;
 mod row;
 mod running;
 mod runs;
 mod shown;
+mod slots;
 mod steps;
 mod texts;
 mod words;
 
+use classes::ClassesTable;
 use data::DataTable;
 use fields::FieldsTable;
 use images::ImagesTable;
 use isl_base::Origin;
 use lists::ListsTable;
+use methods::MethodsTable;
 use names::NamesTable;
 use outside::OutsideTable;
 use printed::PrintedTable;
 use problem::Problem;
+use programs::ProgramsTable;
 use reasons::ReasonsTable;
 use row::put_table;
 use runs::RunsTable;
@@ -45,6 +55,7 @@ fn main(rt: HostRuntime) -> Result<(), Problem> {
     put_base(&rt)?;
     put_reader(&rt)?;
     put_derived(&rt)?;
+    put_meaning(&rt)?;
     put_instructions(&rt)?;
     put_machine(&rt)
 }
@@ -72,6 +83,13 @@ fn put_derived<R: Files + Print + AllocGlobal>(rt: &R) -> Result<(), Problem> {
     put_table(rt, "steps.txt", &StepsTable::Unplaced)?;
     put_table(rt, "places.txt", &StepsTable::Placed)?;
     put_table(rt, "serials.txt", &SerialsTable)
+}
+
+// Classes, generic functions and programs.
+fn put_meaning<R: Files + Print + AllocGlobal>(rt: &R) -> Result<(), Problem> {
+    put_table(rt, "classes.txt", &ClassesTable)?;
+    put_table(rt, "methods.txt", &MethodsTable)?;
+    put_table(rt, "programs.txt", &ProgramsTable)
 }
 
 // Words of the machine, and the fields of instructions.
