@@ -3,13 +3,13 @@ use Rattle.std.specs.Prelude.{ℕ, zero, suc, ◌+◌, nat_le, Bool, true, false
 use Rattle.std.specs.Str.{bytes_eq}
 use Rattle.isl_base.specs.declared.place.Place.{Place}
 use Rattle.isl_base.specs.Data.{Item, item, Content, integer, character, symbol, string, vector, nil, list, Items, no_item, item_and, Tail, no_tail, dotted}
-use Rattle.isl_meaning.specs.DerivedPieces.{Piece, word, made, taken, parens, Pieces, no_piece, piece_and, pieces_of, listed, form, all_taken, Right}
-use Rattle.isl_meaning.specs.DerivedRows.{is_word, is_symbol, text_of, list_items, if_row, in_front, keys_clause, else_clause, clause_row, case_clauses, case_right, case_row, case_using_right, case_using_row}
-use Rattle.isl_meaning.specs.DerivedRows.{Stepped, steppeds_of, first_values, Next, nexts, next_values, next_sets, for_right, for_row}
-use Rattle.isl_meaning.specs.DerivedRows.{setter, setter_of, setf_text, arguments_bound, arguments_made, setf_right, setf_list, setf_row}
-use Rattle.isl_meaning.specs.DerivedRows.{LocalFunction, functions_of, lambda_of, functions_bound, functions_unset, functions_set, functions_named, flet_right, flet_row, labels_right, labels_row, ignore_errors_row, assure_row, the_row, convert_row}
-use Rattle.isl_meaning.specs.DerivedQuotation.{template, template_of, tail_part, template_list, unquoted, spliced, part, parts, kept_prefix, one_piece}
-use Rattle.isl_meaning.specs.Derived.{Rows, rows_of, quasiquote_row}
+use Rattle.isl_derived.specs.Pieces.{Piece, word, made, taken, parens, Pieces, no_piece, piece_and, pieces_of, listed, form, all_taken, Right}
+use Rattle.isl_derived.specs.Rows.{is_word, is_symbol, text_of, list_items, if_row, in_front, keys_clause, else_clause, clause_row, case_clauses, case_right, case_row, case_using_right, case_using_row}
+use Rattle.isl_derived.specs.Rows.{Stepped, steppeds_of, first_values, Next, nexts, next_values, next_sets, for_right, for_row}
+use Rattle.isl_derived.specs.Rows.{setter, setter_of, setf_text, arguments_bound, arguments_made, setf_right, setf_list, setf_row}
+use Rattle.isl_derived.specs.Rows.{LocalFunction, functions_of, lambda_of, functions_bound, functions_unset, functions_set, functions_named, flet_right, flet_row, labels_right, labels_row, ignore_errors_row, assure_row, the_row, convert_row}
+use Rattle.isl_derived.specs.Quotation.{template, template_of, tail_part, template_list, unquoted, spliced, part, parts, kept_prefix, one_piece}
+use Rattle.isl_derived.specs.Derived.{Rows, rows_of, quasiquote_row}
 
 -- no derived name
 abbrev pub NoRows : Option Rows → Type 0

@@ -4,10 +4,10 @@ use Rattle.std.proofs.Common.{arith, ap, ◌∙◌, subst}
 use Rattle.isl_base.specs.declared.place.Place.{Place}
 use Rattle.isl_base.specs.Data.{Item, item, integer, character, symbol, string, vector, nil, list, Items, no_item, item_and, items_list, Tail, no_tail, dotted}
 use Rattle.isl_base.specs.DataMeasures.{size_of, sizes_of, size_of_tail}
-use Rattle.isl_meaning.specs.DerivedPieces.{Piece, word, made, taken, parens, Pieces, no_piece, piece_and, pieces_of, listed, form, all_taken, Right, in_parens, Builds, BuildsAll}
-use Rattle.isl_meaning.specs.DerivedRows.{text_of, list_items, if_row, and_row, or_row, let_in_order, let_in_order_row, case_row, case_using_row, for_row, setf_row, flet_row, labels_row, ignore_errors_row, assure_row, the_row, convert_row}
-use Rattle.isl_meaning.specs.Derived.{Rows, table, rows_of, rows_under, by_rows, judged, Derivation, plain, unfit, becomes, list_derivation, derivation, quasiquote_row}
-use Rattle.isl_meaning.specs.DerivedEnds.{piece_weight, pieces_weight, rows_at, UnderRows, AllFurther, AllFurtherIn, AllItems, OfDotted, AllParts, Leaves, by_step, by_part}
+use Rattle.isl_derived.specs.Pieces.{Piece, word, made, taken, parens, Pieces, no_piece, piece_and, pieces_of, listed, form, all_taken, Right, in_parens, Builds, BuildsAll}
+use Rattle.isl_derived.specs.Rows.{text_of, list_items, if_row, and_row, or_row, let_in_order, let_in_order_row, case_row, case_using_row, for_row, setf_row, flet_row, labels_row, ignore_errors_row, assure_row, the_row, convert_row}
+use Rattle.isl_derived.specs.Derived.{Rows, table, rows_of, rows_under, by_rows, judged, Derivation, plain, unfit, becomes, list_derivation, derivation, quasiquote_row}
+use Rattle.isl_derived.specs.Ends.{piece_weight, pieces_weight, rows_at, UnderRows, AllFurther, AllFurtherIn, AllItems, OfDotted, AllParts, Leaves, by_step, by_part}
 use Rattle.isl_derived.proofs.Taken.{AllOf, GoesDown, of_list, Taken, AllTaken, TakenRight}
 use Rattle.isl_derived.proofs.Rows.{AllRows, OfRows, found_under, TakenRows, all_rows_taken}
 use Rattle.isl_derived.proofs.Apart.{NoRows, Apart, AllApart, ApartRight, if_apart, case_apart, case_using_apart, for_apart, setf_apart, flet_apart, labels_apart, ignore_errors_apart, assure_apart, the_apart, convert_apart, quasiquote_apart}

@@ -7,12 +7,12 @@ use Rattle.isl_base.specs.declared.datum.Symbol.TheVariants.{Named, Fresh}
 use Rattle.isl_base.specs.Names.{Extends}
 use Rattle.isl_base.specs.Data.{Item, item, Content, integer, character, symbol, string, vector, nil, list, Items, no_item, item_and, items_list, Tail, no_tail, dotted, place_of}
 use Rattle.isl_base.specs.DataMeasures.{Formed, AllFormed, FormedTail, NamesBelow, NamesBelowInside, AllNamesBelow, NamesBelowTail, SymbolBelow}
-use Rattle.isl_meaning.specs.DerivedPieces.{Piece, word, made, taken, parens, Pieces, no_piece, piece_and, Right, in_parens, Builds, BuildsAll}
-use Rattle.isl_meaning.specs.DerivedRows.{text_of}
-use Rattle.isl_meaning.specs.Derived.{Rows, table, rows_under, by_rows, judged, Derivation, plain, unfit, becomes, list_derivation, derivation, Derives, new_symbols}
+use Rattle.isl_derived.specs.Pieces.{Piece, word, made, taken, parens, Pieces, no_piece, piece_and, Right, in_parens, Builds, BuildsAll}
+use Rattle.isl_derived.specs.Rows.{text_of}
+use Rattle.isl_derived.specs.Derived.{Rows, table, rows_under, by_rows, judged, Derivation, plain, unfit, becomes, list_derivation, derivation, Derives, new_symbols}
 use Rattle.isl_derived.specs.declared.one_step.Step.TheVariants.{Derived}
 use Rattle.isl_derived.specs.Steps.{IsStep, IsWhole}
-use Rattle.isl_meaning.specs.DerivedEnds.{AllItems, OfDotted}
+use Rattle.isl_derived.specs.Ends.{AllItems, OfDotted}
 use Rattle.isl_derived.proofs.Taken.{AllOf, GoesDown, of_list, Taken, AllTaken, TakenRight}
 use Rattle.isl_derived.proofs.Rows.{AllRows, OfRows, found_under, TakenRows, all_rows_taken}
 use Rattle.isl_derived.proofs.Same.{Alike, case_same, case_using_same, setf_same, quasiquote_same}

@@ -2,7 +2,7 @@
 use Rattle.std.specs.Prelude.{ℕ, true, false, List, [], ◌∷◌, Option, Some, None, if◌then◌else◌}
 use Rattle.std.specs.Str.{bytes_eq}
 use Rattle.isl_base.specs.Data.{Item}
-use Rattle.isl_meaning.specs.Derived.{Rows, table, rows_in, rows_of, rows_under}
+use Rattle.isl_derived.specs.Derived.{Rows, table, rows_in, rows_of, rows_under}
 use Rattle.isl_derived.proofs.Taken.{AllOf, GoesDown, TakenRight, if_too, and_too, or_too, let_row_too, case_too, case_using_too, for_too, setf_too, flet_too, labels_too, ignore_errors_too, assure_too, the_too, convert_too, quasiquote_too}
 
 abbrev pub AllRows : (Rows → Type 0) → List (List ℕ × Rows) → Type 0

@@ -3,11 +3,11 @@ use Rattle.std.specs.Prelude.{◌≡◌, ℕ, zero, suc, ◌+◌, Bool, List, []
 use Rattle.std.proofs.Common.{ap, ◌∙◌}
 use Rattle.isl_base.specs.declared.place.Place.{Place}
 use Rattle.isl_base.specs.Data.{Item, item, Content, integer, character, symbol, string, vector, nil, list, Items, no_item, item_and, Tail, no_tail, dotted}
-use Rattle.isl_meaning.specs.DerivedPieces.{Piece, word, made, taken, Pieces, no_piece, piece_and, form, Right}
-use Rattle.isl_meaning.specs.DerivedRows.{is_word, is_text, is_symbol, text_of, list_items, in_front, keys_clause, else_clause, clause_row, case_clauses, case_right, case_row, case_using_right, case_using_row, setter, setf_right, setf_list, setf_row}
-use Rattle.isl_meaning.specs.DerivedQuotation.{template, template_of, tail_part, template_list, unquoted, spliced, part, parts, kept_prefix, one_piece, appended}
-use Rattle.isl_meaning.specs.Derived.{quasiquote_row}
-use Rattle.isl_meaning.specs.DerivedEnds.{AllItems, OfDotted}
+use Rattle.isl_derived.specs.Pieces.{Piece, word, made, taken, Pieces, no_piece, piece_and, form, Right}
+use Rattle.isl_derived.specs.Rows.{is_word, is_text, is_symbol, text_of, list_items, in_front, keys_clause, else_clause, clause_row, case_clauses, case_right, case_row, case_using_right, case_using_row, setter, setf_right, setf_list, setf_row}
+use Rattle.isl_derived.specs.Quotation.{template, template_of, tail_part, template_list, unquoted, spliced, part, parts, kept_prefix, one_piece, appended}
+use Rattle.isl_derived.specs.Derived.{quasiquote_row}
+use Rattle.isl_derived.specs.Ends.{AllItems, OfDotted}
 use Rattle.isl_derived.proofs.Taken.{AllOf, AllOfSome, GoesDown, items_too}
 
 -- the two tables have the same name of each such datum

@@ -2,14 +2,14 @@
 use Rattle.std.specs.Prelude.{ℕ, zero, suc, ◌+◌, true, false, List, [], ◌∷◌, ◌++◌, length, Option, Some, None, if◌then◌else◌, codes}
 use Rattle.isl_base.specs.declared.place.Place.{Place}
 use Rattle.isl_base.specs.Data.{Item, item, Content, integer, character, symbol, string, vector, nil, list, Items, no_item, item_and, items_list, Tail, no_tail, dotted}
-use Rattle.isl_meaning.specs.DerivedPieces.{Piece, word, made, taken, parens, Pieces, no_piece, piece_and, pieces_of, listed, form, all_taken, Right}
-use Rattle.isl_meaning.specs.DerivedRows.{is_word, is_symbol, text_of, list_items, if_row, and_row, or_row, let_in_order, let_in_order_row, in_front, keys_clause, else_clause, clause_row, case_clauses, case_right, case_row, case_using_right, case_using_row}
-use Rattle.isl_meaning.specs.DerivedRows.{Stepped, stepped_of, steppeds, steppeds_of, first_values, Next, with_next, nexts, next_values, next_sets, for_right, for_row}
-use Rattle.isl_meaning.specs.DerivedRows.{setter, arguments_bound, arguments_made, setf_right, setf_list, setf_row}
-use Rattle.isl_meaning.specs.DerivedRows.{LocalFunction, function_of, functions, functions_of, lambda_of, functions_bound, functions_unset, functions_set, functions_named, flet_right, flet_row, labels_right, labels_row, ignore_errors_row, assure_row, the_row, convert_row}
-use Rattle.isl_meaning.specs.DerivedQuotation.{template, template_of, tail_part, template_list, unquoted, spliced, part, parts, kept_prefix, one_piece}
-use Rattle.isl_meaning.specs.Derived.{quasiquote_row}
-use Rattle.isl_meaning.specs.DerivedEnds.{AllItems, OfDotted}
+use Rattle.isl_derived.specs.Pieces.{Piece, word, made, taken, parens, Pieces, no_piece, piece_and, pieces_of, listed, form, all_taken, Right}
+use Rattle.isl_derived.specs.Rows.{is_word, is_symbol, text_of, list_items, if_row, and_row, or_row, let_in_order, let_in_order_row, in_front, keys_clause, else_clause, clause_row, case_clauses, case_right, case_row, case_using_right, case_using_row}
+use Rattle.isl_derived.specs.Rows.{Stepped, stepped_of, steppeds, steppeds_of, first_values, Next, with_next, nexts, next_values, next_sets, for_right, for_row}
+use Rattle.isl_derived.specs.Rows.{setter, arguments_bound, arguments_made, setf_right, setf_list, setf_row}
+use Rattle.isl_derived.specs.Rows.{LocalFunction, function_of, functions, functions_of, lambda_of, functions_bound, functions_unset, functions_set, functions_named, flet_right, flet_row, labels_right, labels_row, ignore_errors_row, assure_row, the_row, convert_row}
+use Rattle.isl_derived.specs.Quotation.{template, template_of, tail_part, template_list, unquoted, spliced, part, parts, kept_prefix, one_piece}
+use Rattle.isl_derived.specs.Derived.{quasiquote_row}
+use Rattle.isl_derived.specs.Ends.{AllItems, OfDotted}
 
 -- it holds of each
 abbrev pub AllOf : (Item → Type 0) → List Item → Type 0

@@ -1,8 +1,8 @@
 -- Where forms stand in what a step writes: which parts of a written form are forms, by the name in front of it.
 use Rattle.std.specs.Prelude.{ℕ, List, [], ◌∷◌, Option, Some, None, if◌then◌else◌, codes}
 use Rattle.std.specs.Str.{bytes_eq}
-use Rattle.isl_meaning.specs.DerivedPieces.{Piece, word, made, taken, parens, Pieces, no_piece, piece_and}
-use Rattle.isl_meaning.specs.Derived.{Rows, rows_of}
+use Rattle.isl_derived.specs.Pieces.{Piece, word, made, taken, parens, Pieces, no_piece, piece_and}
+use Rattle.isl_derived.specs.Derived.{Rows, rows_of}
 
 mutual
   -- the role of a part: no form (a name, a parameter list, a quoted datum), a form, or a list of such parts

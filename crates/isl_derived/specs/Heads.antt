@@ -1,6 +1,6 @@
 -- The rows of each derived name.
-use Rattle.isl_meaning.specs.DerivedRows.{if_row, and_row, or_row, let_in_order_row, case_row, case_using_row, for_row, setf_row, flet_row, labels_row, ignore_errors_row, assure_row, the_row, convert_row}
-use Rattle.isl_meaning.specs.Derived.{Rows, quasiquote_row}
+use Rattle.isl_derived.specs.Rows.{if_row, and_row, or_row, let_in_order_row, case_row, case_using_row, for_row, setf_row, flet_row, labels_row, ignore_errors_row, assure_row, the_row, convert_row}
+use Rattle.isl_derived.specs.Derived.{Rows, quasiquote_row}
 use Rattle.isl_derived.specs.declared.head.Head.{Head}
 use Rattle.isl_derived.specs.declared.head.Head.TheVariants.{If, And, Or, LetInOrder, Case, CaseUsing, For, Setf, Flet, Labels, IgnoreErrors, Assure, The, Convert, Quasiquote}
 

@@ -1,3 +1,8 @@
+pub mod Pieces
+pub mod Rows
+pub mod Quotation
+pub mod Derived
+pub mod Ends
 pub mod PieceCode
 pub mod PieceView
 pub mod PieceFalls

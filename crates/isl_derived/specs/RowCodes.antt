@@ -3,7 +3,7 @@ use Rattle.std.specs.Prelude.{List, Option, refl}
 use Rattle.std.specs.Coded.{Coded, code_by, coded_list, coded_option, coded×}
 use Rattle.isl_base.specs.Data.{Item}
 use Rattle.isl_base.specs.DataCode.{item_code}
-use Rattle.isl_meaning.specs.DerivedRows.{LocalFunction, Stepped, Next}
+use Rattle.isl_derived.specs.Rows.{LocalFunction, Stepped, Next}
 
 abbrev pub function_code : Coded LocalFunction
 function_code =

@@ -2,8 +2,8 @@
 use Rattle.std.specs.Prelude.{ℕ, ◌+◌, List, [], ◌∷◌, ◌++◌, length, Option, Some, None, if◌then◌else◌, codes}
 use Rattle.std.specs.Str.{bytes_eq}
 use Rattle.isl_base.specs.Data.{Item}
-use Rattle.isl_meaning.specs.DerivedPieces.{Piece, word, made, taken, listed, form, Right}
-use Rattle.isl_meaning.specs.DerivedRows.{arguments_bound, arguments_made}
+use Rattle.isl_derived.specs.Pieces.{Piece, word, made, taken, listed, form, Right}
+use Rattle.isl_derived.specs.Rows.{arguments_bound, arguments_made}
 
 -- the function that sets a place of a list or an array
 abbrev pub known_setter : List ℕ → Option (List ℕ)

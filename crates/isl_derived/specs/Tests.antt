@@ -1,6 +1,6 @@
 -- The tests of the clauses of `case` and `case-using`.
 use Rattle.std.specs.Prelude.{List, [], ◌∷◌, codes}
-use Rattle.isl_meaning.specs.DerivedPieces.{Piece, word, made}
+use Rattle.isl_derived.specs.Pieces.{Piece, word, made}
 use Rattle.isl_derived.specs.declared.case.Test.{Test}
 use Rattle.isl_derived.specs.declared.case.Test.TheVariants.{Member, Satisfies}
 

@@ -1,8 +1,8 @@
 // The rows of `let*`, `flet` and `labels` (ISO/IEC 13816:2007, 12.3 and 14.2).
 
 ghost use Rattle.std.specs.Prelude.{◌≡◌, ◌++◌, ◌∷◌, [], Some, IfOk, codes};
-ghost use Rattle.isl_meaning.specs.DerivedPieces.{listed, form, taken, all_taken, plainly};
-ghost use Rattle.isl_meaning.specs.DerivedRows.{let_in_order_row, list_items, functions_of, functions, function_of, lambda_of, functions_bound, functions_unset, functions_set, functions_named, flet_right, flet_row, labels_right, labels_row};
+ghost use Rattle.isl_derived.specs.Pieces.{listed, form, taken, all_taken, plainly};
+ghost use Rattle.isl_derived.specs.Rows.{let_in_order_row, list_items, functions_of, functions, function_of, lambda_of, functions_bound, functions_unset, functions_set, functions_named, flet_right, flet_row, labels_right, labels_row};
 
 use crate::piece::{
     Piece, PieceList, all_taken, bound, form_front, form_two, made, nil, one, pair, parens, taken,
@@ -58,7 +58,7 @@ pub(crate) struct LocalFunction<'a> {
 }
 
 impl<'a> Model for LocalFunction<'a> {
-    ghost use Rattle.isl_meaning.specs.DerivedRows.{LocalFunction as FunctionOf};
+    ghost use Rattle.isl_derived.specs.Rows.{LocalFunction as FunctionOf};
 
     ghost Value = { FunctionOf };
 

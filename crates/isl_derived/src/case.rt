@@ -1,8 +1,8 @@
 // The rows of `case` and `case-using` (ISO/IEC 13816:2007, 14.4).
 
 ghost use Rattle.std.specs.Prelude.{◌≡◌, ◌+◌, ◌∷◌, [], Some, IfOk, codes};
-ghost use Rattle.isl_meaning.specs.DerivedPieces.{form, all_taken};
-ghost use Rattle.isl_meaning.specs.DerivedRows.{list_items, keys_clause, else_clause, clause_row, case_clauses, case_right, case_row, case_using_right, case_using_row};
+ghost use Rattle.isl_derived.specs.Pieces.{form, all_taken};
+ghost use Rattle.isl_derived.specs.Rows.{list_items, keys_clause, else_clause, clause_row, case_clauses, case_right, case_row, case_using_right, case_using_row};
 ghost use Rattle.isl_derived.specs.Tests.{test_parts};
 
 use crate::piece::{

@@ -1,8 +1,8 @@
 // The rows of `ignore-errors`, `assure`, `the` and `convert` (ISO/IEC 13816:2007, 15 and 29.2).
 
 ghost use Rattle.std.specs.Prelude.{◌≡◌, ◌≤◌, ◌∷◌, [], length, IfOk, codes};
-ghost use Rattle.isl_meaning.specs.DerivedPieces.{word, made, listed, form};
-ghost use Rattle.isl_meaning.specs.DerivedRows.{true_piece, nil_piece, errors_ignored, ignore_errors_row, class_piece, assure_row, the_row, convert_row};
+ghost use Rattle.isl_derived.specs.Pieces.{word, made, listed, form};
+ghost use Rattle.isl_derived.specs.Rows.{true_piece, nil_piece, errors_ignored, ignore_errors_row, class_piece, assure_row, the_row, convert_row};
 
 use crate::piece::{
     Piece, all_taken, bound, form_front, form_one, form_two, made, nil, one, pair, parens, taken,

@@ -1,7 +1,7 @@
 // The rows of `if`, `and` and `or` (ISO/IEC 13816:2007, 14.4 and 14.5).
 
 ghost use Rattle.std.specs.Prelude.{◌≡◌, IfOk};
-ghost use Rattle.isl_meaning.specs.DerivedRows.{if_row, and_row, or_row};
+ghost use Rattle.isl_derived.specs.Rows.{if_row, and_row, or_row};
 
 use crate::piece::{all_taken, form, form_one, form_two, nil, one, pair, parens, taken, word};
 use crate::right::{Right, plainly};

@@ -1,8 +1,8 @@
 // The row of `for` (ISO/IEC 13816:2007, 14.7).
 
 ghost use Rattle.std.specs.Prelude.{◌≡◌, ◌++◌, ◌∷◌, [], Some, IfOk, OnOk, codes};
-ghost use Rattle.isl_meaning.specs.DerivedPieces.{form, all_taken};
-ghost use Rattle.isl_meaning.specs.DerivedRows.{list_items, stepped_of, steppeds, steppeds_of, first_values, with_next, nexts, next_values, next_sets, goes_on, all_next, for_right, for_row};
+ghost use Rattle.isl_derived.specs.Pieces.{form, all_taken};
+ghost use Rattle.isl_derived.specs.Rows.{list_items, stepped_of, steppeds, steppeds_of, first_values, with_next, nexts, next_values, next_sets, goes_on, all_next, for_right, for_row};
 ghost use Rattle.isl_derived.specs.ForLoops.{while_piece};
 
 use crate::piece::{
@@ -24,7 +24,7 @@ pub(crate) struct Stepped<'a> {
 }
 
 impl<'a> Model for Stepped<'a> {
-    ghost use Rattle.isl_meaning.specs.DerivedRows.{Stepped as SteppedOf};
+    ghost use Rattle.isl_derived.specs.Rows.{Stepped as SteppedOf};
     ghost use Rattle.isl_derived.specs.Shown.{datum_shown};
 
     ghost Value = { SteppedOf };
@@ -44,7 +44,7 @@ pub(crate) struct Next<'a> {
 }
 
 impl<'a> Model for Next<'a> {
-    ghost use Rattle.isl_meaning.specs.DerivedRows.{Next as NextOf};
+    ghost use Rattle.isl_derived.specs.Rows.{Next as NextOf};
 
     ghost Value = { NextOf };
 

@@ -1,7 +1,7 @@
 // Derived names.
 
 ghost use Rattle.std.specs.Prelude.{◌≡◌, Some, None, MatchOption};
-ghost use Rattle.isl_meaning.specs.Derived.{rows_of};
+ghost use Rattle.isl_derived.specs.Derived.{rows_of};
 ghost use Rattle.isl_derived.specs.Heads.{rows_named};
 
 /// A derived name.
@@ -25,7 +25,7 @@ pub(crate) enum Head {
 }
 
 /// The derived name of this text.
-#[tactic(auto, unfolding(isl_meaning::specs::Derived::rows_of))]
+#[tactic(auto, unfolding(crate::specs::Derived::rows_of))]
 pub(crate) fn head_of(name: &[u8]) -> Option<Head>
     ensures { MatchOption result (rows_of name.now ≡ None) (λ head. rows_of name.now ≡ Some (rows_named head)) }
 {

@@ -5,9 +5,9 @@ ghost use Rattle.isl_base.specs.declared.place.Place.{Place};
 ghost use Rattle.isl_base.specs.Data.{Item};
 ghost use Rattle.isl_base.specs.DataMeasures.{NamesBelow, size_of};
 ghost use Rattle.isl_base.specs.Names.{IsTable, Extends};
-ghost use Rattle.isl_meaning.specs.Derived.{Derives, rows_of, plain, becomes, derivation};
-ghost use Rattle.isl_meaning.specs.DerivedEnds.{AllFurther, AllParts, Leaves, piece_weight};
-ghost use Rattle.isl_meaning.specs.DerivedPieces.{Builds, Piece, word, parens, Pieces, piece_and, Right};
+ghost use Rattle.isl_derived.specs.Derived.{Derives, rows_of, plain, becomes, derivation};
+ghost use Rattle.isl_derived.specs.Ends.{AllFurther, AllParts, Leaves, piece_weight};
+ghost use Rattle.isl_derived.specs.Pieces.{Builds, Piece, word, parens, Pieces, piece_and, Right};
 ghost use Rattle.isl_derived.specs.FormPlaces.{a_form, StandsAs};
 
 /// A datum fits at most one row, and the step is one datum with one number of new symbols.

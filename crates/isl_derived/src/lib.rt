@@ -15,7 +15,5 @@ mod quotation;
 mod right;
 mod setf;
 mod shape;
-#[cfg(test)]
-mod tests;
 
 pub use one_step::{Step, derive};

@@ -4,9 +4,9 @@ ghost use Rattle.std.specs.Prelude.{◌≡◌, ◌++◌, length, Some, None, IfO
 ghost use Rattle.isl_base.specs.DataView.{tail_of};
 ghost use Rattle.isl_base.specs.DataMeasures.{Formed, NamesBelow};
 ghost use Rattle.isl_base.specs.Names.{Extends};
-ghost use Rattle.isl_meaning.specs.DerivedPieces.{Builds};
-ghost use Rattle.isl_meaning.specs.DerivedRows.{text_of};
-ghost use Rattle.isl_meaning.specs.Derived.{rows_under, list_derivation, derivation, new_symbols};
+ghost use Rattle.isl_derived.specs.Pieces.{Builds};
+ghost use Rattle.isl_derived.specs.Rows.{text_of};
+ghost use Rattle.isl_derived.specs.Derived.{rows_under, list_derivation, derivation, new_symbols};
 ghost use Rattle.isl_derived.specs.Heads.{rows_named};
 ghost use Rattle.isl_derived.specs.Steps.{shown, IsStep, IsStop, IsWhole};
 
@@ -104,7 +104,7 @@ fn list_derivation<'a>(
     }
 }
 
-#[tactic(auto, using(crate::proofs::Lists::shown_items), unfolding(isl_meaning::specs::Derived::derivation))]
+#[tactic(auto, using(crate::proofs::Lists::shown_items), unfolding(crate::specs::Derived::derivation))]
 fn derivation_of<'a>(
     alloc: Global,
     names: &Names,

@@ -1,7 +1,7 @@
 // Parts of right sides: what a step writes, makes and takes over.
 
 ghost use Rattle.std.specs.Prelude.{◌≡◌, ◌≤◌, ◌++◌, ◌∷◌, [], length, IfOk};
-ghost use Rattle.isl_meaning.specs.DerivedPieces.{word, made, taken, listed, form, all_taken};
+ghost use Rattle.isl_derived.specs.Pieces.{word, made, taken, listed, form, all_taken};
 ghost use Rattle.isl_derived.specs.PieceView.{view_piece};
 
 use isl_base::{Bytes, Datum, ItemList, NoMemory};
@@ -32,7 +32,7 @@ pub(crate) enum PieceKind<'a> {
 pub(crate) type PieceList<'a> = ItemList<Piece<'a>>;
 
 impl<'a> Model for Piece<'a> {
-    ghost use Rattle.isl_meaning.specs.DerivedPieces.{Piece as PieceOf};
+    ghost use Rattle.isl_derived.specs.Pieces.{Piece as PieceOf};
 
     ghost Value = { PieceOf };
 
@@ -49,7 +49,7 @@ impl<'a> Model for Piece<'a> {
 
     ghost invariant = { λ p. text_length p.kind ≤ 263 };
 
-    ghost use Rattle.isl_meaning.specs.DerivedPieces.{piece_size};
+    ghost use Rattle.isl_derived.specs.Pieces.{piece_size};
 
     ghost size = { piece_size };
 

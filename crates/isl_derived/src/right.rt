@@ -1,7 +1,7 @@
 // Right sides of rows, with the number of their new symbols.
 
 ghost use Rattle.std.specs.Prelude.{◌≡◌, ◌+◌, Some, IfOk};
-ghost use Rattle.isl_meaning.specs.DerivedPieces.{plainly};
+ghost use Rattle.isl_derived.specs.Pieces.{plainly};
 
 use crate::piece::Piece;
 use isl_base::NoMemory;
@@ -15,7 +15,7 @@ pub(crate) struct Right<'a> {
 }
 
 impl<'a> Model for Right<'a> {
-    ghost use Rattle.isl_meaning.specs.DerivedPieces.{Right as RightOf};
+    ghost use Rattle.isl_derived.specs.Pieces.{Right as RightOf};
 
     ghost Value = { RightOf };
 

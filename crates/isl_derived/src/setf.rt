@@ -1,8 +1,8 @@
 // The rows of `setf` (ISO/IEC 13816:2007, 14.1).
 
 ghost use Rattle.std.specs.Prelude.{◌≡◌, ◌+◌, ◌++◌, ◌∷◌, [], ◌≤◌, length, nat_le, Some, None, IfOk, IfSome, MatchOption, if◌then◌else◌};
-ghost use Rattle.isl_meaning.specs.DerivedPieces.{word, made, taken, listed};
-ghost use Rattle.isl_meaning.specs.DerivedRows.{list_items, text_of, setf_text, setter_of, setter, arguments_bound, arguments_made, setf_right, setf_list, setf_row};
+ghost use Rattle.isl_derived.specs.Pieces.{word, made, taken, listed};
+ghost use Rattle.isl_derived.specs.Rows.{list_items, text_of, setf_text, setter_of, setter, arguments_bound, arguments_made, setf_right, setf_list, setf_row};
 ghost use Rattle.isl_derived.specs.Setters.{known_setter, setter_piece, setter_word};
 
 use crate::piece::{Piece, PieceList, bound, form_two, front, made, named, parens, taken, word};

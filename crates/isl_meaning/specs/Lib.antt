@@ -40,8 +40,3 @@ pub mod InheritedPrecedence
 pub mod InheritedSlots
 pub mod InheritedClasses
 pub mod InheritedBuiltIn
-pub mod DerivedPieces
-pub mod DerivedRows
-pub mod DerivedQuotation
-pub mod Derived
-pub mod DerivedEnds

@@ -1,5 +1,5 @@
 use Rattle.std.proofs.Common.{◌≡◌, length}
-use Rattle.isl_meaning.specs.DerivedRows.{functions}
+use Rattle.isl_derived.specs.Rows.{functions}
 use Rattle.isl_derived.specs.Fronts.{before}
 use Rattle.isl_derived.proofs.binding.functions.Given as goal
 

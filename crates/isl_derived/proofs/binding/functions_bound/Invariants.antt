@@ -1,5 +1,5 @@
 use Rattle.std.proofs.Common.{◌≡◌, ◌++◌, drop}
-use Rattle.isl_meaning.specs.DerivedRows.{functions_bound}
+use Rattle.isl_derived.specs.Rows.{functions_bound}
 use Rattle.isl_derived.proofs.binding.functions_bound.Given as goal
 
 abbrev pub invariant-loop-function : goal.invariant-loop-function

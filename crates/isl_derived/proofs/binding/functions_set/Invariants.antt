@@ -1,5 +1,5 @@
 use Rattle.std.proofs.Common.{◌≡◌, ◌++◌, drop}
-use Rattle.isl_meaning.specs.DerivedRows.{functions_set}
+use Rattle.isl_derived.specs.Rows.{functions_set}
 use Rattle.isl_derived.proofs.binding.functions_set.Given as goal
 
 abbrev pub invariant-loop-function : goal.invariant-loop-function

@@ -1,5 +1,5 @@
 use Rattle.std.proofs.Common.{◌≡◌, ◌++◌, drop}
-use Rattle.isl_meaning.specs.DerivedRows.{functions_unset}
+use Rattle.isl_derived.specs.Rows.{functions_unset}
 use Rattle.isl_derived.proofs.binding.functions_unset.Given as goal
 
 abbrev pub invariant-loop-function : goal.invariant-loop-function

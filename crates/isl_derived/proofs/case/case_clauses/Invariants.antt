@@ -1,5 +1,5 @@
 use Rattle.std.proofs.Common.{◌≡◌, length}
-use Rattle.isl_meaning.specs.DerivedRows.{case_clauses}
+use Rattle.isl_derived.specs.Rows.{case_clauses}
 use Rattle.isl_derived.specs.Tests.{test_parts}
 use Rattle.isl_derived.specs.Fronts.{before}
 use Rattle.isl_derived.proofs.case.case_clauses.Given as goal

@@ -1,5 +1,5 @@
 use Rattle.std.proofs.Common.{◌≡◌, ◌++◌, drop}
-use Rattle.isl_meaning.specs.DerivedRows.{first_values}
+use Rattle.isl_derived.specs.Rows.{first_values}
 use Rattle.isl_derived.proofs.for_loop.first_values.Given as goal
 
 abbrev pub invariant-loop-x : goal.invariant-loop-x

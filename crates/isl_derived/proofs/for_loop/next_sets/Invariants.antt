@@ -1,5 +1,5 @@
 use Rattle.std.proofs.Common.{◌≡◌, ◌++◌, drop}
-use Rattle.isl_meaning.specs.DerivedRows.{next_sets}
+use Rattle.isl_derived.specs.Rows.{next_sets}
 use Rattle.isl_derived.proofs.for_loop.next_sets.Given as goal
 
 abbrev pub invariant-loop-x : goal.invariant-loop-x

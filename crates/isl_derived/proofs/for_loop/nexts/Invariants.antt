@@ -1,5 +1,5 @@
 use Rattle.std.proofs.Common.{◌≡◌, ◌++◌, drop}
-use Rattle.isl_meaning.specs.DerivedRows.{nexts}
+use Rattle.isl_derived.specs.Rows.{nexts}
 use Rattle.isl_derived.proofs.for_loop.nexts.Given as goal
 
 abbrev pub invariant-loop-x : goal.invariant-loop-x

@@ -1,5 +1,5 @@
 use Rattle.std.proofs.Common.{◌≡◌, length}
-use Rattle.isl_meaning.specs.DerivedRows.{steppeds}
+use Rattle.isl_derived.specs.Rows.{steppeds}
 use Rattle.isl_derived.specs.Fronts.{before}
 use Rattle.isl_derived.proofs.for_loop.steppeds.Given as goal
 

@@ -1,5 +1,5 @@
 use Rattle.std.proofs.Common.{◌≡◌, ◌++◌, drop}
-use Rattle.isl_meaning.specs.DerivedRows.{arguments_bound}
+use Rattle.isl_derived.specs.Rows.{arguments_bound}
 use Rattle.isl_derived.proofs.setf.arguments_bound.Given as goal
 
 abbrev pub invariant-loop-argument : goal.invariant-loop-argument

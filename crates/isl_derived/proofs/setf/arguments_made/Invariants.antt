@@ -1,5 +1,5 @@
 use Rattle.std.proofs.Common.{◌≡◌, ◌++◌, drop}
-use Rattle.isl_meaning.specs.DerivedRows.{arguments_made}
+use Rattle.isl_derived.specs.Rows.{arguments_made}
 use Rattle.isl_derived.proofs.setf.arguments_made.Given as goal
 
 abbrev pub invariant-loop-argument : goal.invariant-loop-argument

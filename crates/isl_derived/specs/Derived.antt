@@ -5,9 +5,9 @@ use Rattle.std.specs.Str.{bytes_eq}
 use Rattle.isl_base.specs.declared.datum.Symbol.{Symbol}
 use Rattle.isl_base.specs.declared.datum.Symbol.TheVariants.{Fresh}
 use Rattle.isl_base.specs.Data.{Item, item, Content, integer, character, symbol, string, vector, nil, list, items_list, Tail, no_tail, dotted, place_of}
-use Rattle.isl_meaning.specs.DerivedPieces.{Right, plainly, Builds}
-use Rattle.isl_meaning.specs.DerivedRows.{text_of, if_row, and_row, or_row, let_in_order_row, case_row, case_using_row, for_row, setf_row, flet_row, labels_row, ignore_errors_row, assure_row, the_row, convert_row}
-use Rattle.isl_meaning.specs.DerivedQuotation.{template}
+use Rattle.isl_derived.specs.Pieces.{Right, plainly, Builds}
+use Rattle.isl_derived.specs.Rows.{text_of, if_row, and_row, or_row, let_in_order_row, case_row, case_using_row, for_row, setf_row, flet_row, labels_row, ignore_errors_row, assure_row, the_row, convert_row}
+use Rattle.isl_derived.specs.Quotation.{template}
 
 -- (quasiquote d) → Q(d, 1)
 abbrev pub quasiquote_row : List (List ℕ) → List Item → Option Right

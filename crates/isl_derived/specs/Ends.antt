@@ -3,8 +3,8 @@ use Rattle.std.specs.Prelude.{◌≡◌, ◌≢◌, ℕ, ◌+◌, List, Option, 
 use Rattle.isl_base.specs.declared.place.Place.{Place}
 use Rattle.isl_base.specs.Data.{Item, item, Content, integer, character, symbol, string, vector, nil, list, Items, no_item, item_and, Tail, no_tail, dotted}
 use Rattle.isl_base.specs.DataMeasures.{size_of}
-use Rattle.isl_meaning.specs.DerivedPieces.{Piece, word, made, taken, parens, Pieces, no_piece, piece_and, Right, Builds}
-use Rattle.isl_meaning.specs.Derived.{Rows, rows_of, becomes, derivation}
+use Rattle.isl_derived.specs.Pieces.{Piece, word, made, taken, parens, Pieces, no_piece, piece_and, Right, Builds}
+use Rattle.isl_derived.specs.Derived.{Rows, rows_of, becomes, derivation}
 
 -- the size of the datum that is built of a part of a right side
 abbrev mutual

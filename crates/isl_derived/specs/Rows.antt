@@ -6,7 +6,7 @@ use Rattle.std.specs.Str.{bytes_eq}
 use Rattle.isl_base.specs.declared.datum.Symbol.{Symbol}
 use Rattle.isl_base.specs.declared.datum.Symbol.TheVariants.{Named, Fresh}
 use Rattle.isl_base.specs.Data.{Item, item, Content, integer, character, symbol, string, vector, nil, list, items_list, no_tail, dotted}
-use Rattle.isl_meaning.specs.DerivedPieces.{Piece, word, made, taken, listed, form, all_taken, Right, plainly}
+use Rattle.isl_derived.specs.Pieces.{Piece, word, made, taken, listed, form, all_taken, Right, plainly}
 
 -- the name of a symbol, where a text names it
 abbrev pub symbol_text : List (List ℕ) → Symbol → Option (List ℕ)
