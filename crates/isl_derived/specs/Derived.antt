@@ -1,51 +1,42 @@
 -- One step of a derived form: the row of the table that the form fits, with its right side (ISO/IEC 13816:2007, 12.7,
 -- 13.4, 14, 16, 17 and 29.2).
-use Rattle.std.specs.Prelude.{◌≡◌, ℕ, zero, suc, ◌+◌, List, [], ◌∷◌, Option, Some, None, if◌then◌else◌, codes}
+use Rattle.std.specs.Prelude.{◌≡◌, ℕ, zero, suc, ◌+◌, List, [], ◌∷◌, length, Option, Some, None, if◌then◌else◌}
 use Rattle.std.specs.Str.{bytes_eq}
 use Rattle.isl_base.specs.declared.datum.Symbol.{Symbol}
 use Rattle.isl_base.specs.declared.datum.Symbol.TheVariants.{Fresh}
 use Rattle.isl_base.specs.Data.{Item, item, Content, integer, character, symbol, string, vector, nil, list, items_list, Tail, no_tail, dotted, place_of}
-use Rattle.isl_derived.specs.Pieces.{Right, plainly, Builds}
-use Rattle.isl_derived.specs.Rows.{text_of, if_row, and_row, or_row, let_in_order_row, case_row, case_using_row, for_row, setf_row, flet_row, labels_row, ignore_errors_row, assure_row, the_row, convert_row}
-use Rattle.isl_derived.specs.Quotation.{template}
+use Rattle.isl_derived.specs.Pieces.{Piece, Right, Builds}
+use Rattle.isl_derived.specs.Asked.{text_of}
+use Rattle.isl_derived.specs.Patterns.{Parts, fit_all}
+use Rattle.isl_derived.specs.RightSides.{write_all}
+use Rattle.isl_derived.specs.Table.{Row, table, is_derived}
 
--- (quasiquote d) → Q(d, 1)
-abbrev pub quasiquote_row : List (List ℕ) → List Item → Option Right
-quasiquote_row names (d ∷ []) = Some (plainly (template names 0 d))
-quasiquote_row names ds = None
+-- one part, with the number of these new symbols
+abbrev pub right_of : List Piece → List Piece → Option Right
+right_of [] new = None
+right_of (x ∷ []) new = Some (record { piece = x; count = length new })
+right_of (x ∷ y ∷ xs) new = None
 
--- the rows of a name: what a form becomes by the data behind its name, under a table of names, where new
--- symbols have the serials from s on; none where no row fits
-abbrev pub Rows : Type 0
-Rows = List (List ℕ) → ℕ → List Item → Option Right
+-- what a row makes of the parts of a form
+abbrev pub row_right : List (List ℕ) → ℕ → Row → Option Parts → Option Right
+row_right names s r None = None
+row_right names s r (Some parts) = right_of (write_all names s r.right s parts) (write_all names s r.new s parts)
 
--- the table
-abbrev pub table : List (List ℕ × Rows)
-table =
-    (codes "if", λ names s ds. if_row ds)
-    ∷ (codes "and", λ names s ds. and_row ds)
-    ∷ (codes "or", λ names s ds. or_row ds)
-    ∷ (codes "let*", λ names s ds. let_in_order_row ds)
-    ∷ (codes "case", case_row)
-    ∷ (codes "case-using", case_using_row)
-    ∷ (codes "for", λ names s ds. for_row s ds)
-    ∷ (codes "setf", setf_row)
-    ∷ (codes "flet", λ names s ds. flet_row s ds)
-    ∷ (codes "labels", λ names s ds. labels_row s ds)
-    ∷ (codes "ignore-errors", λ names s ds. ignore_errors_row s ds)
-    ∷ (codes "assure", λ names s ds. assure_row s ds)
-    ∷ (codes "the", λ names s ds. the_row ds)
-    ∷ (codes "convert", λ names s ds. convert_row ds)
-    ∷ (codes "quasiquote", λ names s ds. quasiquote_row names ds)
-    ∷ []
+abbrev pub or_else : Option Right → Option Right → Option Right
+or_else None y = y
+or_else (Some x) y = Some x
 
--- the rows of a name, where it is a derived name
-abbrev pub rows_in : List (List ℕ × Rows) → List ℕ → Option Rows
-rows_in [] name = None
-rows_in (r ∷ rs) name = if bytes_eq name r.0 then Some r.1 else rows_in rs name
+-- what the first row of the name that the data fit makes of them, under a table of names, where new symbols have the
+-- serials from s on; none where they fit no row
+abbrev pub first_right : List (List ℕ) → ℕ → List Row → List ℕ → List Item → Option Right
+first_right names s [] name ds = None
+first_right names s (r ∷ rs) name ds =
+    let more : Option Right = first_right names s rs name ds in
+    if bytes_eq name r.name then or_else (row_right names s r (fit_all names r.parts ds)) more else more
 
-unfoldable pub rows_of : List ℕ → Option Rows
-rows_of name = rows_in table name
+abbrev pub table_right : List (List ℕ) → ℕ → List (List Row) → List ℕ → List Item → Option Right
+table_right names s [] name ds = None
+table_right names s (rs ∷ gs) name ds = or_else (first_right names s rs name ds) (table_right names s gs name ds)
 
 -- a datum is no derived form, or fits no row, or becomes a right side
 pub data Derivation : Type 0 where
@@ -58,19 +49,17 @@ judged None = unfit
 judged (Some r) = becomes r
 
 -- a list without a dot, under a name of the table, becomes what the table says; a list with a dot fits no row
-abbrev pub by_rows : List (List ℕ) → ℕ → Option Rows → List Item → Tail → Derivation
-by_rows names s None ds t = plain
-by_rows names s (Some rows) ds no_tail = judged (rows names s ds)
-by_rows names s (Some rows) ds (dotted d) = unfit
+abbrev pub by_table : List (List ℕ) → ℕ → List ℕ → List Item → Tail → Derivation
+by_table names s name ds no_tail = judged (table_right names s table name ds)
+by_table names s name ds (dotted d) = unfit
 
--- the rows of a text, where it is a derived name
-abbrev pub rows_under : Option (List ℕ) → Option Rows
-rows_under None = None
-rows_under (Some name) = rows_of name
+abbrev pub by_name : List (List ℕ) → ℕ → Option (List ℕ) → List Item → Tail → Derivation
+by_name names s None ds t = plain
+by_name names s (Some name) ds t = if is_derived name then by_table names s name ds t else plain
 
 abbrev pub list_derivation : List (List ℕ) → ℕ → List Item → Tail → Derivation
 list_derivation names s [] t = plain
-list_derivation names s (head ∷ ds) t = by_rows names s (rows_under (text_of names head)) ds t
+list_derivation names s (head ∷ ds) t = by_name names s (text_of names head) ds t
 
 abbrev pub content_derivation : List (List ℕ) → ℕ → Content → Derivation
 content_derivation names s (list ds t) = list_derivation names s (items_list ds) t

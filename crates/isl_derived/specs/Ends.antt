@@ -1,10 +1,11 @@
 -- Steps of derived forms end: what a step leaves to be derived is smaller than the form that it was made of.
-use Rattle.std.specs.Prelude.{◌≡◌, ◌≢◌, ℕ, ◌+◌, List, Option, Some, None}
+use Rattle.std.specs.Prelude.{◌≡◌, ◌≢◌, ℕ, ◌+◌, Bool, true, false, List}
 use Rattle.isl_base.specs.declared.place.Place.{Place}
 use Rattle.isl_base.specs.Data.{Item, item, Content, integer, character, symbol, string, vector, nil, list, Items, no_item, item_and, Tail, no_tail, dotted}
 use Rattle.isl_base.specs.DataMeasures.{size_of}
 use Rattle.isl_derived.specs.Pieces.{Piece, word, made, taken, parens, Pieces, no_piece, piece_and, Right, Builds}
-use Rattle.isl_derived.specs.Derived.{Rows, rows_of, becomes, derivation}
+use Rattle.isl_derived.specs.Table.{is_derived}
+use Rattle.isl_derived.specs.Derived.{becomes, derivation}
 
 -- the size of the datum that is built of a part of a right side
 abbrev mutual
@@ -18,18 +19,18 @@ abbrev mutual
   pieces_weight no_piece = 0
   pieces_weight (piece_and x xs) = piece_weight x + pieces_weight xs
 
--- the rows of the name behind which parts stand in parentheses, where it is a derived name
-abbrev pub rows_at : Pieces → Option Rows
-rows_at no_piece = None
-rows_at (piece_and (word text) xs) = rows_of text
-rows_at (piece_and (made serial) xs) = None
-rows_at (piece_and (taken d) xs) = None
-rows_at (piece_and (parens ys) xs) = None
+-- whether parts in parentheses stand behind a derived name
+abbrev pub has_derived_name : Pieces → Bool
+has_derived_name no_piece = false
+has_derived_name (piece_and (word text) xs) = is_derived text
+has_derived_name (piece_and (made serial) xs) = false
+has_derived_name (piece_and (taken d) xs) = false
+has_derived_name (piece_and (parens ys) xs) = false
 
--- under a derived name it holds
-abbrev pub UnderRows : Option Rows → Type 0 → Type 0
-UnderRows None P = Unit {0}
-UnderRows (Some rows) P = P
+-- behind a derived name it holds
+abbrev pub IfDerived : Bool → Type 0 → Type 0
+IfDerived false P = Unit {0}
+IfDerived true P = P
 
 -- it holds of each part of a right side that may be derived again: what the step takes over, and what it
 -- writes in parentheses under a derived name
@@ -38,7 +39,7 @@ abbrev mutual
   AllFurther P (word text) = Unit {0}
   AllFurther P (made serial) = Unit {0}
   AllFurther P (taken d) = P (taken d)
-  AllFurther P (parens xs) = UnderRows (rows_at xs) (P (parens xs)) × AllFurtherIn P xs
+  AllFurther P (parens xs) = IfDerived (has_derived_name xs) (P (parens xs)) × AllFurtherIn P xs
 
   pub AllFurtherIn : (Piece → Type 0) → Pieces → Type 0
   AllFurtherIn P no_piece = Unit {0}

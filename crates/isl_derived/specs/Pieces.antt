@@ -40,10 +40,6 @@ pub record Right : Type 0 where
   pub piece : Piece
   pub count : ℕ
 
--- without a new symbol
-abbrev pub plainly : Piece → Right
-plainly x = record { piece = x; count = 0 }
-
 -- sizes by which recursions over parts end
 abbrev mutual
   pub piece_size : Piece → ℕ

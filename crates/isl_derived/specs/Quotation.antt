@@ -4,7 +4,7 @@ use Rattle.std.specs.Prelude.{ℕ, zero, suc, ◌+◌, List, [], ◌∷◌, if�
 use Rattle.isl_base.specs.declared.place.Place.{Place}
 use Rattle.isl_base.specs.Data.{Item, item, Content, integer, character, symbol, string, vector, nil, list, Items, no_item, item_and, Tail, no_tail, dotted}
 use Rattle.isl_derived.specs.Pieces.{Piece, word, taken, parens, Pieces, no_piece, piece_and, listed, form}
-use Rattle.isl_derived.specs.Rows.{is_word}
+use Rattle.isl_derived.specs.Asked.{is_word}
 
 -- (quote name)
 abbrev pub quoted_word : List ℕ → Piece

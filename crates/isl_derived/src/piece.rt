@@ -68,6 +68,16 @@ pub(crate) fn word<'a>(text: &'static [u8]) -> Piece<'a>
     }
 }
 
+/// The symbol of a text of the table, where no name is longer than 263 bytes.
+pub(crate) fn short_word<'a>(text: &'static [u8]) -> Result<Piece<'a>, NoMemory>
+    ensures { IfOk result (λ piece. piece ≡ word text.now) }
+{
+    if text.len() > 263 {
+        return Err(NoMemory);
+    }
+    Ok(word(text))
+}
+
 /// The symbol of a text that was put together.
 pub(crate) fn named<'a>(text: Bytes) -> Piece<'a>
     requires { length text ≤ 263 }
@@ -134,20 +144,6 @@ pub(crate) fn two<'a>(
     Ok(list)
 }
 
-/// Three parts.
-pub(crate) fn three<'a>(
-    alloc: Global,
-    first: Piece<'a>,
-    second: Piece<'a>,
-    third: Piece<'a>,
-) -> Result<PieceList<'a>, NoMemory>
-    ensures { IfOk result (λ list. list ≡ first.entry ∷ second.entry ∷ third.entry ∷ []) }
-{
-    let mut list = two(alloc, first, second)?;
-    list.push(third)?;
-    Ok(list)
-}
-
 /// A part, and those behind it.
 pub(crate) fn front<'a>(
     alloc: Global,
@@ -172,24 +168,6 @@ pub(crate) fn form<'a>(
     ensures { IfOk result (λ piece. piece ≡ form name.now rest.entry) }
 {
     Ok(parens(front(alloc, word(name), rest)?))
-}
-
-/// Two parts in parentheses.
-pub(crate) fn pair<'a>(
-    alloc: Global,
-    first: Piece<'a>,
-    second: Piece<'a>,
-) -> Result<Piece<'a>, NoMemory>
-    ensures { IfOk result (λ piece. piece ≡ listed (first.entry ∷ second.entry ∷ [])) }
-{
-    Ok(parens(two(alloc, first, second)?))
-}
-
-/// A new symbol and its value, in parentheses.
-pub(crate) fn bound<'a>(alloc: Global, serial: u64, value: Piece<'a>) -> Result<Piece<'a>, NoMemory>
-    ensures { IfOk result (λ piece. piece ≡ listed (made serial ∷ value.entry ∷ [])) }
-{
-    pair(alloc, made(serial), value)
 }
 
 /// A form with one part.

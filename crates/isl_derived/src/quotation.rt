@@ -1,16 +1,15 @@
 // Quasiquotation (ISO/IEC 13816:2007, 16): the form that makes the datum of a template.
 
-ghost use Rattle.std.specs.Prelude.{◌≡◌, ◌≤◌, ◌+◌, ◌∷◌, [], length, Some, IfOk, codes};
+ghost use Rattle.std.specs.Prelude.{◌≡◌, ◌≤◌, ◌∷◌, [], length, Some, IfOk, codes};
 ghost use Rattle.isl_derived.specs.Templates.{only_of, splicing, last_unquoted};
 ghost use Rattle.isl_derived.specs.Shown.{datum_shown};
 ghost use Rattle.isl_base.specs.Data.{items_of};
 ghost use Rattle.isl_base.specs.DataView.{tail_of};
 ghost use Rattle.isl_derived.specs.Pieces.{form, taken, pieces_of};
 ghost use Rattle.isl_derived.specs.Quotation.{kept_prefix, quoted_word, appended, template, tail_part, template_list, unquoted, spliced, part, parts};
-ghost use Rattle.isl_derived.specs.Derived.{quasiquote_row};
 
 use crate::piece::{Piece, PieceList, form_front, form_one, form_two, nil, one, taken, word};
-use crate::right::{Right, later, plainly};
+use crate::right::later;
 use crate::shape::{is_word, list_items};
 use isl_base::{Datum, Kind, Names, NoMemory};
 use std::alloc::Global;
@@ -89,10 +88,10 @@ fn splicing<'a>(names: &Names, datum: &'a Datum) -> Option<&'a Datum>
     }
 }
 
-// The form that makes the datum of a template, so many quasiquotations deep.
+/// The form that makes the datum of a template, so many quasiquotations deep.
 #[cycle(quotation)]
 #[tactic(auto, unfolding(crate::specs::Quotation::template))]
-fn template<'a>(
+pub(crate) fn template<'a>(
     alloc: Global,
     names: &Names,
     level: u64,
@@ -260,18 +259,4 @@ fn parts<'a>(
     }
     list.append_list(behind)?;
     Ok(list)
-}
-
-/// The row of `quasiquote`.
-pub(crate) fn quasiquote_row<'a>(
-    alloc: Global,
-    names: &Names,
-    arguments: &'a [Datum],
-) -> Result<Option<Right<'a>>, NoMemory>
-    ensures { IfOk result (λ right. right ≡ quasiquote_row names.now arguments.now) }
-{
-    match arguments {
-        [datum] => Ok(plainly(template(alloc, names, 0, datum)?)),
-        _ => Ok(None),
-    }
 }
