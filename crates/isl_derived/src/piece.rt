@@ -131,45 +131,6 @@ pub(crate) fn one<'a>(alloc: Global, first: Piece<'a>) -> Result<PieceList<'a>, 
     Ok(list)
 }
 
-/// Two parts.
-pub(crate) fn two<'a>(
-    alloc: Global,
-    first: Piece<'a>,
-    second: Piece<'a>,
-) -> Result<PieceList<'a>, NoMemory>
-    ensures { IfOk result (λ list. list ≡ first.entry ∷ second.entry ∷ []) }
-{
-    let mut list = one(alloc, first)?;
-    list.push(second)?;
-    Ok(list)
-}
-
-/// A part, and those behind it.
-pub(crate) fn front<'a>(
-    alloc: Global,
-    first: Piece<'a>,
-    rest: PieceList<'a>,
-) -> Result<PieceList<'a>, NoMemory>
-    ensures { IfOk result (λ list. list ≡ first.entry ∷ rest.entry) }
-{
-    let mut list = PieceList::new(alloc);
-    list.push(first)?;
-    list.append_list(rest)?;
-    Ok(list)
-}
-
-/// A form: a name, and what stands behind it.
-pub(crate) fn form<'a>(
-    alloc: Global,
-    name: &'static [u8],
-    rest: PieceList<'a>,
-) -> Result<Piece<'a>, NoMemory>
-    requires { length name.now ≤ 263 }
-    ensures { IfOk result (λ piece. piece ≡ form name.now rest.entry) }
-{
-    Ok(parens(front(alloc, word(name), rest)?))
-}
-
 /// A form with one part.
 pub(crate) fn form_one<'a>(
     alloc: Global,
@@ -179,20 +140,9 @@ pub(crate) fn form_one<'a>(
     requires { length name.now ≤ 263 }
     ensures { IfOk result (λ piece. piece ≡ form name.now (first.entry ∷ [])) }
 {
-    form(alloc, name, one(alloc, first)?)
-}
-
-/// A form with two parts.
-pub(crate) fn form_two<'a>(
-    alloc: Global,
-    name: &'static [u8],
-    first: Piece<'a>,
-    second: Piece<'a>,
-) -> Result<Piece<'a>, NoMemory>
-    requires { length name.now ≤ 263 }
-    ensures { IfOk result (λ piece. piece ≡ form name.now (first.entry ∷ second.entry ∷ [])) }
-{
-    form(alloc, name, two(alloc, first, second)?)
+    let mut list = one(alloc, word(name))?;
+    list.push(first)?;
+    Ok(parens(list))
 }
 
 /// A form with a part, and those behind it.
@@ -205,7 +155,23 @@ pub(crate) fn form_front<'a>(
     requires { length name.now ≤ 263 }
     ensures { IfOk result (λ piece. piece ≡ form name.now (first.entry ∷ rest.entry)) }
 {
-    form(alloc, name, front(alloc, first, rest)?)
+    let mut list = one(alloc, word(name))?;
+    list.push(first)?;
+    list.append_list(rest)?;
+    Ok(parens(list))
+}
+
+/// A form with two parts.
+pub(crate) fn form_two<'a>(
+    alloc: Global,
+    name: &'static [u8],
+    first: Piece<'a>,
+    second: Piece<'a>,
+) -> Result<Piece<'a>, NoMemory>
+    requires { length name.now ≤ 263 }
+    ensures { IfOk result (λ piece. piece ≡ form name.now (first.entry ∷ second.entry ∷ [])) }
+{
+    form_front(alloc, name, first, one(alloc, second)?)
 }
 
 /// Parts of the form, in their order.
