@@ -1,54 +1,29 @@
 -- What a step keeps: its result is in form, its names are in the table, and a later table changes nothing.
-use Rattle.std.specs.Prelude.{◌≡◌, ℕ, zero, suc, ◌+◌, ◌<◌, ◌≤◌, List, [], ◌∷◌, ◌++◌, length, Option, Some, None, slice_get, refl}
+use Rattle.std.specs.Prelude.{◌≡◌, ℕ, zero, suc, ◌+◌, ◌<◌, ◌≤◌, List, [], ◌∷◌, ◌++◌, length, Some, slice_get, refl}
 use Rattle.std.proofs.Common.{arith, ap, ◌∙◌, sym, subst, length-append}
 use Rattle.isl_base.specs.declared.place.Place.{Place}
 use Rattle.isl_base.specs.declared.datum.Symbol.{Symbol}
 use Rattle.isl_base.specs.declared.datum.Symbol.TheVariants.{Named, Fresh}
 use Rattle.isl_base.specs.Names.{Extends}
-use Rattle.isl_base.specs.Data.{Item, item, Content, integer, character, symbol, string, vector, nil, list, Items, no_item, item_and, items_list, Tail, no_tail, dotted, place_of}
+use Rattle.isl_base.specs.Data.{Item, item, Content, integer, character, symbol, string, vector, nil, list, Items, no_item, item_and, Tail, no_tail, dotted, place_of}
 use Rattle.isl_base.specs.DataMeasures.{Formed, AllFormed, FormedTail, NamesBelow, NamesBelowInside, AllNamesBelow, NamesBelowTail, SymbolBelow}
-use Rattle.isl_meaning.specs.DerivedPieces.{Piece, word, made, taken, parens, Pieces, no_piece, piece_and, Right, in_parens, Builds, BuildsAll}
-use Rattle.isl_meaning.specs.DerivedRows.{text_of}
-use Rattle.isl_meaning.specs.Derived.{Rows, table, rows_under, by_rows, judged, Derivation, plain, unfit, becomes, list_derivation, derivation, Derives, new_symbols}
+use Rattle.isl_derived.specs.Pieces.{Piece, word, made, taken, parens, Pieces, no_piece, piece_and, Right, in_parens, Builds, BuildsAll}
+use Rattle.isl_derived.specs.Asked.{text_of}
+use Rattle.isl_derived.specs.Derived.{becomes, derivation, Derives, new_symbols}
 use Rattle.isl_derived.specs.declared.one_step.Step.TheVariants.{Derived}
 use Rattle.isl_derived.specs.Steps.{IsStep, IsWhole}
-use Rattle.isl_meaning.specs.DerivedEnds.{AllItems, OfDotted}
-use Rattle.isl_derived.proofs.Taken.{AllOf, GoesDown, of_list, Taken, AllTaken, TakenRight}
-use Rattle.isl_derived.proofs.Rows.{AllRows, OfRows, found_under, TakenRows, all_rows_taken}
-use Rattle.isl_derived.proofs.Same.{Alike, case_same, case_using_same, setf_same, quasiquote_same}
+use Rattle.isl_derived.specs.Ends.{AllItems, OfDotted, AllFurther, AllFurtherIn}
+use Rattle.isl_derived.proofs.Parts.{GoesDown}
+use Rattle.isl_derived.proofs.Derivations.{OfDerivation}
+use Rattle.isl_derived.proofs.Further.{arguments_too, derivation_further}
+use Rattle.isl_derived.proofs.Same.{derivation_same}
 
--- what a step takes over
-
-abbrev TakenDerivation : (Item → Type 0) → Derivation → Type 0
-TakenDerivation P plain = Unit {0}
-TakenDerivation P unfit = Unit {0}
-TakenDerivation P (becomes r) = Taken P r.piece
-
-judged_too : (P : Item → Type 0) (r : Option Right) → TakenRight P r → TakenDerivation P (judged r)
-judged_too P None h = tt
-judged_too P (Some r) h = h
-
-by_rows_too : (P : Item → Type 0) (names : List (List ℕ)) (s : ℕ) (rows : Option Rows) (ds : List Item) (t : Tail) → OfRows (TakenRows P) rows → AllOf P ds
-    → TakenDerivation P (by_rows names s rows ds t)
-by_rows_too P names s None ds t f h = tt
-by_rows_too P names s (Some rows) ds no_tail f h = judged_too P (rows names s ds) (f names s ds h)
-by_rows_too P names s (Some rows) ds (dotted d) f h = tt
-
-list_too : (P : Item → Type 0) → GoesDown P → (names : List (List ℕ)) (s : ℕ) (ds : List Item) (t : Tail) → AllOf P ds
-    → TakenDerivation P (list_derivation names s ds t)
-list_too P g names s [] t h = tt
-list_too P g names s (d ∷ ds) t h =
-    by_rows_too P names s (rows_under (text_of names d)) ds t (found_under (TakenRows P) (all_rows_taken P g) (text_of names d)) h.1
-
-derivation_too : (P : Item → Type 0) → GoesDown P → (names : List (List ℕ)) (s : ℕ) (d : Item) → P d → TakenDerivation P (derivation names s d)
-unfolding derivation
-derivation_too P g names s (item p (integer n)) h = tt
-derivation_too P g names s (item p (character c)) h = tt
-derivation_too P g names s (item p (symbol x)) h = tt
-derivation_too P g names s (item p (string bytes)) h = tt
-derivation_too P g names s (item p (vector ds)) h = tt
-derivation_too P g names s (item p nil) h = tt
-derivation_too P g names s (item p (list ds t)) h = list_too P g names s (items_list ds) t (of_list P ds (g.of_items p ds t h))
+-- it holds of a part that is taken over
+abbrev OnTaken : (Item → Type 0) → Piece → Type 0
+OnTaken P (word text) = Unit {0}
+OnTaken P (made serial) = Unit {0}
+OnTaken P (taken d) = P d
+OnTaken P (parens xs) = Unit {0}
 
 -- what is built of it
 
@@ -66,14 +41,14 @@ mutual
   unfolding Builds
 
   builds_too : (P : Item → Type 0) (names : List (List ℕ)) → GoesUp (length names) P → (p : Place) (x : Piece) (d : Item)
-      → Builds names p x d → Taken P x → P d
+      → Builds names p x d → AllFurther (OnTaken P) x → P d
   builds_too P names g p (word text) d b h = subst P (sym b.1.1) (g.over_name p b.0 (get_below names b.0 text b.1.0))
   builds_too P names g p (made serial) d b h = subst P (sym b) (g.over_fresh p serial)
   builds_too P names g p (taken e) d b h = subst P (sym b) h
-  builds_too P names g p (parens xs) d b h = subst P (sym b.1.1) (g.over_items p b.0 (all_built_too P names g p xs b.0 b.1.0 h))
+  builds_too P names g p (parens xs) d b h = subst P (sym b.1.1) (g.over_items p b.0 (all_built_too P names g p xs b.0 b.1.0 h.1))
 
   all_built_too : (P : Item → Type 0) (names : List (List ℕ)) → GoesUp (length names) P → (p : Place) (xs : Pieces) (ds : Items)
-      → BuildsAll names p xs ds → AllTaken P xs → AllItems P ds
+      → BuildsAll names p xs ds → AllFurtherIn (OnTaken P) xs → AllItems P ds
   all_built_too P names g p no_piece ds b h = let Q : Items → Type 0 = AllItems P in subst Q (sym b) tt
   all_built_too P names g p (piece_and x xs) ds b h =
       let Q : Items → Type 0 = AllItems P in
@@ -82,8 +57,8 @@ mutual
 step_too : (P : Item → Type 0) → GoesDown P → (names : List (List ℕ)) → GoesUp (length names) P → (d : Item) (s : ℕ) (e : Item) (s2 : ℕ)
     → P d → Derives names d s e s2 → P e
 step_too P down names up d s e s2 h x =
-    let Q : Derivation → Type 0 = TakenDerivation P in
-    builds_too P names up (place_of d) x.right.piece e x.builds (subst Q x.fits (derivation_too P down names s d h))
+    builds_too P names up (place_of d) x.right.piece e x.builds
+    (subst (OfDerivation (AllFurther (OnTaken P))) x.fits (derivation_further (OnTaken P) down names s d (arguments_too (OnTaken P) down d h (λ xs less. tt))))
 
 -- data in form
 
@@ -189,77 +164,6 @@ step_named names d s e s2 h x =
     step_too (NamesBelow (length names)) (below_down (length names)) names (below_up (length names)) d s e s2 h x
 
 -- a later table
-
-abbrev SameRows : List (List ℕ) → List (List ℕ) → (Item → Type 0) → Rows → Type 0
-SameRows A B P rows = (s : ℕ) (ds : List Item) → AllOf P ds → rows A s ds ≡ rows B s ds
-
-all_rows_same : (A B : List (List ℕ)) (P : Item → Type 0) → Alike A B P → AllRows (SameRows A B P) table
-all_rows_same A B P a = (
-  λ s ds h. refl,
-  (
-    λ s ds h. refl,
-    (
-      λ s ds h. refl,
-      (
-        λ s ds h. refl,
-        (
-          case_same A B P a,
-          (
-            case_using_same A B P a,
-            (
-              λ s ds h. refl,
-              (
-                setf_same A B P a,
-                (
-                  λ s ds h. refl,
-                  (
-                    λ s ds h. refl,
-                    (
-                      λ s ds h. refl,
-                      (
-                        λ s ds h. refl,
-                        (
-                          λ s ds h. refl,
-                          (
-                            λ s ds h. refl,
-                            (λ s ds h. quasiquote_same A B P a ds h, tt),
-                          ),
-                        ),
-                      ),
-                    ),
-                  ),
-                ),
-              ),
-            ),
-          ),
-        ),
-      ),
-    ),
-  ),
-)
-
-by_rows_same : (A B : List (List ℕ)) (P : Item → Type 0) (s : ℕ) (rows : Option Rows) (ds : List Item) (t : Tail) → OfRows (SameRows A B P) rows → AllOf P ds
-    → by_rows A s rows ds t ≡ by_rows B s rows ds t
-by_rows_same A B P s None ds t f h = refl
-by_rows_same A B P s (Some rows) ds no_tail f h = ap judged (f s ds h)
-by_rows_same A B P s (Some rows) ds (dotted d) f h = refl
-
-list_same : (A B : List (List ℕ)) (P : Item → Type 0) → Alike A B P → (s : ℕ) (ds : List Item) (t : Tail) → AllOf P ds
-    → list_derivation A s ds t ≡ list_derivation B s ds t
-list_same A B P a s [] t h = refl
-list_same A B P a s (d ∷ ds) t h =
-    by_rows_same A B P s (rows_under (text_of A d)) ds t (found_under (SameRows A B P) (all_rows_same A B P a) (text_of A d)) h.1
-    ∙ ap (λ (name : Option (List ℕ)). by_rows B s (rows_under name) ds t) (a.same d h.0)
-
-derivation_same : (A B : List (List ℕ)) (P : Item → Type 0) → Alike A B P → (s : ℕ) (d : Item) → P d → derivation A s d ≡ derivation B s d
-unfolding derivation
-derivation_same A B P a s (item p (integer n)) h = refl
-derivation_same A B P a s (item p (character c)) h = refl
-derivation_same A B P a s (item p (symbol x)) h = refl
-derivation_same A B P a s (item p (string bytes)) h = refl
-derivation_same A B P a s (item p (vector ds)) h = refl
-derivation_same A B P a s (item p nil) h = refl
-derivation_same A B P a s (item p (list ds t)) h = list_same A B P a s (items_list ds) t (of_list P ds (a.down.of_items p ds t h))
 
 front_get : {X : Type 0} (xs ys : List X) (i : ℕ) → i < length xs → slice_get xs i ≡ slice_get (xs ++ ys) i
 front_get [] ys i h = absurd (omega arith)

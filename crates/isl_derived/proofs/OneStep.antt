@@ -6,8 +6,8 @@ use Rattle.isl_base.specs.declared.datum.Symbol.TheVariants.{Named}
 use Rattle.isl_base.specs.Names.{IsTable, Extends}
 use Rattle.isl_base.specs.Data.{Item, item, symbol, Items, item_and, place_of}
 use Rattle.isl_base.specs.DataMeasures.{NamesBelow}
-use Rattle.isl_meaning.specs.DerivedPieces.{Piece, word, made, taken, parens, Pieces, no_piece, piece_and, Right, in_parens, Builds, BuildsAll}
-use Rattle.isl_meaning.specs.Derived.{becomes, Derives}
+use Rattle.isl_derived.specs.Pieces.{Piece, word, made, taken, parens, Pieces, no_piece, piece_and, Right, in_parens, Builds, BuildsAll}
+use Rattle.isl_derived.specs.Derived.{becomes, Derives}
 use Rattle.isl_derived.proofs.Building.{builds_later}
 use Rattle.isl_derived.proofs.Kept.{derivation_later}
 

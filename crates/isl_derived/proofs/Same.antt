@@ -1,14 +1,18 @@
 -- A step does not depend on the names that no symbol of the form has.
-use Rattle.std.specs.Prelude.{◌≡◌, ℕ, zero, suc, ◌+◌, Bool, List, [], ◌∷◌, Option, Some, None, if◌then◌else◌, codes, refl}
+use Rattle.std.specs.Prelude.{◌≡◌, ℕ, zero, suc, ◌+◌, ◌-◌, Bool, false, List, [], ◌∷◌, ◌++◌, length, take, drop, Option, Some, None, if◌then◌else◌, codes, refl}
+use Rattle.std.specs.Str.{bytes_eq}
 use Rattle.std.proofs.Common.{ap, ◌∙◌}
 use Rattle.isl_base.specs.declared.place.Place.{Place}
-use Rattle.isl_base.specs.Data.{Item, item, Content, integer, character, symbol, string, vector, nil, list, Items, no_item, item_and, Tail, no_tail, dotted}
-use Rattle.isl_meaning.specs.DerivedPieces.{Piece, word, made, taken, Pieces, no_piece, piece_and, form, Right}
-use Rattle.isl_meaning.specs.DerivedRows.{is_word, is_text, is_symbol, text_of, list_items, in_front, keys_clause, else_clause, clause_row, case_clauses, case_right, case_row, case_using_right, case_using_row, setter, setf_right, setf_list, setf_row}
-use Rattle.isl_meaning.specs.DerivedQuotation.{template, template_of, tail_part, template_list, unquoted, spliced, part, parts, kept_prefix, one_piece, appended}
-use Rattle.isl_meaning.specs.Derived.{quasiquote_row}
-use Rattle.isl_meaning.specs.DerivedEnds.{AllItems, OfDotted}
-use Rattle.isl_derived.proofs.Taken.{AllOf, AllOfSome, GoesDown, items_too}
+use Rattle.isl_base.specs.Data.{Item, item, Content, integer, character, symbol, string, vector, nil, list, Items, no_item, item_and, items_list, Tail, no_tail, dotted}
+use Rattle.isl_derived.specs.Pieces.{Piece, Pieces, no_piece, piece_and, listed, form, Right}
+use Rattle.isl_derived.specs.Asked.{is_word, is_text, text_of, list_items, setter}
+use Rattle.isl_derived.specs.Patterns.{Pattern, a_datum, a_symbol, the_word, an_operator, inside, others, one_at_most, each_fits, Patterns, no_pattern, pattern_and, pattern_count, taken_by, Parts, part_if, nothing_if, one_datum, is_some, all_data, has_setter, joined, opened, of_one, fit, fit_all}
+use Rattle.isl_derived.specs.RightSides.{Template, datum, all_of, the_setter, the_quotation, the_symbol, new_symbol, new_behind, own_symbol, group, for_each, Templates, no_template, template_and, part_of, of_first, word_or_none, setter_piece, before_others, repeated, write, write_all}
+use Rattle.isl_derived.specs.Quotation.{template, template_of, tail_part, template_list, unquoted, spliced, part, parts, kept_prefix, one_piece, appended}
+use Rattle.isl_derived.specs.Table.{Row, table, is_derived}
+use Rattle.isl_derived.specs.Derived.{right_of, row_right, or_else, first_right, table_right, Derivation, plain, judged, by_table, by_name, list_derivation, derivation}
+use Rattle.isl_derived.specs.Ends.{AllItems, OfDotted}
+use Rattle.isl_derived.proofs.Parts.{AllOf, AllOfSome, GoesDown, OfParts, OfPartsSome, of_list, items_too, take_too, drop_too, part_too, fit_all_too}
 
 -- the two tables have the same name of each such datum
 pub record Alike (A B : List (List ℕ)) (P : Item → Type 0) : Type 0 where
@@ -17,54 +21,6 @@ pub record Alike (A B : List (List ℕ)) (P : Item → Type 0) : Type 0 where
 
 word_same : (A B : List (List ℕ)) (P : Item → Type 0) → Alike A B P → (t : List ℕ) (d : Item) → P d → is_word A t d ≡ is_word B t d
 word_same A B P a t d h = ap (is_text t) (a.same d h)
-
-clause_same : (A B : List (List ℕ)) (P : Item → Type 0) → Alike A B P → (test : List Piece) (c : Option (List Item)) (others : List Item) → AllOfSome P c
-    → clause_row A test c others ≡ clause_row B test c others
-clause_same A B P a test None others h = refl
-clause_same A B P a test (Some []) others h = refl
-clause_same A B P a test (Some (xs ∷ fs)) [] h =
-    ap (λ (b : Bool). if b then Some (else_clause fs) else keys_clause test (list_items xs) fs) (word_same A B P a (codes "t") xs h.0)
-clause_same A B P a test (Some (xs ∷ fs)) (c ∷ cs) h = refl
-
-clauses_same : (A B : List (List ℕ)) (P : Item → Type 0) → Alike A B P → (test : List Piece) (cs : List Item) → AllOf P cs
-    → case_clauses A test cs ≡ case_clauses B test cs
-clauses_same A B P a test [] h = refl
-clauses_same A B P a test (c ∷ cs) h =
-    let x : clause_row A test (list_items c) cs ≡ clause_row B test (list_items c) cs = clause_same A B P a test (list_items c) cs (items_too P a.down c h.0) in
-    let xs : case_clauses A test cs ≡ case_clauses B test cs = clauses_same A B P a test cs h.1 in
-    ap (λ (y : Option Piece). in_front y (case_clauses A test cs)) x ∙ ap (in_front (clause_row B test (list_items c) cs)) xs
-
-pub case_same : (A B : List (List ℕ)) (P : Item → Type 0) → Alike A B P → (s : ℕ) (ds : List Item) → AllOf P ds → case_row A s ds ≡ case_row B s ds
-case_same A B P a s [] h = refl
-case_same A B P a s (k ∷ cs) h = ap (case_right s k) (clauses_same A B P a (word (codes "%memv") ∷ made s ∷ []) cs h.1)
-
-pub case_using_same : (A B : List (List ℕ)) (P : Item → Type 0) → Alike A B P → (s : ℕ) (ds : List Item) → AllOf P ds
-    → case_using_row A s ds ≡ case_using_row B s ds
-case_using_same A B P a s [] h = refl
-case_using_same A B P a s (p ∷ []) h = refl
-case_using_same A B P a s (p ∷ k ∷ cs) h =
-    ap (case_using_right s p k) (clauses_same A B P a (word (codes "%memp") ∷ made s ∷ made (s + 1) ∷ []) cs h.1.1)
-
-setf_list_same : (A B : List (List ℕ)) (P : Item → Type 0) → Alike A B P → (s : ℕ) (ds : Option (List Item)) (v : Item) → AllOfSome P ds
-    → setf_list A s ds v ≡ setf_list B s ds v
-setf_list_same A B P a s None v h = refl
-setf_list_same A B P a s (Some []) v h = refl
-setf_list_same A B P a s (Some (op ∷ [])) v h = ap (λ (t : Option (List ℕ)). setf_right s (setter t) [] v) (a.same op h.0)
-setf_list_same A B P a s (Some (op ∷ x ∷ [])) v h =
-    let w : is_word A (codes "dynamic") op ≡ is_word B (codes "dynamic") op = word_same A B P a (codes "dynamic") op h.0 in
-    let t : text_of A op ≡ text_of B op = a.same op h.0 in
-    let plain : Option Right = Some (record { piece = form (codes "set-dynamic") (taken v ∷ taken x ∷ []); count = 0 }) in
-    ap (λ (b : Bool). if b then plain else setf_right s (setter (text_of A op)) (x ∷ []) v) w
-    ∙ ap (λ (u : Option (List ℕ)). if is_word B (codes "dynamic") op then plain else setf_right s (setter u) (x ∷ []) v) t
-setf_list_same A B P a s (Some (op ∷ x ∷ y ∷ ys)) v h = ap (λ (t : Option (List ℕ)). setf_right s (setter t) (x ∷ y ∷ ys) v) (a.same op h.0)
-
-pub setf_same : (A B : List (List ℕ)) (P : Item → Type 0) → Alike A B P → (s : ℕ) (ds : List Item) → AllOf P ds → setf_row A s ds ≡ setf_row B s ds
-setf_same A B P a s [] h = refl
-setf_same A B P a s (x ∷ []) h = refl
-setf_same A B P a s (x ∷ v ∷ []) h =
-    ap (λ (r : Option Right). if is_symbol x then Some (record { piece = form (codes "setq") (taken x ∷ taken v ∷ []); count = 0 }) else r)
-    (setf_list_same A B P a s (list_items x) v (items_too P a.down x h.0))
-setf_same A B P a s (x ∷ v ∷ y ∷ ys) h = refl
 
 -- what is made of equal parts is equal
 in_list : {x y : Piece} → x ≡ y → form (codes "%list") (x ∷ []) ≡ form (codes "%list") (y ∷ [])
@@ -96,7 +52,7 @@ last_same b b2 u u2 x x2 y y2 e f g h =
 mutual
   unfolding template
 
-  template_same : (A B : List (List ℕ)) (P : Item → Type 0) → Alike A B P → (n : ℕ) (d : Item) → P d → template A n d ≡ template B n d
+  pub template_same : (A B : List (List ℕ)) (P : Item → Type 0) → Alike A B P → (n : ℕ) (d : Item) → P d → template A n d ≡ template B n d
   template_same A B P a n (item p c) h = template_of_same A B P a n p c h
 
   template_of_same : (A B : List (List ℕ)) (P : Item → Type 0) → Alike A B P → (n : ℕ) (p : Place) (c : Content) → P (item p c)
@@ -177,7 +133,163 @@ mutual
       both_same (part A n x) (part B n x) (parts A n (item_and e (item_and d ds)) behind) (parts B n (item_and e (item_and d ds)) behind)
       (part_same A B P a n x h.0) (parts_same A B P a n (item_and e (item_and d ds)) behind h.1)
 
-pub quasiquote_same : (A B : List (List ℕ)) (P : Item → Type 0) → Alike A B P → (ds : List Item) → AllOf P ds → quasiquote_row A ds ≡ quasiquote_row B ds
-quasiquote_same A B P a [] h = refl
-quasiquote_same A B P a (d ∷ []) h = ap (λ (x : Piece). let r : Option Right = Some (record { piece = x; count = 0 }) in r) (template_same A B P a 0 d h.0)
-quasiquote_same A B P a (d ∷ e ∷ ds) h = refl
+-- left sides
+
+both_joined : (x x2 y y2 : Option Parts) → x ≡ x2 → y ≡ y2 → joined x y ≡ joined x2 y2
+both_joined x x2 y y2 e f = cc
+
+module _ (A B : List (List ℕ)) (P : Item → Type 0) (a : Alike A B P) where
+  one_word_same : (text : List ℕ) (ds : List Item) → AllOf P ds → one_datum (is_word A text) ds ≡ one_datum (is_word B text) ds
+  one_word_same text [] h = refl
+  one_word_same text (d ∷ []) h = word_same A B P a text d h.0
+  one_word_same text (d ∷ e ∷ ds) h = refl
+
+  one_setter_same : (ds : List Item) → AllOf P ds → one_datum (has_setter A) ds ≡ one_datum (has_setter B) ds
+  one_setter_same [] h = refl
+  one_setter_same (d ∷ []) h = ap (λ (t : Option (List ℕ)). is_some (setter t)) (a.same d h.0)
+  one_setter_same (d ∷ e ∷ ds) h = refl
+
+  opened_same : (f g : List Item → Option Parts) → ((ds : List Item) → AllOf P ds → f ds ≡ g ds) → (ds : Option (List Item)) → AllOfSome P ds
+      → opened f ds ≡ opened g ds
+  opened_same f g e None h = refl
+  opened_same f g e (Some ds) h = e ds h
+
+  of_one_same : (f g : List Item → Option Parts) → ((ds : List Item) → AllOf P ds → f ds ≡ g ds) → (ds : List Item) → AllOf P ds → of_one f ds ≡ of_one g ds
+  of_one_same f g e [] h = refl
+  of_one_same f g e (d ∷ []) h = opened_same f g e (list_items d) (items_too P a.down d h.0)
+  of_one_same f g e (d ∷ d2 ∷ ds) h = refl
+
+  all_data_same : (f g : List Item → Option Parts) → ((ds : List Item) → AllOf P ds → f ds ≡ g ds) → (ds : List Item) → AllOf P ds
+      → all_data (λ d. is_some (f (d ∷ []))) ds ≡ all_data (λ d. is_some (g (d ∷ []))) ds
+  all_data_same f g e [] h = refl
+  all_data_same f g e (d ∷ ds) h =
+      ap (λ (b : Bool). if b then all_data (λ d. is_some (f (d ∷ []))) ds else false) (ap (λ (x : Option Parts). is_some x) (e (d ∷ []) (h.0, tt)))
+      ∙ ap (λ (b : Bool). if is_some (g (d ∷ [])) then b else false) (all_data_same f g e ds h.1)
+
+  mutual
+    unfolding fit
+
+    fit_same : (x : Pattern) (ds : List Item) → AllOf P ds → fit A x ds ≡ fit B x ds
+    fit_same a_datum ds h = refl
+    fit_same a_symbol ds h = refl
+    fit_same (the_word text) ds h = ap nothing_if (one_word_same text ds h)
+    fit_same an_operator ds h = ap (λ (b : Bool). part_if b ds) (one_setter_same ds h)
+    fit_same (inside ps) ds h = of_one_same (λ es. fit_all A ps es) (λ es. fit_all B ps es) (fit_all_same ps) ds h
+    fit_same others ds h = refl
+    fit_same one_at_most ds h = refl
+    fit_same (each_fits ps) ds h =
+        ap (λ (b : Bool). part_if b ds) (all_data_same (λ es. fit_all A ps es) (λ es. fit_all B ps es) (fit_all_same ps) ds h)
+
+    pub fit_all_same : (xs : Patterns) (ds : List Item) → AllOf P ds → fit_all A xs ds ≡ fit_all B xs ds
+    fit_all_same no_pattern ds h = refl
+    fit_all_same (pattern_and x xs) ds h =
+        let n : ℕ = taken_by x (length ds - pattern_count xs) in
+        both_joined (fit A x (take n ds)) (fit B x (take n ds)) (fit_all A xs (drop n ds)) (fit_all B xs (drop n ds))
+        (fit_same x (take n ds) (take_too P n ds h)) (fit_all_same xs (drop n ds) (drop_too P n ds h))
+
+  -- right sides
+
+  first_same : (ds : List Item) → AllOf P ds → of_first (template A 0) ds ≡ of_first (template B 0) ds
+  first_same [] h = refl
+  first_same (d ∷ ds) h = template_same A B P a 0 d h.0
+
+  setter_same : (ds : List Item) → AllOf P ds → setter_piece A ds ≡ setter_piece B ds
+  setter_same [] h = refl
+  setter_same (d ∷ ds) h = ap (λ (t : Option (List ℕ)). word_or_none (setter t)) (a.same d h.0)
+
+  alone : (x y : Piece) → x ≡ y → x ∷ [] ≡ y ∷ []
+  alone x y e = ap (λ (z : Piece). z ∷ []) e
+
+  appended_same : (xs xs2 ys ys2 : List Piece) → xs ≡ xs2 → ys ≡ ys2 → xs ++ ys ≡ xs2 ++ ys2
+  appended_same xs xs2 ys ys2 e f = cc
+
+  before_same : (f g : ℕ → Parts → List Piece) → ((n : ℕ) (parts : Parts) → OfParts P parts → f n parts ≡ g n parts) → (own : ℕ) (x : Option Parts)
+      (more more2 : ℕ → List Piece) → OfPartsSome P x → ((n : ℕ) → more n ≡ more2 n) → before_others f own x more ≡ before_others g own x more2
+  before_same f g e own None more more2 p m = m own
+  before_same f g e own (Some parts) more more2 p m = appended_same (f own parts) (g own parts) (more (own + 1)) (more2 (own + 1)) (e own parts p) (m (own + 1))
+
+  repeated_same : (ps : Patterns) (f g : ℕ → Parts → List Piece) → ((n : ℕ) (parts : Parts) → OfParts P parts → f n parts ≡ g n parts) → (ds : List Item)
+      → AllOf P ds → (own : ℕ) → repeated A ps f ds own ≡ repeated B ps g ds own
+  repeated_same ps f g e [] h own = refl
+  repeated_same ps f g e (d ∷ ds) h own =
+      before_same f g e own (fit_all A ps (d ∷ [])) (λ n. repeated A ps f ds n) (λ n. repeated B ps g ds n)
+      (fit_all_too P a.down A ps (d ∷ []) (h.0, tt)) (repeated_same ps f g e ds h.1)
+      ∙ ap (λ (z : Option Parts). before_others g own z (λ n. repeated B ps g ds n)) (fit_all_same ps (d ∷ []) (h.0, tt))
+
+  mutual
+    unfolding write
+
+    write_same : (s : ℕ) (x : Template) (own : ℕ) (parts : Parts) → OfParts P parts → write A s x own parts ≡ write B s x own parts
+    write_same s (datum i) own parts h = refl
+    write_same s (all_of i) own parts h = refl
+    write_same s (the_setter i) own parts h = alone _ _ (setter_same (part_of parts i) (part_too P parts i h))
+    write_same s (the_quotation i) own parts h = alone _ _ (first_same (part_of parts i) (part_too P parts i h))
+    write_same s (the_symbol text) own parts h = refl
+    write_same s (new_symbol n) own parts h = refl
+    write_same s (new_behind i) own parts h = refl
+    write_same s own_symbol own parts h = refl
+    write_same s (group xs) own parts h = ap (λ (ys : List Piece). listed ys ∷ []) (write_all_same s xs own parts h)
+    write_same s (for_each i ps xs) own parts h =
+        repeated_same ps (λ n found. write_all A s xs n found) (λ n found. write_all B s xs n found) (write_all_same s xs)
+        (part_of parts i) (part_too P parts i h) s
+
+    pub write_all_same : (s : ℕ) (xs : Templates) (own : ℕ) (parts : Parts) → OfParts P parts → write_all A s xs own parts ≡ write_all B s xs own parts
+    write_all_same s no_template own parts h = refl
+    write_all_same s (template_and x xs) own parts h =
+        appended_same (write A s x own parts) (write B s x own parts) (write_all A s xs own parts) (write_all B s xs own parts)
+        (write_same s x own parts h) (write_all_same s xs own parts h)
+
+  -- the table
+
+  right_same : (xs xs2 new new2 : List Piece) → xs ≡ xs2 → new ≡ new2 → right_of xs new ≡ right_of xs2 new2
+  right_same xs xs2 new new2 e f = cc
+
+  found_same : (s : ℕ) (r : Row) (found : Option Parts) → OfPartsSome P found → row_right A s r found ≡ row_right B s r found
+  found_same s r None h = refl
+  found_same s r (Some parts) h =
+      right_same (write_all A s r.right s parts) (write_all B s r.right s parts) (write_all A s r.new s parts) (write_all B s r.new s parts)
+      (write_all_same s r.right s parts h) (write_all_same s r.new s parts h)
+
+  row_same : (s : ℕ) (r : Row) (ds : List Item) → AllOf P ds → row_right A s r (fit_all A r.parts ds) ≡ row_right B s r (fit_all B r.parts ds)
+  row_same s r ds h =
+      found_same s r (fit_all A r.parts ds) (fit_all_too P a.down A r.parts ds h) ∙ ap (row_right B s r) (fit_all_same r.parts ds h)
+
+  either_same : (b : Bool) (x x2 y y2 : Option Right) → x ≡ x2 → y ≡ y2 → (if b then or_else x y else y) ≡ (if b then or_else x2 y2 else y2)
+  either_same b x x2 y y2 e f = cc
+
+  first_right_same : (s : ℕ) (rs : List Row) (name : List ℕ) (ds : List Item) → AllOf P ds → first_right A s rs name ds ≡ first_right B s rs name ds
+  first_right_same s [] name ds h = refl
+  first_right_same s (r ∷ rs) name ds h =
+      either_same (bytes_eq name r.name) (row_right A s r (fit_all A r.parts ds)) (row_right B s r (fit_all B r.parts ds))
+      (first_right A s rs name ds) (first_right B s rs name ds) (row_same s r ds h) (first_right_same s rs name ds h)
+
+  else_same : (x x2 y y2 : Option Right) → x ≡ x2 → y ≡ y2 → or_else x y ≡ or_else x2 y2
+  else_same x x2 y y2 e f = cc
+
+  table_same : (s : ℕ) (gs : List (List Row)) (name : List ℕ) (ds : List Item) → AllOf P ds → table_right A s gs name ds ≡ table_right B s gs name ds
+  table_same s [] name ds h = refl
+  table_same s (g ∷ gs) name ds h =
+      else_same (first_right A s g name ds) (first_right B s g name ds) (table_right A s gs name ds) (table_right B s gs name ds)
+      (first_right_same s g name ds h) (table_same s gs name ds h)
+
+  by_table_same : (s : ℕ) (name : List ℕ) (ds : List Item) (t : Tail) → AllOf P ds → by_table A s name ds t ≡ by_table B s name ds t
+  by_table_same s name ds no_tail h = ap judged (table_same s table name ds h)
+  by_table_same s name ds (dotted d) h = refl
+
+  by_name_same : (s : ℕ) (name : Option (List ℕ)) (ds : List Item) (t : Tail) → AllOf P ds → by_name A s name ds t ≡ by_name B s name ds t
+  by_name_same s None ds t h = refl
+  by_name_same s (Some name) ds t h = ap (λ (x : Derivation). if is_derived name then x else plain) (by_table_same s name ds t h)
+
+  list_same : (s : ℕ) (ds : List Item) (t : Tail) → AllOf P ds → list_derivation A s ds t ≡ list_derivation B s ds t
+  list_same s [] t h = refl
+  list_same s (d ∷ ds) t h = by_name_same s (text_of A d) ds t h.1 ∙ ap (λ (name : Option (List ℕ)). by_name B s name ds t) (a.same d h.0)
+
+  pub derivation_same : (s : ℕ) (d : Item) → P d → derivation A s d ≡ derivation B s d
+  unfolding derivation
+  derivation_same s (item p (integer n)) h = refl
+  derivation_same s (item p (character c)) h = refl
+  derivation_same s (item p (symbol x)) h = refl
+  derivation_same s (item p (string bytes)) h = refl
+  derivation_same s (item p (vector ds)) h = refl
+  derivation_same s (item p nil) h = refl
+  derivation_same s (item p (list ds t)) h = list_same s (items_list ds) t (of_list P ds (a.down.of_items p ds t h))

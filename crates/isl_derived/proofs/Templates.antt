@@ -2,9 +2,9 @@
 use Rattle.std.specs.Prelude.{◌≡◌, ℕ, ◌+◌, ◌<◌, Bool, true, false, List, [], ◌∷◌, ◌++◌, Some, None, if◌then◌else◌, codes, length, refl}
 use Rattle.std.proofs.Common.{arith, ap, ◌∙◌, sym}
 use Rattle.isl_base.specs.Data.{Item, item, integer, character, symbol, string, vector, nil, list, no_item, item_and, items_of, no_tail, dotted, item_size, items_size}
-use Rattle.isl_meaning.specs.DerivedPieces.{Piece, Pieces, no_piece, piece_and, pieces_of, form}
-use Rattle.isl_meaning.specs.DerivedRows.{is_word}
-use Rattle.isl_meaning.specs.DerivedQuotation.{template, template_list, unquoted, spliced, part, parts, appended, one_piece}
+use Rattle.isl_derived.specs.Pieces.{Piece, Pieces, no_piece, piece_and, pieces_of, form}
+use Rattle.isl_derived.specs.Asked.{is_word}
+use Rattle.isl_derived.specs.Quotation.{template, template_list, unquoted, spliced, part, parts, appended, one_piece}
 use Rattle.isl_derived.specs.Templates.{only_of, splicing, last_unquoted}
 use Rattle.isl_derived.specs.Fronts.{pieces_before}
 

@@ -1,8 +1,8 @@
 -- Where forms stand in what a step writes: which parts of a written form are forms, by the name in front of it.
-use Rattle.std.specs.Prelude.{ℕ, List, [], ◌∷◌, Option, Some, None, if◌then◌else◌, codes}
+use Rattle.std.specs.Prelude.{ℕ, List, [], ◌∷◌, if◌then◌else◌, codes}
 use Rattle.std.specs.Str.{bytes_eq}
-use Rattle.isl_meaning.specs.DerivedPieces.{Piece, word, made, taken, parens, Pieces, no_piece, piece_and}
-use Rattle.isl_meaning.specs.Derived.{Rows, rows_of}
+use Rattle.isl_derived.specs.Pieces.{Piece, word, made, taken, parens, Pieces, no_piece, piece_and}
+use Rattle.isl_derived.specs.Table.{is_derived}
 
 mutual
   -- the role of a part: no form (a name, a parameter list, a quoted datum), a form, or a list of such parts
@@ -56,14 +56,9 @@ abbrev pub shape_in : List (List ℕ × Shape) → List ℕ → Shape
 shape_in [] name = each a_form
 shape_in (row ∷ rows) name = if bytes_eq name row.0 then row.1 else shape_in rows name
 
--- behind a derived name nothing is asked: the form is derived itself
-abbrev pub shape_by : Option Rows → List ℕ → Shape
-shape_by (Some rows) name = each no_form
-shape_by None name = shape_in shapes name
-
--- the roles of the parts behind a written name
+-- the roles of the parts behind a written name; behind a derived name nothing is asked: the form is derived itself
 unfoldable pub shape_of : List ℕ → Shape
-shape_of name = shape_by (rows_of name) name
+shape_of name = if is_derived name then each no_form else shape_in shapes name
 
 abbrev mutual
   -- `StandsAs role x`: the part x of a right side has this role. A form is a symbol, nil, a part of the form

@@ -1,7 +1,7 @@
 -- What the turns of a loop over a list have come to, before what the rest of the list comes to.
 use Rattle.std.specs.Prelude.{◌≡◌, List, [], ◌∷◌, ◌++◌, Option, Some, None}
 use Rattle.isl_base.specs.declared.datum.Symbol.{Symbol}
-use Rattle.isl_meaning.specs.DerivedPieces.{Piece, Pieces, piece_and}
+use Rattle.isl_derived.specs.Pieces.{Piece, Pieces, piece_and}
 
 abbrev pub before : {X : Type 0} → List X → Option (List X) → Option (List X)
 before xs None = None

@@ -4,7 +4,7 @@ use Rattle.std.specs.Coded.{Coded, code_by, coded_list, coded×, coded_ℕ}
 use Rattle.std.proofs.Common.{◌∙◌, ap, arith}
 use Rattle.isl_base.specs.Data.{Item}
 use Rattle.isl_base.specs.DataCode.{item_numbers, item_of_numbers, numbers_back}
-use Rattle.isl_meaning.specs.DerivedPieces.{Piece, word, made, taken, parens, Pieces, no_piece, piece_and, piece_size, pieces_size, Right}
+use Rattle.isl_derived.specs.Pieces.{Piece, word, made, taken, parens, Pieces, no_piece, piece_and, piece_size, pieces_size, Right}
 
 -- numbers, after a mark each, before those that follow them
 abbrev write_numbers : List ℕ → List ℕ → List ℕ

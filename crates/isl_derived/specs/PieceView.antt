@@ -1,6 +1,6 @@
 -- The part of a right side that contracts see: one level of the view.
 use Rattle.std.specs.Prelude.{ℕ, length}
-use Rattle.isl_meaning.specs.DerivedPieces.{Piece, word, made, taken, parens, pieces_of}
+use Rattle.isl_derived.specs.Pieces.{Piece, word, made, taken, parens, pieces_of}
 use Rattle.isl_derived.specs.declared.piece.PieceKind.{PieceKind}
 use Rattle.isl_derived.specs.declared.piece.PieceKind.TheVariants.{Word, Named, Made, Taken, Parens}
 

@@ -1,9 +1,7 @@
--- Parts of the rows of `setf`.
-use Rattle.std.specs.Prelude.{ℕ, ◌+◌, List, [], ◌∷◌, ◌++◌, length, Option, Some, None, if◌then◌else◌, codes}
+-- The function that sets the place of an operator, as the code finds it.
+use Rattle.std.specs.Prelude.{ℕ, List, Option, Some, None, if◌then◌else◌, codes}
 use Rattle.std.specs.Str.{bytes_eq}
-use Rattle.isl_base.specs.Data.{Item}
-use Rattle.isl_meaning.specs.DerivedPieces.{Piece, word, made, taken, listed, form, Right}
-use Rattle.isl_meaning.specs.DerivedRows.{arguments_bound, arguments_made}
+use Rattle.isl_derived.specs.Pieces.{Piece, word}
 
 -- the function that sets a place of a list or an array
 abbrev pub known_setter : List ℕ → Option (List ℕ)
@@ -18,14 +16,3 @@ known_setter op =
 abbrev pub setter_word : Option (List ℕ) → Option Piece
 setter_word None = None
 setter_word (Some text) = Some (word text)
-
--- (let ((#:a a)* (#:v v)) (w #:v #:a*))
-abbrev pub setter_piece : ℕ → Piece → List Item → Item → Option Right
-setter_piece s w xs v =
-    Some (record {
-      piece = form (codes "let")
-          (listed (arguments_bound s xs ++ listed (made (s + length xs) ∷ taken v ∷ []) ∷ [])
-          ∷ listed (w ∷ made (s + length xs) ∷ arguments_made s xs)
-          ∷ []);
-      count = length xs + 1;
-    })

@@ -6,7 +6,7 @@ use Rattle.isl_base.specs.declared.reason.Stop.{Stop}
 use Rattle.isl_base.specs.declared.reason.Stop.TheVariants.{Refused, NoMemory}
 use Rattle.isl_base.specs.Data.{Item, place_of}
 use Rattle.isl_base.specs.DataMeasures.{Formed, NamesBelow}
-use Rattle.isl_meaning.specs.Derived.{Derivation, plain, unfit, becomes, derivation, Derives, new_symbols}
+use Rattle.isl_derived.specs.Derived.{Derivation, plain, unfit, becomes, derivation, Derives, new_symbols}
 use Rattle.isl_derived.specs.declared.one_step.Derivation.{Derivation as Found}
 use Rattle.isl_derived.specs.declared.one_step.Derivation.TheVariants.{Plain as found_plain, Unfit, Becomes}
 use Rattle.isl_derived.specs.declared.one_step.Step.{Step}

@@ -1,8 +1,8 @@
 -- What tells the kinds of a template apart.
 use Rattle.std.specs.Prelude.{ℕ, List, [], ◌∷◌, Option, Some, None, if◌then◌else◌, codes}
 use Rattle.isl_base.specs.Data.{Item}
-use Rattle.isl_meaning.specs.DerivedPieces.{Pieces, no_piece, piece_and}
-use Rattle.isl_meaning.specs.DerivedRows.{is_word, list_items}
+use Rattle.isl_derived.specs.Pieces.{Pieces, no_piece, piece_and}
+use Rattle.isl_derived.specs.Asked.{is_word, list_items}
 
 -- the one datum that is left, with no dot behind it
 abbrev pub only_of : List Item → Pieces → Option Item

@@ -3,7 +3,7 @@
 ghost use Rattle.std.specs.Prelude.{◌≡◌, ◌≤◌, length, IfOk};
 ghost use Rattle.isl_base.specs.Data.{item, items_of, symbol};
 ghost use Rattle.isl_base.specs.Names.{Extends};
-ghost use Rattle.isl_meaning.specs.DerivedPieces.{word, pieces_of, in_parens, Builds, BuildsAll};
+ghost use Rattle.isl_derived.specs.Pieces.{word, pieces_of, in_parens, Builds, BuildsAll};
 
 use crate::piece::{Piece, PieceKind, PieceList};
 use isl_base::{Datum, DatumList, Kind, Names, NoMemory, Place, Symbol};

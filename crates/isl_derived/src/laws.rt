@@ -1,13 +1,14 @@
 // Laws of the table of derived forms, for all forms.
 
-ghost use Rattle.std.specs.Prelude.{◌≡◌, ℕ, ◌+◌, ◌<◌, List, length, None};
+ghost use Rattle.std.specs.Prelude.{◌≡◌, ℕ, ◌+◌, ◌<◌, List, length, false};
 ghost use Rattle.isl_base.specs.declared.place.Place.{Place};
 ghost use Rattle.isl_base.specs.Data.{Item};
 ghost use Rattle.isl_base.specs.DataMeasures.{NamesBelow, size_of};
 ghost use Rattle.isl_base.specs.Names.{IsTable, Extends};
-ghost use Rattle.isl_meaning.specs.Derived.{Derives, rows_of, plain, becomes, derivation};
-ghost use Rattle.isl_meaning.specs.DerivedEnds.{AllFurther, AllParts, Leaves, piece_weight};
-ghost use Rattle.isl_meaning.specs.DerivedPieces.{Builds, Piece, word, parens, Pieces, piece_and, Right};
+ghost use Rattle.isl_derived.specs.Table.{is_derived};
+ghost use Rattle.isl_derived.specs.Derived.{Derives, plain, becomes, derivation};
+ghost use Rattle.isl_derived.specs.Ends.{AllFurther, AllParts, Leaves, piece_weight};
+ghost use Rattle.isl_derived.specs.Pieces.{Builds, Piece, word, parens, Pieces, piece_and, Right};
 ghost use Rattle.isl_derived.specs.FormPlaces.{a_form, StandsAs};
 
 /// A datum fits at most one row, and the step is one datum with one number of new symbols.
@@ -46,5 +47,5 @@ pub fn law_steps_end()
     ensures placed { (names : List (List ℕ)) (s : ℕ) (d : Item) (r : Right) → derivation names s d ≡ becomes r →
         StandsAs a_form r.piece }
     ensures others { (names : List (List ℕ)) (s : ℕ) (p : Place) (text : List ℕ) (xs : Pieces) (d : Item) →
-        rows_of text ≡ None → Builds names p (parens (piece_and (word text) xs)) d → derivation names s d ≡ plain }
+        is_derived text ≡ false → Builds names p (parens (piece_and (word text) xs)) d → derivation names s d ≡ plain }
 {}

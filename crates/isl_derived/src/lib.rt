@@ -1,21 +1,16 @@
 // Derived forms: one step of the table of derived forms.
 #![tactic(auto)]
 
-mod binding;
 mod build;
-mod case;
-mod condition;
-mod conditional;
-mod for_loop;
-mod head;
 pub mod laws;
 pub mod one_step;
+mod pattern;
 mod piece;
 mod quotation;
 mod right;
 mod setf;
 mod shape;
-#[cfg(test)]
-mod tests;
+mod table;
+mod template;
 
 pub use one_step::{Step, derive};

@@ -1,26 +1,23 @@
 // One step of a derived form.
 
-ghost use Rattle.std.specs.Prelude.{◌≡◌, ◌++◌, length, Some, None, IfOk, IfErr, OnOk, OnErr, MatchOption};
+ghost use Rattle.std.specs.Prelude.{◌≡◌, ◌++◌, length, IfOk, IfErr, OnOk, OnErr};
 ghost use Rattle.isl_base.specs.DataView.{tail_of};
 ghost use Rattle.isl_base.specs.DataMeasures.{Formed, NamesBelow};
 ghost use Rattle.isl_base.specs.Names.{Extends};
-ghost use Rattle.isl_meaning.specs.DerivedPieces.{Builds};
-ghost use Rattle.isl_meaning.specs.DerivedRows.{text_of};
-ghost use Rattle.isl_meaning.specs.Derived.{rows_under, list_derivation, derivation, new_symbols};
-ghost use Rattle.isl_derived.specs.Heads.{rows_named};
+ghost use Rattle.isl_derived.specs.Pieces.{Builds};
+ghost use Rattle.isl_derived.specs.Derived.{right_of, row_right, first_right, table_right, list_derivation, derivation, new_symbols};
+ghost use Rattle.isl_derived.specs.Patterns.{fit_all};
+ghost use Rattle.isl_derived.specs.PatternView.{view_patterns};
+ghost use Rattle.isl_derived.specs.TableView.{view_row, view_rows, view_groups};
 ghost use Rattle.isl_derived.specs.Steps.{shown, IsStep, IsStop, IsWhole};
 
-use crate::binding::{flet_row, labels_row, let_in_order_row};
 use crate::build::build;
-use crate::case::{case_row, case_using_row};
-use crate::condition::{assure_row, convert_row, ignore_errors_row, the_row};
-use crate::conditional::{and_row, if_row, or_row};
-use crate::for_loop::for_row;
-use crate::head::{Head, head_of};
-use crate::quotation::quasiquote_row;
+use crate::pattern::{Parts, fit_all};
+use crate::piece::{PieceList, nil};
 use crate::right::Right;
-use crate::setf::setf_row;
 use crate::shape::text_of;
+use crate::table::{Row, names_some_row, table};
+use crate::template::{Start, write_all};
 use isl_base::{Datum, FreshList, Kind, Names, NoMemory, Place, Reason, Refusal, Stop, Symbol};
 use std::alloc::Global;
 
@@ -39,47 +36,91 @@ pub(crate) enum Derivation<'a> {
     Becomes(Right<'a>),
 }
 
-// What the rows of a derived name make of the data behind it.
-fn row<'a>(
+// The one part of a list, with the number of these new symbols.
+fn right_of<'a>(alloc: Global, parts: PieceList<'a>, new: &PieceList) -> Option<Right<'a>>
+    ensures { result ≡ right_of parts.entry new.now }
+{
+    if parts.len() != 1 {
+        return None;
+    }
+    let mut parts = parts;
+    let piece = parts.replace(0, nil(alloc));
+    let count = new.len() as u64;
+    Some(Right { piece, count })
+}
+
+// What a row makes of the data behind its name.
+fn row_right<'a>(
     alloc: Global,
     names: &Names,
     serial: u64,
-    head: Head,
+    row: &Row,
     arguments: &'a [Datum],
 ) -> Result<Option<Right<'a>>, NoMemory>
-    ensures { IfOk result (λ right. right ≡ rows_named head names.now serial arguments.now) }
+    ensures { IfOk result (λ right. right ≡ row_right names.now serial (view_row row.now) (fit_all names.now (view_patterns row.now.parts.now) arguments.now)) }
 {
-    match head {
-        Head::If => if_row(alloc, arguments),
-        Head::And => and_row(alloc, arguments),
-        Head::Or => or_row(alloc, arguments),
-        Head::LetInOrder => let_in_order_row(alloc, arguments),
-        Head::Case => case_row(alloc, names, serial, arguments),
-        Head::CaseUsing => case_using_row(alloc, names, serial, arguments),
-        Head::For => for_row(alloc, serial, arguments),
-        Head::Setf => setf_row(alloc, names, serial, arguments),
-        Head::Flet => flet_row(alloc, serial, arguments),
-        Head::Labels => labels_row(alloc, serial, arguments),
-        Head::IgnoreErrors => ignore_errors_row(alloc, serial, arguments),
-        Head::Assure => assure_row(alloc, serial, arguments),
-        Head::The => Ok(the_row(arguments)),
-        Head::Convert => convert_row(alloc, arguments),
-        Head::Quasiquote => quasiquote_row(alloc, names, arguments),
+    let mut parts = Parts::new(alloc);
+    if !fit_all(alloc, names, row.parts, arguments, &mut parts)? {
+        return Ok(None);
     }
+    let start = Start {
+        alloc,
+        names,
+        serial,
+    };
+    let mut right = PieceList::new(alloc);
+    write_all(start, row.right, serial, &parts, &mut right)?;
+    let mut new = PieceList::new(alloc);
+    write_all(start, row.new, serial, &parts, &mut new)?;
+    Ok(right_of(alloc, right, &new))
 }
 
-// The derived name at the head of a list.
-fn head_in(names: &Names, datum: &Datum) -> Option<Head>
-    ensures { MatchOption result (rows_under (text_of names.now datum.now) ≡ None)
-        (λ head. rows_under (text_of names.now datum.now) ≡ Some (rows_named head)) }
+// What the first row of that name that the data fit makes of them.
+fn first_right<'a>(
+    alloc: Global,
+    names: &Names,
+    serial: u64,
+    rows: &[Row],
+    name: &[u8],
+    arguments: &'a [Datum],
+) -> Result<Option<Right<'a>>, NoMemory>
+    ensures { IfOk result (λ right. right ≡ first_right names.now serial (view_rows rows.now) name.now arguments.now) }
 {
-    match text_of(names, datum) {
-        Some(name) => head_of(name),
-        None => None,
+    let Some((row, others)) = rows.split_first() else {
+        return Ok(None);
+    };
+    if row.name == name {
+        let right = row_right(alloc, names, serial, row, arguments)?;
+        if right.is_some() {
+            return Ok(right);
+        }
     }
+    first_right(alloc, names, serial, others, name, arguments)
+}
+
+// The same, of groups of rows.
+fn table_right<'a>(
+    alloc: Global,
+    names: &Names,
+    serial: u64,
+    groups: &[&[Row]],
+    name: &[u8],
+    arguments: &'a [Datum],
+) -> Result<Option<Right<'a>>, NoMemory>
+    ensures { IfOk result (λ right. right ≡ table_right names.now serial (view_groups groups.now) name.now arguments.now) }
+{
+    let Some((rows, others)) = groups.split_first() else {
+        return Ok(None);
+    };
+    let right = first_right(alloc, names, serial, rows, name, arguments)?;
+    if right.is_some() {
+        return Ok(right);
+    }
+    table_right(alloc, names, serial, others, name, arguments)
 }
 
 // A list of these items, with that tail.
+#[tactic(auto, unfolding(crate::specs::Table::is_derived))]
 fn list_derivation<'a>(
     alloc: Global,
     names: &Names,
@@ -92,19 +133,23 @@ fn list_derivation<'a>(
     let [head, arguments @ ..] = items else {
         return Ok(Derivation::Plain);
     };
-    let Some(head) = head_in(names, head) else {
+    let Some(name) = text_of(names, head) else {
         return Ok(Derivation::Plain);
     };
+    let groups = table();
+    if !names_some_row(&groups, name) {
+        return Ok(Derivation::Plain);
+    }
     if tail.is_some() {
         return Ok(Derivation::Unfit);
     }
-    match row(alloc, names, serial, head, arguments)? {
+    match table_right(alloc, names, serial, &groups, name, arguments)? {
         Some(right) => Ok(Derivation::Becomes(right)),
         None => Ok(Derivation::Unfit),
     }
 }
 
-#[tactic(auto, using(crate::proofs::Lists::shown_items), unfolding(isl_meaning::specs::Derived::derivation))]
+#[tactic(auto, using(crate::proofs::Lists::shown_items), unfolding(crate::specs::Derived::derivation))]
 fn derivation_of<'a>(
     alloc: Global,
     names: &Names,

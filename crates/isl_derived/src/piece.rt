@@ -1,7 +1,7 @@
 // Parts of right sides: what a step writes, makes and takes over.
 
 ghost use Rattle.std.specs.Prelude.{◌≡◌, ◌≤◌, ◌++◌, ◌∷◌, [], length, IfOk};
-ghost use Rattle.isl_meaning.specs.DerivedPieces.{word, made, taken, listed, form, all_taken};
+ghost use Rattle.isl_derived.specs.Pieces.{word, made, taken, listed, form, all_taken};
 ghost use Rattle.isl_derived.specs.PieceView.{view_piece};
 
 use isl_base::{Bytes, Datum, ItemList, NoMemory};
@@ -32,7 +32,7 @@ pub(crate) enum PieceKind<'a> {
 pub(crate) type PieceList<'a> = ItemList<Piece<'a>>;
 
 impl<'a> Model for Piece<'a> {
-    ghost use Rattle.isl_meaning.specs.DerivedPieces.{Piece as PieceOf};
+    ghost use Rattle.isl_derived.specs.Pieces.{Piece as PieceOf};
 
     ghost Value = { PieceOf };
 
@@ -49,7 +49,7 @@ impl<'a> Model for Piece<'a> {
 
     ghost invariant = { λ p. text_length p.kind ≤ 263 };
 
-    ghost use Rattle.isl_meaning.specs.DerivedPieces.{piece_size};
+    ghost use Rattle.isl_derived.specs.Pieces.{piece_size};
 
     ghost size = { piece_size };
 
@@ -66,6 +66,16 @@ pub(crate) fn word<'a>(text: &'static [u8]) -> Piece<'a>
     Piece {
         kind: PieceKind::Word(text),
     }
+}
+
+/// The symbol of a text of the table, where no name is longer than 263 bytes.
+pub(crate) fn short_word<'a>(text: &'static [u8]) -> Result<Piece<'a>, NoMemory>
+    ensures { IfOk result (λ piece. piece ≡ word text.now) }
+{
+    if text.len() > 263 {
+        return Err(NoMemory);
+    }
+    Ok(word(text))
 }
 
 /// The symbol of a text that was put together.
@@ -121,77 +131,6 @@ pub(crate) fn one<'a>(alloc: Global, first: Piece<'a>) -> Result<PieceList<'a>, 
     Ok(list)
 }
 
-/// Two parts.
-pub(crate) fn two<'a>(
-    alloc: Global,
-    first: Piece<'a>,
-    second: Piece<'a>,
-) -> Result<PieceList<'a>, NoMemory>
-    ensures { IfOk result (λ list. list ≡ first.entry ∷ second.entry ∷ []) }
-{
-    let mut list = one(alloc, first)?;
-    list.push(second)?;
-    Ok(list)
-}
-
-/// Three parts.
-pub(crate) fn three<'a>(
-    alloc: Global,
-    first: Piece<'a>,
-    second: Piece<'a>,
-    third: Piece<'a>,
-) -> Result<PieceList<'a>, NoMemory>
-    ensures { IfOk result (λ list. list ≡ first.entry ∷ second.entry ∷ third.entry ∷ []) }
-{
-    let mut list = two(alloc, first, second)?;
-    list.push(third)?;
-    Ok(list)
-}
-
-/// A part, and those behind it.
-pub(crate) fn front<'a>(
-    alloc: Global,
-    first: Piece<'a>,
-    rest: PieceList<'a>,
-) -> Result<PieceList<'a>, NoMemory>
-    ensures { IfOk result (λ list. list ≡ first.entry ∷ rest.entry) }
-{
-    let mut list = PieceList::new(alloc);
-    list.push(first)?;
-    list.append_list(rest)?;
-    Ok(list)
-}
-
-/// A form: a name, and what stands behind it.
-pub(crate) fn form<'a>(
-    alloc: Global,
-    name: &'static [u8],
-    rest: PieceList<'a>,
-) -> Result<Piece<'a>, NoMemory>
-    requires { length name.now ≤ 263 }
-    ensures { IfOk result (λ piece. piece ≡ form name.now rest.entry) }
-{
-    Ok(parens(front(alloc, word(name), rest)?))
-}
-
-/// Two parts in parentheses.
-pub(crate) fn pair<'a>(
-    alloc: Global,
-    first: Piece<'a>,
-    second: Piece<'a>,
-) -> Result<Piece<'a>, NoMemory>
-    ensures { IfOk result (λ piece. piece ≡ listed (first.entry ∷ second.entry ∷ [])) }
-{
-    Ok(parens(two(alloc, first, second)?))
-}
-
-/// A new symbol and its value, in parentheses.
-pub(crate) fn bound<'a>(alloc: Global, serial: u64, value: Piece<'a>) -> Result<Piece<'a>, NoMemory>
-    ensures { IfOk result (λ piece. piece ≡ listed (made serial ∷ value.entry ∷ [])) }
-{
-    pair(alloc, made(serial), value)
-}
-
 /// A form with one part.
 pub(crate) fn form_one<'a>(
     alloc: Global,
@@ -201,20 +140,9 @@ pub(crate) fn form_one<'a>(
     requires { length name.now ≤ 263 }
     ensures { IfOk result (λ piece. piece ≡ form name.now (first.entry ∷ [])) }
 {
-    form(alloc, name, one(alloc, first)?)
-}
-
-/// A form with two parts.
-pub(crate) fn form_two<'a>(
-    alloc: Global,
-    name: &'static [u8],
-    first: Piece<'a>,
-    second: Piece<'a>,
-) -> Result<Piece<'a>, NoMemory>
-    requires { length name.now ≤ 263 }
-    ensures { IfOk result (λ piece. piece ≡ form name.now (first.entry ∷ second.entry ∷ [])) }
-{
-    form(alloc, name, two(alloc, first, second)?)
+    let mut list = one(alloc, word(name))?;
+    list.push(first)?;
+    Ok(parens(list))
 }
 
 /// A form with a part, and those behind it.
@@ -227,7 +155,23 @@ pub(crate) fn form_front<'a>(
     requires { length name.now ≤ 263 }
     ensures { IfOk result (λ piece. piece ≡ form name.now (first.entry ∷ rest.entry)) }
 {
-    form(alloc, name, front(alloc, first, rest)?)
+    let mut list = one(alloc, word(name))?;
+    list.push(first)?;
+    list.append_list(rest)?;
+    Ok(parens(list))
+}
+
+/// A form with two parts.
+pub(crate) fn form_two<'a>(
+    alloc: Global,
+    name: &'static [u8],
+    first: Piece<'a>,
+    second: Piece<'a>,
+) -> Result<Piece<'a>, NoMemory>
+    requires { length name.now ≤ 263 }
+    ensures { IfOk result (λ piece. piece ≡ form name.now (first.entry ∷ second.entry ∷ [])) }
+{
+    form_front(alloc, name, first, one(alloc, second)?)
 }
 
 /// Parts of the form, in their order.

@@ -1,16 +1,15 @@
 // Quasiquotation (ISO/IEC 13816:2007, 16): the form that makes the datum of a template.
 
-ghost use Rattle.std.specs.Prelude.{◌≡◌, ◌≤◌, ◌+◌, ◌∷◌, [], length, Some, IfOk, codes};
+ghost use Rattle.std.specs.Prelude.{◌≡◌, ◌≤◌, ◌∷◌, [], length, Some, IfOk, codes};
 ghost use Rattle.isl_derived.specs.Templates.{only_of, splicing, last_unquoted};
 ghost use Rattle.isl_derived.specs.Shown.{datum_shown};
 ghost use Rattle.isl_base.specs.Data.{items_of};
 ghost use Rattle.isl_base.specs.DataView.{tail_of};
-ghost use Rattle.isl_meaning.specs.DerivedPieces.{form, taken, pieces_of};
-ghost use Rattle.isl_meaning.specs.DerivedQuotation.{kept_prefix, quoted_word, appended, template, tail_part, template_list, unquoted, spliced, part, parts};
-ghost use Rattle.isl_meaning.specs.Derived.{quasiquote_row};
+ghost use Rattle.isl_derived.specs.Pieces.{form, taken, pieces_of};
+ghost use Rattle.isl_derived.specs.Quotation.{kept_prefix, quoted_word, appended, template, tail_part, template_list, unquoted, spliced, part, parts};
 
 use crate::piece::{Piece, PieceList, form_front, form_one, form_two, nil, one, taken, word};
-use crate::right::{Right, later, plainly};
+use crate::right::later;
 use crate::shape::{is_word, list_items};
 use isl_base::{Datum, Kind, Names, NoMemory};
 use std::alloc::Global;
@@ -89,10 +88,10 @@ fn splicing<'a>(names: &Names, datum: &'a Datum) -> Option<&'a Datum>
     }
 }
 
-// The form that makes the datum of a template, so many quasiquotations deep.
+/// The form that makes the datum of a template, so many quasiquotations deep.
 #[cycle(quotation)]
-#[tactic(auto, unfolding(isl_meaning::specs::DerivedQuotation::template))]
-fn template<'a>(
+#[tactic(auto, unfolding(crate::specs::Quotation::template))]
+pub(crate) fn template<'a>(
     alloc: Global,
     names: &Names,
     level: u64,
@@ -120,7 +119,7 @@ fn template<'a>(
 
 // The part of what stands behind the dot, where there is a dot.
 #[cycle(quotation)]
-#[tactic(auto, unfolding(isl_meaning::specs::DerivedQuotation::tail_part))]
+#[tactic(auto, unfolding(crate::specs::Quotation::tail_part))]
 fn tail_part<'a>(
     alloc: Global,
     names: &Names,
@@ -137,7 +136,7 @@ fn tail_part<'a>(
 
 // A list of these items, with that part behind the dot.
 #[cycle(quotation)]
-#[tactic(auto, using(crate::proofs::Templates::pair_list, crate::proofs::Templates::other_list, crate::proofs::Templates::only_smaller), unfolding(isl_meaning::specs::DerivedQuotation::template_list))]
+#[tactic(auto, using(crate::proofs::Templates::pair_list, crate::proofs::Templates::other_list, crate::proofs::Templates::only_smaller), unfolding(crate::specs::Quotation::template_list))]
 fn template_list<'a>(
     alloc: Global,
     names: &Names,
@@ -160,7 +159,7 @@ fn template_list<'a>(
 
 // A list of two items.
 #[cycle(quotation)]
-#[tactic(auto, unfolding(isl_meaning::specs::DerivedQuotation::template_list))]
+#[tactic(auto, unfolding(crate::specs::Quotation::template_list))]
 fn template_pair<'a>(
     alloc: Global,
     names: &Names,
@@ -184,7 +183,7 @@ fn template_pair<'a>(
 
 // `(unquote e)`
 #[cycle(quotation)]
-#[tactic(auto, unfolding(isl_meaning::specs::DerivedQuotation::unquoted))]
+#[tactic(auto, unfolding(crate::specs::Quotation::unquoted))]
 fn unquoted<'a>(
     alloc: Global,
     names: &Names,
@@ -202,7 +201,7 @@ fn unquoted<'a>(
 
 // `(unquote-splicing e)`
 #[cycle(quotation)]
-#[tactic(auto, unfolding(isl_meaning::specs::DerivedQuotation::spliced))]
+#[tactic(auto, unfolding(crate::specs::Quotation::spliced))]
 fn spliced<'a>(
     alloc: Global,
     names: &Names,
@@ -260,18 +259,4 @@ fn parts<'a>(
     }
     list.append_list(behind)?;
     Ok(list)
-}
-
-/// The row of `quasiquote`.
-pub(crate) fn quasiquote_row<'a>(
-    alloc: Global,
-    names: &Names,
-    arguments: &'a [Datum],
-) -> Result<Option<Right<'a>>, NoMemory>
-    ensures { IfOk result (λ right. right ≡ quasiquote_row names.now arguments.now) }
-{
-    match arguments {
-        [datum] => Ok(plainly(template(alloc, names, 0, datum)?)),
-        _ => Ok(None),
-    }
 }

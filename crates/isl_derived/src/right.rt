@@ -1,7 +1,6 @@
 // Right sides of rows, with the number of their new symbols.
 
-ghost use Rattle.std.specs.Prelude.{◌≡◌, ◌+◌, Some, IfOk};
-ghost use Rattle.isl_meaning.specs.DerivedPieces.{plainly};
+ghost use Rattle.std.specs.Prelude.{◌≡◌, ◌+◌, IfOk};
 
 use crate::piece::Piece;
 use isl_base::NoMemory;
@@ -15,7 +14,7 @@ pub(crate) struct Right<'a> {
 }
 
 impl<'a> Model for Right<'a> {
-    ghost use Rattle.isl_meaning.specs.DerivedPieces.{Right as RightOf};
+    ghost use Rattle.isl_derived.specs.Pieces.{Right as RightOf};
 
     ghost Value = { RightOf };
 
@@ -24,13 +23,6 @@ impl<'a> Model for Right<'a> {
     ghost coded = { right_code };
 
     ghost view = { λ r. record { piece = r.piece; count = r.count } };
-}
-
-/// A right side without a new symbol.
-pub(crate) fn plainly<'a>(piece: Piece<'a>) -> Option<Right<'a>>
-    ensures { result ≡ Some (plainly piece.entry) }
-{
-    Some(Right { piece, count: 0 })
 }
 
 /// A serial so many later. No memory holds so many symbols that there is none.

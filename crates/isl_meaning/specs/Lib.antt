@@ -31,8 +31,3 @@ pub mod Suffixes
 pub mod TuplePlaces
 pub mod GroupNumbers
 pub mod ListTurns
-pub mod DerivedPieces
-pub mod DerivedRows
-pub mod DerivedQuotation
-pub mod Derived
-pub mod DerivedEnds

@@ -2,7 +2,7 @@
 use Rattle.std.proofs.Common.{take}
 use Rattle.isl_base.specs.Data.{items_of}
 use Rattle.isl_base.specs.Names.{Extends}
-use Rattle.isl_meaning.specs.DerivedPieces.{piece_size, pieces_size, pieces_of, BuildsAll}
+use Rattle.isl_derived.specs.Pieces.{piece_size, pieces_size, pieces_of, BuildsAll}
 use Rattle.isl_derived.proofs.build.+build.Given as goal
 
 abbrev pub decreases-build : goal.decreases-build

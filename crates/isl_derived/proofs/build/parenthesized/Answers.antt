@@ -2,7 +2,7 @@
 use Rattle.std.proofs.Common.{◌≡◌, ◌<◌, ◌∷◌, [], List, length, arith, refl, ◌∙◌}
 use Rattle.isl_base.specs.Data.{Item, item, list, items_of, no_tail}
 use Rattle.isl_base.specs.declared.place.Place.{Place}
-use Rattle.isl_meaning.specs.DerivedPieces.{in_parens}
+use Rattle.isl_derived.specs.Pieces.{in_parens}
 use Rattle.isl_derived.proofs.build.parenthesized.Goals as goal
 
 some : (p : Place) (ds : List Item) → 0 < length ds → item p (list (items_of ds) no_tail) ≡ item p (in_parens (items_of ds))

@@ -1,5 +1,5 @@
 use Rattle.isl_derived.proofs.Ends.{no_endless_steps, further_smaller, built_size, parts_smaller}
-use Rattle.isl_derived.proofs.Placed.{forms_placed, other_names_plain}
+use Rattle.isl_derived.proofs.Stands.{forms_placed, other_names_plain}
 use Rattle.isl_derived.proofs.laws.law_steps_end.Goals as goal
 
 pub returns-clause-ends : goal.returns-clause-ends

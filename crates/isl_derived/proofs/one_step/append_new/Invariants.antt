@@ -1,6 +1,6 @@
 -- What is still to be appended, behind what was there.
 use Rattle.std.proofs.Common.{◌≡◌, ◌++◌, ◌-◌, length}
-use Rattle.isl_meaning.specs.Derived.{new_symbols}
+use Rattle.isl_derived.specs.Derived.{new_symbols}
 use Rattle.isl_derived.specs.Fronts.{Begins}
 use Rattle.isl_derived.proofs.one_step.append_new.Given as goal
 

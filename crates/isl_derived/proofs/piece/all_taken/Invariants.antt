@@ -1,5 +1,5 @@
 use Rattle.std.proofs.Common.{◌≡◌, ◌++◌, drop}
-use Rattle.isl_meaning.specs.DerivedPieces.{all_taken}
+use Rattle.isl_derived.specs.Pieces.{all_taken}
 use Rattle.isl_derived.proofs.piece.all_taken.Given as goal
 
 abbrev pub invariant-loop-item : goal.invariant-loop-item

@@ -1,8 +1,8 @@
 -- A list of two items; the turns of the loop over the items behind the first one.
 use Rattle.std.proofs.Common.{◌≡◌, [], ◌∷◌, ◌∙◌, arith, ap, sym}
 use Rattle.isl_base.specs.Data.{items_of, items_size}
-use Rattle.isl_meaning.specs.DerivedPieces.{pieces_of, no_piece}
-use Rattle.isl_meaning.specs.DerivedQuotation.{template_list}
+use Rattle.isl_derived.specs.Pieces.{pieces_of, no_piece}
+use Rattle.isl_derived.specs.Quotation.{template_list}
 use Rattle.isl_derived.proofs.Templates.{pair_list, parts_turn, parts_last, parts_end}
 use Rattle.isl_derived.proofs.quotation.+quotation.Goals as goal
 

@@ -2,8 +2,8 @@
 use Rattle.std.proofs.Common.{◌≡◌, ◌≤◌, ◌+◌, ◌*◌, length}
 use Rattle.isl_base.specs.Data.{items_of, item_size, items_size, tail_size}
 use Rattle.isl_base.specs.DataView.{tail_of}
-use Rattle.isl_meaning.specs.DerivedPieces.{pieces_of}
-use Rattle.isl_meaning.specs.DerivedQuotation.{parts}
+use Rattle.isl_derived.specs.Pieces.{pieces_of}
+use Rattle.isl_derived.specs.Quotation.{parts}
 use Rattle.isl_derived.specs.Fronts.{pieces_before}
 use Rattle.isl_derived.proofs.quotation.+quotation.Given as goal
 

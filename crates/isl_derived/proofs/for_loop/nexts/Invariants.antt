@@ -1,6 +1,0 @@
-use Rattle.std.proofs.Common.{◌≡◌, ◌++◌, drop}
-use Rattle.isl_meaning.specs.DerivedRows.{nexts}
-use Rattle.isl_derived.proofs.for_loop.nexts.Given as goal
-
-abbrev pub invariant-loop-x : goal.invariant-loop-x
-invariant-loop-x l = l.list ++ nexts (drop l.x-index l.variables) ≡ nexts l.variables

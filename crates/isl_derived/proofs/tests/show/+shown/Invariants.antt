@@ -1,7 +1,0 @@
-use Rattle.isl_derived.proofs.tests.show.+shown.Given as goal
-
-abbrev pub decreases-show : goal.decreases-show
-decreases-show l = l.depth
-
-abbrev pub decreases-show_all : goal.decreases-show_all
-decreases-show_all l = l.depth
