@@ -133,7 +133,7 @@ less_stable m zero h = absurd (h (λ less. omega arith))
 less_stable zero (suc n) h = omega arith
 less_stable (suc m) (suc n) h = omega (arith, less_stable m n (λ k. h (λ less. k (omega arith))))
 
-left_smaller : (d e : Item) → Leaves d e → size_of e < size_of d
+pub left_smaller : (d e : Item) → Leaves d e → size_of e < size_of d
 left_smaller d e (by_step names s r p h g) =
     less_stable (size_of e) (size_of d) (λ k. g (further_map (Light (size_of d)) (λ x. Builds names p x e → ⊥)
     (λ x light built. k (omega (arith, built_size names p x e built, light))) r.piece (further_smaller names s d r h)))

@@ -170,7 +170,7 @@ front_get [] ys i h = absurd (omega arith)
 front_get (x ∷ xs) ys zero h = refl
 front_get (x ∷ xs) ys (suc i) h = front_get xs ys i (omega arith)
 
-text_same : (old new : List (List ℕ)) → Extends old new → (d : Item) → NamesBelow (length old) d → text_of old d ≡ text_of new d
+pub text_same : (old new : List (List ℕ)) → Extends old new → (d : Item) → NamesBelow (length old) d → text_of old d ≡ text_of new d
 unfolding NamesBelow
 text_same old new e (item p (integer n)) h = refl
 text_same old new e (item p (character c)) h = refl

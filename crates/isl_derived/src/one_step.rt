@@ -1,11 +1,11 @@
 // One step of a derived form.
 
-ghost use Rattle.std.specs.Prelude.{◌≡◌, ◌++◌, length, IfOk, IfErr, OnOk, OnErr};
+ghost use Rattle.std.specs.Prelude.{◌≡◌, ◌++◌, length, Some, IfOk, IfErr, OnOk, OnErr};
 ghost use Rattle.isl_base.specs.DataView.{tail_of};
 ghost use Rattle.isl_base.specs.DataMeasures.{Formed, NamesBelow};
 ghost use Rattle.isl_base.specs.Names.{Extends};
 ghost use Rattle.isl_derived.specs.Pieces.{Builds};
-ghost use Rattle.isl_derived.specs.Derived.{right_of, row_right, first_right, table_right, list_derivation, derivation, new_symbols};
+ghost use Rattle.isl_derived.specs.Derived.{right_of, row_right, first_right, table_right, by_name, list_derivation, derivation, new_symbols};
 ghost use Rattle.isl_derived.specs.Patterns.{fit_all};
 ghost use Rattle.isl_derived.specs.PatternView.{view_patterns};
 ghost use Rattle.isl_derived.specs.TableView.{view_row, view_rows, view_groups};
@@ -17,7 +17,7 @@ use crate::piece::{PieceList, nil};
 use crate::right::Right;
 use crate::shape::text_of;
 use crate::table::{Row, names_some_row, table};
-use crate::template::{Start, write_all};
+use crate::template::{Start, written};
 use isl_base::{Datum, FreshList, Kind, Names, NoMemory, Place, Reason, Refusal, Stop, Symbol};
 use std::alloc::Global;
 
@@ -49,93 +49,86 @@ fn right_of<'a>(alloc: Global, parts: PieceList<'a>, new: &PieceList) -> Option<
     Some(Right { piece, count })
 }
 
+// What a row makes of the parts of a form.
+fn parts_right<'a>(
+    start: Start,
+    row: &Row,
+    parts: &Parts<'a>,
+) -> Result<Option<Right<'a>>, NoMemory>
+    ensures { IfOk result (λ right. right ≡ row_right start.entry.names.now start.entry.serial (view_row row.now) (Some parts.now)) }
+{
+    let right = written(start, row.right, parts)?;
+    let new = written(start, row.new, parts)?;
+    Ok(right_of(start.alloc, right, &new))
+}
+
 // What a row makes of the data behind its name.
 fn row_right<'a>(
-    alloc: Global,
-    names: &Names,
-    serial: u64,
+    start: Start,
     row: &Row,
     arguments: &'a [Datum],
 ) -> Result<Option<Right<'a>>, NoMemory>
-    ensures { IfOk result (λ right. right ≡ row_right names.now serial (view_row row.now) (fit_all names.now (view_patterns row.now.parts.now) arguments.now)) }
+    ensures { IfOk result (λ right. right ≡ row_right start.entry.names.now start.entry.serial (view_row row.now)
+        (fit_all start.entry.names.now (view_patterns row.now.parts.now) arguments.now)) }
 {
-    let mut parts = Parts::new(alloc);
-    if !fit_all(alloc, names, row.parts, arguments, &mut parts)? {
-        return Ok(None);
+    let mut parts = Parts::new(start.alloc);
+    if fit_all(start.alloc, start.names, row.parts, arguments, &mut parts)? {
+        parts_right(start, row, &parts)
+    } else {
+        Ok(None)
     }
-    let start = Start {
-        alloc,
-        names,
-        serial,
-    };
-    let mut right = PieceList::new(alloc);
-    write_all(start, row.right, serial, &parts, &mut right)?;
-    let mut new = PieceList::new(alloc);
-    write_all(start, row.new, serial, &parts, &mut new)?;
-    Ok(right_of(alloc, right, &new))
 }
 
 // What the first row of that name that the data fit makes of them.
 fn first_right<'a>(
-    alloc: Global,
-    names: &Names,
-    serial: u64,
+    start: Start,
     rows: &[Row],
     name: &[u8],
     arguments: &'a [Datum],
 ) -> Result<Option<Right<'a>>, NoMemory>
-    ensures { IfOk result (λ right. right ≡ first_right names.now serial (view_rows rows.now) name.now arguments.now) }
+    ensures { IfOk result (λ right. right ≡ first_right start.entry.names.now start.entry.serial (view_rows rows.now) name.now arguments.now) }
 {
     let Some((row, others)) = rows.split_first() else {
         return Ok(None);
     };
     if row.name == name {
-        let right = row_right(alloc, names, serial, row, arguments)?;
+        let right = row_right(start, row, arguments)?;
         if right.is_some() {
             return Ok(right);
         }
     }
-    first_right(alloc, names, serial, others, name, arguments)
+    first_right(start, others, name, arguments)
 }
 
 // The same, of groups of rows.
 fn table_right<'a>(
-    alloc: Global,
-    names: &Names,
-    serial: u64,
+    start: Start,
     groups: &[&[Row]],
     name: &[u8],
     arguments: &'a [Datum],
 ) -> Result<Option<Right<'a>>, NoMemory>
-    ensures { IfOk result (λ right. right ≡ table_right names.now serial (view_groups groups.now) name.now arguments.now) }
+    ensures { IfOk result (λ right. right ≡ table_right start.entry.names.now start.entry.serial (view_groups groups.now) name.now arguments.now) }
 {
     let Some((rows, others)) = groups.split_first() else {
         return Ok(None);
     };
-    let right = first_right(alloc, names, serial, rows, name, arguments)?;
+    let right = first_right(start, rows, name, arguments)?;
     if right.is_some() {
         return Ok(right);
     }
-    table_right(alloc, names, serial, others, name, arguments)
+    table_right(start, others, name, arguments)
 }
 
-// A list of these items, with that tail.
+// The data behind that name, with that tail.
 #[tactic(auto, unfolding(crate::specs::Table::is_derived))]
-fn list_derivation<'a>(
-    alloc: Global,
-    names: &Names,
-    serial: u64,
-    items: &'a [Datum],
+fn by_name<'a>(
+    start: Start,
+    name: &[u8],
+    arguments: &'a [Datum],
     tail: &Option<Box<Datum>>,
 ) -> Result<Derivation<'a>, NoMemory>
-    ensures { IfOk result (λ found. shown found ≡ list_derivation names.now serial items.now (tail_of tail.now)) }
+    ensures { IfOk result (λ found. shown found ≡ by_name start.entry.names.now start.entry.serial (Some name.now) arguments.now (tail_of tail.now)) }
 {
-    let [head, arguments @ ..] = items else {
-        return Ok(Derivation::Plain);
-    };
-    let Some(name) = text_of(names, head) else {
-        return Ok(Derivation::Plain);
-    };
     let groups = table();
     if !names_some_row(&groups, name) {
         return Ok(Derivation::Plain);
@@ -143,25 +136,35 @@ fn list_derivation<'a>(
     if tail.is_some() {
         return Ok(Derivation::Unfit);
     }
-    match table_right(alloc, names, serial, &groups, name, arguments)? {
+    match table_right(start, &groups, name, arguments)? {
         Some(right) => Ok(Derivation::Becomes(right)),
         None => Ok(Derivation::Unfit),
     }
 }
 
-#[tactic(auto, using(crate::proofs::Lists::shown_items), unfolding(crate::specs::Derived::derivation))]
-fn derivation_of<'a>(
-    alloc: Global,
-    names: &Names,
-    serial: u64,
-    datum: &'a Datum,
+// A list of these items, with that tail.
+fn list_derivation<'a>(
+    start: Start,
+    items: &'a [Datum],
+    tail: &Option<Box<Datum>>,
 ) -> Result<Derivation<'a>, NoMemory>
-    ensures { IfOk result (λ found. shown found ≡ derivation names.now serial datum.now) }
+    ensures { IfOk result (λ found. shown found ≡ list_derivation start.entry.names.now start.entry.serial items.now (tail_of tail.now)) }
+{
+    let [head, arguments @ ..] = items else {
+        return Ok(Derivation::Plain);
+    };
+    match text_of(start.names, head) {
+        Some(name) => by_name(start, name, arguments, tail),
+        None => Ok(Derivation::Plain),
+    }
+}
+
+#[tactic(auto, using(crate::proofs::Lists::shown_items), unfolding(crate::specs::Derived::derivation))]
+fn derivation_of<'a>(start: Start, datum: &'a Datum) -> Result<Derivation<'a>, NoMemory>
+    ensures { IfOk result (λ found. shown found ≡ derivation start.entry.names.now start.entry.serial datum.now) }
 {
     match &datum.kind {
-        Kind::List { items, tail } => {
-            list_derivation(alloc, names, serial, items.as_slice(), tail)
-        }
+        Kind::List { items, tail } => { list_derivation(start, items.as_slice(), tail) }
         Kind::Int(_) => Ok(Derivation::Plain),
         Kind::Char(_) => Ok(Derivation::Plain),
         Kind::Sym(_) => Ok(Derivation::Plain),
@@ -239,7 +242,12 @@ pub fn derive(
     ensures names { Extends names.old names.new }
 {
     let serial = fresh.len() as u64;
-    match derivation_of(alloc, names, serial, datum)? {
+    let start = Start {
+        alloc,
+        names,
+        serial,
+    };
+    match derivation_of(start, datum)? {
         Derivation::Plain => Ok(Step::Plain),
         Derivation::Unfit => Err(bad_shape(datum.place)),
         Derivation::Becomes(right) => {

@@ -148,10 +148,10 @@ fn write_each<'a>(
     Ok(())
 }
 
-/// Appends what a step writes by templates, one after the other.
+// Appends what a step writes by templates, one after the other.
 #[cycle(write)]
 #[tactic(auto, unfolding(crate::specs::RightSides::write_all))]
-pub(crate) fn write_all<'a>(
+fn write_all<'a>(
     start: Start,
     templates: &[Template],
     own: u64,
@@ -165,4 +165,17 @@ pub(crate) fn write_all<'a>(
     };
     write(start, first, own, parts, list)?;
     write_all(start, others, own, parts, list)
+}
+
+/// What a step writes by templates, for a form with these parts.
+pub(crate) fn written<'a>(
+    start: Start,
+    templates: &[Template],
+    parts: &Parts<'a>,
+) -> Result<PieceList<'a>, NoMemory>
+    ensures { IfOk result (λ list. list ≡ write_all start.entry.names.now start.entry.serial (view_templates templates.now) start.entry.serial parts.now) }
+{
+    let mut list = PieceList::new(start.alloc);
+    write_all(start, templates, start.serial, parts, &mut list)?;
+    Ok(list)
 }
