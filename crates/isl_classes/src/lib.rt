@@ -12,8 +12,6 @@ mod row;
 mod slot_spec;
 mod slots;
 mod table;
-#[cfg(test)]
-mod tests;
 
 pub use classes::Classes;
 pub use slot_spec::{SlotSpec, SlotSpecs};

@@ -9,8 +9,6 @@ pub mod laws;
 mod methods;
 mod order;
 mod table;
-#[cfg(test)]
-mod tests;
 
 pub use build::tables;
 pub use chain::{Chain, ProcedureIds};

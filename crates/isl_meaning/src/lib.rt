@@ -18,8 +18,6 @@ pub mod program;
 mod rows;
 pub mod scope;
 mod stands;
-#[cfg(test)]
-mod tests;
 pub mod tuples;
 mod whole;
 

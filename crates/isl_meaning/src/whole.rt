@@ -5,9 +5,6 @@ ghost use Rattle.isl_meaning.specs.Facts.{rows_fit, bodies_stand, is_whole};
 ghost use Rattle.isl_meaning.specs.Cells.{program_cells};
 ghost use Rattle.isl_meaning.specs.ProgramCounts.{program_nodes};
 
-#[cfg(test)]
-mod tests;
-
 use crate::cells::cells;
 use crate::program::ProgramRows;
 use crate::rows::{begins_with_built_in, names_differ};
