@@ -62,7 +62,7 @@ pub fn new_class(
 }
 
 // What stands above a class of this definition, where it is not refused.
-#[tactic(auto, unfolding(isl_meaning::specs::InheritedClasses::refusal))]
+#[tactic(auto, unfolding(crate::specs::InheritedClasses::refusal))]
 fn judged(
     alloc: Global,
     table: &ClassTable,

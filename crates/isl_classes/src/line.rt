@@ -48,7 +48,7 @@ pub fn is_among(class: ClassId, classes: &[ClassId]) -> bool
 }
 
 /// Whether these may be the direct superclasses of one class.
-#[tactic(auto, unfolding(isl_meaning::specs::InheritedPrecedence::supers_fit))]
+#[tactic(auto, unfolding(crate::specs::InheritedPrecedence::supers_fit))]
 pub fn supers_fit(rows: &ClassRows, supers: &[ClassId]) -> bool
     ensures { result ≡ inherited.supers_fit rows.now supers.now }
 {
@@ -121,7 +121,7 @@ fn all_go_together(rows: &ClassRows, supers: &[ClassId]) -> bool
 }
 
 /// What stands above a class of these direct superclasses.
-#[tactic(auto, unfolding(isl_meaning::specs::InheritedPrecedence::above))]
+#[tactic(auto, unfolding(crate::specs::InheritedPrecedence::above))]
 pub fn above(alloc: Global, rows: &ClassRows, supers: &[ClassId]) -> Result<ClassIds, NoMemory>
     ensures { IfOk result (λ line. line ≡ inherited.above rows.now supers.now) }
 {

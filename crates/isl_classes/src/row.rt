@@ -48,7 +48,7 @@ fn line_of(alloc: Global, class: ClassId, above: &[ClassId]) -> Result<ClassIds,
 }
 
 // The slots, by all that is said of them.
-#[tactic(auto, unfolding(isl_meaning::specs::InheritedSlots::united))]
+#[tactic(auto, unfolding(crate::specs::InheritedSlots::united))]
 fn united(alloc: Global, inherited: SlotRows, own: &[SlotRow]) -> Result<SlotRows, NoMemory>
     ensures { IfOk result (λ slots. slots ≡ united (inherited ++ own.now)) }
 {

@@ -1,12 +1,53 @@
 -- The status of a call, by the answer of the file's run.
-use Rattle.std.proofs.Common.{◌≡◌, sym, ◌∙◌, subst}
-use Rattle.isl_top.specs.declared.status.Status.TheVariants.{Refused, WriteFault}
+use Rattle.std.proofs.Common.{◌≡◌, ℕ, sym, ◌∙◌, subst}
+use Rattle.isl_top.specs.declared.status.Status.TheVariants.{Done, Budget, Refused, WriteFault}
 use Rattle.isl_top.specs.declared.status.Answer.{Answer}
 use Rattle.isl_top.specs.declared.status.Answer.TheVariants.{Usage as usage_answer}
 use Rattle.isl_top.specs.Command.{Asked}
-use Rattle.isl_top.specs.Lines.{line_of, WasGiven}
-use Rattle.isl_top.proofs.Ends.{was_refused, same_status, by_answer}
+use Rattle.isl_top.specs.Lines.{line_of, budget_line, WasGiven}
+use Rattle.isl_top.proofs.Ends.{was_done, was_budget, was_refused, same_status, by_answer}
 use Rattle.isl_top.proofs.main_call.isl_main.Goals as goal
+
+pub returns-in-Some-clause-done : goal.returns-in-Some-clause-done
+returns-in-Some-clause-done g c =
+    λ e.
+    let answer = c.run_file-answer.result in
+    let was = was_done answer (same_status answer c.end_with-in-Some.result Done c.end_with-in-Some.ensures.written e (λ x. cc)) in
+    let found = c.run_file-answer.ensures.done was in
+    let line = c.end_with-in-Some.ensures.line (λ x. let k : Done ≡ WriteFault = sym e ∙ x in absurd (cc)) in
+    let P : Answer → Type 0 = λ a. WasGiven (g.E.Sink.given c.args.err.now) (line_of a) (g.E.Sink.given c.end_with-in-Some.new.err) in
+    record {
+      command = record { steps = c.in-Some.command.steps; file = c.in-Some.command.file.now };
+      asked_for = c.in-Some.ensures;
+      program = found.0;
+      accepted = found.1.0;
+      built = found.1.1.built;
+      halts = found.1.1.halts;
+      printed = found.1.1.printed;
+      line = subst P was line;
+    }
+
+pub returns-in-Some-clause-budget : goal.returns-in-Some-clause-budget
+returns-in-Some-clause-budget g c =
+    λ e.
+    let answer = c.run_file-answer.result in
+    let was = was_budget answer (same_status answer c.end_with-in-Some.result Budget c.end_with-in-Some.ensures.written e (λ x. cc)) in
+    let found = c.run_file-answer.ensures.budget was.0 was.1 in
+    let line = c.end_with-in-Some.ensures.line (λ x. let k : Budget ≡ WriteFault = sym e ∙ x in absurd (cc)) in
+    let P : Answer → Type 0 = λ a. WasGiven (g.E.Sink.given c.args.err.now) (line_of a) (g.E.Sink.given c.end_with-in-Some.new.err) in
+    let Q : ℕ → Type 0 = λ n. WasGiven (g.E.Sink.given c.args.err.now) (budget_line n) (g.E.Sink.given c.end_with-in-Some.new.err) in
+    record {
+      spent = record {
+        command = record { steps = c.in-Some.command.steps; file = c.in-Some.command.file.now };
+        asked_for = c.in-Some.ensures;
+        program = found.1.0;
+        accepted = found.1.1.0;
+        built = found.1.1.1.built;
+        spends = found.1.1.1.spends;
+        printed = found.1.1.1.printed;
+      };
+      line = subst Q found.0 (subst P was.1 line);
+    }
 
 pub returns-in-Some-clause-refused : goal.returns-in-Some-clause-refused
 returns-in-Some-clause-refused g c =
