@@ -10,13 +10,14 @@ use Rattle.isl_meaning.specs.Objects.{Object, cons, string, vector, instance}
 use Rattle.isl_meaning.specs.State.{State}
 use Rattle.isl_meaning.specs.Lookup.{passed, place_in}
 use Rattle.isl_meaning.specs.Classes.{fetch, class_of, precedence, slots, is_condition}
-use Rattle.isl_meaning.specs.Primitives.{Answer, result, makes, fails, needs, as_integer, as_character, as_cons, as_string, as_vector, as_class, as_instance, as_stream, as_symbol, integer_result, floor_quotient, floor_remainder, division, index_of, length_of, byte_of, change, other_bytes, can_be_made, is_slot, slot_place, slot_value, a_slot, of_none, of_one, of_two, of_three, of_integers, primitive}
+use Rattle.isl_meaning.specs.Primitives.{Answer, result, makes, makes_symbol, fails, needs, as_integer, as_character, as_cons, as_string, as_vector, as_class, as_instance, as_stream, as_symbol, integer_result, floor_quotient, floor_remainder, division, index_of, length_of, byte_of, change, other_bytes, can_be_made, is_slot, slot_place, slot_value, a_slot, of_none, of_one, of_two, of_three, of_integers, primitive}
 use Rattle.isl_meaning.proofs.Steps.{IsKept}
 
 -- the state of an answer
 abbrev pub state_of : Answer → State
 state_of (result v z) = z
 state_of (makes size besides o z) = z
+state_of (makes_symbol z) = z
 state_of (fails class vs z) = z
 
 module _ (R : State → State → Type 0) (k : IsKept R) where
@@ -149,7 +150,7 @@ module _ (R : State → State → Type 0) (k : IsKept R) where
       needed (as_integer v) z (at (k.none z)) (λ n. needed (byte_of n) z (at (k.none z)) (λ c. at (k.none z))))
   row names program SymbolName = one_kept (λ v z. needed (as_symbol z v) z (at (k.none z)) (λ s. at (k.none z)))
   row names program SymbolSerial = one_kept (λ v z. needed (as_symbol z v) z (at (k.none z)) (λ s. at (k.none z)))
-  row names program Gensym = none_kept (λ z. at (k.symbol z))
+  row names program Gensym = none_kept (λ z. at (k.none z))
   row names program ClassOf = one_kept (λ v z. at (k.none z))
   row names program ClassName = one_kept (λ v z. needed (as_class (fetch z v)) z (at (k.none z)) (λ c. at (k.none z)))
   row names program IsSubclass = two_kept (λ v w z.

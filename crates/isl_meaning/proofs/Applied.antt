@@ -8,15 +8,16 @@ use Rattle.isl_meaning.specs.declared.program.FunctionRow.{FunctionRow}
 use Rattle.isl_meaning.specs.declared.program.Callee.{Callee}
 use Rattle.isl_meaning.specs.declared.program.Callee.TheVariants as callee
 use Rattle.isl_meaning.specs.Laws.{IsExitOf}
-use Rattle.isl_meaning.specs.Form.{Form}
+use Rattle.isl_meaning.specs.Form.{Form, parameters}
 use Rattle.isl_meaning.specs.Counts.{nodes, application_words}
 use Rattle.isl_meaning.specs.Values.{Value, symbol, named, nil, object}
-use Rattle.isl_meaning.specs.Objects.{Chain, Called, Environment, no_environment, Object, cons, string, vector, instance, function, generic_function, class_object, input_stream, output_stream, fresh_symbol, control_error_class, program_error_class, undefined_function_class}
+use Rattle.isl_meaning.specs.Objects.{Chain, Called, Environment, no_environment, Object, cons, string, vector, instance, function, closure, generic_function, class_object, input_stream, output_stream, fresh_symbol, control_error_class, program_error_class, undefined_function_class}
 use Rattle.isl_meaning.specs.State.{State, Surroundings, Exit, signal_exit, Landing, at_segment, at_site, Evaluated, leaves, Act, inside, exit_made, Limit, charged}
 use Rattle.isl_meaning.specs.Lookup.{text, with_variables, with_values}
-use Rattle.isl_meaning.specs.Inside.{captures, is_method, has_cell}
+use Rattle.isl_meaning.specs.declared.part.Part.TheVariants.{Method}
+use Rattle.isl_meaning.specs.Captured.{captures, has_cell}
 use Rattle.isl_meaning.specs.Classes.{class_of, fetch, chain}
-use Rattle.isl_meaning.specs.Signals.{Task, nothing, form, methods, Evaluation, Signals, takes, variables, marked, marked_at, descend, make_list, gathered, with_cells, with_record, enter, apply_procedure, apply_method, apply_each, run_primary, run_around, run_chain, undefined_function, apply_chain, apply_generic_row, apply_generic, apply_object, apply_value, apply_callee, apply_row, new_condition, signal_under, signal, search, to_exit, transfer, throw_to, continue_with, is_catch, is_signal, is_continuable}
+use Rattle.isl_meaning.specs.Signals.{Task, nothing, form, methods, Evaluation, Signals, takes, marked, marked_at, descend, make_list, gathered, with_cells, with_record, enter, apply_procedure, apply_closure, apply_method, apply_each, run_primary, run_around, run_chain, undefined_function, apply_chain, apply_generic_row, apply_generic, apply_object, apply_value, apply_callee, apply_row, new_condition, signal_under, signal, search, to_exit, transfer, throw_to, continue_with, is_catch, is_signal, is_continuable}
 use Rattle.isl_meaning.proofs.Steps.{IsKept}
 use Rattle.isl_meaning.proofs.Compared as compared
 use Rattle.isl_meaning.proofs.Compared.{Extends, Continues, Follows, Acts}
@@ -50,7 +51,7 @@ module _ (R : State → State → Type 0) (k : IsKept R) (names : List (List ℕ
       → Extends R k exits z (with_cells names program limit low vs body z next) (with_cells names program limit low' vs body z next')
   cells exits [] body z c = c z
   cells exits (v ∷ vs) body z c =
-      compared.tests R k (has_cell program v body)
+      compared.tests R k (has_cell v body)
       (compared.requests R k limit 1 0 z (λ entered. compared.charges R k 1 entered (cells exits vs body (charged 1 entered) c)))
       (cells exits vs body z c)
 
@@ -58,40 +59,46 @@ module _ (R : State → State → Type 0) (k : IsKept R) (names : List (List ℕ
       → Extends R k exits z (with_record names program limit low called body z next) (with_record names program limit low' called body z next')
   records exits None body z c = c z
   records exits (Some called) body z c =
-      compared.tests R k (captures is_method body)
+      compared.tests R k (captures Method body)
       (compared.requests R k limit (2 + length called.arguments) 0 z (λ entered.
       compared.charges R k (2 + length called.arguments) entered (c (charged (2 + length called.arguments) entered))))
       (c z)
 
   module _ (wrong wrong' : Signals) (s : Signs wrong wrong') where
-    pub enters : (p : Procedure) (env : Environment) (called : Option Called) (vs : List Value)
-        → Acts R k (enter names program limit low wrong p env called vs) (enter names program limit low' wrong' p env called vs)
-    enters p env called vs around z =
-        compared.tests R k (takes (length p.required) (is_some p.rest) (length vs))
-        (compared.framed R k limit (application_words (nodes p.body) + length vs) z (λ entered.
+    pub enters : (required : List ℕ) (rest : Option ℕ) (body : Form) (env : Environment) (called : Option Called) (vs : List Value)
+        → Acts R k (enter names program limit low wrong required rest body env called vs) (enter names program limit low' wrong' required rest body env called vs)
+    enters required rest body env called vs around z =
+        compared.tests R k (takes (length required) (is_some rest) (length vs))
+        (compared.framed R k limit (application_words (nodes body) + length vs) z (λ entered.
         compared.charges R k (length vs) entered
-        (gathers around.exits (length p.required) p.rest vs (charged (length vs) entered) (λ ws gone.
-        records around.exits called p.body gone (λ recorded.
-        cells around.exits (variables p) p.body recorded (λ ready.
+        (gathers around.exits (length required) rest vs (charged (length vs) entered) (λ ws gone.
+        records around.exits called body gone (λ recorded.
+        cells around.exits (parameters required rest) body recorded (λ ready.
         compared.sooner R k (k.values ws ready)
-        (w (form p.body) (with_variables (variables p) ready env) around (with_values ws ready))))))))
+        (w (form body) (with_variables (parameters required rest) ready env) around (with_values ws ready))))))))
         (s program_error_class [] around z)
 
-    pub applies : (i : ℕ) (env : Environment) (called : Option Called) (vs : List Value)
-        → Acts R k (apply_procedure names program limit low wrong i env called vs) (apply_procedure names program limit low' wrong' i env called vs)
-    applies i env called vs around z =
+    pub applies : (i : ℕ) (called : Option Called) (vs : List Value)
+        → Acts R k (apply_procedure names program limit low wrong i called vs) (apply_procedure names program limit low' wrong' i called vs)
+    applies i called vs around z =
         descends around z (λ entered.
-        compared.some R k _ (λ a y. compared.given R k a.exits nil y (k.none y)) (λ p. enters p env called vs) around entered)
+        compared.some R k _ (λ a y. compared.given R k a.exits nil y (k.none y))
+        (λ (p : Procedure). enters p.required p.rest p.body (record no_environment { method = called }) called vs) around entered)
+
+    pub closure_applies : (required : List ℕ) (rest : Option ℕ) (body : Form) (env : Environment) (vs : List Value)
+        → Acts R k (apply_closure names program limit low wrong required rest body env vs) (apply_closure names program limit low' wrong' required rest body env vs)
+    closure_applies required rest body env vs around z =
+        descends around z (λ entered. enters required rest body env None vs around entered)
 
     pub method_applies : (i : ℕ) (called : Called)
         → Acts R k (apply_method names program limit low wrong i called) (apply_method names program limit low' wrong' i called)
-    method_applies i called = applies i (record no_environment { method = Some called }) (Some called) called.arguments
+    method_applies i called = applies i (Some called) called.arguments
 
     pub each_applies : (ms : List ℕ) (vs : List Value)
         → Acts R k (apply_each names program limit low wrong ms vs) (apply_each names program limit low' wrong' ms vs)
     each_applies [] vs around z = compared.given R k around.exits nil z (k.none z)
     each_applies (m ∷ ms) vs around z =
-        compared.on R k (applies m no_environment None vs around z) (λ v after. each_applies ms vs around after)
+        compared.on R k (applies m None vs around z) (λ v after. each_applies ms vs around after)
 
     primary_runs : (c : Chain) (ps : List ℕ) (vs : List Value)
         → Acts R k (run_primary names program limit low wrong c ps vs) (run_primary names program limit low' wrong' c ps vs)
@@ -137,7 +144,8 @@ module _ (R : State → State → Type 0) (k : IsKept R) (names : List (List ℕ
 
     object_applies : (o : Option Object) (f : Value) (vs : List Value)
         → Acts R k (apply_object names program limit low wrong o f vs) (apply_object names program limit low' wrong' o f vs)
-    object_applies (Some (function p env)) f vs around z = applies p env None vs around z
+    object_applies (Some (function p)) f vs around z = applies p None vs around z
+    object_applies (Some (closure required rest body env)) f vs around z = closure_applies required rest body env vs around z
     object_applies (Some (generic_function g)) f vs around z = generic_applies g vs around z
     object_applies (Some (cons a d)) f vs around z = s _ _ around z
     object_applies (Some (string bytes)) f vs around z = s _ _ around z
@@ -155,7 +163,7 @@ module _ (R : State → State → Type 0) (k : IsKept R) (names : List (List ℕ
 
     callee_applies : (c : Callee) (vs : List Value)
         → Acts R k (apply_callee names program limit low wrong c vs) (apply_callee names program limit low' wrong' c vs)
-    callee_applies (callee.Procedure p) vs around z = applies p no_environment None vs around z
+    callee_applies (callee.Procedure p) vs around z = applies p None vs around z
     callee_applies (callee.Generic g) vs around z = generic_applies g vs around z
 
     pub row_applies : (name : List ℕ) (row : Option FunctionRow) (vs : List Value)

@@ -34,11 +34,11 @@ total_alike f g same (x ∷ xs) = ap (λ n. n + total f xs) (same x) ∙ ap (λ 
 pub cells_alike : (rows : ProgramRows) → total (generic_cells (with_classes rows.classes)) rows.generics ≡ program_cells rows
 cells_alike rows = sym (total_alike (generic_cells rows) (generic_cells (with_classes rows.classes)) (cells_by_classes rows) rows.generics)
 
-second_true : (a b : Bool) → (a && b) ≡ true → b ≡ true
+pub second_true : (a b : Bool) → (a && b) ≡ true → b ≡ true
 second_true true b h = h
 second_true false b h = absurd (cc h)
 
-first_true : (a b : Bool) → (a && b) ≡ true → a ≡ true
+pub first_true : (a b : Bool) → (a && b) ≡ true → a ≡ true
 first_true true b h = refl
 first_true false b h = absurd (cc h)
 

@@ -8,12 +8,12 @@ use Rattle.isl_meaning.specs.Form.{Forms, no_form, form_and, ClauseForms, no_cla
 use Rattle.isl_meaning.specs.Form.{BindingForms, no_binding, binding_and, DynamicForms, no_dynamic, dynamic_and}
 use Rattle.isl_meaning.specs.Counts.{count_forms, count_clauses, count_bindings, count_dynamics}
 use Rattle.isl_meaning.specs.Values.{Value, symbol, named, nil, is_true, same_text}
-use Rattle.isl_meaning.specs.Objects.{Called, Environment, function_class, list_class, serious_condition_class, control_error_class, domain_error_class, unbound_variable_class}
+use Rattle.isl_meaning.specs.Objects.{Called, Environment, fresh_symbol, function_class, list_class, serious_condition_class, control_error_class, domain_error_class, unbound_variable_class}
 use Rattle.isl_meaning.specs.State.{State, Surroundings, Exit, block_exit, tagbody_exit, catch_exit, at_segment, Evaluated, Act, inside, exit_made, Limit, charged}
 use Rattle.isl_meaning.specs.Lookup.{text, under_text, under_number, value_at, set_at, numbered, with_variables, with_values, with_exit}
 use Rattle.isl_meaning.specs.Classes.{fetch, is_condition}
 use Rattle.isl_meaning.specs.Literals.{class_value, function_row, function_value}
-use Rattle.isl_meaning.specs.Primitives.{Answer, result, makes, fails, is_function, primitive}
+use Rattle.isl_meaning.specs.Primitives.{Answer, result, makes, makes_symbol, fails, is_function, primitive}
 use Rattle.isl_meaning.specs.Signals.{Task, nothing, form, turn, methods, Evaluation, signal, answered, apply_value, unbound_variable}
 use Rattle.isl_meaning.specs.Meaning.{place_of_site, unless_nil, from_segment, segment_of, bound_variables, bound_names, with_turns, spread, wrong, mean_literal, mean_global, set_global_to, mean_dynamic, set_dynamic_to, mean_apply, mean_call_value, mean_signal, with_handler_value, mean_next, turned, mean, mean_sequence, mean_arguments, mean_clauses, mean_body, mean_bindings, mean_dynamics, mean_task}
 use Rattle.isl_meaning.proofs.Steps.{IsKept}
@@ -31,6 +31,9 @@ module _ (R : State → State → Type 0) (k : IsKept R) (names : List (List ℕ
   answers (result v after) around y z g = compared.given R k around.exits v after g
   answers (makes size besides o after) around y z g =
       compared.sooner R k g (compared.made R k limit size besides o after (λ v made. compared.given R k around.exits v made (k.none made)))
+  answers (makes_symbol after) around y z g =
+      compared.sooner R k g (compared.made R k limit 2 0 (fresh_symbol after.symbols) after
+      (λ v made. compared.given R k around.exits v (record made { symbols = made.symbols + 1 }) (k.symbol made)))
   answers (fails class vs after) around y z g =
       compared.sooner R k g (applied.signals R k names program limit low low' w class vs around after)
 
@@ -149,7 +152,7 @@ module _ (R : State → State → Type 0) (k : IsKept R) (names : List (List ℕ
         applied.cells R k names program limit low low' w around.exits (bound_variables bs) body after (λ ready.
         compared.sooner R k (k.values vs ready)
         (means body (with_variables (bound_variables bs) ready env) around (with_values vs ready)))))
-    means (lambda p parts) env around z =
+    means (lambda required rest body parts) env around z =
         compared.charges R k (1 + length parts) z
         (compared.made R k limit _ 0 _ _ (λ v after. compared.given R k around.exits v after (k.none after)))
     means (call n fs) env around z =

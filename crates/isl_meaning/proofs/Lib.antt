@@ -6,8 +6,8 @@ pub mod Forms
 pub mod Levels
 pub mod Lists
 pub mod Turns
-pub mod Bodies
-pub mod Places
+pub mod Judged
+pub mod NamesBound
 pub mod Bounds
 pub mod FirstClasses
 pub mod Lengths

@@ -8,7 +8,7 @@ use Rattle.isl_meaning.specs.declared.program.MethodRow.{MethodRow}
 use Rattle.isl_meaning.specs.declared.program.Qualifier.{Qualifier}
 use Rattle.isl_meaning.specs.declared.program.Qualifier.TheVariants.{Primary, Around, Before, After}
 use Rattle.isl_meaning.specs.Values.{Value, integer, character, symbol, nil, object}
-use Rattle.isl_meaning.specs.Objects.{Object, cons, string, vector, instance, function, generic_function, class_object, input_stream, output_stream, fresh_symbol, Chain}
+use Rattle.isl_meaning.specs.Objects.{Object, cons, string, vector, instance, function, closure, generic_function, class_object, input_stream, output_stream, fresh_symbol, Chain}
 use Rattle.isl_meaning.specs.Objects.{vector_class, string_class, character_class, function_class, generic_function_class, cons_class, symbol_class, null_class, integer_class, stream_class, built_in_class_class, standard_class_class, serious_condition_class}
 use Rattle.isl_meaning.specs.State.{State}
 use Rattle.isl_meaning.specs.Lookup.{is_in, place_in}
@@ -20,7 +20,8 @@ class_of_object (Some (cons a d)) = cons_class
 class_of_object (Some (string bytes)) = string_class
 class_of_object (Some (vector vs)) = vector_class
 class_of_object (Some (instance c slots mark)) = c
-class_of_object (Some (function p env)) = function_class
+class_of_object (Some (function p)) = function_class
+class_of_object (Some (closure vs rest body env)) = function_class
 class_of_object (Some (generic_function g)) = generic_function_class
 class_of_object (Some (class_object c)) = if nat_le c 16 then built_in_class_class else standard_class_class
 class_of_object (Some input_stream) = stream_class

@@ -1,5 +1,7 @@
 -- Nodes, depth and the words of an application: the measures by which this profile bounds and charges programs.
 use Rattle.std.specs.Prelude.{ℕ, ◌+◌, ◌-◌, ◌*◌, max, length}
+use Rattle.isl_meaning.specs.declared.nodes.Bodies.{Bodies}
+use Rattle.isl_meaning.specs.declared.nodes.Bodies.TheVariants.{Apart, Inside}
 use Rattle.isl_meaning.specs.Form.{Form, literal, local, set_local, global, set_global, def_global, clauses, sequence, let_form, lambda, call, call_value, apply, prim, while_form, block, return_from, tagbody, go, catch_form, throw, unwind, dynamic_let, dynamic, set_dynamic, def_dynamic, with_handler, signal_form, continue_form, next_method, has_next, sited}
 use Rattle.isl_meaning.specs.Form.{Forms, no_form, form_and, ClauseForms, no_clause, clause_and, MaybeForm, no_body, with_body}
 use Rattle.isl_meaning.specs.Form.{BindingForms, no_binding, binding_and, DynamicForms, no_dynamic, dynamic_and}
@@ -21,61 +23,74 @@ count_dynamics no_dynamic = 0
 count_dynamics (dynamic_and n f bs) = count_dynamics bs + 1
 
 -- nodes: one a form, and besides one an argument, binding, clause, tag, captured part and name of it. The
--- first part of a call of a value is no argument. Sites count nothing.
-abbrev mutual
-  pub nodes : Form → ℕ
-  nodes (literal i) = 1
-  nodes (local v) = 1
-  nodes (set_local v f) = 1 + nodes f
-  nodes (global n) = 2
-  nodes (set_global n f) = 2 + nodes f
-  nodes (def_global n f) = 2 + nodes f
-  nodes (clauses fs) = 1 + nodes_of_clauses fs + count_clauses fs
-  nodes (sequence fs) = 1 + nodes_of_forms fs
-  nodes (let_form bs body) = 1 + nodes_of_bindings bs + nodes body + count_bindings bs
-  nodes (lambda p ps) = 1 + length ps
-  nodes (call n fs) = 2 + nodes_of_forms fs + count_forms fs
-  nodes (call_value fs) = 1 + nodes_of_forms fs + (count_forms fs - 1)
-  nodes (apply function fs) = 1 + nodes function + nodes fs
-  nodes (prim p fs) = 1 + nodes_of_forms fs + count_forms fs
-  nodes (while_form test body) = 1 + nodes test + nodes body
-  nodes (block x body) = 1 + nodes body
-  nodes (return_from x f) = 1 + nodes f
-  nodes (tagbody x ss) = 1 + nodes_of_forms ss + (count_forms ss - 1)
-  nodes (go x segment) = 1
-  nodes (catch_form tag body) = 1 + nodes tag + nodes body
-  nodes (throw tag f) = 1 + nodes tag + nodes f
-  nodes (unwind form cleanup) = 1 + nodes form + nodes cleanup
-  nodes (dynamic_let bs body) = 1 + nodes_of_dynamics bs + nodes body + count_dynamics bs
-  nodes (dynamic n) = 2
-  nodes (set_dynamic n f) = 2 + nodes f
-  nodes (def_dynamic n f) = 2 + nodes f
-  nodes (with_handler handler body) = 1 + nodes handler + nodes body
-  nodes (signal_form condition continuable) = 1 + nodes condition + nodes continuable
-  nodes (continue_form condition f) = 1 + nodes condition + nodes f
-  nodes next_method = 1
-  nodes has_next = 1
-  nodes (sited s inner) = nodes inner
+-- first part of a call of a value is no argument. Sites count nothing. The body of a `lambda` counts nothing where
+-- bodies are apart, and where they are inside four more than its own nodes.
+abbrev pub of_body : Bodies → ℕ → ℕ
+of_body Apart n = 0
+of_body Inside n = n + 4
 
-  pub nodes_of_forms : Forms → ℕ
-  nodes_of_forms no_form = 0
-  nodes_of_forms (form_and f fs) = nodes f + nodes_of_forms fs
+module _ (bodies : Bodies) where
+  abbrev mutual
+    pub nodes_with : Form → ℕ
+    nodes_with (literal i) = 1
+    nodes_with (local v) = 1
+    nodes_with (set_local v f) = 1 + nodes_with f
+    nodes_with (global n) = 2
+    nodes_with (set_global n f) = 2 + nodes_with f
+    nodes_with (def_global n f) = 2 + nodes_with f
+    nodes_with (clauses fs) = 1 + nodes_of_clauses fs + count_clauses fs
+    nodes_with (sequence fs) = 1 + nodes_of_forms fs
+    nodes_with (let_form bs body) = 1 + nodes_of_bindings bs + nodes_with body + count_bindings bs
+    nodes_with (lambda vs rest body ps) = 1 + length ps + of_body bodies (nodes_with body)
+    nodes_with (call n fs) = 2 + nodes_of_forms fs + count_forms fs
+    nodes_with (call_value fs) = 1 + nodes_of_forms fs + (count_forms fs - 1)
+    nodes_with (apply function fs) = 1 + nodes_with function + nodes_with fs
+    nodes_with (prim p fs) = 1 + nodes_of_forms fs + count_forms fs
+    nodes_with (while_form test body) = 1 + nodes_with test + nodes_with body
+    nodes_with (block x body) = 1 + nodes_with body
+    nodes_with (return_from x f) = 1 + nodes_with f
+    nodes_with (tagbody x ss) = 1 + nodes_of_forms ss + (count_forms ss - 1)
+    nodes_with (go x segment) = 1
+    nodes_with (catch_form tag body) = 1 + nodes_with tag + nodes_with body
+    nodes_with (throw tag f) = 1 + nodes_with tag + nodes_with f
+    nodes_with (unwind form cleanup) = 1 + nodes_with form + nodes_with cleanup
+    nodes_with (dynamic_let bs body) = 1 + nodes_of_dynamics bs + nodes_with body + count_dynamics bs
+    nodes_with (dynamic n) = 2
+    nodes_with (set_dynamic n f) = 2 + nodes_with f
+    nodes_with (def_dynamic n f) = 2 + nodes_with f
+    nodes_with (with_handler handler body) = 1 + nodes_with handler + nodes_with body
+    nodes_with (signal_form condition continuable) = 1 + nodes_with condition + nodes_with continuable
+    nodes_with (continue_form condition f) = 1 + nodes_with condition + nodes_with f
+    nodes_with next_method = 1
+    nodes_with has_next = 1
+    nodes_with (sited s inner) = nodes_with inner
 
-  pub nodes_of_clauses : ClauseForms → ℕ
-  nodes_of_clauses no_clause = 0
-  nodes_of_clauses (clause_and test body cs) = nodes test + nodes_of_body body + nodes_of_clauses cs
+    pub nodes_of_forms : Forms → ℕ
+    nodes_of_forms no_form = 0
+    nodes_of_forms (form_and f fs) = nodes_with f + nodes_of_forms fs
 
-  pub nodes_of_body : MaybeForm → ℕ
-  nodes_of_body no_body = 0
-  nodes_of_body (with_body f) = nodes f
+    pub nodes_of_clauses : ClauseForms → ℕ
+    nodes_of_clauses no_clause = 0
+    nodes_of_clauses (clause_and test body cs) = nodes_with test + nodes_of_body body + nodes_of_clauses cs
 
-  pub nodes_of_bindings : BindingForms → ℕ
-  nodes_of_bindings no_binding = 0
-  nodes_of_bindings (binding_and v f bs) = nodes f + nodes_of_bindings bs
+    pub nodes_of_body : MaybeForm → ℕ
+    nodes_of_body no_body = 0
+    nodes_of_body (with_body f) = nodes_with f
 
-  pub nodes_of_dynamics : DynamicForms → ℕ
-  nodes_of_dynamics no_dynamic = 0
-  nodes_of_dynamics (dynamic_and n f bs) = nodes f + nodes_of_dynamics bs
+    pub nodes_of_bindings : BindingForms → ℕ
+    nodes_of_bindings no_binding = 0
+    nodes_of_bindings (binding_and v f bs) = nodes_with f + nodes_of_bindings bs
+
+    pub nodes_of_dynamics : DynamicForms → ℕ
+    nodes_of_dynamics no_dynamic = 0
+    nodes_of_dynamics (dynamic_and n f bs) = nodes_with f + nodes_of_dynamics bs
+
+-- the nodes of a body, and those of it with the functions inside
+abbrev pub nodes : Form → ℕ
+nodes f = nodes_with Apart f
+
+abbrev pub all_nodes : Form → ℕ
+all_nodes f = nodes_with Inside f
 
 -- the greatest number of forms inside one another; a `lambda` counts one, and sites count nothing
 abbrev mutual
@@ -89,7 +104,7 @@ abbrev mutual
   depth (clauses fs) = depth_of_clauses fs + 1
   depth (sequence fs) = depth_of_forms fs + 1
   depth (let_form bs body) = max (depth_of_bindings bs) (depth body) + 1
-  depth (lambda p ps) = 1
+  depth (lambda vs rest body ps) = 1
   depth (call n fs) = depth_of_forms fs + 1
   depth (call_value fs) = depth_of_forms fs + 1
   depth (apply function fs) = max (depth function) (depth fs) + 1

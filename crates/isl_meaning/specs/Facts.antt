@@ -1,7 +1,7 @@
 -- What a program has to be (ISO/IEC 13816:2007, 11, 12 and 15): data in form, ids in range, arguments as many as they are
 -- taken, names bound where they stand, captured parts as they are, and sizes within the limits of this profile.
-use Rattle.std.specs.Prelude.{ℕ, ◌==◌, Bool, true, false, not, ◌&&◌, nat_le, nat_lt, List, [], ◌∷◌, Option, Some, None, length, slice_get, is_some, if◌then◌else◌}
-use Rattle.std.specs.List.{list_all}
+use Rattle.std.specs.Prelude.{ℕ, ◌+◌, ◌==◌, Bool, true, false, not, ◌&&◌, ◌||◌, nat_le, nat_lt, List, [], ◌∷◌, Option, Some, None, length, slice_get, is_some, if◌then◌else◌}
+use Rattle.std.specs.List.{list_all, list_any}
 use Rattle.isl_base.specs.declared.datum.Name.{Name}
 use Rattle.isl_base.specs.DataFormed.{is_formed}
 use Rattle.isl_meaning.specs.declared.program.LiteralRow.{LiteralRow}
@@ -26,7 +26,6 @@ use Rattle.isl_meaning.specs.Counts.{depth}
 use Rattle.isl_meaning.specs.Fits.{fits}
 use Rattle.isl_meaning.specs.ProgramCounts.{program_nodes}
 use Rattle.isl_meaning.specs.Lookup.{all_differ}
-use Rattle.isl_meaning.specs.Placed.{procedures_placed}
 use Rattle.isl_meaning.specs.Standing.{stands_alone, is_alone}
 use Rattle.isl_meaning.specs.Values.{same_text}
 
@@ -43,7 +42,7 @@ literal_fits rows (row.Function name) = true
 -- the procedure that gives a slot its value stands by itself
 abbrev pub initform_fits : ProgramRows → Option ℕ → Bool
 initform_fits rows None = true
-initform_fits rows (Some p) = is_alone rows false (slice_get rows.procedures p)
+initform_fits rows (Some p) = is_alone false (slice_get rows.procedures p)
 
 abbrev pub class_fits : ProgramRows → ClassRow → Bool
 class_fits rows c =
@@ -89,7 +88,7 @@ method_fits rows g m =
     length m.classes == g.required
     && list_all (λ c. nat_lt c (length rows.classes)) m.classes
     && is_congruent g (slice_get rows.procedures m.procedure)
-    && is_alone rows (knows_next m.qualifier) (slice_get rows.procedures m.procedure)
+    && is_alone (knows_next m.qualifier) (slice_get rows.procedures m.procedure)
 
 abbrev pub same_method : MethodRow → MethodRow → Bool
 same_method m n = is_qualifier m.qualifier n.qualifier && same_text m.classes n.classes
@@ -98,7 +97,7 @@ abbrev pub generic_fits : ProgramRows → GenericRow → Bool
 generic_fits rows g = list_all (method_fits rows g) g.methods && all_differ same_method g.methods
 
 abbrev pub callee_fits : ProgramRows → Callee → Bool
-callee_fits rows (callee.Procedure p) = is_alone rows false (slice_get rows.procedures p)
+callee_fits rows (callee.Procedure p) = is_alone false (slice_get rows.procedures p)
 callee_fits rows (callee.Generic g) = nat_lt g (length rows.generics)
 
 abbrev pub same_name : FunctionRow → FunctionRow → Bool
@@ -114,14 +113,23 @@ rows_fit rows =
     && nat_le (length rows.sites) 100000
     && nat_le (program_nodes rows) 100000
 
--- and where its bodies stand, those of procedures that no row calls too
+-- whether a method has that procedure; so it is judged there
+abbrev pub is_of_method : ProgramRows → ℕ → Bool
+is_of_method rows i = list_any (λ g. list_any (λ m. i == m.procedure) g.methods) rows.generics
+
+-- whether these procedures, the first of which has the number i, stand by themselves, in no method but those of methods
+abbrev pub procedures_stand : ProgramRows → ℕ → List Procedure → Bool
+procedures_stand rows i [] = true
+procedures_stand rows i (p ∷ ps) = (is_of_method rows i || is_alone false (Some p)) && procedures_stand rows (i + 1) ps
+
+-- and where its bodies stand
 abbrev pub bodies_stand : ProgramRows → Bool
 bodies_stand rows =
     list_all (class_fits rows) rows.classes
     && list_all (generic_fits rows) rows.generics
     && list_all (λ f. callee_fits rows f.callee) rows.functions
-    && list_all (λ f. body_fits rows f && stands_alone rows false f) rows.main
-    && procedures_placed rows
+    && list_all (λ f. body_fits rows f && stands_alone false f) rows.main
+    && procedures_stand rows 0 rows.procedures
 
 -- all of it
 abbrev pub is_whole : ProgramRows → Bool

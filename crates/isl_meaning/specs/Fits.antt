@@ -1,12 +1,12 @@
--- What each form says of itself (ISO/IEC 13816:2007, 12): rows and sites that are there, and as many arguments as are
--- taken.
+-- What each form says of itself (ISO/IEC 13816:2007, 12): rows and sites that are there, as many arguments as are
+-- taken, a segment in a `tagbody`, and in each function a body no deeper than this profile's limit.
 use Rattle.std.specs.Prelude.{Bool, true, ◌&&◌, nat_eq, nat_le, nat_lt, length}
 use Rattle.isl_meaning.specs.declared.program.ProgramRows.{ProgramRows}
 use Rattle.isl_meaning.specs.Form.{Form, literal, local, set_local, global, set_global, def_global, clauses, sequence, let_form, lambda, call, call_value, apply, prim, while_form, block, return_from, tagbody, go, catch_form, throw, unwind, dynamic_let, dynamic, set_dynamic, def_dynamic, with_handler, signal_form, continue_form, next_method, has_next, sited}
 use Rattle.isl_meaning.specs.Form.{Forms, no_form, form_and, ClauseForms, no_clause, clause_and, MaybeForm, no_body, with_body}
 use Rattle.isl_meaning.specs.Form.{BindingForms, no_binding, binding_and, DynamicForms, no_dynamic, dynamic_and}
 use Rattle.isl_meaning.specs.Arity.{arity}
-use Rattle.isl_meaning.specs.Counts.{count_forms}
+use Rattle.isl_meaning.specs.Counts.{count_forms, depth}
 
 module _ (rows : ProgramRows) where
   abbrev mutual
@@ -20,7 +20,7 @@ module _ (rows : ProgramRows) where
     fits (clauses fs) = clauses_fit fs
     fits (sequence fs) = forms_fit fs
     fits (let_form bs body) = bindings_fit bs && fits body
-    fits (lambda p parts) = nat_lt p (length rows.procedures)
+    fits (lambda vs rest body parts) = fits body && nat_le (depth body) 1000
     fits (call n fs) = forms_fit fs
     fits (call_value fs) = nat_le 1 (count_forms fs) && forms_fit fs
     fits (apply function f) = fits function && fits f
@@ -28,7 +28,7 @@ module _ (rows : ProgramRows) where
     fits (while_form test body) = fits test && fits body
     fits (block x body) = fits body
     fits (return_from x f) = fits f
-    fits (tagbody x ss) = forms_fit ss
+    fits (tagbody x ss) = nat_le 1 (count_forms ss) && forms_fit ss
     fits (go x segment) = true
     fits (catch_form tag body) = fits tag && fits body
     fits (throw tag f) = fits tag && fits f

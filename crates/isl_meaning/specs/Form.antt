@@ -1,11 +1,11 @@
 -- Core forms as contracts see them: the forms of ISO/IEC 13816:2007, 12, 14, 15 and 29 that all others stand for.
 -- `sited` is this profile's own; it marks the place of a form.
-use Rattle.std.specs.Prelude.{ℕ, ◌+◌, List, [], ◌∷◌}
+use Rattle.std.specs.Prelude.{ℕ, ◌+◌, List, [], ◌∷◌, ◌++◌, Option, option_to_list}
 use Rattle.isl_meaning.specs.declared.primitive.Primitive.{Primitive}
 use Rattle.isl_meaning.specs.declared.part.Part.{Part}
 
 mutual
-  -- variables, exits, names, procedures and sites are named by their numbers
+  -- variables, exits, names and sites are named by their numbers
   pub data Form : Type 0 where
     literal : ℕ → Form
     local : ℕ → Form
@@ -16,7 +16,8 @@ mutual
     clauses : ClauseForms → Form
     sequence : Forms → Form
     let_form : BindingForms → Form → Form
-    lambda : ℕ → List Part → Form
+    -- a function of these required variables, this rest variable and this body, and the parts that it captures
+    lambda : List ℕ → Option ℕ → Form → List Part → Form
     call : ℕ → Forms → Form
     call_value : Forms → Form
     apply : Form → Form → Form
@@ -62,6 +63,10 @@ mutual
     no_dynamic : DynamicForms
     dynamic_and : ℕ → Form → DynamicForms → DynamicForms
 
+-- the variables of a function: the required ones, and the rest variable
+abbrev pub parameters : List ℕ → Option ℕ → List ℕ
+parameters required rest = required ++ option_to_list rest
+
 abbrev pub parts_size : List Part → ℕ
 parts_size [] = 1
 parts_size (p ∷ ps) = parts_size ps + 1
@@ -77,7 +82,7 @@ abbrev mutual
   form_size (clauses fs) = clauses_size fs + 1
   form_size (sequence fs) = forms_size fs + 1
   form_size (let_form bs body) = bindings_size bs + form_size body + 1
-  form_size (lambda p ps) = parts_size ps + 1
+  form_size (lambda vs rest body ps) = form_size body + parts_size ps + 2
   form_size (call n fs) = forms_size fs + 1
   form_size (call_value fs) = forms_size fs + 1
   form_size (apply function fs) = form_size function + form_size fs + 1

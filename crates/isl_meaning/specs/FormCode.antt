@@ -1,5 +1,5 @@
 -- The code of a core form: a list of numbers that gives it back.
-use Rattle.std.specs.Prelude.{◌≡◌, ◌≤◌, ℕ, zero, suc, List, [], ◌∷◌, get_or, refl}
+use Rattle.std.specs.Prelude.{◌≡◌, ◌≤◌, ℕ, zero, suc, List, [], ◌∷◌, ◌++◌, length, Option, Some, None, get_or, refl}
 use Rattle.std.specs.Coded.{Coded, code_by, coded_list, coded_ℕ}
 use Rattle.std.proofs.Common.{ap, arith}
 use Rattle.isl_meaning.specs.Form.{Form, literal, local, set_local, global, set_global, def_global, clauses, sequence, let_form, lambda, call, call_value, apply, prim, while_form, block, return_from, tagbody, go, catch_form, throw, unwind, dynamic_let, dynamic, set_dynamic, def_dynamic, with_handler, signal_form, continue_form, next_method, has_next, sited}
@@ -156,6 +156,11 @@ write_parts (Variable v ∷ ps) rest = 1 ∷ v ∷ write_parts ps rest
 write_parts (Exit x ∷ ps) rest = 2 ∷ x ∷ write_parts ps rest
 write_parts (Method ∷ ps) rest = 3 ∷ write_parts ps rest
 
+-- the numbers of a rest variable, before those that follow them
+abbrev write_rest : Option ℕ → List ℕ → List ℕ
+write_rest None after_it = 0 ∷ after_it
+write_rest (Some v) after_it = 1 ∷ v ∷ after_it
+
 -- the numbers of a form, before those that follow it
 abbrev mutual
   write_form : Form → List ℕ → List ℕ
@@ -168,7 +173,7 @@ abbrev mutual
   write_form (clauses fs) rest = 6 ∷ write_clauses fs rest
   write_form (sequence fs) rest = 7 ∷ write_forms fs rest
   write_form (let_form bs body) rest = 8 ∷ write_bindings bs (write_form body rest)
-  write_form (lambda p ps) rest = 9 ∷ p ∷ write_parts ps rest
+  write_form (lambda vs last body ps) rest = 9 ∷ length vs ∷ vs ++ write_rest last (write_form body (write_parts ps rest))
   write_form (call n fs) rest = 10 ∷ n ∷ write_forms fs rest
   write_form (call_value fs) rest = 11 ∷ write_forms fs rest
   write_form (apply function fs) rest = 12 ∷ write_form function (write_form fs rest)
@@ -234,6 +239,16 @@ read_parts (suc k) (suc zero ∷ xs) = under (λ ps. Variable (first xs) ∷ ps)
 read_parts (suc k) (suc (suc zero) ∷ xs) = under (λ ps. Exit (first xs) ∷ ps) (read_parts k (after xs))
 read_parts (suc k) (suc (suc (suc n)) ∷ xs) = under (λ ps. Method ∷ ps) (read_parts k xs)
 
+-- so many numbers, and those left
+abbrev read_numbers : ℕ → List ℕ → List ℕ × List ℕ
+read_numbers zero xs = ([], xs)
+read_numbers (suc n) xs = under (λ ns. first xs ∷ ns) (read_numbers n (after xs))
+
+abbrev read_rest : List ℕ → Option ℕ × List ℕ
+read_rest [] = (None, [])
+read_rest (zero ∷ xs) = (None, xs)
+read_rest (suc n ∷ xs) = (Some (first xs), after xs)
+
 abbrev mutual
   read_form : ℕ → List ℕ → Form × List ℕ
   read_form zero xs = (literal 0, xs)
@@ -247,7 +262,11 @@ abbrev mutual
   read_form (suc k) (suc (suc (suc (suc (suc (suc zero))))) ∷ xs) = under clauses (read_clauses k xs)
   read_form (suc k) (suc (suc (suc (suc (suc (suc (suc zero)))))) ∷ xs) = under sequence (read_forms k xs)
   read_form (suc k) (suc (suc (suc (suc (suc (suc (suc (suc zero))))))) ∷ xs) = let part = read_bindings k xs in under (let_form part.0) (read_form k part.1)
-  read_form (suc k) (suc (suc (suc (suc (suc (suc (suc (suc (suc zero)))))))) ∷ xs) = under (lambda (first xs)) (read_parts k (after xs))
+  read_form (suc k) (suc (suc (suc (suc (suc (suc (suc (suc (suc zero)))))))) ∷ xs) =
+      let vs = read_numbers (first xs) (after xs) in
+      let last = read_rest vs.1 in
+      let body = read_form k last.1 in
+      under (lambda vs.0 last.0 body.0) (read_parts k body.1)
   read_form (suc k) (suc (suc (suc (suc (suc (suc (suc (suc (suc (suc zero))))))))) ∷ xs) = under (call (first xs)) (read_forms k (after xs))
   read_form (suc k) (suc (suc (suc (suc (suc (suc (suc (suc (suc (suc (suc zero)))))))))) ∷ xs) = under call_value (read_forms k xs)
   read_form (suc k) (suc (suc (suc (suc (suc (suc (suc (suc (suc (suc (suc (suc zero))))))))))) ∷ xs) = let part = read_form k xs in under (apply part.0) (read_form k part.1)
@@ -318,7 +337,19 @@ parts_back (suc k) (Variable v ∷ ps) rest h = ap (under (λ qs. Variable v ∷
 parts_back (suc k) (Exit x ∷ ps) rest h = ap (under (λ qs. Exit x ∷ qs)) (parts_back k ps rest (omega arith))
 parts_back (suc k) (Method ∷ ps) rest h = ap (under (λ qs. Method ∷ qs)) (parts_back k ps rest (omega arith))
 
--- a form has a size
+numbers_read : (ns rest : List ℕ) → read_numbers (length ns) (ns ++ rest) ≡ (ns, rest)
+numbers_read [] rest = refl
+numbers_read (n ∷ ns) rest = ap (under (λ ms. n ∷ ms)) (numbers_read ns rest)
+
+rest_read : (last : Option ℕ) (rest : List ℕ) → read_rest (write_rest last rest) ≡ (last, rest)
+rest_read None rest = refl
+rest_read (Some v) rest = refl
+
+-- captured parts and a form have a size
+parts_above : (ps : List Part) → 1 ≤ parts_size ps
+parts_above [] = omega arith
+parts_above (p ∷ ps) = omega arith
+
 form_above : (f : Form) → 1 ≤ form_size f
 form_above (literal i) = omega arith
 form_above (local v) = omega arith
@@ -329,7 +360,7 @@ form_above (def_global n f) = omega arith
 form_above (clauses fs) = omega arith
 form_above (sequence fs) = omega arith
 form_above (let_form bs body) = omega arith
-form_above (lambda p ps) = omega arith
+form_above (lambda vs last body ps) = omega arith
 form_above (call n fs) = omega arith
 form_above (call_value fs) = omega arith
 form_above (apply function fs) = omega arith
@@ -367,7 +398,11 @@ mutual
   form_back (suc k) (clauses fs) rest h = ap (under clauses) (clauses_back k fs rest (omega arith))
   form_back (suc k) (sequence fs) rest h = ap (under sequence) (forms_back k fs rest (omega arith))
   form_back (suc k) (let_form bs body) rest h = rw (bindings_back k bs (write_form body rest) (omega arith)) (ap (under (let_form bs)) (form_back k body rest (omega arith)))
-  form_back (suc k) (lambda p ps) rest h = ap (under (lambda p)) (parts_back k ps rest (omega arith))
+  form_back (suc k) (lambda vs last body ps) rest h =
+      rw (numbers_read vs (write_rest last (write_form body (write_parts ps rest))))
+      (rw (rest_read last (write_form body (write_parts ps rest)))
+      (rw (form_back k body (write_parts ps rest) (omega (arith, parts_above ps)))
+      (ap (under (lambda vs last body)) (parts_back k ps rest (omega (arith, form_above body))))))
   form_back (suc k) (call n fs) rest h = ap (under (call n)) (forms_back k fs rest (omega arith))
   form_back (suc k) (call_value fs) rest h = ap (under call_value) (forms_back k fs rest (omega arith))
   form_back (suc k) (apply function fs) rest h = rw (form_back k function (write_form fs rest) (omega arith)) (ap (under (apply function)) (form_back k fs rest (omega arith)))

@@ -1,17 +1,10 @@
--- The forms inside a form, and what a body sets and captures (ISO/IEC 13816:2007, 12.7 and 14.2). Cells and
--- captured parts count only for this profile's charges.
-use Rattle.std.specs.Prelude.{ℕ, zero, suc, ◌==◌, Bool, true, false, ◌&&◌, ◌||◌, List, [], ◌∷◌, ◌++◌, Option, Some, None, length, slice_get}
-use Rattle.isl_meaning.specs.declared.part.Part.{Part}
-use Rattle.isl_meaning.specs.declared.part.Part.TheVariants.{Variable, Exit, Method}
-use Rattle.isl_meaning.specs.declared.program.Procedure.{Procedure}
-use Rattle.isl_meaning.specs.declared.program.ProgramRows.{ProgramRows}
+-- The forms inside a form, those of the functions in it too.
+use Rattle.std.specs.Prelude.{List, [], ◌∷◌, ◌++◌}
 use Rattle.isl_meaning.specs.Form.{Form, literal, local, set_local, global, set_global, def_global, clauses, sequence, let_form, lambda, call, call_value, apply, prim, while_form, block, return_from, tagbody, go, catch_form, throw, unwind, dynamic_let, dynamic, set_dynamic, def_dynamic, with_handler, signal_form, continue_form, next_method, has_next, sited}
 use Rattle.isl_meaning.specs.Form.{Forms, no_form, form_and, ClauseForms, no_clause, clause_and, MaybeForm, no_body, with_body}
 use Rattle.isl_meaning.specs.Form.{BindingForms, no_binding, binding_and, DynamicForms, no_dynamic, dynamic_and}
-use Rattle.isl_meaning.specs.Lookup.{some_of}
 
--- a form and all forms inside it, in the order in which they stand; what the procedure of a `lambda` has
--- inside is not among them
+-- a form and all forms inside it, in the order in which they stand
 abbrev mutual
   pub inside_form : Form → List Form
   inside_form (literal i) = literal i ∷ []
@@ -23,7 +16,7 @@ abbrev mutual
   inside_form (clauses fs) = clauses fs ∷ inside_clauses fs
   inside_form (sequence fs) = sequence fs ∷ inside_forms fs
   inside_form (let_form bs body) = let_form bs body ∷ (inside_bindings bs ++ inside_form body)
-  inside_form (lambda p ps) = lambda p ps ∷ []
+  inside_form (lambda vs rest body ps) = lambda vs rest body ps ∷ inside_form body
   inside_form (call n fs) = call n fs ∷ inside_forms fs
   inside_form (call_value fs) = call_value fs ∷ inside_forms fs
   inside_form (apply function fs) = apply function fs ∷ (inside_form function ++ inside_form fs)
@@ -66,49 +59,3 @@ abbrev mutual
   pub inside_dynamics : DynamicForms → List Form
   inside_dynamics no_dynamic = []
   inside_dynamics (dynamic_and n f bs) = inside_form f ++ inside_dynamics bs
-
-abbrev pub is_variable : ℕ → Part → Bool
-is_variable v (Variable w) = v == w
-is_variable v (Exit x) = false
-is_variable v Method = false
-
-abbrev pub is_method : Part → Bool
-is_method (Variable v) = false
-is_method (Exit x) = false
-is_method Method = true
-
--- whether a form is a `lambda` that captures such a part
-abbrev pub captures_here : (Part → Bool) → Form → Bool
-captures_here p (lambda i ps) = some_of p ps
-captures_here p f = false
-
--- whether a `lambda` in the form captures such a part
-abbrev pub captures : (Part → Bool) → Form → Bool
-captures p f = some_of (captures_here p) (inside_form f)
-
--- whether a form sets the variable by itself
-abbrev pub sets_here : ℕ → Form → Bool
-sets_here v (set_local w f) = v == w
-sets_here v f = false
-
--- the body of a procedure
-abbrev pub body_at : Option Procedure → List Form
-body_at (Some p) = p.body ∷ []
-body_at None = []
-
--- whether the variable is set in a form, or in the procedures of the functions made in it that capture it,
--- to that depth of functions inside functions
-abbrev pub sets_to : ProgramRows → ℕ → ℕ → List Form → Bool
-sets_to program zero v fs = some_of (sets_here v) fs
-sets_to program (suc depth) v fs = some_of (sets_here v) fs || some_of (inner (sets_to program depth v)) fs
-  where
-    inner : (List Form → Bool) → Form → Bool
-    inner sets (lambda i ps) = some_of (is_variable v) ps && some_of (λ f. sets (inside_form f)) (body_at (slice_get program.procedures i))
-    inner sets f = false
-
-abbrev pub is_set : ProgramRows → ℕ → Form → Bool
-is_set program v f = sets_to program (length program.procedures) v (inside_form f)
-
--- a variable has a cell of its own where its body both captures and sets it
-abbrev pub has_cell : ProgramRows → ℕ → Form → Bool
-has_cell program v f = captures (is_variable v) f && is_set program v f

@@ -8,6 +8,8 @@ pub mod Values
 pub mod Objects
 pub mod State
 pub mod Lookup
+pub mod Mentions
+pub mod Captured
 pub mod Inside
 pub mod Counts
 pub mod Classes
@@ -21,10 +23,9 @@ pub mod ProgramCounts
 pub mod Arity
 pub mod Cells
 pub mod Fits
-pub mod Mentions
 pub mod Standing
-pub mod Placed
 pub mod Facts
+pub mod BoundNames
 pub mod Reached
 pub mod OfClasses
 pub mod Suffixes

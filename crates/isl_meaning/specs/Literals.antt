@@ -13,7 +13,7 @@ use Rattle.isl_meaning.specs.declared.program.Callee.TheVariants as callee
 use Rattle.isl_meaning.specs.declared.program.LiteralRow.{LiteralRow}
 use Rattle.isl_meaning.specs.declared.program.LiteralRow.TheVariants as row
 use Rattle.isl_meaning.specs.Values.{SymbolValue, named, unnamed, Value, integer, character, symbol, nil, object, same_text}
-use Rattle.isl_meaning.specs.Objects.{Object, cons, string, vector, function, generic_function, class_object, no_environment, count_up, built_in_classes, first_objects}
+use Rattle.isl_meaning.specs.Objects.{Object, cons, string, vector, function, generic_function, class_object, count_up, built_in_classes, first_objects}
 use Rattle.isl_meaning.specs.Lookup.{text, place_in}
 
 -- what a datum comes to from an object number on: the objects that it makes, and its value
@@ -93,7 +93,7 @@ function_value names program name =
     object (first_function program + place_in (λ f. same_text name (text names f.name.0)) program.functions)
 
 abbrev pub function_object : Callee → Object
-function_object (callee.Procedure p) = function p no_environment
+function_object (callee.Procedure p) = function p
 function_object (callee.Generic g) = generic_function g
 
 -- what a row of literals, and what a slot, lays
@@ -116,7 +116,7 @@ abbrev pub initform_lays : SlotRow → ℕ → Laid
 initform_lays s n = by s.initform
   where
     by : Option ℕ → Laid
-    by (Some p) = behind n [] (function p no_environment)
+    by (Some p) = behind n [] (function p)
     by None = no_object nil
 
 abbrev pub slot_lays : List (List ℕ) → SlotRow → List (ℕ → Laid)

@@ -10,7 +10,7 @@ use Rattle.isl_meaning.specs.Form.{Forms, no_form, form_and, ClauseForms, no_cla
 use Rattle.isl_meaning.specs.Form.{BindingForms, no_binding, binding_and, DynamicForms, no_dynamic, dynamic_and}
 use Rattle.isl_meaning.specs.Counts.{count_forms, count_clauses, count_bindings, count_dynamics, nodes, application_words}
 use Rattle.isl_meaning.specs.Values.{Value, symbol, named, nil, object, truth, is_true, same_text}
-use Rattle.isl_meaning.specs.Objects.{Called, Environment, no_environment, Object, cons, function, function_class, list_class, serious_condition_class, control_error_class, domain_error_class}
+use Rattle.isl_meaning.specs.Objects.{Called, Environment, no_environment, Object, cons, closure, function_class, list_class, serious_condition_class, control_error_class, domain_error_class}
 use Rattle.isl_meaning.specs.State.{State, first_state, Surroundings, main_surroundings, no_place, block_exit, tagbody_exit, catch_exit, Landing, at_segment, at_site, Outcome, value, exit, full, more, Evaluated, gives, Act, go_on, landed, caught, cleaned, inside, exit_made, Limit, request, charged, make}
 use Rattle.isl_meaning.specs.Lookup.{text, is_in, under_text, under_number, value_at, set_at, numbered, with_variables, with_values, with_exit}
 use Rattle.isl_meaning.specs.Classes.{class_of_object, fetch, is_condition}
@@ -175,8 +175,8 @@ module _ (names : List (List ℕ)) (program : ProgramRows) (limit : Limit) (belo
         mean_bindings bs [] env around (charged (1 + count_bindings bs) z) (λ vs after.
         with_cells names program limit below (bound_variables bs) body after (λ ready.
         mean body (with_variables (bound_variables bs) ready env) around (with_values vs ready)))
-    mean (lambda p parts) env around z =
-        make limit (2 + length parts) 0 (function p env) (charged (1 + length parts) z) (λ v after. gives v after)
+    mean (lambda required rest body parts) env around z =
+        make limit (2 + length parts) 0 (closure required rest body env) (charged (1 + length parts) z) (λ v after. gives v after)
     mean (call n fs) env around z =
         mean_arguments fs [] env around (charged (2 + count_forms fs) z) (λ vs after.
         apply_row names program limit below wrong (text names n) (function_row names program.functions (text names n)) vs around after)

@@ -1,13 +1,11 @@
 -- What a form mentions of what is around it: the parts that a function of it captures (ISO/IEC 13816:2007, 12.7).
-use Rattle.std.specs.Prelude.{◌==◌, Bool, true, false, not, ◌&&◌, ◌||◌}
+use Rattle.std.specs.Prelude.{ℕ, ◌==◌, Bool, true, false, not, ◌&&◌, ◌||◌, nat_lt, List, [], ◌∷◌}
 use Rattle.std.specs.List.{list_any}
 use Rattle.isl_meaning.specs.declared.part.Part.{Part}
 use Rattle.isl_meaning.specs.declared.part.Part.TheVariants.{Variable, Exit, Method}
-use Rattle.isl_meaning.specs.declared.program.Procedure.{Procedure}
 use Rattle.isl_meaning.specs.Form.{Form, literal, local, set_local, global, set_global, def_global, clauses, sequence, let_form, lambda, call, call_value, apply, prim, while_form, block, return_from, tagbody, go, catch_form, throw, unwind, dynamic_let, dynamic, set_dynamic, def_dynamic, with_handler, signal_form, continue_form, next_method, has_next, sited}
 use Rattle.isl_meaning.specs.Form.{Forms, no_form, form_and, ClauseForms, no_clause, clause_and, MaybeForm, no_body, with_body}
-use Rattle.isl_meaning.specs.Form.{BindingForms, no_binding, binding_and, DynamicForms, no_dynamic, dynamic_and}
-use Rattle.isl_meaning.specs.Signals.{variables}
+use Rattle.isl_meaning.specs.Form.{BindingForms, no_binding, binding_and, DynamicForms, no_dynamic, dynamic_and, parameters}
 
 abbrev pub same_part : Part → Part → Bool
 same_part (Variable v) (Variable w) = v == w
@@ -19,6 +17,30 @@ same_part (Exit x) Method = false
 same_part Method (Variable v) = false
 same_part Method (Exit x) = false
 same_part Method Method = true
+
+-- variables come by rising number, then exits by rising number, and the method last
+abbrev pub comes_before : Part → Part → Bool
+comes_before (Variable v) (Variable w) = nat_lt v w
+comes_before (Variable v) (Exit x) = true
+comes_before (Variable v) Method = true
+comes_before (Exit x) (Variable v) = false
+comes_before (Exit x) (Exit y) = nat_lt x y
+comes_before (Exit x) Method = true
+comes_before Method p = false
+
+-- whether a part comes before the first of these
+abbrev pub is_next : Part → List Part → Bool
+is_next p [] = true
+is_next p (q ∷ qs) = comes_before p q
+
+-- whether parts stand in their order, each once
+abbrev pub in_order : List Part → Bool
+in_order [] = true
+in_order (p ∷ ps) = is_next p ps && in_order ps
+
+-- whether these variables are that part
+abbrev pub owns : List ℕ → Part → Bool
+owns vs p = list_any (λ v. same_part p (Variable v)) vs
 
 -- whether bindings bind that part
 abbrev pub binds : Part → BindingForms → Bool
@@ -37,7 +59,7 @@ abbrev mutual
   mentions p (clauses fs) = clauses_mention p fs
   mentions p (sequence fs) = forms_mention p fs
   mentions p (let_form bs body) = bindings_mention p bs || (not (binds p bs) && mentions p body)
-  mentions p (lambda i ps) = list_any (same_part p) ps
+  mentions p (lambda vs rest body ps) = not (owns (parameters vs rest) p) && mentions p body
   mentions p (call n fs) = forms_mention p fs
   mentions p (call_value fs) = forms_mention p fs
   mentions p (apply function f) = mentions p function || mentions p f
@@ -80,8 +102,3 @@ abbrev mutual
   pub dynamics_mention : Part → DynamicForms → Bool
   dynamics_mention p no_dynamic = false
   dynamics_mention p (dynamic_and n f bs) = mentions p f || dynamics_mention p bs
-
--- whether a procedure's body mentions a part that is none of its own variables
-abbrev pub captures_part : Procedure → Part → Bool
-captures_part procedure p =
-    not (list_any (λ v. same_part p (Variable v)) (variables procedure)) && mentions p procedure.body

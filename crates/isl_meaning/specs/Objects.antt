@@ -1,5 +1,6 @@
 -- Objects (ISO/IEC 13816:2007, 15), and what functions keep of the place where they were made.
 use Rattle.std.specs.Prelude.{ℕ, zero, suc, ◌+◌, List, [], ◌∷◌, ◌++◌, Option, None, map}
+use Rattle.isl_meaning.specs.Form.{Form}
 use Rattle.isl_meaning.specs.Values.{Value, object}
 
 -- the methods that a call still has to run, by their procedures (ISO/IEC 13816:2007, 15.3.4); behind
@@ -31,8 +32,10 @@ pub data Object : Type 0 where
   vector : List Value → Object
   -- an instance of a class: its slots, which hold a value or nothing, and a condition's mark
   instance : (class : ℕ) → (slots : List (Option Value)) → (mark : Value) → Object
-  -- a function: its procedure, and the environment in which it was made
-  function : (procedure : ℕ) → Environment → Object
+  -- the function of a definition, by its procedure
+  function : (procedure : ℕ) → Object
+  -- a function that a `lambda` made: its variables, its body, and the environment in which it was made
+  closure : (required : List ℕ) → (rest : Option ℕ) → (body : Form) → Environment → Object
   -- a generic function and a class, by their numbers
   generic_function : ℕ → Object
   class_object : ℕ → Object

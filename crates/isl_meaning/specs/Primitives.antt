@@ -9,18 +9,19 @@ use Rattle.isl_meaning.specs.declared.program.ProgramRows.{ProgramRows}
 use Rattle.isl_meaning.specs.declared.program.ClassRow.{ClassRow}
 use Rattle.isl_meaning.specs.declared.program.SlotRow.{SlotRow}
 use Rattle.isl_meaning.specs.Values.{named, unnamed, Value, integer, character, symbol, nil, object, truth, in_range, int_equal, same, same_text}
-use Rattle.isl_meaning.specs.Objects.{Object, cons, string, vector, instance, function, generic_function, class_object, input_stream, output_stream, fresh_symbol, standard_input, standard_output, built_in_classes}
+use Rattle.isl_meaning.specs.Objects.{Object, cons, string, vector, instance, function, closure, generic_function, class_object, input_stream, output_stream, fresh_symbol, standard_input, standard_output, built_in_classes}
 use Rattle.isl_meaning.specs.Objects.{vector_class, string_class, character_class, cons_class, symbol_class, integer_class, stream_class, standard_class_class, standard_object_class, serious_condition_class, program_error_class, division_by_zero_class, integer_overflow_class, domain_error_class}
 use Rattle.isl_meaning.specs.State.{State, charged, changed}
 use Rattle.isl_meaning.specs.Lookup.{text, place_in, passed}
 use Rattle.isl_meaning.specs.Classes.{class_of, fetch, precedence, slots, is_below, is_condition}
 use Rattle.isl_meaning.specs.Literals.{class_value, initargs_value, initform_value}
 
--- what a primitive answers: a value, an object to be made of so many words and with so many units besides,
--- or the class and the slots of a condition to signal
+-- what a primitive answers: a value, an object to be made of so many words and with so many units besides, the
+-- next fresh symbol, or the class and the slots of a condition to signal
 pub data Answer : Type 0 where
   result : Value → State → Answer
   makes : (size besides : ℕ) → Object → State → Answer
+  makes_symbol : State → Answer
   fails : (class : ℕ) → List Value → State → Answer
 
 -- an argument of a wrong class: the object and the expected class (ISO/IEC 13816:2007, 29.3)
@@ -166,7 +167,8 @@ change (object i) now z = changed i now z
 change v now z = z
 
 abbrev pub is_function : Option Object → Bool
-is_function (Some (function p env)) = true
+is_function (Some (function p)) = true
+is_function (Some (closure vs rest body env)) = true
 is_function (Some (generic_function g)) = true
 is_function o = false
 
@@ -315,7 +317,7 @@ primitive names program SymbolSerial = of_one (λ v z. a_symbol v z (λ s. resul
     serial_of : Spelt → Value
     serial_of (by_name name) = nil
     serial_of (by_serial serial) = integer (pos (serial % 536870912))
-primitive names program Gensym = of_none (λ z. makes 2 0 (fresh_symbol z.symbols) (record z { symbols = z.symbols + 1 }))
+primitive names program Gensym = of_none (λ z. makes_symbol z)
 primitive names program ClassOf = of_one (λ v z. result (class_value (class_of z v)) z)
 primitive names program ClassName = of_one (λ v z.
     a_class v z (λ c. result (symbol (named (class_name names (slice_get program.classes c)))) z))

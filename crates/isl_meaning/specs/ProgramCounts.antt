@@ -7,7 +7,7 @@ use Rattle.isl_meaning.specs.declared.program.Procedure.{Procedure}
 use Rattle.isl_meaning.specs.declared.program.SlotRow.{SlotRow}
 use Rattle.isl_meaning.specs.declared.program.ClassRow.{ClassRow}
 use Rattle.isl_meaning.specs.declared.program.ProgramRows.{ProgramRows}
-use Rattle.isl_meaning.specs.Counts.{nodes, application_words}
+use Rattle.isl_meaning.specs.Counts.{nodes, all_nodes, application_words}
 
 -- the sum over a list
 abbrev pub total : {X : Type 0} → (X → ℕ) → List X → ℕ
@@ -20,8 +20,9 @@ row_nodes (row.Datum d) = size_of d
 row_nodes (row.Class c) = 1
 row_nodes (row.Function name) = 1
 
+-- a procedure counts its body with the functions inside
 abbrev pub procedure_nodes : Procedure → ℕ
-procedure_nodes p = nodes p.body + 4
+procedure_nodes p = all_nodes p.body + 4
 
 -- a class counts its precedence list, its slots and their initargs
 abbrev pub slot_nodes : SlotRow → ℕ
@@ -37,7 +38,7 @@ program_nodes program =
     + total procedure_nodes program.procedures
     + total class_nodes program.classes
     + 4 * length program.generics
-    + total nodes program.main
+    + total all_nodes program.main
 
 -- the stack words of an active application of a procedure, besides one for each argument
 abbrev pub frame_words : Procedure → ℕ

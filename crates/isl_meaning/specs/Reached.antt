@@ -4,13 +4,14 @@ use Rattle.isl_meaning.specs.declared.program.LiteralRow.{LiteralRow}
 use Rattle.isl_meaning.specs.declared.program.LiteralRow.TheVariants as row
 use Rattle.isl_meaning.specs.declared.program.GenericRow.{GenericRow}
 use Rattle.isl_meaning.specs.declared.program.FunctionRow.{FunctionRow}
+use Rattle.isl_meaning.specs.declared.program.Procedure.{Procedure}
 use Rattle.isl_meaning.specs.declared.program.Callee.{Callee}
 use Rattle.isl_meaning.specs.declared.program.Callee.TheVariants as callee
 use Rattle.isl_meaning.specs.declared.program.ProgramRows.{ProgramRows}
-use Rattle.isl_meaning.specs.Form.{Form, literal, lambda, call}
+use Rattle.isl_meaning.specs.Form.{Form, literal, call}
 use Rattle.isl_meaning.specs.Cells.{program_cells}
-use Rattle.isl_meaning.specs.Counts.{nodes}
-use Rattle.isl_meaning.specs.Inside.{inside_form, body_at}
+use Rattle.isl_meaning.specs.Counts.{all_nodes}
+use Rattle.isl_meaning.specs.Inside.{inside_form}
 use Rattle.isl_meaning.specs.Literals.{function_row, all_slots}
 use Rattle.isl_meaning.specs.Lookup.{is_in, text}
 use Rattle.isl_meaning.specs.ProgramCounts.{total, row_nodes, procedure_nodes, class_nodes, program_nodes}
@@ -20,7 +21,7 @@ abbrev pub once : List ℕ → List ℕ
 once [] = []
 once (n ∷ ns) = (if is_in n ns then [] else n ∷ []) ++ once ns
 
--- what a form mentions by itself: procedures, generic functions, and rows of literals
+-- what a form mentions by itself: procedures of definitions, generic functions, and rows of literals
 
 abbrev pub methods_at : Option GenericRow → List ℕ
 methods_at (Some g) = map (λ m. m.procedure) g.methods
@@ -56,7 +57,6 @@ names_of program (literal i) = named_in (slice_get program.literals i)
 names_of program f = []
 
 abbrev pub procedures_of : List (List ℕ) → ProgramRows → Form → List ℕ
-procedures_of names program (lambda p parts) = p ∷ []
 procedures_of names program f =
     flat_map (λ n. callee_procedures program (function_row names program.functions (text names n))) (names_of program f)
 
@@ -69,10 +69,15 @@ literals_of (literal i) = i ∷ []
 literals_of f = []
 
 -- the bodies of procedures
+abbrev pub body_at : Option Procedure → List Form
+body_at (Some p) = p.body ∷ []
+body_at None = []
+
 abbrev pub bodies : ProgramRows → List ℕ → List Form
 bodies program ps = flat_map (λ p. body_at (slice_get program.procedures p)) ps
 
--- the procedures that some forms mention, directly or through so many others
+-- the procedures that some forms mention, directly or through so many others: procedures name one another in
+-- circles, so the search is by steps, and as many as there are procedures reach all
 abbrev pub reached_from : List (List ℕ) → ProgramRows → ℕ → List Form → List ℕ
 reached_from names program zero fs = []
 reached_from names program (suc depth) fs =
@@ -101,7 +106,7 @@ rows_at xs ns = flat_map (λ n. option_to_list (slice_get xs n)) ns
 -- reached
 abbrev pub reached_nodes : List (List ℕ) → ProgramRows → ℕ
 reached_nodes names program =
-    total nodes program.main
+    total all_nodes program.main
     + total class_nodes program.classes
     + total procedure_nodes (rows_at program.procedures (reached_procedures names program))
     + total row_nodes (rows_at program.literals (once (flat_map literals_of (reached_forms names program))))

@@ -1,5 +1,5 @@
--- What is left of a list from an item on: the turns of a loop over the list.
-use Rattle.std.specs.Prelude.{◌≡◌, ℕ, zero, suc, ◌+◌, List, [], ◌∷◌, Some, slice_get, drop}
+-- What is left of a list from an item on, and what is passed: the turns of a loop over the list.
+use Rattle.std.specs.Prelude.{◌≡◌, ℕ, zero, suc, ◌+◌, List, [], ◌∷◌, Some, slice_get, take, drop, ◌++◌}
 use Rattle.std.proofs.Common.{◌∙◌, ap, add-one}
 use Rattle.isl_meaning.specs.Form.{Form, form_and, clause_and, binding_and, dynamic_and}
 use Rattle.isl_meaning.specs.View.{forms, clauses_of, maybe_form, bindings_of, dynamics_of}
@@ -14,6 +14,13 @@ rest_at [] i x h = absurd (cc)
 rest_at (y ∷ ys) zero x h = let e : y ≡ x = cc in ap (λ z. z ∷ ys) e
 rest_at (y ∷ ys) (suc i) x h =
     rw (add-one (suc i)) (rest_at ys i x h ∙ ap (λ n. x ∷ drop n ys) (add-one i))
+
+-- what is passed, with the item
+pub take_at : {X : Type 0} (xs : List X) (i : ℕ) (x : X) → slice_get xs i ≡ Some x
+    → take (i + 1) xs ≡ take i xs ++ x ∷ []
+take_at [] i x h = absurd (cc)
+take_at (y ∷ ys) zero x h = let e : y ≡ x = cc in ap (λ z. z ∷ []) e
+take_at (y ∷ ys) (suc i) x h = rw (add-one (suc i)) (ap (λ zs. y ∷ zs) (rw (add-one i) at (take_at ys i x h)))
 
 pub forms_at : (xs : List Form) (i : ℕ) (x : Form) → slice_get xs i ≡ Some x
     → forms (drop i xs) ≡ form_and x (forms (drop (i + 1) xs))

@@ -1,23 +1,24 @@
 -- Applications, signals and transfers (ISO/IEC 13816:2007, 12.7, 14.8, 15.3.4 and 29.2). This profile's choices are
 -- `<program-error>` for a wrong number of arguments, `<control-error>` for a missing next method, for a handler
 -- that returns and for a condition that is not continuable.
-use Rattle.std.specs.Prelude.{ℕ, ◌+◌, ◌==◌, Bool, false, nat_eq, nat_le, List, [], ◌∷◌, ◌++◌, length, map, take, drop, Option, Some, None, option_to_list, slice_get, is_some, if◌then◌else◌}
+use Rattle.std.specs.Prelude.{ℕ, ◌+◌, ◌==◌, Bool, false, nat_eq, nat_le, List, [], ◌∷◌, ◌++◌, length, map, take, drop, Option, Some, None, slice_get, is_some, if◌then◌else◌}
 use Rattle.isl_meaning.specs.declared.program.ProgramRows.{ProgramRows}
 use Rattle.isl_meaning.specs.declared.program.Procedure.{Procedure}
 use Rattle.isl_meaning.specs.declared.program.GenericRow.{GenericRow}
 use Rattle.isl_meaning.specs.declared.program.FunctionRow.{FunctionRow}
 use Rattle.isl_meaning.specs.declared.program.Callee.{Callee}
 use Rattle.isl_meaning.specs.declared.program.Callee.TheVariants as callee
-use Rattle.isl_meaning.specs.Form.{Form, Forms}
+use Rattle.isl_meaning.specs.Form.{Form, Forms, parameters}
 use Rattle.isl_meaning.specs.Counts.{nodes, application_words}
 use Rattle.isl_meaning.specs.Values.{Value, named, symbol, nil, object, same, is_true}
-use Rattle.isl_meaning.specs.Objects.{Chain, Called, Environment, no_environment, Object, cons, instance, function, generic_function, function_class, control_error_class, program_error_class, domain_error_class, unbound_variable_class, undefined_function_class}
+use Rattle.isl_meaning.specs.Objects.{Chain, Called, Environment, no_environment, Object, cons, instance, function, closure, generic_function, fresh_symbol, function_class, control_error_class, program_error_class, domain_error_class, unbound_variable_class, undefined_function_class}
 use Rattle.isl_meaning.specs.State.{State, Exit, ExitKind, catch_exit, signal_exit, Landing, at_segment, at_site, Evaluated, gives, leaves, Act, go_on, caught, inside, exit_made, Limit, request, charged, make, changed, in_frame}
 use Rattle.isl_meaning.specs.Lookup.{text, with_variables, with_values}
-use Rattle.isl_meaning.specs.Inside.{captures, is_method, has_cell}
+use Rattle.isl_meaning.specs.declared.part.Part.TheVariants.{Method}
+use Rattle.isl_meaning.specs.Captured.{captures, has_cell}
 use Rattle.isl_meaning.specs.Classes.{class_of, fetch, chain}
 use Rattle.isl_meaning.specs.Literals.{class_value}
-use Rattle.isl_meaning.specs.Primitives.{Answer, result, makes, fails}
+use Rattle.isl_meaning.specs.Primitives.{Answer, result, makes, makes_symbol, fails, instance_words}
 
 -- what is evaluated one level below: nothing, to see that there is a level; a form; the segments of
 -- a tagbody from one of them on, with its exit and all its segments; the methods of a chain
@@ -45,7 +46,7 @@ abbrev pub takes : (required : ℕ) → (more : Bool) → ℕ → Bool
 takes required more n = if more then nat_le required n else nat_eq required n
 
 abbrev pub variables : Procedure → List ℕ
-variables p = p.required ++ option_to_list p.rest
+variables p = parameters p.required p.rest
 
 -- the mark of a condition is set
 abbrev pub marked_at : Value → Value → Option Object → State → State
@@ -91,47 +92,55 @@ module _ (names : List (List ℕ)) (program : ProgramRows) (limit : Limit) (belo
   abbrev pub with_cells : List ℕ → Form → State → (State → Evaluated) → Evaluated
   with_cells [] body z next = next z
   with_cells (v ∷ vs) body z next =
-      if has_cell program v body then request limit 1 0 z (λ entered. with_cells vs body (charged 1 entered) next)
+      if has_cell v body then request limit 1 0 z (λ entered. with_cells vs body (charged 1 entered) next)
       else with_cells vs body z next
 
   -- the words of the arguments and the chain of a method, where a function in it captures them
   abbrev pub with_record : Option Called → Form → State → (State → Evaluated) → Evaluated
   with_record None body z next = next z
   with_record (Some called) body z next =
-      if captures is_method body then
+      if captures Method body then
       request limit (2 + length called.arguments) 0 z (λ entered. next (charged (2 + length called.arguments) entered))
       else next z
 
-  -- the application of a procedure in an environment, with what a method is called with; the number of
-  -- arguments is judged first, and then each request comes one by one
-  abbrev pub enter : Signals → Procedure → Environment → Option Called → List Value → Act
-  enter wrong p env called vs around z =
-      if takes (length p.required) (is_some p.rest) (length vs) then
-      in_frame limit (application_words (nodes p.body) + length vs)
-      (λ entered. gathered (length p.required) p.rest vs (charged (length vs) entered) (λ ws gone.
-      with_record called p.body gone (λ recorded.
-      with_cells (variables p) p.body recorded (λ ready.
-      below (form p.body) (with_variables (variables p) ready env) around (with_values ws ready)))))
+  -- the application of a function in an environment, with what a method is called with; the number of
+  -- arguments is judged first, and then each request comes one by one. `wrong` signals what goes wrong in the
+  -- application itself: inside a handler, under the handlers outside.
+  abbrev pub enter : Signals → (required : List ℕ) → (rest : Option ℕ) → (body : Form) → Environment → Option Called → List Value → Act
+  enter wrong required rest body env called vs around z =
+      if takes (length required) (is_some rest) (length vs) then
+      in_frame limit (application_words (nodes body) + length vs)
+      (λ entered. gathered (length required) rest vs (charged (length vs) entered) (λ ws gone.
+      with_record called body gone (λ recorded.
+      with_cells (parameters required rest) body recorded (λ ready.
+      below (form body) (with_variables (parameters required rest) ready env) around (with_values ws ready)))))
       z
       else wrong program_error_class [] around z
 
-  -- the application of a procedure by its number: a level is needed before all else
-  abbrev pub apply_procedure : Signals → ℕ → Environment → Option Called → List Value → Act
-  apply_procedure wrong i env called vs around z =
+  -- the application of a procedure by its number: a level is needed before all else. Around it there are no
+  -- variables and no exits.
+  abbrev pub apply_procedure : Signals → ℕ → Option Called → List Value → Act
+  apply_procedure wrong i called vs around z =
       descend (λ entered.
-      with_some (slice_get program.procedures i) (λ a y. gives nil y) (λ p. enter wrong p env called vs) around entered)
+      with_some (slice_get program.procedures i) (λ a y. gives nil y)
+      (λ p. enter wrong p.required p.rest p.body (record no_environment { method = called }) called vs) around entered)
       around z
+
+  -- the application of a function that a `lambda` made, in the environment in which it was made
+  abbrev pub apply_closure : Signals → (required : List ℕ) → (rest : Option ℕ) → (body : Form) → Environment → List Value → Act
+  apply_closure wrong required rest body env vs around z =
+      descend (λ entered. enter wrong required rest body env None vs around entered) around z
 
   -- a method, with the arguments and the rest of the chain
   abbrev pub apply_method : Signals → ℕ → Called → Act
   apply_method wrong i called =
-      apply_procedure wrong i (record no_environment { method = Some called }) (Some called) called.arguments
+      apply_procedure wrong i (Some called) called.arguments
 
   -- methods one after another, for what they do
   abbrev pub apply_each : Signals → List ℕ → List Value → Act
   apply_each wrong [] vs around z = gives nil z
   apply_each wrong (m ∷ ms) vs around z =
-      go_on (apply_procedure wrong m no_environment None vs around z) (λ v after. apply_each wrong ms vs around after)
+      go_on (apply_procedure wrong m None vs around z) (λ v after. apply_each wrong ms vs around after)
 
   -- the methods of a chain (ISO/IEC 13816:2007, 15.3.4): the first around method; else all before methods, the
   -- first primary method and all after methods. Without any there is no next method.
@@ -179,7 +188,8 @@ module _ (names : List (List ℕ)) (program : ProgramRows) (limit : Limit) (belo
 
   -- the application of a value, which is to be a function
   abbrev pub apply_object : Signals → Option Object → Value → List Value → Act
-  apply_object wrong (Some (function p env)) f vs = apply_procedure wrong p env None vs
+  apply_object wrong (Some (function p)) f vs = apply_procedure wrong p None vs
+  apply_object wrong (Some (closure required rest body env)) f vs = apply_closure wrong required rest body env vs
   apply_object wrong (Some (generic_function g)) f vs = apply_generic wrong g vs
   apply_object wrong o f vs = wrong domain_error_class (f ∷ class_value function_class ∷ [])
 
@@ -187,7 +197,7 @@ module _ (names : List (List ℕ)) (program : ProgramRows) (limit : Limit) (belo
   apply_value wrong f vs around z = apply_object wrong (fetch z f) f vs around z
 
   abbrev pub apply_callee : Signals → Callee → List Value → Act
-  apply_callee wrong (callee.Procedure p) vs = apply_procedure wrong p no_environment None vs
+  apply_callee wrong (callee.Procedure p) vs = apply_procedure wrong p None vs
   apply_callee wrong (callee.Generic g) vs = apply_generic wrong g vs
 
   -- the application of the function of a name
@@ -195,10 +205,10 @@ module _ (names : List (List ℕ)) (program : ProgramRows) (limit : Limit) (belo
   apply_row wrong name None vs = undefined_function wrong name
   apply_row wrong name (Some f) vs = apply_callee wrong f.callee vs
 
-  -- a new condition of a class, with its slots and one word for its mark
+  -- a new condition of a class, with its slots
   abbrev pub new_condition : ℕ → List Value → State → (Value → State → Evaluated) → Evaluated
   new_condition class slots z next =
-      make limit (3 + length slots) 0 (instance class (map Some slots) nil) z next
+      make limit (instance_words program class (length slots)) 0 (instance class (map Some slots) nil) z next
 
   -- a condition is signalled with a mark under handlers (ISO/IEC 13816:2007, 29.2): without any, the program
   -- ends unhandled; else the innermost one is applied to it with those outside it alone. A transfer to the
@@ -222,6 +232,8 @@ module _ (names : List (List ℕ)) (program : ProgramRows) (limit : Limit) (belo
   abbrev pub answered : Answer → Act
   answered (result v z) around y = gives v z
   answered (makes size besides made z) around y = make limit size besides made z (λ v after. gives v after)
+  answered (makes_symbol z) around y =
+      make limit 2 0 (fresh_symbol z.symbols) z (λ v after. gives v (record after { symbols = after.symbols + 1 }))
   answered (fails class slots z) around y = signal class slots around z
 
   -- a search from the front, which counts each one that it passes

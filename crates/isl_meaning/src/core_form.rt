@@ -4,12 +4,13 @@ ghost use Rattle.std.specs.Prelude.{◌≡◌, IfOk};
 ghost use Rattle.isl_meaning.specs.Form.{literal, clauses, sequence, prim, sited};
 ghost use Rattle.isl_meaning.specs.View.{view_form, forms, clauses_of};
 
+mod copies;
 mod counts;
 mod depths;
 
 use crate::part::{ExitVar, PartList, Var};
 use crate::primitive::Primitive;
-use crate::program::{LiteralId, ProcedureId, SiteId};
+use crate::program::{LiteralId, SiteId, VarList};
 use isl_base::{ItemList, Name, NoMemory};
 use std::alloc::Global;
 use std::marker::Model;
@@ -43,8 +44,9 @@ pub enum CoreForm {
     Sequence(CoreList),
     /// Variables bound in parallel round a body (ISO/IEC 13816:2007, 14.2, `let`).
     Let(BindingList, Box<Core>),
-    /// A new function of a procedure and the parts that it captures (ISO/IEC 13816:2007, 12.7).
-    Lambda(ProcedureId, PartList),
+    /// A new function of its required variables, its rest variable and its body, which captures these
+    /// parts (ISO/IEC 13816:2007, 12.7).
+    Lambda(VarList, Option<Var>, Box<Core>, PartList),
     /// The function of a name, applied to the arguments.
     Call(Name, CoreList),
     /// The first part's value, applied to those of the others.

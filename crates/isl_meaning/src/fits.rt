@@ -1,6 +1,8 @@
-// What each form says of itself: rows and sites that are there, and as many arguments as are taken.
+// What each form says of itself: rows and sites that are there, as many arguments as are taken, and functions
+// that are not too deep.
 
-ghost use Rattle.std.specs.Prelude.{◌≡◌};
+ghost use Rattle.std.specs.Prelude.{◌≡◌, ◌&&◌, nat_le};
+ghost use Rattle.isl_meaning.specs.Counts.{depth};
 ghost use Rattle.isl_meaning.specs.View.{forms, clauses_of, maybe_form, bindings_of, dynamics_of};
 ghost use Rattle.isl_meaning.specs.Fits.{fits, forms_fit, clauses_fit, body_fits, bindings_fit, dynamics_fit};
 
@@ -8,7 +10,8 @@ use crate::core_form::{BindingList, ClauseList, Core, CoreForm, CoreList, DynBin
 use crate::program::ProgramRows;
 
 impl Core {
-    // Whether its rows and sites are there, and its arguments as many as are taken.
+    // Whether its rows and sites are there, its arguments as many as are taken, and its functions at most
+    // 1,000 forms deep.
     #[cycle(fits)]
     #[tactic(auto, using(crate::proofs::Lengths::forms_counted))]
     pub(crate) fn fits(&self, rows: &ProgramRows) -> bool
@@ -22,7 +25,7 @@ impl Core {
             | CoreForm::NextMethod
             | CoreForm::HasNext => true,
             CoreForm::Literal(id) => *id < rows.literals.len(),
-            CoreForm::Lambda(id, _) => *id < rows.procedures.len(),
+            CoreForm::Lambda(_, _, body, _) => function_fits(body, rows),
             CoreForm::SetLocal(_, form)
             | CoreForm::SetGlobal(_, form)
             | CoreForm::DefGlobal(_, form)
@@ -39,10 +42,10 @@ impl Core {
             | CoreForm::Signal(first, second)
             | CoreForm::Continue(first, second) => first.fits(rows) && second.fits(rows),
             CoreForm::Clauses(list) => clauses_fit(list, rows),
-            CoreForm::Sequence(list) | CoreForm::Call(_, list) | CoreForm::Tagbody(_, list) => {
-                forms_fit(list, rows)
+            CoreForm::Sequence(list) | CoreForm::Call(_, list) => forms_fit(list, rows),
+            CoreForm::CallValue(list) | CoreForm::Tagbody(_, list) => {
+                1 <= list.len() && forms_fit(list, rows)
             }
-            CoreForm::CallValue(list) => 1 <= list.len() && forms_fit(list, rows),
             CoreForm::Prim(which, list) => {
                 list.len() == which.arity() as usize && forms_fit(list, rows)
             }
@@ -53,6 +56,15 @@ impl Core {
             }
         }
     }
+}
+
+// Whether the body of a `lambda` fits, and is at most 1,000 forms deep.
+#[cycle(fits)]
+#[tactic(auto, using(crate::proofs::Bounds::depth_within))]
+fn function_fits(body: &Core, rows: &ProgramRows) -> bool
+    ensures { result ≡ (fits rows.now body.now && nat_le (depth body.now) 1000) }
+{
+    body.fits(rows) && body.depth() <= 1000
 }
 
 #[cycle(fits)]

@@ -1,6 +1,7 @@
-// What is true of all runs of all programs, as the contracts of functions that do nothing.
+// What is true of all programs and of all their runs, as the contracts of functions that do nothing.
 
 ghost use Rattle.isl_meaning.specs.Laws.{LawOfLevels, LawOfGrowth, LawOfTransfers, LawOfExits};
+ghost use Rattle.isl_meaning.specs.BoundNames.{LawOfNames};
 
 /// The law of levels: an end within some levels is the same within more of them, with the same bytes,
 /// units and peak; and what is printed within fewer levels is a beginning of what is printed within more.
@@ -22,4 +23,11 @@ pub fn law_transfers()
 /// No number of an exit is used twice: those made in a run are each above all made before.
 pub fn law_exits()
     ensures { LawOfExits }
+{}
+
+/// In a program every name is bound where it stands: each body, of a function, a method, an initform, any
+/// other procedure or a main form, stands in a scope of its own variables alone, and each function inside it
+/// is made where what it captures is bound, and its body stands in the scope of that and its own variables.
+pub fn law_names()
+    ensures { LawOfNames }
 {}

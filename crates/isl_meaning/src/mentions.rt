@@ -4,13 +4,12 @@ ghost use Rattle.std.specs.Prelude.{◌≡◌, option_to_list};
 ghost use Rattle.std.specs.List.{list_any};
 ghost use Rattle.isl_meaning.specs.declared.part.Part.TheVariants.{Variable};
 ghost use Rattle.isl_meaning.specs.View.{forms, clauses_of, maybe_form, bindings_of, dynamics_of};
-ghost use Rattle.isl_meaning.specs.Mentions.{binds, mentions, forms_mention, clauses_mention, body_mentions, bindings_mention, dynamics_mention, same_part, captures_part};
-ghost use Rattle.isl_meaning.specs.Signals.{variables};
+ghost use Rattle.isl_meaning.specs.Form.{parameters};
+ghost use Rattle.isl_meaning.specs.Mentions.{owns, binds, mentions, forms_mention, clauses_mention, body_mentions, bindings_mention, dynamics_mention, same_part};
 
 use crate::core_form::{BindingList, ClauseList, Core, CoreForm, CoreList, DynBindings};
 use crate::part::{Part, Var};
-use crate::program::Procedure;
-use crate::scope::has_part;
+use crate::program::VarList;
 
 impl Core {
     // Whether the part is mentioned and not bound inside.
@@ -48,7 +47,9 @@ impl Core {
             CoreForm::DynamicLet(list, body) => {
                 dynamics_mention(list, part) || body.mentions(part)
             }
-            CoreForm::Lambda(_, parts) => has_part(part, parts.as_slice()),
+            CoreForm::Lambda(required, rest, body, _) => {
+                !is_parameter(required, *rest, part) && body.mentions(part)
+            }
             CoreForm::Block(exit, body) => !part.same(Part::Exit(*exit)) && body.mentions(part),
             CoreForm::Return(exit, form) => part.same(Part::Exit(*exit)) || form.mentions(part),
             CoreForm::Tagbody(exit, list) => {
@@ -134,25 +135,17 @@ fn binds(list: &BindingList, part: Part) -> bool
     false
 }
 
-impl Procedure {
-    // Whether its body mentions a part that is none of its own variables.
-    pub(crate) fn captures(&self, part: Part) -> bool
-        ensures { result ≡ captures_part self.now part }
-    {
-        !self.owns(part) && self.body.mentions(part)
-    }
-
-    // Whether the part is one of its own variables.
-    #[tactic(auto, using(crate::proofs::Lists::any_of_both))]
-    fn owns(&self, part: Part) -> bool
-        ensures { result ≡ list_any (λ v. same_part part (Variable v)) (variables self.now) }
-    {
-        are_variables(self.required.as_slice(), part) || is_variable(self.rest, part)
-    }
+// Whether the part is one of a function's own variables.
+#[tactic(auto, using(crate::proofs::Lists::any_of_both))]
+fn is_parameter(required: &VarList, rest: Option<Var>, part: Part) -> bool
+    ensures { result ≡ owns (parameters required.now rest) part }
+{
+    owns(required.as_slice(), part) || is_variable(rest, part)
 }
 
-fn are_variables(vars: &[Var], part: Part) -> bool
-    ensures { result ≡ list_any (λ v. same_part part (Variable v)) vars.now }
+// Whether the part is one of the variables.
+pub(crate) fn owns(vars: &[Var], part: Part) -> bool
+    ensures { result ≡ owns vars.now part }
 {
     vars.iter().any(|var| part.same(Part::Variable(*var)))
 }

@@ -1,13 +1,20 @@
 // The nodes of programs, and the words of applications.
 
 ghost use Rattle.std.specs.Prelude.{◌≡◌, min, length};
-ghost use Rattle.isl_meaning.specs.Counts.{nodes};
+ghost use Rattle.isl_meaning.specs.Counts.{all_nodes};
 ghost use Rattle.isl_meaning.specs.ProgramCounts.{total, row_nodes, procedure_nodes, slot_nodes, class_nodes, program_nodes, frame_words};
 
 use crate::core_form::CoreList;
 use crate::program::{
     ClassRow, ClassRows, LiteralRow, LiteralRows, Procedure, ProcedureList, ProgramRows, SlotRows,
 };
+
+/// Whether the body of a `lambda` counts where the `lambda` stands.
+#[derive(Clone, Copy, Debug, PartialEq, Eq)]
+pub(crate) enum Bodies {
+    Apart,
+    Inside,
+}
 
 impl ProgramRows {
     /// Its nodes: those of its procedures, literals, classes, generic functions and main forms;
@@ -28,7 +35,11 @@ impl ProgramRows {
 pub fn frame_words(procedure: &Procedure) -> u64
     ensures { result ≡ min (frame_words procedure.now) 18446744073709551615 }
 {
-    procedure.body.nodes().saturating_mul(16).saturating_add(16)
+    procedure
+        .body
+        .nodes(Bodies::Apart)
+        .saturating_mul(16)
+        .saturating_add(16)
 }
 
 // A literal's nodes: the size of its datum, or one.
@@ -69,7 +80,7 @@ fn procedure_list_nodes(list: &ProcedureList) -> u64
         let Some(procedure) = list.get(at) else {
             unreachable!()
         };
-        total = total.saturating_add(procedure.body.nodes().saturating_add(4));
+        total = total.saturating_add(procedure.body.nodes(Bodies::Inside).saturating_add(4));
     }
     total
 }
@@ -101,14 +112,14 @@ fn class_list_nodes(list: &ClassRows) -> u64
 }
 
 fn main_nodes(list: &CoreList) -> u64
-    ensures { result ≡ min (total nodes list.now) 18446744073709551615 }
+    ensures { result ≡ min (total all_nodes list.now) 18446744073709551615 }
 {
     let mut total: u64 = 0;
     for at in 0..list.len() {
         let Some(form) = list.get(at) else {
             unreachable!()
         };
-        total = total.saturating_add(form.nodes());
+        total = total.saturating_add(form.nodes(Bodies::Inside));
     }
     total
 }

@@ -14,7 +14,7 @@ use crate::program::{
     Callee, ClassRow, FunctionRow, GenericRow, LiteralRow, MethodRow, Procedure, ProcedureId,
     ProgramRows, Qualifier, SlotRow, VarList,
 };
-use crate::scope::{Scope, own_variables};
+use crate::scope::{Scope, parameters};
 use isl_base::{Name, NoMemory};
 use std::alloc::Global;
 
@@ -71,7 +71,7 @@ impl ProgramRows {
     }
 
     pub(crate) fn main_fits(&self, alloc: Global) -> Result<bool, NoMemory>
-        ensures { IfOk result (λ yes. yes ≡ list_all (λ f. body_fits self.now f && stands_alone self.now false f) self.now.main) }
+        ensures { IfOk result (λ yes. yes ≡ list_all (λ f. body_fits self.now f && stands_alone false f) self.now.main) }
     {
         for form in self.main.as_slice() {
             if !main_form_fits(alloc, self, form)? {
@@ -93,50 +93,49 @@ fn body_fits(rows: &ProgramRows, body: &Core) -> bool
 }
 
 fn main_form_fits(alloc: Global, rows: &ProgramRows, form: &Core) -> Result<bool, NoMemory>
-    ensures { IfOk result (λ yes. yes ≡ (body_fits rows.now form.now && stands_alone rows.now false form.now)) }
+    ensures { IfOk result (λ yes. yes ≡ (body_fits rows.now form.now && stands_alone false form.now)) }
 {
     if body_fits(rows, form) {
-        stands_alone(alloc, rows, form)
+        stands_alone(alloc, form)
     } else {
         Ok(false)
     }
 }
 
 // Whether a form stands by itself, in no method.
-fn stands_alone(alloc: Global, rows: &ProgramRows, form: &Core) -> Result<bool, NoMemory>
-    ensures { IfOk result (λ yes. yes ≡ stands_alone rows.now false form.now) }
+fn stands_alone(alloc: Global, form: &Core) -> Result<bool, NoMemory>
+    ensures { IfOk result (λ yes. yes ≡ stands_alone false form.now) }
 {
     let nothing = Scope::alone(alloc, VarList::new(alloc), false);
-    form.stands(alloc, rows, rows.procedures.len(), &nothing)
+    form.stands(alloc, &nothing)
 }
 
-/// Whether a procedure that no `lambda` makes is there and stands by itself.
+/// Whether the procedure is there and stands by itself.
 pub(crate) fn is_alone(
     alloc: Global,
     rows: &ProgramRows,
     in_method: bool,
     id: ProcedureId,
 ) -> Result<bool, NoMemory>
-    ensures { IfOk result (λ yes. yes ≡ is_alone rows.now in_method (slice_get rows.now.procedures id)) }
+    ensures { IfOk result (λ yes. yes ≡ is_alone in_method (slice_get rows.now.procedures id)) }
 {
     match rows.procedures.get(id) {
         None => Ok(false),
-        Some(procedure) => procedure_is_alone(alloc, rows, in_method, procedure),
+        Some(procedure) => procedure_is_alone(alloc, in_method, procedure),
     }
 }
 
-fn procedure_is_alone(
+pub(crate) fn procedure_is_alone(
     alloc: Global,
-    rows: &ProgramRows,
     in_method: bool,
     procedure: &Procedure,
 ) -> Result<bool, NoMemory>
-    ensures { IfOk result (λ yes. yes ≡ is_alone rows.now in_method (Some procedure.now)) }
+    ensures { IfOk result (λ yes. yes ≡ is_alone in_method (Some procedure.now)) }
 {
-    let own = Scope::alone(alloc, own_variables(alloc, procedure)?, in_method);
+    let own = parameters(alloc, &procedure.required, procedure.rest)?;
     procedure
         .body
-        .stands(alloc, rows, rows.procedures.len(), &own)
+        .stands(alloc, &Scope::alone(alloc, own, in_method))
 }
 
 // Literals and classes

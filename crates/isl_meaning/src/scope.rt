@@ -3,14 +3,14 @@
 ghost use Rattle.std.specs.Prelude.{◌≡◌, ◌==◌, ◌++◌, filter, option_to_list, IfOk, OnOk};
 ghost use Rattle.std.specs.List.{list_any};
 ghost use Rattle.isl_meaning.specs.declared.part.Part.TheVariants.{Variable, Exit};
-ghost use Rattle.isl_meaning.specs.Mentions.{same_part};
+ghost use Rattle.isl_meaning.specs.Mentions.{same_part, comes_before};
 ghost use Rattle.isl_meaning.specs.Standing.{alone, with_bound, with_around, variables_bound, is_variable, exit_around, is_block, is_segment, is_bound, seen};
-ghost use Rattle.isl_meaning.specs.Signals.{variables};
+ghost use Rattle.isl_meaning.specs.Form.{parameters};
 ghost use Rattle.isl_meaning.specs.View.{bindings_of};
 
 use crate::core_form::BindingList;
 use crate::part::{ExitVar, Part, PartList, Var};
-use crate::program::{Procedure, VarList};
+use crate::program::VarList;
 use isl_base::{ItemList, NoMemory};
 use std::alloc::Global;
 
@@ -50,6 +50,20 @@ impl Part {
             (Part::Exit(x), Part::Exit(y)) => x == y,
             (Part::Method, Part::Method) => true,
             _ => false,
+        }
+    }
+
+    /// Whether it comes before the other: variables by rising number, then exits by rising number, then
+    /// the method.
+    pub(crate) fn comes_before(self, other: Part) -> bool
+        ensures { result ≡ comes_before self other }
+    {
+        match (self, other) {
+            (Part::Variable(v), Part::Variable(w)) => v < w,
+            (Part::Exit(x), Part::Exit(y)) => x < y,
+            (Part::Variable(_), Part::Exit(_) | Part::Method) => true,
+            (Part::Exit(_), Part::Method) => true,
+            (Part::Exit(_), Part::Variable(_)) | (Part::Method, _) => false,
         }
     }
 }
@@ -204,13 +218,17 @@ fn seen_exits(alloc: Global, exits: &[ExitAround], parts: &[Part]) -> Result<Exi
     Ok(list)
 }
 
-// The variables of a procedure: the required ones, and the rest variable.
-pub(crate) fn own_variables(alloc: Global, procedure: &Procedure) -> Result<VarList, NoMemory>
-    ensures { IfOk result (λ list. list ≡ variables procedure.now) }
+// The variables of a function: the required ones, and the rest variable.
+pub(crate) fn parameters(
+    alloc: Global,
+    required: &VarList,
+    rest: Option<Var>,
+) -> Result<VarList, NoMemory>
+    ensures { IfOk result (λ list. list ≡ parameters required.now rest) }
 {
     let mut list = VarList::new(alloc);
-    push_variables(&mut list, procedure.required.as_slice())?;
-    push_rest(&mut list, procedure.rest)?;
+    push_variables(&mut list, required.as_slice())?;
+    push_rest(&mut list, rest)?;
     Ok(list)
 }
 

@@ -65,8 +65,8 @@ impl Program {
 }
 
 impl ProgramRows {
-    /// Whether the rows are those of a program. The time grows with the ways on which functions
-    /// stand inside functions, and with the product of procedures and forms.
+    /// Whether the rows are those of a program. The time grows with the nodes, once for each captured part
+    /// and each function around, and with the product of procedures and methods.
     pub fn is_whole(&self, alloc: Global) -> Result<bool, NoMemory>
         ensures { IfOk result (λ yes. yes ≡ is_whole self.now) }
     {
@@ -108,7 +108,7 @@ impl ProgramRows {
         if !self.main_fits(alloc)? {
             return Ok(false);
         }
-        self.procedures_placed(alloc)
+        self.procedures_stand(alloc)
     }
 
     // The tables that choose methods are not too large.

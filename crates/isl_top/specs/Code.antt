@@ -185,7 +185,7 @@ module _ (literals : List LiteralRow) where
     form_code (set_global n f) = constant nil_word
     form_code (def_global n f) = constant nil_word
     form_code (let_form bs body) = constant nil_word
-    form_code (lambda p ps) = constant nil_word
+    form_code (lambda vs rest body ps) = constant nil_word
     form_code (call n fs) = constant nil_word
     form_code (call_value fs) = constant nil_word
     form_code (apply function fs) = constant nil_word

@@ -37,7 +37,7 @@ fn form_code(alloc: Global, literals: &LiteralRows, core: &Core) -> Result<WordL
         CoreForm::SetGlobal(_, _) => nil_code(alloc),
         CoreForm::DefGlobal(_, _) => nil_code(alloc),
         CoreForm::Let(_, _) => nil_code(alloc),
-        CoreForm::Lambda(_, _) => nil_code(alloc),
+        CoreForm::Lambda(_, _, _, _) => nil_code(alloc),
         CoreForm::Call(_, _) => nil_code(alloc),
         CoreForm::CallValue(_) => nil_code(alloc),
         CoreForm::Apply(_, _) => nil_code(alloc),
@@ -164,7 +164,7 @@ fn literal_byte(literals: &LiteralRows, core: &Core) -> u32
         | CoreForm::Clauses(_)
         | CoreForm::Sequence(_)
         | CoreForm::Let(_, _)
-        | CoreForm::Lambda(_, _)
+        | CoreForm::Lambda(_, _, _, _)
         | CoreForm::Call(_, _)
         | CoreForm::CallValue(_)
         | CoreForm::Apply(_, _)

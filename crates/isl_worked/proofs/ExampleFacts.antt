@@ -1,6 +1,6 @@
 -- The facts of the worked programs compute.
 use Rattle.std.proofs.Common.{refl}
-use Rattle.isl_worked.specs.Programs.{WorkedAreWhole, TooFewArguments, GoOutside, NoSuchSegment, GoToABlock, Captured, Uncalled, MadeByUncalled, NotThere, NodesOfOneApplication, NotReached, CellsOfMethods}
+use Rattle.isl_worked.specs.Programs.{WorkedAreWhole, TooFewArguments, GoOutside, NoSuchSegment, NoSegment, GoToABlock, Captured, InOrder, CellOfItsOwn, Uncalled, MadeByUncalled, NotThere, NodesOfOneApplication, NotReached, CellsOfMethods}
 use Rattle.isl_base.specs.DataMeasures.{size_of}
 
 pub worked_are_whole : WorkedAreWhole
@@ -27,6 +27,17 @@ pub captured : Captured
 unfolding size_of
 captured = (refl, refl)
 
+pub parts_in_order : InOrder
+unfolding size_of
+parts_in_order = (refl, refl, refl, refl, refl)
+
+pub cell_of_its_own : CellOfItsOwn
+cell_of_its_own = (refl, refl)
+
+pub no_segment : NoSegment
+unfolding size_of
+no_segment = refl
+
 pub uncalled_procedures : Uncalled
 unfolding size_of
 uncalled_procedures = (refl, refl, refl, refl)
@@ -41,7 +52,7 @@ not_there = (refl, refl, refl, refl, refl)
 
 pub nodes_of_one_application : NodesOfOneApplication
 unfolding size_of
-nodes_of_one_application = refl
+nodes_of_one_application = (refl, refl)
 
 pub not_reached : NotReached
 unfolding size_of

@@ -13,7 +13,8 @@ use Rattle.isl_meaning.specs.declared.program.FunctionRow.{FunctionRow}
 use Rattle.isl_meaning.specs.declared.program.Callee.TheVariants as callee
 use Rattle.isl_meaning.specs.declared.program.ProgramRows.{ProgramRows}
 use Rattle.isl_meaning.specs.declared.primitive.Primitive.TheVariants.{StandardOutput, PutChar}
-use Rattle.isl_meaning.specs.Form.{Form, literal, sequence, prim, no_form}
+use Rattle.isl_meaning.specs.declared.part.Part.{Part}
+use Rattle.isl_meaning.specs.Form.{Form, literal, sequence, lambda, prim, no_form}
 use Rattle.isl_meaning.specs.View.{forms}
 use Rattle.isl_meaning.specs.State.{Limit, no_place}
 use Rattle.isl_meaning.specs.BuiltIn.{built_in_precedence, built_in_slots}
@@ -55,6 +56,10 @@ built_in_rows = class_rows built_in_precedence built_in_slots
 -- a class below others, without slots
 abbrev pub a_class : List ℕ → ClassRow
 a_class precedence = record { name = name 0; precedence = precedence; slots = []; abstract_class = false }
+
+-- a function of required variables and a body of forms, and the parts that it captures
+abbrev pub a_lambda : List ℕ → List Form → List Part → Form
+a_lambda vars fs parts = lambda vars None (sequence (forms fs)) parts
 
 -- a procedure of required variables and a body of forms
 abbrev pub a_procedure : List ℕ → List Form → Procedure

@@ -7,12 +7,12 @@ use Rattle.isl_meaning.specs.declared.program.Qualifier.TheVariants.{Primary, Ar
 use Rattle.isl_meaning.specs.declared.program.MethodRow.{MethodRow}
 use Rattle.isl_meaning.specs.declared.program.ProgramRows.{ProgramRows}
 use Rattle.isl_meaning.specs.declared.primitive.Primitive.TheVariants.{Subtract, Multiply, Cons, Allocate}
-use Rattle.isl_meaning.specs.Form.{literal, local, lambda, call, call_value, prim, dynamic_let, dynamic, def_dynamic, next_method, no_dynamic, dynamic_and}
+use Rattle.isl_meaning.specs.Form.{literal, local, call, call_value, prim, dynamic_let, dynamic, def_dynamic, next_method, no_dynamic, dynamic_and}
 use Rattle.isl_meaning.specs.View.{forms}
 use Rattle.isl_meaning.specs.Values.{integer, nil}
 use Rattle.isl_meaning.specs.State.{words, unlimited}
 use Rattle.isl_meaning.specs.Meaning.{with_value, for_words, meaning}
-use Rattle.isl_worked.specs.ByHand.{name, a_number, a_char, a_procedure, a_function, a_class, built_in_rows, a_program, put, body, Does}
+use Rattle.isl_worked.specs.ByHand.{name, a_number, a_char, a_lambda, a_procedure, a_function, a_class, built_in_rows, a_program, put, body, Does}
 
 -- (defclass <a> () ()) (defclass <b> (<a>) ()) (defgeneric g (x)), and methods of g that put a character each:
 -- for <a> a primary one, 1, one before, 3, and one after, 5; for <b> a primary one, 2, and then the next
@@ -61,8 +61,8 @@ SeenThroughACall = Does ((100 ∷ []) ∷ (102 ∷ []) ∷ []) seen_through_a_ca
 
 -- ((lambda (x) x) 1)
 abbrev pub one_application : ProgramRows
-one_application = a_program (a_number 1 ∷ []) (a_procedure (0 ∷ []) (local 0 ∷ []) ∷ []) []
-    (call_value (forms (lambda 0 [] ∷ literal 0 ∷ [])) ∷ [])
+one_application = a_program (a_number 1 ∷ []) [] []
+    (call_value (forms (a_lambda (0 ∷ []) (local 0 ∷ []) [] ∷ literal 0 ∷ [])) ∷ [])
 
 -- Units: 2 for the call and its argument, 1 for the `lambda` and 2 for the words of the function, 1 for the
 -- literal, 1 for the argument with which the application is entered, 2 for the body and the variable.

@@ -11,7 +11,7 @@ use Rattle.isl_meaning.specs.View.{forms}
 use Rattle.isl_meaning.specs.Values.{integer, character, symbol, named}
 use Rattle.isl_meaning.specs.State.{unlimited, no_place}
 use Rattle.isl_meaning.specs.Meaning.{with_value, by_class, ended_value, meaning}
-use Rattle.isl_worked.specs.ByHand.{name, a_number, a_char, a_symbol, a_procedure, built_in_rows, a_program, put, body, site_at, Does}
+use Rattle.isl_worked.specs.ByHand.{name, a_number, a_char, a_symbol, a_lambda, a_procedure, built_in_rows, a_program, put, body, site_at, Does}
 
 -- data at no place
 abbrev pub number : ℕ → datum.Item
@@ -55,24 +55,19 @@ ChangedLiteral = Does [] changed_literal 0 unlimited (with_value (integer (pos 7
 
 -- ((lambda (a :rest r) (- (car (cdr r)) a)) 1 2 3)
 abbrev pub rest_list : ProgramRows
-rest_list = a_program (a_number 1 ∷ a_number 2 ∷ a_number 3 ∷ [])
-    (record {
-      name = None;
-      required = 0 ∷ [];
-      rest = Some 1;
-      body = body (
-          prim Subtract (forms (prim Car (forms (prim Cdr (forms (local 1 ∷ [])) ∷ [])) ∷ local 0 ∷ [])) ∷ []);
-    } ∷ []) []
-    (of (lambda 0 [] ∷ literal 0 ∷ literal 1 ∷ literal 2 ∷ []) ∷ [])
+rest_list = a_program (a_number 1 ∷ a_number 2 ∷ a_number 3 ∷ []) [] []
+    (of (
+    lambda (0 ∷ []) (Some 1)
+    (body (prim Subtract (forms (prim Car (forms (prim Cdr (forms (local 1 ∷ [])) ∷ [])) ∷ local 0 ∷ [])) ∷ [])) []
+    ∷ literal 0 ∷ literal 1 ∷ literal 2 ∷ []) ∷ [])
 
 abbrev pub RestList : Type 0
 RestList = Does [] rest_list 1 unlimited (with_value (integer (pos 2))) []
 
 -- (%apply (lambda (x y) (- x y)) '(9 2)), and with '(9 . 2)
 abbrev pub applied : datum.Items → datum.Tail → ProgramRows
-applied ds end = a_program (row.Datum (datum.item no_place (datum.list ds end)) ∷ [])
-    (a_procedure (0 ∷ 1 ∷ []) (prim Subtract (forms (local 0 ∷ local 1 ∷ [])) ∷ []) ∷ []) []
-    (sited 1 (apply (lambda 0 []) (literal 0)) ∷ [])
+applied ds end = a_program (row.Datum (datum.item no_place (datum.list ds end)) ∷ []) [] []
+    (sited 1 (apply (a_lambda (0 ∷ 1 ∷ []) (prim Subtract (forms (local 0 ∷ local 1 ∷ [])) ∷ []) []) (literal 0)) ∷ [])
 
 abbrev pub Applied : Type 0
 Applied = Does [] (applied (datum.items_of (number 9 ∷ number 2 ∷ [])) datum.no_tail) 1 unlimited (with_value (integer (pos 7))) []
@@ -112,10 +107,9 @@ NoValue = Does ((120 ∷ []) ∷ []) (a_program (a_number 1 ∷ []) [] [] (sited
 
 -- (let ((n 0)) (let ((f (lambda () (setq n (+ n 2))))) (while (< n 5) (funcall f)) n)): n is captured and set
 abbrev pub counting : ProgramRows
-counting = a_program (a_number 0 ∷ a_number 2 ∷ a_number 5 ∷ [])
-    (a_procedure [] (set_local 0 (prim Add (forms (local 0 ∷ literal 1 ∷ []))) ∷ []) ∷ []) []
+counting = a_program (a_number 0 ∷ a_number 2 ∷ a_number 5 ∷ []) [] []
     (let_form (binding_and 0 (literal 0) no_binding) (body (
-    let_form (binding_and 1 (lambda 0 (Variable 0 ∷ [])) no_binding) (body (
+    let_form (binding_and 1 (a_lambda [] (set_local 0 (prim Add (forms (local 0 ∷ literal 1 ∷ []))) ∷ []) (Variable 0 ∷ [])) no_binding) (body (
     while_form (prim NumberLess (forms (local 0 ∷ literal 2 ∷ []))) (body (of (local 1 ∷ []) ∷ []))
     ∷ local 0 ∷ [])) ∷ [])) ∷ [])
 

@@ -3,12 +3,12 @@ use Rattle.std.specs.Prelude.{pos, [], ◌∷◌}
 use Rattle.isl_meaning.specs.declared.part.Part.TheVariants.{Exit}
 use Rattle.isl_meaning.specs.declared.program.ProgramRows.{ProgramRows}
 use Rattle.isl_meaning.specs.declared.primitive.Primitive.TheVariants.{Add, Subtract, NumberEqual}
-use Rattle.isl_meaning.specs.Form.{literal, local, set_local, global, set_global, def_global, clauses, let_form, lambda, call, call_value, prim, block, return_from, tagbody, go, unwind, catch_form, throw, sited, no_clause, clause_and, with_body, no_binding, binding_and}
+use Rattle.isl_meaning.specs.Form.{literal, local, set_local, global, set_global, def_global, clauses, let_form, call, call_value, prim, block, return_from, tagbody, go, unwind, catch_form, throw, sited, no_clause, clause_and, with_body, no_binding, binding_and}
 use Rattle.isl_meaning.specs.View.{forms}
 use Rattle.isl_meaning.specs.Values.{integer}
 use Rattle.isl_meaning.specs.State.{unlimited}
 use Rattle.isl_meaning.specs.Meaning.{with_value, by_class, for_levels}
-use Rattle.isl_worked.specs.ByHand.{a_number, a_char, a_symbol, a_nil, a_procedure, a_function, a_program, put, body, site_at, Does}
+use Rattle.isl_worked.specs.ByHand.{a_number, a_char, a_symbol, a_nil, a_lambda, a_procedure, a_function, a_program, put, body, site_at, Does}
 
 -- (block b (unwind-protect (unwind-protect (return-from b 1) (format-char (standard-output) #\a))
 --     (format-char (standard-output) #\b)))
@@ -46,15 +46,14 @@ OuterCatch = Does ((97 ∷ []) ∷ (98 ∷ []) ∷ []) outer_catch 0 unlimited (
 --            (funcall f) (format-char (standard-output) #\x) end)
 --   n)
 abbrev pub earlier_turn : ProgramRows
-earlier_turn = a_program (a_nil ∷ a_number 0 ∷ a_number 1 ∷ a_char 120 ∷ [])
-    (a_procedure [] (go 0 2 ∷ []) ∷ []) []
+earlier_turn = a_program (a_nil ∷ a_number 0 ∷ a_number 1 ∷ a_char 120 ∷ []) [] []
     (let_form (binding_and 0 (literal 0) (binding_and 1 (literal 1) no_binding)) (body (
     tagbody 0 (forms (
     body []
     ∷ body (
     set_local 1 (prim Add (forms (local 1 ∷ literal 2 ∷ [])))
     ∷ clauses (clause_and (prim NumberEqual (forms (local 1 ∷ literal 2 ∷ [])))
-    (with_body (body (set_local 0 (lambda 0 (Exit 0 ∷ [])) ∷ go 0 1 ∷ []))) no_clause)
+    (with_body (body (set_local 0 (a_lambda [] (go 0 2 ∷ []) (Exit 0 ∷ [])) ∷ go 0 1 ∷ []))) no_clause)
     ∷ call_value (forms (local 0 ∷ []))
     ∷ put 3 ∷ [])
     ∷ body [] ∷ []))
@@ -72,11 +71,11 @@ TooFewLevels = Does [] earlier_turn 1 unlimited for_levels []
 -- (defglobal g (f 0)) (f 1), the `return-from` at site 1
 abbrev pub stale_exit : ProgramRows
 stale_exit = a_program (a_number 0 ∷ a_number 1 ∷ a_symbol 2 ∷ [])
-    (a_procedure [] (sited 1 (return_from 0 (literal 1)) ∷ [])
-    ∷ a_procedure (0 ∷ []) (block 0 (body (
-    clauses (clause_and (prim NumberEqual (forms (local 0 ∷ literal 0 ∷ []))) (with_body (body (lambda 0 (Exit 0 ∷ []) ∷ [])))
+    (a_procedure (0 ∷ []) (block 0 (body (
+    clauses (clause_and (prim NumberEqual (forms (local 0 ∷ literal 0 ∷ [])))
+    (with_body (body (a_lambda [] (sited 1 (return_from 0 (literal 1)) ∷ []) (Exit 0 ∷ []) ∷ [])))
     (clause_and (literal 2) (with_body (body (call_value (forms (global 1 ∷ [])) ∷ []))) no_clause)) ∷ [])) ∷ []) ∷ [])
-    (a_function 0 1 ∷ [])
+    (a_function 0 0 ∷ [])
     (def_global 1 (call 0 (forms (literal 0 ∷ []))) ∷ call 0 (forms (literal 1 ∷ [])) ∷ [])
 
 -- an exit that has ended is not the one of a later entry: a control error

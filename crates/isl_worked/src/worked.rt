@@ -4,7 +4,7 @@ ghost use Rattle.isl_worked.specs.Exits.{InnerFirst, InnerCatch, OuterCatch, Ear
 ghost use Rattle.isl_worked.specs.Conditions.{WithoutItself, Continued, NotContinuable, Returning, CleanupRuns, NoCatchLeft, Replaced, HandlerFails};
 ghost use Rattle.isl_worked.specs.Calls.{MethodsInOrder, SeenThroughACall, OneApplication, FullAtTheForm, FullAtTheCons};
 ghost use Rattle.isl_worked.specs.Data.{DottedList, StringInAVector, ChangedLiteral, RestList, Applied, AppliedToADottedList, TooManyArguments, Floors, Overflow, NoFunction, NoValue, Counting, CountingWords, SetBinding, SlotPlaces, SlotInitarg, SlotForm, UnboundSlot, SetSlot, TwoBytes};
-ghost use Rattle.isl_worked.specs.Programs.{WorkedAreWhole, TooFewArguments, GoOutside, NoSuchSegment, GoToABlock, Captured, Uncalled, MadeByUncalled, NotThere, NodesOfOneApplication, NotReached, CellsOfMethods};
+ghost use Rattle.isl_worked.specs.Programs.{WorkedAreWhole, TooFewArguments, GoOutside, NoSuchSegment, NoSegment, GoToABlock, Captured, InOrder, CellOfItsOwn, Uncalled, MadeByUncalled, NotThere, NodesOfOneApplication, NotReached, CellsOfMethods};
 
 /// Programs of transfers and cleanups do what their comments in `specs/Exits.antt` say.
 pub fn worked_exits()
@@ -39,14 +39,18 @@ pub fn worked_calls()
 {}
 
 /// The worked programs are whole ones, and programs with a name out of its place, in procedures that
-/// nothing calls too, a wrong number of arguments or wrong captured parts are not; and nodes, reached nodes and cells as counted by hand.
+/// nothing calls too, a wrong number of arguments or wrong captured parts are not; which variable has a cell;
+/// and nodes, reached nodes and cells as counted by hand.
 pub fn worked_programs()
     ensures worked_are_whole { WorkedAreWhole }
     ensures too_few_arguments { TooFewArguments }
     ensures go_outside { GoOutside }
     ensures no_such_segment { NoSuchSegment }
+    ensures no_segment { NoSegment }
     ensures go_to_a_block { GoToABlock }
     ensures captured { Captured }
+    ensures in_order { InOrder }
+    ensures cell_of_its_own { CellOfItsOwn }
     ensures uncalled { Uncalled }
     ensures made_by_uncalled { MadeByUncalled }
     ensures not_there { NotThere }

@@ -1,5 +1,5 @@
 -- The sizes of the forms fall; in a loop it is left to see whether the rest fits.
-use Rattle.std.proofs.Common.{◌≡◌, drop}
+use Rattle.std.proofs.Common.{◌≡◌, ◌+◌, drop}
 use Rattle.isl_meaning.specs.Form.{form_size, forms_size, clauses_size, maybe_size, bindings_size, dynamics_size}
 use Rattle.isl_meaning.specs.View.{forms, clauses_of, maybe_form, bindings_of, dynamics_of}
 use Rattle.isl_meaning.specs.Fits.{forms_fit, clauses_fit, bindings_fit, dynamics_fit}
@@ -7,6 +7,9 @@ use Rattle.isl_meaning.proofs.+fits.Given as goal
 
 abbrev pub decreases-core_form::Core::fits : goal.decreases-core_form::Core::fits
 decreases-core_form::Core::fits l = form_size l.self.now
+
+abbrev pub decreases-fits::function_fits : goal.decreases-fits::function_fits
+decreases-fits::function_fits l = form_size l.body.now + 1
 
 abbrev pub decreases-fits::forms_fit : goal.decreases-fits::forms_fit
 decreases-fits::forms_fit l = forms_size (forms l.list.now)

@@ -18,7 +18,7 @@ impl Core {
             CoreForm::Literal(_)
             | CoreForm::Local(_)
             | CoreForm::Global(_)
-            | CoreForm::Lambda(_, _)
+            | CoreForm::Lambda(_, _, _, _)
             | CoreForm::Go(_, _)
             | CoreForm::Dynamic(_)
             | CoreForm::NextMethod

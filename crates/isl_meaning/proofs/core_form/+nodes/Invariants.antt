@@ -8,6 +8,9 @@ use Rattle.isl_meaning.proofs.core_form.+nodes.Given as goal
 abbrev pub decreases-Core::nodes : goal.decreases-Core::nodes
 decreases-Core::nodes l = form_size l.self.now
 
+abbrev pub decreases-counts::nodes_of_function : goal.decreases-counts::nodes_of_function
+decreases-counts::nodes_of_function l = form_size l.body.now + 1
+
 abbrev pub decreases-counts::nodes_of_forms : goal.decreases-counts::nodes_of_forms
 decreases-counts::nodes_of_forms l = forms_size (forms l.list.now)
 
@@ -27,26 +30,26 @@ abbrev pub invariant-counts::nodes_of_forms-loop-at : goal.invariant-counts::nod
 invariant-counts::nodes_of_forms-loop-at l =
     record {
       fits : l.total ≤ 18446744073709551615;
-      counted : min (l.total + nodes_of_forms (forms (drop l.at l.list))) 18446744073709551615 ≡ min (nodes_of_forms (forms l.list)) 18446744073709551615;
+      counted : min (l.total + nodes_of_forms l.bodies (forms (drop l.at l.list))) 18446744073709551615 ≡ min (nodes_of_forms l.bodies (forms l.list)) 18446744073709551615;
     }
 
 abbrev pub invariant-counts::nodes_of_clauses-loop-at : goal.invariant-counts::nodes_of_clauses-loop-at
 invariant-counts::nodes_of_clauses-loop-at l =
     record {
       fits : l.total ≤ 18446744073709551615;
-      counted : min (l.total + nodes_of_clauses (clauses_of (drop l.at l.list))) 18446744073709551615 ≡ min (nodes_of_clauses (clauses_of l.list)) 18446744073709551615;
+      counted : min (l.total + nodes_of_clauses l.bodies (clauses_of (drop l.at l.list))) 18446744073709551615 ≡ min (nodes_of_clauses l.bodies (clauses_of l.list)) 18446744073709551615;
     }
 
 abbrev pub invariant-counts::nodes_of_bindings-loop-at : goal.invariant-counts::nodes_of_bindings-loop-at
 invariant-counts::nodes_of_bindings-loop-at l =
     record {
       fits : l.total ≤ 18446744073709551615;
-      counted : min (l.total + nodes_of_bindings (bindings_of (drop l.at l.list))) 18446744073709551615 ≡ min (nodes_of_bindings (bindings_of l.list)) 18446744073709551615;
+      counted : min (l.total + nodes_of_bindings l.bodies (bindings_of (drop l.at l.list))) 18446744073709551615 ≡ min (nodes_of_bindings l.bodies (bindings_of l.list)) 18446744073709551615;
     }
 
 abbrev pub invariant-counts::nodes_of_dynamics-loop-at : goal.invariant-counts::nodes_of_dynamics-loop-at
 invariant-counts::nodes_of_dynamics-loop-at l =
     record {
       fits : l.total ≤ 18446744073709551615;
-      counted : min (l.total + nodes_of_dynamics (dynamics_of (drop l.at l.list))) 18446744073709551615 ≡ min (nodes_of_dynamics (dynamics_of l.list)) 18446744073709551615;
+      counted : min (l.total + nodes_of_dynamics l.bodies (dynamics_of (drop l.at l.list))) 18446744073709551615 ≡ min (nodes_of_dynamics l.bodies (dynamics_of l.list)) 18446744073709551615;
     }

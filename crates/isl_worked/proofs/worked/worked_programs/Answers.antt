@@ -1,4 +1,4 @@
-use Rattle.isl_worked.proofs.ExampleFacts.{worked_are_whole, too_few_arguments, go_outside, no_such_segment, go_to_a_block, captured, uncalled_procedures, made_by_uncalled, not_there, nodes_of_one_application, not_reached, cells_of_methods}
+use Rattle.isl_worked.proofs.ExampleFacts.{worked_are_whole, too_few_arguments, go_outside, no_such_segment, no_segment, go_to_a_block, captured, parts_in_order, cell_of_its_own, uncalled_procedures, made_by_uncalled, not_there, nodes_of_one_application, not_reached, cells_of_methods}
 use Rattle.isl_worked.proofs.worked.worked_programs.Goals as goal
 
 pub returns-clause-worked_are_whole : goal.returns-clause-worked_are_whole
@@ -13,11 +13,20 @@ returns-clause-go_outside c = go_outside
 pub returns-clause-no_such_segment : goal.returns-clause-no_such_segment
 returns-clause-no_such_segment c = no_such_segment
 
+pub returns-clause-no_segment : goal.returns-clause-no_segment
+returns-clause-no_segment c = no_segment
+
 pub returns-clause-go_to_a_block : goal.returns-clause-go_to_a_block
 returns-clause-go_to_a_block c = go_to_a_block
 
 pub returns-clause-captured : goal.returns-clause-captured
 returns-clause-captured c = captured
+
+pub returns-clause-in_order : goal.returns-clause-in_order
+returns-clause-in_order c = parts_in_order
+
+pub returns-clause-cell_of_its_own : goal.returns-clause-cell_of_its_own
+returns-clause-cell_of_its_own c = cell_of_its_own
 
 pub returns-clause-uncalled : goal.returns-clause-uncalled
 returns-clause-uncalled c = uncalled_procedures

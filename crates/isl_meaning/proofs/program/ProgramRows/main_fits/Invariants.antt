@@ -6,4 +6,4 @@ use Rattle.isl_meaning.specs.Standing.{stands_alone}
 use Rattle.isl_meaning.proofs.program.ProgramRows.main_fits.Given as goal
 
 abbrev pub invariant-loop-form : goal.invariant-loop-form
-invariant-loop-form l = list_all (λ f. body_fits l.self f && stands_alone l.self false f) (drop l.form-index l.self.main) ≡ list_all (λ f. body_fits l.self f && stands_alone l.self false f) l.self.main
+invariant-loop-form l = list_all (λ f. body_fits l.self f && stands_alone false f) (drop l.form-index l.self.main) ≡ list_all (λ f. body_fits l.self f && stands_alone false f) l.self.main

@@ -1,0 +1,208 @@
+// Copies of core forms.
+
+ghost use Rattle.std.specs.Prelude.{◌≡◌, IfOk};
+ghost use Rattle.isl_meaning.specs.View.{view_form, maybe_form};
+
+use crate::core_form::{
+    Binding, BindingList, Clause, ClauseList, Core, CoreForm, CoreList, DynBinding, DynBindings,
+};
+use crate::part::PartList;
+use crate::program::VarList;
+use isl_base::NoMemory;
+use std::alloc::Global;
+
+impl Core {
+    /// An equal form, with all forms inside; after `NoMemory` what was made of it is dropped.
+    #[cycle(copy)]
+    pub fn copy(&self, alloc: Global) -> Result<Core, NoMemory>
+        ensures { IfOk result (λ copy. copy ≡ self.now) }
+    {
+        let form = form_copy(alloc, &self.form)?;
+        Ok(Core { form })
+    }
+}
+
+#[cycle(copy)]
+fn form_copy(alloc: Global, form: &CoreForm) -> Result<CoreForm, NoMemory>
+    ensures { IfOk result (λ copy. view_form copy ≡ view_form form.now) }
+{
+    match form {
+        CoreForm::Literal(id) => Ok(CoreForm::Literal(*id)),
+        CoreForm::Local(var) => Ok(CoreForm::Local(*var)),
+        CoreForm::SetLocal(var, value) => Ok(CoreForm::SetLocal(*var, boxed(alloc, value)?)),
+        CoreForm::Global(name) => Ok(CoreForm::Global(*name)),
+        CoreForm::SetGlobal(name, value) => Ok(CoreForm::SetGlobal(*name, boxed(alloc, value)?)),
+        CoreForm::DefGlobal(name, value) => Ok(CoreForm::DefGlobal(*name, boxed(alloc, value)?)),
+        CoreForm::Clauses(list) => Ok(CoreForm::Clauses(clauses_copy(alloc, list)?)),
+        CoreForm::Sequence(list) => Ok(CoreForm::Sequence(forms_copy(alloc, list)?)),
+        CoreForm::Let(list, body) => {
+            let list = bindings_copy(alloc, list)?;
+            Ok(CoreForm::Let(list, boxed(alloc, body)?))
+        }
+        CoreForm::Lambda(required, rest, body, parts) => {
+            let required = variables_copy(alloc, required)?;
+            let parts = parts_copy(alloc, parts)?;
+            let body = boxed(alloc, body)?;
+            Ok(CoreForm::Lambda(required, *rest, body, parts))
+        }
+        CoreForm::Call(name, list) => Ok(CoreForm::Call(*name, forms_copy(alloc, list)?)),
+        CoreForm::CallValue(list) => Ok(CoreForm::CallValue(forms_copy(alloc, list)?)),
+        CoreForm::Apply(first, second) => {
+            let first = boxed(alloc, first)?;
+            Ok(CoreForm::Apply(first, boxed(alloc, second)?))
+        }
+        CoreForm::Prim(which, list) => Ok(CoreForm::Prim(*which, forms_copy(alloc, list)?)),
+        CoreForm::While(test, body) => {
+            let test = boxed(alloc, test)?;
+            Ok(CoreForm::While(test, boxed(alloc, body)?))
+        }
+        CoreForm::Block(exit, body) => Ok(CoreForm::Block(*exit, boxed(alloc, body)?)),
+        CoreForm::Return(exit, value) => Ok(CoreForm::Return(*exit, boxed(alloc, value)?)),
+        CoreForm::Tagbody(exit, list) => Ok(CoreForm::Tagbody(*exit, forms_copy(alloc, list)?)),
+        CoreForm::Go(exit, segment) => Ok(CoreForm::Go(*exit, *segment)),
+        CoreForm::Catch(tag, body) => {
+            let tag = boxed(alloc, tag)?;
+            Ok(CoreForm::Catch(tag, boxed(alloc, body)?))
+        }
+        CoreForm::Throw(tag, value) => {
+            let tag = boxed(alloc, tag)?;
+            Ok(CoreForm::Throw(tag, boxed(alloc, value)?))
+        }
+        CoreForm::Unwind(form, cleanup) => {
+            let form = boxed(alloc, form)?;
+            Ok(CoreForm::Unwind(form, boxed(alloc, cleanup)?))
+        }
+        CoreForm::DynamicLet(list, body) => {
+            let list = dynamics_copy(alloc, list)?;
+            Ok(CoreForm::DynamicLet(list, boxed(alloc, body)?))
+        }
+        CoreForm::Dynamic(name) => Ok(CoreForm::Dynamic(*name)),
+        CoreForm::SetDynamic(name, value) => Ok(CoreForm::SetDynamic(*name, boxed(alloc, value)?)),
+        CoreForm::DefDynamic(name, value) => Ok(CoreForm::DefDynamic(*name, boxed(alloc, value)?)),
+        CoreForm::WithHandler(handler, body) => {
+            let handler = boxed(alloc, handler)?;
+            Ok(CoreForm::WithHandler(handler, boxed(alloc, body)?))
+        }
+        CoreForm::Signal(condition, mark) => {
+            let condition = boxed(alloc, condition)?;
+            Ok(CoreForm::Signal(condition, boxed(alloc, mark)?))
+        }
+        CoreForm::Continue(condition, value) => {
+            let condition = boxed(alloc, condition)?;
+            Ok(CoreForm::Continue(condition, boxed(alloc, value)?))
+        }
+        CoreForm::NextMethod => Ok(CoreForm::NextMethod),
+        CoreForm::HasNext => Ok(CoreForm::HasNext),
+        CoreForm::Sited(site, inner) => Ok(CoreForm::Sited(*site, boxed(alloc, inner)?)),
+    }
+}
+
+#[cycle(copy)]
+fn boxed(alloc: Global, form: &Core) -> Result<Box<Core>, NoMemory>
+    ensures { IfOk result (λ copy. copy.value ≡ form.now) }
+{
+    match Box::new(alloc, form.copy(alloc)?) {
+        Ok(copy) => Ok(copy),
+        Err(_) => Err(NoMemory),
+    }
+}
+
+#[cycle(copy)]
+#[tactic(auto, using(crate::specs::Sizes::form_in_smaller))]
+fn forms_copy(alloc: Global, list: &CoreList) -> Result<CoreList, NoMemory>
+    ensures { IfOk result (λ copy. copy ≡ list.now) }
+{
+    let mut copied = CoreList::new(alloc);
+    for at in 0..list.len() {
+        let Some(form) = list.get(at) else {
+            unreachable!()
+        };
+        copied.push(form.copy(alloc)?)?;
+    }
+    Ok(copied)
+}
+
+#[cycle(copy)]
+#[tactic(auto, using(crate::specs::Sizes::test_in_smaller, crate::specs::Sizes::body_in_smaller))]
+fn clauses_copy(alloc: Global, list: &ClauseList) -> Result<ClauseList, NoMemory>
+    ensures { IfOk result (λ copy. copy ≡ list.now) }
+{
+    let mut copied = ClauseList::new(alloc);
+    for at in 0..list.len() {
+        let Some(clause) = list.get(at) else {
+            unreachable!()
+        };
+        let test = clause.test.copy(alloc)?;
+        let body = body_copy(alloc, &clause.body)?;
+        copied.push(Clause { test, body })?;
+    }
+    Ok(copied)
+}
+
+#[cycle(copy)]
+fn body_copy(alloc: Global, body: &Option<Core>) -> Result<Option<Core>, NoMemory>
+    ensures { IfOk result (λ copy. copy ≡ body.now) }
+{
+    match body {
+        None => Ok(None),
+        Some(form) => Ok(Some(form.copy(alloc)?)),
+    }
+}
+
+#[cycle(copy)]
+#[tactic(auto, using(crate::specs::Sizes::binding_in_smaller))]
+fn bindings_copy(alloc: Global, list: &BindingList) -> Result<BindingList, NoMemory>
+    ensures { IfOk result (λ copy. copy ≡ list.now) }
+{
+    let mut copied = BindingList::new(alloc);
+    for at in 0..list.len() {
+        let Some(binding) = list.get(at) else {
+            unreachable!()
+        };
+        let value = binding.value.copy(alloc)?;
+        copied.push(Binding {
+            var: binding.var,
+            value,
+        })?;
+    }
+    Ok(copied)
+}
+
+#[cycle(copy)]
+#[tactic(auto, using(crate::specs::Sizes::dynamic_in_smaller))]
+fn dynamics_copy(alloc: Global, list: &DynBindings) -> Result<DynBindings, NoMemory>
+    ensures { IfOk result (λ copy. copy ≡ list.now) }
+{
+    let mut copied = DynBindings::new(alloc);
+    for at in 0..list.len() {
+        let Some(binding) = list.get(at) else {
+            unreachable!()
+        };
+        let value = binding.value.copy(alloc)?;
+        copied.push(DynBinding {
+            name: binding.name,
+            value,
+        })?;
+    }
+    Ok(copied)
+}
+
+fn variables_copy(alloc: Global, list: &VarList) -> Result<VarList, NoMemory>
+    ensures { IfOk result (λ copy. copy ≡ list.now) }
+{
+    let mut copied = VarList::new(alloc);
+    for var in list.as_slice() {
+        copied.push(*var)?;
+    }
+    Ok(copied)
+}
+
+fn parts_copy(alloc: Global, list: &PartList) -> Result<PartList, NoMemory>
+    ensures { IfOk result (λ copy. copy ≡ list.now) }
+{
+    let mut copied = PartList::new(alloc);
+    for part in list.as_slice() {
+        copied.push(*part)?;
+    }
+    Ok(copied)
+}
