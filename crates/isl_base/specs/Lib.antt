@@ -5,11 +5,7 @@ pub mod Memory
 pub mod Sure
 pub mod formers
 pub mod Data
-pub mod DataCode
-pub mod DataView
-pub mod DataFalls
-pub mod DataSizes
-pub mod DataRest
+pub mod model
 pub mod DataMeasures
 pub mod DataFormed
 pub mod Names

@@ -2,7 +2,7 @@
 
 ghost use Rattle.std.specs.Prelude.{◌≡◌};
 ghost use Rattle.isl_base.specs.Data.{item};
-ghost use Rattle.isl_base.specs.DataView.{view_content};
+ghost use Rattle.isl_base.specs.model.DataView.{view_content};
 
 mod copies;
 mod formed;
@@ -64,11 +64,11 @@ impl Model for Datum {
 
     ghost Value = { Item };
 
-    ghost use Rattle.isl_base.specs.DataCode.{item_code};
+    ghost use Rattle.isl_base.specs.model.DataCode.{item_code};
 
     ghost coded = { item_code };
 
-    ghost use Rattle.isl_base.specs.DataView.{view_item};
+    ghost use Rattle.isl_base.specs.model.DataView.{view_item};
 
     ghost view = { λ c. view_item c.place c.kind };
 
@@ -76,7 +76,7 @@ impl Model for Datum {
 
     ghost size = { item_size };
 
-    ghost use Rattle.isl_base.specs.DataFalls.{falls};
+    ghost use Rattle.isl_base.specs.model.DataFalls.{falls};
 
     ghost size_decreases = { λ c h. falls c.place c.kind };
 }

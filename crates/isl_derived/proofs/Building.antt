@@ -6,7 +6,7 @@ use Rattle.isl_base.specs.declared.datum.Symbol.{Symbol}
 use Rattle.isl_base.specs.declared.datum.Symbol.TheVariants.{Named, Fresh}
 use Rattle.isl_base.specs.declared.faults.NoMemory.{NoMemory}
 use Rattle.isl_base.specs.Data.{Item, item, symbol, Items, no_item, item_and, items_of}
-use Rattle.isl_base.specs.DataRest.{take_at}
+use Rattle.isl_base.specs.model.DataRest.{take_at}
 use Rattle.isl_base.specs.Names.{Extends, text_stays}
 use Rattle.isl_derived.specs.Pieces.{Piece, word, made, taken, parens, Pieces, no_piece, piece_and, pieces_of, piece_size, pieces_size, in_parens, Builds, BuildsAll}
 use Rattle.isl_derived.specs.Derived.{new_symbols}

@@ -4,7 +4,7 @@ use Rattle.std.proofs.Common.{arith}
 use Rattle.isl_base.specs.declared.place.Place.{Place}
 use Rattle.isl_base.specs.Data.{Item, item, list, Tail, items_of, items_list}
 use Rattle.isl_base.specs.DataMeasures.{Formed, AllFormed, FormedTail, NamesBelow, AllNamesBelow, NamesBelowTail}
-use Rattle.isl_base.specs.DataView.{items_list-items_of}
+use Rattle.isl_base.specs.model.DataView.{items_list-items_of}
 
 pub shown_items : (ds : List Item) → items_list (items_of ds) ≡ ds
 shown_items ds = items_list-items_of ds

@@ -6,9 +6,9 @@ use mathlib.Core.Former.{Count}
 use Rattle.isl_base.specs.Data.{Item}
 use Rattle.isl_derived.specs.Pieces.{listed}
 use Rattle.isl_derived.specs.Patterns.{Parts, inside, each_fits, pattern_and, pattern_count, pattern_size, patterns_size, part_if, all_data, is_some, of_one, fit, fit_all}
-use Rattle.isl_derived.specs.PatternView.{view_pattern, view_row as view_pattern_row, view_patterns}
+use Rattle.isl_derived.specs.model.PatternView.{view_pattern, view_row as view_pattern_row, view_patterns}
 use Rattle.isl_derived.specs.RightSides.{group, for_each, template_and, template_size, templates_size, part_of, repeated, write, write_all}
-use Rattle.isl_derived.specs.TemplateView.{view_template, view_row as view_template_row, view_templates}
+use Rattle.isl_derived.specs.model.TemplateView.{view_template, view_row as view_template_row, view_templates}
 use Rattle.isl_derived.specs.declared.pattern.Pattern.{Pattern, Inside, Inside', Each, Each', Row_of-Pattern, end_of-Pattern, more_of-Pattern, items-the_row-Pattern, items_hidden-the_row-Pattern-0}
 use Rattle.isl_derived.specs.declared.template.Template.{Template, Group, Group', ForEach, ForEach', Row_of-Template, end_of-Template, more_of-Template, items-the_row-Template, items_hidden-the_row-Template-0}
 

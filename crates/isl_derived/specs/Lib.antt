@@ -7,12 +7,7 @@ pub mod Table
 pub mod Derived
 pub mod Ends
 pub mod FormPlaces
-pub mod PieceCode
-pub mod PieceView
-pub mod PieceFalls
-pub mod PatternView
-pub mod TemplateView
-pub mod TableView
+pub mod model
 pub mod Fronts
 pub mod Shown
 pub mod Setters

@@ -1,14 +1,14 @@
 // One step of a derived form.
 
 ghost use Rattle.std.specs.Prelude.{◌≡◌, ◌++◌, length, Some, IfOk, IfErr, OnOk, OnErr};
-ghost use Rattle.isl_base.specs.DataView.{tail_of};
+ghost use Rattle.isl_base.specs.model.DataView.{tail_of};
 ghost use Rattle.isl_base.specs.DataMeasures.{Formed, NamesBelow};
 ghost use Rattle.isl_base.specs.Names.{Extends};
 ghost use Rattle.isl_derived.specs.Pieces.{Builds};
 ghost use Rattle.isl_derived.specs.Derived.{right_of, row_right, first_right, table_right, by_name, list_derivation, derivation, new_symbols};
 ghost use Rattle.isl_derived.specs.Patterns.{fit_all};
-ghost use Rattle.isl_derived.specs.PatternView.{view_patterns};
-ghost use Rattle.isl_derived.specs.TableView.{view_row, view_rows, view_groups};
+ghost use Rattle.isl_derived.specs.model.PatternView.{view_patterns};
+ghost use Rattle.isl_derived.specs.model.TableView.{view_row, view_rows, view_groups};
 ghost use Rattle.isl_derived.specs.Steps.{shown, IsStep, IsStop, IsWhole};
 
 use crate::build::build;

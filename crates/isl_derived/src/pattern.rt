@@ -3,7 +3,7 @@
 ghost use Rattle.std.specs.Prelude.{◌≡◌, ◌∷◌, [], IfOk};
 ghost use Rattle.isl_derived.specs.Asked.{is_symbol, is_word};
 ghost use Rattle.isl_derived.specs.Patterns.{taken_by, part_if, one_datum, has_setter, all_data, is_some, of_one, fit, fit_all};
-ghost use Rattle.isl_derived.specs.PatternView.{view_pattern, view_patterns, IsFit};
+ghost use Rattle.isl_derived.specs.model.PatternView.{view_pattern, view_patterns, IsFit};
 
 use crate::setf::setter;
 use crate::shape::{is_symbol, is_word, list_items};
@@ -36,7 +36,7 @@ impl<'a> Model for Part<'a> {
 
     ghost Value = { List Item };
 
-    ghost use Rattle.isl_derived.specs.PatternView.{part_code};
+    ghost use Rattle.isl_derived.specs.model.PatternView.{part_code};
 
     ghost coded = { part_code };
 

@@ -2,7 +2,7 @@
 
 ghost use Rattle.std.specs.Prelude.{◌≡◌, ◌≤◌, ◌++◌, ◌∷◌, [], length, IfOk};
 ghost use Rattle.isl_derived.specs.Pieces.{word, made, taken, listed, form, all_taken};
-ghost use Rattle.isl_derived.specs.PieceView.{view_piece};
+ghost use Rattle.isl_derived.specs.model.PieceView.{view_piece};
 
 use isl_base::{Bytes, Datum, ItemList, NoMemory};
 use std::alloc::Global;
@@ -36,16 +36,16 @@ impl<'a> Model for Piece<'a> {
 
     ghost Value = { PieceOf };
 
-    ghost use Rattle.isl_derived.specs.PieceCode.{piece_code};
+    ghost use Rattle.isl_derived.specs.model.PieceCode.{piece_code};
 
     ghost coded = { piece_code };
 
-    ghost use Rattle.isl_derived.specs.PieceView.{view_piece};
+    ghost use Rattle.isl_derived.specs.model.PieceView.{view_piece};
 
     ghost view = { λ p. view_piece p.kind };
 
     ghost use Rattle.std.specs.Prelude.{◌≤◌};
-    ghost use Rattle.isl_derived.specs.PieceView.{text_length};
+    ghost use Rattle.isl_derived.specs.model.PieceView.{text_length};
 
     ghost invariant = { λ p. text_length p.kind ≤ 263 };
 
@@ -53,7 +53,7 @@ impl<'a> Model for Piece<'a> {
 
     ghost size = { piece_size };
 
-    ghost use Rattle.isl_derived.specs.PieceFalls.{falls};
+    ghost use Rattle.isl_derived.specs.model.PieceFalls.{falls};
 
     ghost size_decreases = { λ c h. falls c.kind };
 }

@@ -4,7 +4,7 @@ ghost use Rattle.std.specs.Prelude.{◌≡◌, ◌≤◌, ◌∷◌, [], length,
 ghost use Rattle.isl_derived.specs.Templates.{only_of, splicing, last_unquoted};
 ghost use Rattle.isl_derived.specs.Shown.{datum_shown};
 ghost use Rattle.isl_base.specs.Data.{items_of};
-ghost use Rattle.isl_base.specs.DataView.{tail_of};
+ghost use Rattle.isl_base.specs.model.DataView.{tail_of};
 ghost use Rattle.isl_derived.specs.Pieces.{form, taken, pieces_of};
 ghost use Rattle.isl_derived.specs.Quotation.{kept_prefix, quoted_word, appended, template, tail_part, template_list, unquoted, spliced, part, parts};
 

@@ -18,7 +18,7 @@ impl<'a> Model for Right<'a> {
 
     ghost Value = { RightOf };
 
-    ghost use Rattle.isl_derived.specs.PieceCode.{right_code};
+    ghost use Rattle.isl_derived.specs.model.PieceCode.{right_code};
 
     ghost coded = { right_code };
 

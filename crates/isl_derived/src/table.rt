@@ -2,7 +2,7 @@
 
 ghost use Rattle.std.specs.Prelude.{◌≡◌};
 ghost use Rattle.isl_derived.specs.Table.{table, names_a_row, names_some_row};
-ghost use Rattle.isl_derived.specs.TableView.{view_rows, view_groups};
+ghost use Rattle.isl_derived.specs.model.TableView.{view_rows, view_groups};
 
 mod case;
 mod condition;

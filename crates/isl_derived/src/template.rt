@@ -2,10 +2,10 @@
 
 ghost use Rattle.std.specs.Prelude.{◌≡◌, ◌++◌, ◌∷◌, [], IfOk, OnOk, Some};
 ghost use Rattle.isl_derived.specs.Patterns.{fit_all};
-ghost use Rattle.isl_derived.specs.PatternView.{view_patterns};
+ghost use Rattle.isl_derived.specs.model.PatternView.{view_patterns};
 ghost use Rattle.isl_derived.specs.RightSides.{part_of, of_first, setter_piece, repeated, write, write_all};
 ghost use Rattle.isl_derived.specs.Quotation.{template};
-ghost use Rattle.isl_derived.specs.TemplateView.{view_template, view_templates};
+ghost use Rattle.isl_derived.specs.model.TemplateView.{view_template, view_templates};
 ghost use Rattle.isl_derived.specs.Pieces.{taken};
 
 use crate::pattern::{Parts, Pattern, fit_all};

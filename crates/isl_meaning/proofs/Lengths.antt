@@ -1,7 +1,7 @@
 -- The mirror of a list counts as many as the list has.
 use Rattle.std.proofs.Common.{◌≡◌, List, [], ◌∷◌, length, arith}
 use Rattle.isl_meaning.specs.Form.{Form}
-use Rattle.isl_meaning.specs.View.{forms, clauses_of, bindings_of, dynamics_of}
+use Rattle.isl_meaning.specs.model.View.{forms, clauses_of, bindings_of, dynamics_of}
 use Rattle.isl_meaning.specs.Counts.{count_forms, count_clauses, count_bindings, count_dynamics}
 use Rattle.isl_meaning.specs.declared.core_form.Clause.{Clause}
 use Rattle.isl_meaning.specs.declared.core_form.Binding.{Binding}

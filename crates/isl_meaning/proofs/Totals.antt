@@ -1,7 +1,7 @@
 -- What is left of a list, and what is counted of it.
 use Rattle.std.proofs.Common.{◌≡◌, ℕ, ◌+◌, ◌≤◌, min, List, Some, length, drop, slice_get, refl, ap, arith}
 use Rattle.std.proofs.lemmas.List.{drop_all}
-use Rattle.isl_meaning.specs.Rest.{rest_at}
+use Rattle.isl_meaning.specs.model.Rest.{rest_at}
 use Rattle.isl_meaning.specs.ProgramCounts.{total}
 
 pub total_left : {X : Type 0} (f : X → ℕ) (xs : List X) (i : ℕ) (x : X) → slice_get xs i ≡ Some x

@@ -1,8 +1,8 @@
 -- What a loop over a list of a core form looks at is smaller than the list: a recursion over forms ends.
 use Rattle.std.proofs.Common.{◌≡◌, ℕ, zero, suc, ◌<◌, List, [], ◌∷◌, length, slice_index_or, Some, slice_get, arith}
 use Rattle.isl_meaning.specs.Form.{Form, form_size, forms_size, clauses_size, maybe_size, bindings_size, dynamics_size}
-use Rattle.isl_meaning.specs.View.{forms, clauses_of, maybe_form, bindings_of, dynamics_of}
-use Rattle.isl_meaning.specs.Sizes.{form_in_smaller, test_in_smaller, body_in_smaller, binding_in_smaller, dynamic_in_smaller}
+use Rattle.isl_meaning.specs.model.View.{forms, clauses_of, maybe_form, bindings_of, dynamics_of}
+use Rattle.isl_meaning.specs.model.Sizes.{form_in_smaller, test_in_smaller, body_in_smaller, binding_in_smaller, dynamic_in_smaller}
 use Rattle.isl_meaning.specs.declared.core_form.Clause.{Clause}
 use Rattle.isl_meaning.specs.declared.core_form.Binding.{Binding}
 use Rattle.isl_meaning.specs.declared.core_form.DynBinding.{DynBinding}

@@ -1,9 +1,5 @@
 pub mod Form
-pub mod FormCode
-pub mod View
-pub mod Falls
-pub mod Sizes
-pub mod Rest
+pub mod model
 pub mod Values
 pub mod Objects
 pub mod State

@@ -2,7 +2,7 @@
 use Rattle.std.proofs.Common.{◌≡◌, ℕ, ◌+◌, ◌==◌, Bool, true, false, List, [], ◌∷◌, ◌++◌, Some, map, filter, drop, slice_get, refl, arith, append_assoc}
 use Rattle.std.proofs.lemmas.Bool.Decides.{nat_tests}
 use Rattle.isl_meaning.specs.Lookup.{some_of, is_in}
-use Rattle.isl_meaning.specs.Rest.{rest_at}
+use Rattle.isl_meaning.specs.model.Rest.{rest_at}
 
 -- one passes here
 pub some_here : {X : Type 0} (p : X → Bool) (xs : List X) (i : ℕ) (x : X) → slice_get xs i ≡ Some x → p x ≡ true → some_of p (drop i xs) ≡ true

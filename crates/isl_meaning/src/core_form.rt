@@ -2,7 +2,7 @@
 
 ghost use Rattle.std.specs.Prelude.{◌≡◌, IfOk};
 ghost use Rattle.isl_meaning.specs.Form.{literal, clauses, sequence, prim, sited};
-ghost use Rattle.isl_meaning.specs.View.{view_form, forms, clauses_of};
+ghost use Rattle.isl_meaning.specs.model.View.{view_form, forms, clauses_of};
 
 mod copies;
 mod counts;
@@ -137,11 +137,11 @@ impl Model for Core {
 
     ghost Value = { Form };
 
-    ghost use Rattle.isl_meaning.specs.FormCode.{form_code};
+    ghost use Rattle.isl_meaning.specs.model.FormCode.{form_code};
 
     ghost coded = { form_code };
 
-    ghost use Rattle.isl_meaning.specs.View.{view_form};
+    ghost use Rattle.isl_meaning.specs.model.View.{view_form};
 
     ghost view = { λ c. view_form c.form };
 
@@ -149,7 +149,7 @@ impl Model for Core {
 
     ghost size = { form_size };
 
-    ghost use Rattle.isl_meaning.specs.Falls.{falls};
+    ghost use Rattle.isl_meaning.specs.model.Falls.{falls};
 
     ghost size_decreases = { λ c h. falls c.form };
 }

@@ -3,7 +3,7 @@
 
 ghost use Rattle.std.specs.Prelude.{◌≡◌, ◌&&◌, nat_le};
 ghost use Rattle.isl_meaning.specs.Counts.{depth};
-ghost use Rattle.isl_meaning.specs.View.{forms, clauses_of, maybe_form, bindings_of, dynamics_of};
+ghost use Rattle.isl_meaning.specs.model.View.{forms, clauses_of, maybe_form, bindings_of, dynamics_of};
 ghost use Rattle.isl_meaning.specs.Fits.{fits, forms_fit, clauses_fit, body_fits, bindings_fit, dynamics_fit};
 
 use crate::core_form::{BindingList, ClauseList, Core, CoreForm, CoreList, DynBindings};

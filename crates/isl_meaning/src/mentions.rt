@@ -3,7 +3,7 @@
 ghost use Rattle.std.specs.Prelude.{◌≡◌, option_to_list};
 ghost use Rattle.std.specs.List.{list_any};
 ghost use Rattle.isl_meaning.specs.declared.part.Part.TheVariants.{Variable};
-ghost use Rattle.isl_meaning.specs.View.{forms, clauses_of, maybe_form, bindings_of, dynamics_of};
+ghost use Rattle.isl_meaning.specs.model.View.{forms, clauses_of, maybe_form, bindings_of, dynamics_of};
 ghost use Rattle.isl_meaning.specs.Form.{parameters};
 ghost use Rattle.isl_meaning.specs.Mentions.{owns, binds, mentions, forms_mention, clauses_mention, body_mentions, bindings_mention, dynamics_mention, same_part};
 

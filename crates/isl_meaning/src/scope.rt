@@ -6,7 +6,7 @@ ghost use Rattle.isl_meaning.specs.declared.part.Part.TheVariants.{Variable, Exi
 ghost use Rattle.isl_meaning.specs.Mentions.{same_part, comes_before};
 ghost use Rattle.isl_meaning.specs.Standing.{alone, with_bound, with_around, variables_bound, is_variable, exit_around, is_block, is_segment, is_bound, seen};
 ghost use Rattle.isl_meaning.specs.Form.{parameters};
-ghost use Rattle.isl_meaning.specs.View.{bindings_of};
+ghost use Rattle.isl_meaning.specs.model.View.{bindings_of};
 
 use crate::core_form::BindingList;
 use crate::part::{ExitVar, Part, PartList, Var};

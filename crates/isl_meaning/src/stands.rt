@@ -3,7 +3,7 @@
 ghost use Rattle.std.specs.Prelude.{◌≡◌, ◌&&◌, IfOk};
 ghost use Rattle.std.specs.List.{list_all};
 ghost use Rattle.isl_meaning.specs.Form.{let_form};
-ghost use Rattle.isl_meaning.specs.View.{forms, clauses_of, maybe_form, bindings_of, dynamics_of};
+ghost use Rattle.isl_meaning.specs.model.View.{forms, clauses_of, maybe_form, bindings_of, dynamics_of};
 ghost use Rattle.isl_meaning.specs.Mentions.{is_next, in_order};
 ghost use Rattle.isl_meaning.specs.Standing.{is_bound, is_free, are_captured, stands, forms_stand, clauses_stand, body_stands, bindings_stand, dynamics_stand, with_bound, seen};
 

@@ -7,16 +7,16 @@ use Rattle.isl_base.specs.declared.reason.Reason.TheVariants.{BadDot}
 use Rattle.isl_base.specs.declared.reason.Stop.{Stop}
 use Rattle.isl_base.specs.declared.reason.Stop.TheVariants.{Refused, NoMemory}
 use Rattle.isl_base.specs.Data.{Item, item}
-use Rattle.isl_base.specs.DataView.{view_content}
+use Rattle.isl_base.specs.model.DataView.{view_content}
 use Rattle.isl_reader.specs.declared.opening.Opening.{Opening}
 use Rattle.isl_reader.specs.declared.pending.Pending.{Pending}
 use Rattle.isl_reader.specs.declared.lexeme.Lexeme.{Lexeme}
 use Rattle.isl_reader.specs.declared.lexeme.Lexeme.TheVariants.{Close, Dot, Open, Integer, Character, Token, Bar, Text}
 use Rattle.isl_reader.specs.Atoms.{Atom}
 use Rattle.isl_reader.specs.Meanings.{atom_content}
-use Rattle.isl_reader.specs.Lexemes.{atom_of}
-use Rattle.isl_reader.specs.Machine.{State, Step, over, stopped, put, full_dot, unless_full, content_step, atom_step, act}
-use Rattle.isl_reader.specs.Turns.{Turns, open_state, IsContent}
+use Rattle.isl_reader.specs.bridge.Lexemes.{atom_of}
+use Rattle.isl_reader.specs.bridge.Machine.{State, Step, over, stopped, put, full_dot, unless_full, content_step, atom_step, act}
+use Rattle.isl_reader.specs.bridge.Turns.{Turns, open_state, IsContent}
 
 -- a lexeme that is no parenthesis, dot or opening spells an atom
 pub atom-some : (x : Lexeme) (w : Seq ℕ) → (x ≡ Close → ⊥) → (x ≡ Dot → ⊥) → ((o : Opening) → x ≡ Open o → ⊥)

@@ -16,9 +16,9 @@ use Rattle.isl_reader.specs.Trees.{Trees, no_tree, spelled_all}
 use Rattle.isl_reader.specs.Meanings.{number_in}
 use Rattle.isl_reader.specs.Fronts.{Level, levels_spelled}
 use Rattle.isl_reader.specs.Stops.{StopsFirst}
-use Rattle.isl_reader.specs.Lexemes.{skip}
-use Rattle.isl_reader.specs.Machine.{State, stopped, finished, over, step}
-use Rattle.isl_reader.specs.Steps.{ReadTo, Found}
+use Rattle.isl_reader.specs.bridge.Lexemes.{skip}
+use Rattle.isl_reader.specs.bridge.Machine.{State, stopped, finished, over, step}
+use Rattle.isl_reader.specs.bridge.Steps.{ReadTo, Found}
 use Rattle.isl_reader.specs.Readers.{ReaderState}
 use Rattle.isl_reader.specs.Answers.{IsRead, IsEnded, IsRefused}
 use Rattle.isl_reader.proofs.Skips.{skip-ends}

@@ -10,7 +10,7 @@ use Rattle.isl_reader.specs.Characters.{place_behind}
 use Rattle.isl_reader.specs.Gaps.{Gap}
 use Rattle.isl_reader.specs.Trees.{Tree, atom, proper, improper, row, prefixed, Trees, no_tree, then_tree, prefix_bytes, spelled, spelled_all, behind, behind_all, Stands, StandsAll, IsSomeTree}
 use Rattle.isl_reader.specs.Meanings.{Means, MeansAll}
-use Rattle.isl_reader.specs.Machine.{State, next, put_in, full_dot, opening_step, opened, dot_step, Steps, none, more}
+use Rattle.isl_reader.specs.bridge.Machine.{State, next, put_in, full_dot, opening_step, opened, dot_step, Steps, none, more}
 use Rattle.isl_reader.proofs.Stepping.{Numbers, state, step-gap, step-atom, step-close, step-dot, step-opening, steps-then, one-step}
 
 -- where data stand in order: at the top, in a list or in a vector

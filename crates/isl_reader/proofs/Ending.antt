@@ -19,8 +19,8 @@ use Rattle.isl_reader.specs.Characters.{place_behind}
 use Rattle.isl_reader.specs.Gaps.{Gap}
 use Rattle.isl_reader.specs.Atoms.{Atom}
 use Rattle.isl_reader.specs.Meanings.{atom_content, prefix_name}
-use Rattle.isl_reader.specs.Lexemes.{skip, lex, atom_of}
-use Rattle.isl_reader.specs.Machine.{State, finished, stopped, unknown, Step, next, over, moved, full_dot, ending, closing, dot_step, prefix_step, opened, unless_full, opening_step, content_step, atom_step, act, by_lexed, by_rest, by_gap, step}
+use Rattle.isl_reader.specs.bridge.Lexemes.{skip, lex, atom_of}
+use Rattle.isl_reader.specs.bridge.Machine.{State, finished, stopped, unknown, Step, next, over, moved, full_dot, ending, closing, dot_step, prefix_step, opened, unless_full, opening_step, content_step, atom_step, act, by_lexed, by_rest, by_gap, step}
 use Rattle.isl_reader.proofs.Skips.{skip-ends}
 use Rattle.isl_reader.proofs.Stepping.{Numbers, state}
 

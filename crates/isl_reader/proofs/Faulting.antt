@@ -16,7 +16,7 @@ use Rattle.isl_reader.specs.Characters.{is_blank, is_token, is_printed, folded, 
 use Rattle.isl_reader.specs.Tokens.{IsToken, is_integer, is_wide, is_float, is_dot}
 use Rattle.isl_reader.specs.Atoms.{Inside, nothing, plain, escaped, Base, binary, octal, hexadecimal}
 use Rattle.isl_reader.specs.Stops.{begins_nothing, IsBadSharp, sharp_ends, no_row, no_digits, no_character, no_name}
-use Rattle.isl_reader.specs.Lexemes.{skip, lex, token_run, token_lexed, mark_lexed, sharp_lexed, name_lexed, quoted_from}
+use Rattle.isl_reader.specs.bridge.Lexemes.{skip, lex, token_run, token_lexed, mark_lexed, sharp_lexed, name_lexed, quoted_from}
 use Rattle.isl_reader.proofs.TokenRuns.{apart, token_run-all}
 use Rattle.isl_reader.proofs.Quotes.{inside-closed, inside-unescaped}
 use Rattle.isl_reader.proofs.Taking.{no_base}

@@ -20,7 +20,7 @@ use Rattle.isl_reader.specs.Tokens.{IsToken, is_integer, integer_value, is_wide,
 use Rattle.isl_reader.specs.Trees.{Trees}
 use Rattle.isl_reader.specs.Fronts.{Level}
 use Rattle.isl_reader.specs.Stops.{Row, bad_byte, bad_byte_in_bars, bad_byte_escaped, unclosed_string, unclosed_string_escaped, unclosed_bar, unclosed_bar_escaped, bad_sharp, float_literal, integer_too_wide, based_too_wide, token_too_long, bar_too_long, IsBadSharp, sharp_ends, no_row, no_digits, no_character, no_name, begins_nothing}
-use Rattle.isl_reader.specs.Lexemes.{skip, lex, token_run, token_lexed, integer_lexed, mark_lexed, sharp_lexed, based_lexed, base_of, character_lexed, name_lexed, comma_lexed, bar_lexed, text_lexed, quoted_from, unescaped}
+use Rattle.isl_reader.specs.bridge.Lexemes.{skip, lex, token_run, token_lexed, integer_lexed, mark_lexed, sharp_lexed, based_lexed, base_of, character_lexed, name_lexed, comma_lexed, bar_lexed, text_lexed, quoted_from, unescaped}
 use Rattle.isl_reader.proofs.Skips.{chosen, no-gap}
 use Rattle.isl_reader.proofs.TokenRuns.{Run, run_of, run_taken, run_is_token}
 use Rattle.isl_reader.proofs.Quotes.{IsUnclosed, all_inside, ends_escaped, IsBad, bad_plain, bad_escaped, quoted-closed, quoted-unclosed, quoted-bad}

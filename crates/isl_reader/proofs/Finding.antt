@@ -6,9 +6,9 @@ use Rattle.isl_base.specs.declared.reason.Stop.TheVariants.{Refused, NoMemory}
 use Rattle.isl_base.specs.Names.{IsTable, Extends-same}
 use Rattle.isl_reader.specs.declared.pending.Pending.{Pending}
 use Rattle.isl_reader.specs.Meanings.{number_in}
-use Rattle.isl_reader.specs.Machine.{State, Step, step, none}
-use Rattle.isl_reader.specs.Turns.{IsLater}
-use Rattle.isl_reader.specs.Steps.{LeadsTo, ReadTo, Found, GoesOn}
+use Rattle.isl_reader.specs.bridge.Machine.{State, Step, step, none}
+use Rattle.isl_reader.specs.bridge.Turns.{IsLater}
+use Rattle.isl_reader.specs.bridge.Steps.{LeadsTo, ReadTo, Found, GoesOn}
 use Rattle.isl_reader.specs.declared.step.Turn.{Turn}
 use Rattle.isl_reader.proofs.Stepping.{Numbers, state}
 

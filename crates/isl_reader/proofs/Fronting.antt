@@ -12,7 +12,7 @@ use Rattle.isl_reader.specs.Atoms.{Atom, an_integer, a_character, a_symbol, a_st
 use Rattle.isl_reader.specs.Trees.{Tree, atom, proper, improper, row, prefixed, Trees, no_tree, then_tree, prefix_bytes, spelled, spelled_all, behind, behind_all, Stands, StandsAll, IsSomeTree}
 use Rattle.isl_reader.specs.Meanings.{named, atom_content, prefix_name, Means, MeansAll}
 use Rattle.isl_reader.specs.Fronts.{Level, in_list, at_dot, at_tail, in_vector, at_prefix, level_spelled, dot_after, levels_spelled, levels_behind, StandsLevels, TakesMore}
-use Rattle.isl_reader.specs.Machine.{State, put_in, full_dot, Steps}
+use Rattle.isl_reader.specs.bridge.Machine.{State, put_in, full_dot, Steps}
 use Rattle.isl_reader.proofs.Stepping.{Numbers, state, step-gap, step-dot, step-opening, steps-then, one-step}
 use Rattle.isl_reader.proofs.Completing.{a_list, a_vector, holding, at_top, opens, dot-taken, means-some, tree-steps, trees-steps}
 

@@ -16,10 +16,10 @@ use Rattle.isl_reader.specs.declared.pending.Pending.{Pending}
 use Rattle.isl_reader.specs.declared.cursor.Cursor.{Cursor}
 use Rattle.isl_reader.specs.Characters.{place_behind, folded}
 use Rattle.isl_reader.specs.Atoms.{Atom, a_symbol, Spells, decimal, token, barred, quoted, based, marked, lettered, space, newline}
-use Rattle.isl_reader.specs.Lexemes.{skip, lex, between_quotes}
-use Rattle.isl_reader.specs.Machine.{Step, next, over, stopped, finished, ending, pending_place, act, by_lexed, by_rest, by_gap, step}
-use Rattle.isl_reader.specs.Turns.{Turns, with_open, open_state, NameFits, innermost_of}
-use Rattle.isl_reader.specs.Steps.{LeadsTo}
+use Rattle.isl_reader.specs.bridge.Lexemes.{skip, lex, between_quotes}
+use Rattle.isl_reader.specs.bridge.Machine.{Step, next, over, stopped, finished, ending, pending_place, act, by_lexed, by_rest, by_gap, step}
+use Rattle.isl_reader.specs.bridge.Turns.{Turns, with_open, open_state, NameFits, innermost_of}
+use Rattle.isl_reader.specs.bridge.Steps.{LeadsTo}
 use Rattle.isl_reader.proofs.Stepping.{Numbers, state}
 use Rattle.isl_reader.proofs.Lexing.{spells-lexes}
 

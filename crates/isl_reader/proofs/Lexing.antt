@@ -13,7 +13,7 @@ use Rattle.isl_reader.specs.declared.quoted.Quoted.TheVariants.{Closed}
 use Rattle.isl_reader.specs.Characters.{is_blank, is_token, folded, begins, digit_value}
 use Rattle.isl_reader.specs.Tokens.{IsToken, is_integer, integer_value, is_wide, is_float, is_dot}
 use Rattle.isl_reader.specs.Atoms.{Atom, an_integer, a_character, a_symbol, a_string, Inside, binary, octal, hexadecimal, Spells, decimal, token, barred, quoted, based, marked, lettered, space, newline}
-use Rattle.isl_reader.specs.Lexemes.{skip, lex, token_run, token_lexed, mark_lexed, sharp_lexed, based_lexed, name_lexed, quoted_from, atom_of}
+use Rattle.isl_reader.specs.bridge.Lexemes.{skip, lex, token_run, token_lexed, mark_lexed, sharp_lexed, based_lexed, name_lexed, quoted_from, atom_of}
 use Rattle.isl_reader.proofs.TokenRuns.{token_no_gap, token_run-all, token_taken}
 pub use Rattle.isl_reader.proofs.Taking.{opening_bytes, OpeningEnds}
 use Rattle.isl_reader.proofs.Taking.{takes, takes_atom, takes_close, takes_dot, takes_open, opening_some}

@@ -10,12 +10,12 @@ use Rattle.isl_reader.specs.declared.opening.Opening.{Opening}
 use Rattle.isl_reader.specs.declared.opening.Opening.TheVariants.{Before}
 use Rattle.isl_reader.specs.declared.opening.Prefix.{Prefix}
 use Rattle.isl_reader.specs.declared.pending.Pending.TheVariants.{AtPrefix}
-use Rattle.isl_reader.specs.Machine.{State, next, opened, prefix_step}
+use Rattle.isl_reader.specs.bridge.Machine.{State, next, opened, prefix_step}
 use Rattle.isl_base.specs.Data.{symbol}
 use Rattle.isl_base.specs.Names.{Extends-then, text_stays}
 use Rattle.isl_reader.specs.Atoms.{a_symbol}
 use Rattle.isl_reader.specs.Meanings.{number_in, atom_content, prefix_name}
-use Rattle.isl_reader.specs.Turns.{IsLater}
+use Rattle.isl_reader.specs.bridge.Turns.{IsLater}
 
 record Found (ts : List (List ℕ)) (t : List ℕ) : Type 0 where
   pub at : ℕ

@@ -4,7 +4,7 @@ use Rattle.std.proofs.Common.{arith, sym, ◌∙◌, ap, append_assoc, append-ni
 use Rattle.std.proofs.lemmas.List.{drop_all}
 use Rattle.std.proofs.lemmas.Bool.Decides.{nat_tests}
 use Rattle.isl_base.specs.Data.{Item, items_of}
-use Rattle.isl_base.specs.DataRest.{items_at}
+use Rattle.isl_base.specs.model.DataRest.{items_at}
 use Rattle.isl_reader.specs.Printing.{escapes, gap_before, spelling, items_spelling}
 
 -- the escapes of a list from a byte on

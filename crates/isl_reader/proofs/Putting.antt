@@ -9,8 +9,8 @@ use Rattle.isl_reader.specs.declared.pending.Pending.{Pending}
 use Rattle.isl_reader.specs.declared.pending.Pending.TheVariants.{InList, AtDot, AtTail, InVector, AtPrefix}
 use Rattle.isl_reader.specs.declared.opening.Opening.{Opening}
 use Rattle.isl_reader.specs.Meanings.{in_front, prefix_item}
-use Rattle.isl_reader.specs.Machine.{State, next, put_in, put, full_dot, opened, opening_step}
-use Rattle.isl_reader.specs.Turns.{with_open, open_state}
+use Rattle.isl_reader.specs.bridge.Machine.{State, next, put_in, put, full_dot, opened, opening_step}
+use Rattle.isl_reader.specs.bridge.Turns.{with_open, open_state}
 
 -- the innermost is the last
 pub innermost_first : (old mid : Seq Pending) (o : Pending) → old ≡ mid ++ o ∷ [] → reverse old ≡ o ∷ reverse mid

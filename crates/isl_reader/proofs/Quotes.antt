@@ -4,7 +4,7 @@ use Rattle.std.proofs.Math.Seq.{take-append_seam}
 use Rattle.std.proofs.lemmas.Bool.{eqb-true, eq-eqb}
 use Rattle.isl_reader.specs.declared.quoted.Quoted.TheVariants.{Closed, Unclosed, Bad}
 use Rattle.isl_reader.specs.Atoms.{may_stand, Inside, nothing, plain, escaped}
-use Rattle.isl_reader.specs.Lexemes.{quoted_from, unescaped, between_quotes}
+use Rattle.isl_reader.specs.bridge.Lexemes.{quoted_from, unescaped, between_quotes}
 use Rattle.isl_reader.proofs.Skips.{chosen}
 
 -- ---- from the grammar to the bridge

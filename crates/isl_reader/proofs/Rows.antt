@@ -18,8 +18,8 @@ use Rattle.isl_reader.specs.Trees.{Tree, atom, proper, improper, row, prefixed, 
 use Rattle.isl_reader.specs.Meanings.{MeansAll, atom_content}
 use Rattle.isl_reader.specs.Fronts.{Level, in_list, at_dot, at_tail, in_vector, at_prefix, opening_place, levels_behind}
 use Rattle.isl_reader.specs.Stops.{Row, bad_byte, bad_byte_in_bars, bad_byte_escaped, unclosed_list, unclosed_string, unclosed_string_escaped, unclosed_bar, unclosed_bar_escaped, unclosed_comment, stray_close, bad_dot, dot_closed, dot_second, dot_opening, bad_sharp, float_literal, integer_too_wide, based_too_wide, nest_too_deep, token_too_long, bar_too_long, TakesNoClose, TakesNoDot, EndsAtDot, ends_at_dot, EndsAtTail, ends_at_tail, InnermostAt, innermost_at, BeginsOpening, list_next, vector_next, quote_next, quasiquote_next, unquote_next, function_next}
-use Rattle.isl_reader.specs.Lexemes.{skip}
-use Rattle.isl_reader.specs.Machine.{State, stopped, over, full_dot, ending, closing, dot_step, unless_full, opening_step, content_step, by_lexed, by_rest, by_gap, step}
+use Rattle.isl_reader.specs.bridge.Lexemes.{skip}
+use Rattle.isl_reader.specs.bridge.Machine.{State, stopped, over, full_dot, ending, closing, dot_step, unless_full, opening_step, content_step, by_lexed, by_rest, by_gap, step}
 use Rattle.isl_reader.proofs.Skips.{open-skips}
 use Rattle.isl_reader.proofs.Lexing.{opening_bytes, OpeningEnds}
 use Rattle.isl_reader.proofs.Faulting.{Faults, faults-byte, faults-string, faults-string-escaped, faults-bar, faults-bar-escaped, faults-bar-byte, faults-bar-byte-escaped, faults-bar-long, faults-float, faults-wide, faults-long, faults-based-wide, faults-sharp}

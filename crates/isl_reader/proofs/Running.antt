@@ -17,8 +17,8 @@ use Rattle.isl_reader.specs.declared.pending.Pending.{Pending}
 use Rattle.isl_reader.specs.declared.pending.Pending.TheVariants.{InList, AtDot, AtTail, InVector, AtPrefix}
 use Rattle.isl_reader.specs.Atoms.{Atom}
 use Rattle.isl_reader.specs.Meanings.{atom_content, prefix_name, prefix_item}
-use Rattle.isl_reader.specs.Lexemes.{skip, lex, atom_of}
-use Rattle.isl_reader.specs.Machine.{State, Outcome, finished, stopped, unknown, Step, next, over, moved, put_in, put, full_dot, ending, closing, dot_step, prefix_step, opened, unless_full, opening_step, content_step, atom_step, act, by_lexed, by_rest, by_gap, step, Steps, none, more}
+use Rattle.isl_reader.specs.bridge.Lexemes.{skip, lex, atom_of}
+use Rattle.isl_reader.specs.bridge.Machine.{State, Outcome, finished, stopped, unknown, Step, next, over, moved, put_in, put, full_dot, ending, closing, dot_step, prefix_step, opened, unless_full, opening_step, content_step, atom_step, act, by_lexed, by_rest, by_gap, step, Steps, none, more}
 use Rattle.isl_reader.proofs.Lexing.{lexes-within}
 use Rattle.isl_reader.proofs.Stepping.{Numbers}
 

@@ -5,7 +5,7 @@ use Rattle.isl_reader.specs.declared.quoted.Quoted.TheVariants.{Closed, Unclosed
 use Rattle.isl_reader.specs.declared.gap.Mode.TheVariants.{InBlock}
 use Rattle.isl_reader.specs.Characters.{is_token}
 use Rattle.isl_reader.specs.Atoms.{may_stand}
-use Rattle.isl_reader.specs.Lexemes.{mode_after_close, token_run, token_lexed, mark_lexed, lex, quoted_from, unescaped}
+use Rattle.isl_reader.specs.bridge.Lexemes.{mode_after_close, token_run, token_lexed, mark_lexed, lex, quoted_from, unescaped}
 
 -- behind a comment inside others
 pub after_close : (n : ℕ) → n ≢ 0 → mode_after_close n ≡ InBlock (n - 1)

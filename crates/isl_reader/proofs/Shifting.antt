@@ -5,7 +5,7 @@ use Rattle.isl_reader.specs.declared.gap.Mode.TheVariants.{Between, InLine, InBl
 use Rattle.isl_reader.specs.declared.gap.Skipped.{Skipped}
 use Rattle.isl_reader.specs.declared.gap.Skipped.TheVariants.{Ends, OpenFrom}
 use Rattle.isl_reader.specs.Gaps.{Gap}
-use Rattle.isl_reader.specs.Lexemes.{skip, mode_after_close}
+use Rattle.isl_reader.specs.bridge.Lexemes.{skip, mode_after_close}
 use Rattle.isl_reader.proofs.Skips.{skip-gap, skip-from}
 
 -- the same, k bytes on

@@ -5,7 +5,7 @@ use Rattle.isl_reader.specs.declared.gap.Mode.TheVariants.{Between, InLine, InBl
 use Rattle.isl_reader.specs.declared.gap.Skipped.TheVariants.{Ends, OpenFrom}
 use Rattle.isl_reader.specs.Characters.{is_blank, begins}
 use Rattle.isl_reader.specs.Gaps.{is_mark, Within, here, opening, closing, other, InLine as IsInLine, no_byte, byte, ends_line, Gap, no_gap, blank, line, block}
-use Rattle.isl_reader.specs.Lexemes.{skip, mode_after_close}
+use Rattle.isl_reader.specs.bridge.Lexemes.{skip, mode_after_close}
 
 -- ---- choices
 

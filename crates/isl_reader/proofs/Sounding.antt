@@ -23,8 +23,8 @@ use Rattle.isl_reader.specs.Atoms.{Atom, Spells}
 use Rattle.isl_reader.specs.Trees.{Tree, atom, proper, improper, row, prefixed, Trees, no_tree, then_tree, prefix_bytes, spelled, spelled_all, behind, behind_all, Stands, StandsAll, IsSomeTree}
 use Rattle.isl_reader.specs.Meanings.{atom_content, prefix_name, list_content, joined, prefix_item, Means, MeansAll}
 use Rattle.isl_reader.specs.Fronts.{Level, in_list, at_dot, at_tail, in_vector, at_prefix, dot_after, levels_spelled, levels_behind, StandsLevels, TakesMore}
-use Rattle.isl_reader.specs.Lexemes.{skip, lex, atom_of}
-use Rattle.isl_reader.specs.Machine.{State, stopped, Step, next, over, put_in, full_dot, ending, closing, dot_step, prefix_step, opened, unless_full, opening_step, content_step, atom_step, act, by_lexed, by_rest, by_gap, step, Steps, none, more}
+use Rattle.isl_reader.specs.bridge.Lexemes.{skip, lex, atom_of}
+use Rattle.isl_reader.specs.bridge.Machine.{State, stopped, Step, next, over, put_in, full_dot, ending, closing, dot_step, prefix_step, opened, unless_full, opening_step, content_step, atom_step, act, by_lexed, by_rest, by_gap, step, Steps, none, more}
 use Rattle.isl_reader.proofs.Lexing.{spells-lexes, close-lexes, dot-lexes, open-lexes, opening_bytes, OpeningEnds}
 use Rattle.isl_reader.proofs.Skips.{skip-ends}
 use Rattle.isl_reader.proofs.Stepping.{Numbers, state}

@@ -16,8 +16,8 @@ use Rattle.isl_reader.specs.declared.pending.Pending.{Pending}
 use Rattle.isl_reader.specs.Characters.{begins, is_token, place_after, place_behind}
 use Rattle.isl_reader.specs.Gaps.{Gap}
 use Rattle.isl_reader.specs.Atoms.{Atom, Spells}
-use Rattle.isl_reader.specs.Lexemes.{skip, lex, atom_of}
-use Rattle.isl_reader.specs.Machine.{State, next, closing, act, atom_step, opening_step, dot_step, by_lexed, by_rest, by_gap, step, Steps, none, more}
+use Rattle.isl_reader.specs.bridge.Lexemes.{skip, lex, atom_of}
+use Rattle.isl_reader.specs.bridge.Machine.{State, next, closing, act, atom_step, opening_step, dot_step, by_lexed, by_rest, by_gap, step, Steps, none, more}
 use Rattle.isl_reader.proofs.Shifting.{shifted, skip-front}
 use Rattle.isl_reader.proofs.Lexing.{lexes-spells, lexes-close, lexes-dot, opening_bytes, OpeningEnds, lexes-opening}
 

@@ -26,8 +26,8 @@ use Rattle.isl_reader.specs.Trees.{atom, Trees, no_tree, then_tree, spelled, Sta
 use Rattle.isl_reader.specs.Meanings.{atom_content, prefix_name, MeansAll}
 use Rattle.isl_reader.specs.Fronts.{Level, in_list, at_dot, at_tail, in_vector, at_prefix, levels_spelled, levels_behind, Front, IsFront, StandsLevels}
 use Rattle.isl_reader.specs.Stops.{Row, unclosed_list, unclosed_comment, stray_close, bad_dot, dot_closed, dot_second, dot_opening, nest_too_deep, Stops, ends_at_dot, ends_at_tail, EndsAtTail, innermost_at, BeginsOpening, list_next, vector_next, quote_next, quasiquote_next, unquote_next, function_next}
-use Rattle.isl_reader.specs.Lexemes.{skip, lex, atom_of}
-use Rattle.isl_reader.specs.Machine.{State, stopped, Step, over, full_dot, ending, closing, dot_step, prefix_step, opened, unless_full, opening_step, content_step, atom_step, act, by_lexed, by_rest, by_gap, step}
+use Rattle.isl_reader.specs.bridge.Lexemes.{skip, lex, atom_of}
+use Rattle.isl_reader.specs.bridge.Machine.{State, stopped, Step, over, full_dot, ending, closing, dot_step, prefix_step, opened, unless_full, opening_step, content_step, atom_step, act, by_lexed, by_rest, by_gap, step}
 use Rattle.isl_reader.proofs.Skips.{skip-ends, skip-open}
 use Rattle.isl_reader.proofs.Lexing.{spells-lexes, close-lexes, dot-lexes, open-lexes, opening_bytes}
 use Rattle.isl_reader.proofs.Faults.{fault-row}

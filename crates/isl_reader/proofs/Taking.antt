@@ -20,7 +20,7 @@ use Rattle.isl_reader.specs.Characters.{is_token, folded, begins, digit_value}
 use Rattle.isl_reader.specs.Tokens.{IsToken, is_integer, integer_value, is_wide, is_float, is_dot, are_digits, behind_sign}
 use Rattle.isl_reader.specs.Atoms.{Atom, an_integer, a_character, a_symbol, a_string, Base, binary, octal, hexadecimal, Spells, decimal, token, barred, quoted, based, marked, lettered, space, newline}
 use Rattle.isl_reader.specs.Trees.{prefix_bytes, PrefixEnds}
-use Rattle.isl_reader.specs.Lexemes.{lex, token_run, token_lexed, integer_lexed, mark_lexed, sharp_lexed, based_lexed, base_of, character_lexed, name_lexed, comma_lexed, bar_lexed, text_lexed, quoted_from, unescaped, atom_of}
+use Rattle.isl_reader.specs.bridge.Lexemes.{lex, token_run, token_lexed, integer_lexed, mark_lexed, sharp_lexed, based_lexed, base_of, character_lexed, name_lexed, comma_lexed, bar_lexed, text_lexed, quoted_from, unescaped, atom_of}
 use Rattle.isl_reader.proofs.Skips.{chosen}
 use Rattle.isl_reader.proofs.TokenRuns.{Run, run_of, run_taken, run_is_token}
 use Rattle.isl_reader.proofs.Quotes.{IsClosed, quoted-closed, inside-unescaped, between-inside}

@@ -11,8 +11,8 @@ use Rattle.isl_reader.specs.Meanings.{number_in, MeansAll}
 use Rattle.isl_reader.specs.Reads.{Text}
 use Rattle.isl_reader.specs.Fronts.{Front, levels_behind, front_behind, IsFront}
 use Rattle.isl_reader.specs.Stops.{Row, Stops}
-use Rattle.isl_reader.specs.Lexemes.{skip}
-use Rattle.isl_reader.specs.Machine.{Outcome, finished, stopped, over, by_gap, by_rest, step}
+use Rattle.isl_reader.specs.bridge.Lexemes.{skip}
+use Rattle.isl_reader.specs.bridge.Machine.{Outcome, finished, stopped, over, by_gap, by_rest, step}
 use Rattle.isl_reader.proofs.Stepping.{Numbers, state, step-gap}
 use Rattle.isl_reader.proofs.Completing.{at_top, trees-steps}
 use Rattle.isl_reader.proofs.Fronting.{Held, front-steps, all_zero, all-means-exist, held-exists}

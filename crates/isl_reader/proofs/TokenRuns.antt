@@ -7,7 +7,7 @@ use Rattle.isl_reader.specs.declared.gap.Mode.TheVariants.{Between}
 use Rattle.isl_reader.specs.declared.gap.Skipped.TheVariants.{Ends}
 use Rattle.isl_reader.specs.Characters.{is_blank, is_token, begins}
 use Rattle.isl_reader.specs.Tokens.{IsToken}
-use Rattle.isl_reader.specs.Lexemes.{skip, token_run}
+use Rattle.isl_reader.specs.bridge.Lexemes.{skip, token_run}
 
 -- a byte of one kind is none that is not of it
 apart_by : (p : ℕ → Bool) (b c : ℕ) (x : Bool) → (b == c) ≡ x → p b ≡ true → p c ≡ false → x ≡ false

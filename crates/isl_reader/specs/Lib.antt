@@ -9,10 +9,6 @@ pub mod Reads
 pub mod Fronts
 pub mod Stops
 pub mod Printing
-pub mod Lexemes
-pub mod Machine
-pub mod Turns
+pub mod bridge
 pub mod Readers
-pub mod Steps
 pub mod Answers
-pub mod Scanning

@@ -31,7 +31,7 @@ impl Model for Chain {
 
     ghost Value = { Item };
 
-    ghost use Rattle.isl_base.specs.DataCode.{item_code};
+    ghost use Rattle.isl_base.specs.model.DataCode.{item_code};
 
     ghost coded = { item_code };
 

@@ -2,8 +2,8 @@
 
 ghost use Rattle.std.specs.Prelude.{◌≡◌, ◌<◌, ◌≤◌, ◌+◌, ◌==◌, ◌&&◌, ℕ, List, [], ◌∷◌};
 ghost use Rattle.isl_reader.specs.Characters.{begins as begins_of};
-ghost use Rattle.isl_reader.specs.Lexemes.{skip as skip_of, mode_after_close};
-ghost use Rattle.isl_reader.specs.Scanning.{turned, depth_of, depth_behind};
+ghost use Rattle.isl_reader.specs.bridge.Lexemes.{skip as skip_of, mode_after_close};
+ghost use Rattle.isl_reader.specs.bridge.Scanning.{turned, depth_of, depth_behind};
 
 use crate::characters::is_blank;
 
@@ -56,7 +56,7 @@ fn after_close(n: usize) -> Mode
 }
 
 // What a byte does in a mode, where this follows it.
-#[tactic(auto, unfolding(crate::specs::Lexemes::skip))]
+#[tactic(auto, unfolding(crate::specs::bridge::Lexemes::skip))]
 fn go_on(mode: Mode, byte: u8, rest: &[u8]) -> Turn
     requires { depth_of mode < 18446744073709551615 }
     ensures turned { (i o : ℕ) → skip_of mode i o (byte ∷ rest.now) ≡ turned result i o rest.now }
@@ -71,7 +71,7 @@ fn go_on(mode: Mode, byte: u8, rest: &[u8]) -> Turn
     }
 }
 
-#[tactic(auto, unfolding(crate::specs::Lexemes::skip))]
+#[tactic(auto, unfolding(crate::specs::bridge::Lexemes::skip))]
 fn between(byte: u8, rest: &[u8]) -> Turn
     ensures turned { (i o : ℕ) → skip_of Mode.Between i o (byte ∷ rest.now) ≡ turned result i o rest.now }
     ensures depth { depth_behind result ≤ 1 }
@@ -87,7 +87,7 @@ fn between(byte: u8, rest: &[u8]) -> Turn
     }
 }
 
-#[tactic(auto, unfolding(crate::specs::Lexemes::skip))]
+#[tactic(auto, unfolding(crate::specs::bridge::Lexemes::skip))]
 fn in_line(byte: u8) -> Turn
     ensures turned { (i o : ℕ) (rest : List ℕ) →
         skip_of Mode.InLine i o (byte ∷ rest) ≡ turned result i o rest }
@@ -100,7 +100,7 @@ fn in_line(byte: u8) -> Turn
     }
 }
 
-#[tactic(auto, unfolding(crate::specs::Lexemes::skip))]
+#[tactic(auto, unfolding(crate::specs::bridge::Lexemes::skip))]
 fn in_block(n: usize, byte: u8, rest: &[u8]) -> Turn
     requires { n < 18446744073709551615 }
     ensures turned { (i o : ℕ) →
@@ -136,7 +136,7 @@ pub(crate) fn skip(text: &[u8]) -> Skipped
 }
 
 // The gap of a text of that length that ends in a mode.
-#[tactic(auto, unfolding(crate::specs::Lexemes::skip))]
+#[tactic(auto, unfolding(crate::specs::bridge::Lexemes::skip))]
 fn at_end(mode: Mode, length: usize, opened: usize) -> Skipped
     ensures { result ≡ skip_of mode length opened [] }
 {

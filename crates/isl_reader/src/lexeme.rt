@@ -1,7 +1,7 @@
 // Lexemes: what a text is read as piece by piece, behind its gaps.
 
 ghost use Rattle.std.specs.Prelude.{◌≡◌, length, ◌<◌};
-ghost use Rattle.isl_reader.specs.Lexemes.{lex as lex_of, mark_lexed, comma_lexed};
+ghost use Rattle.isl_reader.specs.bridge.Lexemes.{lex as lex_of, mark_lexed, comma_lexed};
 
 use crate::characters::is_token;
 use crate::opening::{Opening, Prefix};
@@ -48,7 +48,7 @@ pub(crate) fn lex(text: &[u8]) -> Lexed
 }
 
 // What begins with a byte that is no token character.
-#[tactic(auto, unfolding(crate::specs::Lexemes::mark_lexed))]
+#[tactic(auto, unfolding(crate::specs::bridge::Lexemes::mark_lexed))]
 fn mark(byte: u8, rest: &[u8]) -> Lexed
     ensures { result ≡ mark_lexed byte rest.now }
 {

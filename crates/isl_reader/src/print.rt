@@ -4,7 +4,7 @@ ghost use Rattle.std.specs.Prelude.{◌≡◌, ◌≤◌, ◌++◌, [], ◌∷�
 ghost use Rattle.std.specs.Fmt.{signed_decimal};
 ghost use Rattle.isl_base.specs.declared.place.Place.{Place};
 ghost use Rattle.isl_base.specs.Data.{items_of};
-ghost use Rattle.isl_base.specs.DataView.{tail_of};
+ghost use Rattle.isl_base.specs.model.DataView.{tail_of};
 ghost use Rattle.isl_base.specs.DataMeasures.{Formed, depth_of};
 ghost use Rattle.isl_base.specs.Names.{IsTable};
 ghost use Rattle.std.specs.List.{list_all};
@@ -68,7 +68,7 @@ fn append_datum(
 
 // Appends data with a space between them.
 #[cycle(print)]
-#[tactic(auto, using(isl_base::specs::DataSizes::item_in_smaller))]
+#[tactic(auto, using(isl_base::specs::model::DataSizes::item_in_smaller))]
 fn append_items(
     out: &mut Bytes,
     alloc: Global,

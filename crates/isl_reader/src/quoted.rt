@@ -2,8 +2,8 @@
 
 ghost use Rattle.std.specs.Prelude.{◌≡◌, ◌≤◌, ◌<◌, false, length, take, IfOk, OnOk, ◌++◌};
 ghost use Rattle.isl_reader.specs.Atoms.{may_stand as may_stand_of};
-ghost use Rattle.isl_reader.specs.Lexemes as bridge;
-ghost use Rattle.isl_reader.specs.Scanning.{QuotedWithin};
+ghost use Rattle.isl_reader.specs.bridge.Lexemes as bridge;
+ghost use Rattle.isl_reader.specs.bridge.Scanning.{QuotedWithin};
 
 use crate::characters::is_printed;
 use crate::lexeme::{Lexed, Lexeme};

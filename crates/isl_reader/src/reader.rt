@@ -2,7 +2,7 @@
 
 ghost use Rattle.std.specs.Prelude.{◌≡◌, ◌<◌, ◌↔◌, [], length, Some, None, IfOk, IfErr, IfSome, IfNone, IsTrue};
 ghost use Rattle.isl_reader.specs.Gaps.{Gap};
-ghost use Rattle.isl_reader.specs.Turns.{IsLater};
+ghost use Rattle.isl_reader.specs.bridge.Turns.{IsLater};
 ghost use Rattle.isl_reader.specs.Answers.{IsRead, IsEnded, IsStopped};
 ghost use Rattle.isl_reader.specs.Readers.{first_place, MayBeRead};
 

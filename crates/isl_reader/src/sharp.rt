@@ -1,7 +1,7 @@
 // Spellings that begin with `#`.
 
 ghost use Rattle.std.specs.Prelude.{◌≡◌, ◌≤◌, map};
-ghost use Rattle.isl_reader.specs.Lexemes as bridge;
+ghost use Rattle.isl_reader.specs.bridge.Lexemes as bridge;
 ghost use Rattle.std.specs.Str.{bytes_eq};
 ghost use Rattle.isl_reader.specs.Characters as characters;
 
@@ -12,7 +12,7 @@ use crate::token::{integer_lexed, is_integer, token_run};
 use isl_base::Reason;
 
 /// Behind `#`.
-#[tactic(auto, unfolding(crate::specs::Lexemes::sharp_lexed))]
+#[tactic(auto, unfolding(crate::specs::bridge::Lexemes::sharp_lexed))]
 pub(crate) fn sharp_lexed(rest: &[u8]) -> Lexed
     ensures { result ≡ bridge.sharp_lexed rest.now }
 {

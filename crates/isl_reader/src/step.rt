@@ -3,8 +3,8 @@
 ghost use Rattle.std.specs.Prelude.{◌≡◌, ◌<◌, ℕ, List, [], length, reverse, IfOk};
 ghost use Rattle.isl_reader.specs.Meanings.{number_in};
 ghost use Rattle.isl_reader.specs.Readers.{PlacesFit};
-ghost use Rattle.isl_reader.specs.Turns.{IsLater};
-ghost use Rattle.isl_reader.specs.Steps.{Leads, LeadsLexed, GoesOn, Found};
+ghost use Rattle.isl_reader.specs.bridge.Turns.{IsLater};
+ghost use Rattle.isl_reader.specs.bridge.Steps.{Leads, LeadsLexed, GoesOn, Found};
 
 use crate::cursor::{Cursor, front, moved};
 use crate::gap::{Skipped, skip};

@@ -3,7 +3,7 @@
 ghost use Rattle.std.specs.Prelude.{◌≡◌, ◌≤◌, ◌<◌, length, nat_lt, MatchOption};
 ghost use Rattle.std.specs.List.{list_all};
 ghost use Rattle.isl_reader.specs.Tokens as spec;
-ghost use Rattle.isl_reader.specs.Lexemes as bridge;
+ghost use Rattle.isl_reader.specs.bridge.Lexemes as bridge;
 ghost use Rattle.isl_reader.specs.Characters as characters;
 
 use crate::characters::{digit_value, is_digit, is_token};
@@ -176,7 +176,7 @@ fn is_dot(word: &[u8]) -> bool
 }
 
 /// What a token is.
-#[tactic(auto, unfolding(crate::specs::Lexemes::token_lexed))]
+#[tactic(auto, unfolding(crate::specs::bridge::Lexemes::token_lexed))]
 pub(crate) fn token_lexed(word: &[u8]) -> Lexed
     ensures { result ≡ bridge.token_lexed word.now }
 {

@@ -2,14 +2,14 @@
 
 ghost use Rattle.std.specs.Prelude.{◌≡◌, ◌≤◌, ◌<◌, ◌-◌, ℕ, List, [], ◌∷◌, ◌++◌, length, reverse, map, take, drop, Some, IfOk, OnOk, IsSome};
 ghost use Rattle.isl_base.specs.Data.{item};
-ghost use Rattle.isl_base.specs.DataView.{view_content};
+ghost use Rattle.isl_base.specs.model.DataView.{view_content};
 ghost use Rattle.isl_base.specs.Names.{IsTable};
 ghost use Rattle.isl_reader.specs.Atoms.{a_symbol};
-ghost use Rattle.isl_reader.specs.Lexemes.{atom_of};
+ghost use Rattle.isl_reader.specs.bridge.Lexemes.{atom_of};
 ghost use Rattle.isl_reader.specs.Characters.{folded as folded_of};
 ghost use Rattle.isl_reader.specs.Meanings.{number_in, atom_content, prefix_name, prefix_item, list_content};
-ghost use Rattle.isl_reader.specs.Machine.{State, Step, next, put, closing, dot_step, opening_step, atom_step, act, full_dot as full_dot_of};
-ghost use Rattle.isl_reader.specs.Turns.{IsLater, Turns, with_open, NameFits, open_state, IsContent, innermost_of, Begins};
+ghost use Rattle.isl_reader.specs.bridge.Machine.{State, Step, next, put, closing, dot_step, opening_step, atom_step, act, full_dot as full_dot_of};
+ghost use Rattle.isl_reader.specs.bridge.Turns.{IsLater, Turns, with_open, NameFits, open_state, IsContent, innermost_of, Begins};
 
 use crate::chain::Chain;
 use crate::characters::folded;

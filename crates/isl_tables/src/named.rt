@@ -4,7 +4,7 @@ ghost use Rattle.std.specs.Prelude.{◌≡◌, true, IsTrue, Some, length, codes
 ghost use Rattle.std.specs.List.{list_all};
 ghost use Rattle.std.specs.Str.{bytes_eq};
 ghost use Rattle.isl_base.specs.Data.{items_of};
-ghost use Rattle.isl_base.specs.DataView.{tail_of};
+ghost use Rattle.isl_base.specs.model.DataView.{tail_of};
 ghost use Rattle.isl_base.specs.DataMeasures.{NamesBelow, AllNamesBelow, NamesBelowTail, SymbolBelow};
 ghost use Rattle.isl_reader.specs.Characters.{is_printed};
 ghost use Rattle.isl_reader.specs.Printing.{IsSpelled, AllSpelled, TailSpelled, SymbolSpelled, NameSpelled};

@@ -3,10 +3,10 @@
 use Rattle.std.proofs.Common.{◌≡◌, ℕ, ◌+◌, ◌≤◌, List as Seq, [], ◌∷◌, ◌++◌, length, slice_get, drop, Some, None, refl, ap}
 use Rattle.std.proofs.lemmas.List.{drop_all}
 use Rattle.isl_base.specs.Data.{Item, item, integer, character, symbol, string, vector, nil, list, Items, no_item, item_and, items_of, items_list, no_tail, dotted, place_of}
-use Rattle.isl_base.specs.DataView.{items_of-items_list}
-use Rattle.isl_base.specs.DataRest.{items_at}
+use Rattle.isl_base.specs.model.DataView.{items_of-items_list}
+use Rattle.isl_base.specs.model.DataRest.{items_at}
 use Rattle.isl_meaning.specs.Form.{Form, Forms, no_form, form_and}
-use Rattle.isl_meaning.specs.View.{forms}
+use Rattle.isl_meaning.specs.model.View.{forms}
 use Rattle.isl_top.specs.Shapes.{Tables, Found, and_then, as_form, number_of, integer_form, form_of, forms_of}
 use Rattle.isl_top.specs.Heads.{list_in, list_form}
 

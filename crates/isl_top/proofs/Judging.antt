@@ -12,7 +12,7 @@ use Rattle.isl_base.specs.DataMeasures.{depth_of}
 use Rattle.isl_base.specs.Names.{Extends}
 use Rattle.isl_meaning.specs.declared.program.ProgramRows.{ProgramRows}
 use Rattle.isl_meaning.specs.Form.{Form, Forms, no_form, form_and}
-use Rattle.isl_meaning.specs.View.{forms}
+use Rattle.isl_meaning.specs.model.View.{forms}
 use Rattle.isl_reader.specs.Readers.{ReaderState, first_place}
 use Rattle.isl_base.specs.declared.reason.Refusal.{Refusal}
 use Rattle.isl_base.specs.declared.reason.Stop.{Stop}

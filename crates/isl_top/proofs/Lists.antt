@@ -2,7 +2,7 @@
 use Rattle.std.proofs.Common.{◌≡◌, ℕ, ◌<◌, ◌≤◌, List as Seq, [], ◌∷◌, length, slice_get, Some, None, refl, ap, ◌∙◌, arith}
 use Rattle.isl_base.specs.declared.place.Place.{Place}
 use Rattle.isl_base.specs.Data.{Item, item, integer, character, symbol, string, vector, nil, list, Items, no_item, item_and, items_of, items_list, no_tail, dotted, place_of, item_size, items_size}
-use Rattle.isl_base.specs.DataView.{items_list-items_of, items_of-items_list}
+use Rattle.isl_base.specs.model.DataView.{items_list-items_of, items_of-items_list}
 use Rattle.isl_top.specs.Shapes.{other_head, head_of}
 use Rattle.isl_top.specs.Heads.{head_in, list_in}
 

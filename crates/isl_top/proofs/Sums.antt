@@ -1,7 +1,7 @@
 -- Sums and operands by their items.
 use Rattle.std.proofs.Common.{◌≡◌, ◌≢◌, ℕ, List as Seq, [], ◌∷◌, length, get_or, drop, Some, None, refl, arith}
 use Rattle.isl_base.specs.declared.place.Place.{Place}
-use Rattle.isl_base.specs.DataView.{items_of-items_list}
+use Rattle.isl_base.specs.model.DataView.{items_of-items_list}
 use Rattle.isl_base.specs.Data.{Item, item, integer, character, symbol, string, vector, nil, list, no_item, item_and, items_of, items_list, no_tail, dotted, place_of}
 use Rattle.isl_meaning.specs.declared.primitive.Primitive.{Primitive}
 use Rattle.isl_meaning.specs.declared.primitive.Primitive.TheVariants.{Add, Subtract}

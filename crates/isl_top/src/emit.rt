@@ -1,7 +1,7 @@
 // The code of core forms, as lists of words.
 
 ghost use Rattle.std.specs.Prelude.{◌≡◌, ◌++◌, IfOk, OnOk};
-ghost use Rattle.isl_meaning.specs.View.{forms, clauses_of, maybe_form};
+ghost use Rattle.isl_meaning.specs.model.View.{forms, clauses_of, maybe_form};
 ghost use Rattle.isl_top.specs.Code.{constant, nil_word, form_code, forms_code, clauses_code, body_code, primitive_code, byte_of, literal_number};
 
 pub(crate) mod instructions;
@@ -70,7 +70,7 @@ fn nil_code(alloc: Global) -> Result<WordList, NoMemory>
 
 // Appends the code of the forms, in order.
 #[cycle(emit)]
-#[tactic(auto, using(isl_meaning::specs::Sizes::form_in_smaller), unfolding(crate::specs::Code::forms_code))]
+#[tactic(auto, using(isl_meaning::specs::model::Sizes::form_in_smaller), unfolding(crate::specs::Code::forms_code))]
 pub(crate) fn append_forms(
     code: &mut WordList,
     alloc: Global,
@@ -91,7 +91,7 @@ pub(crate) fn append_forms(
 
 // The code of the clauses, put together from the last clause to the first.
 #[cycle(emit)]
-#[tactic(auto, using(isl_meaning::specs::Sizes::test_in_smaller, isl_meaning::specs::Sizes::body_in_smaller, isl_meaning::specs::Rest::clauses_at), unfolding(crate::specs::Code::clauses_code))]
+#[tactic(auto, using(isl_meaning::specs::model::Sizes::test_in_smaller, isl_meaning::specs::model::Sizes::body_in_smaller, isl_meaning::specs::model::Rest::clauses_at), unfolding(crate::specs::Code::clauses_code))]
 fn clauses_code(
     alloc: Global,
     literals: &LiteralRows,
@@ -129,7 +129,7 @@ fn body_code(
 
 // The code of a primitive of its arguments.
 #[cycle(emit)]
-#[tactic(auto, using(isl_meaning::specs::Sizes::form_in_smaller), unfolding(crate::specs::Code::primitive_code))]
+#[tactic(auto, using(isl_meaning::specs::model::Sizes::form_in_smaller), unfolding(crate::specs::Code::primitive_code))]
 fn primitive_code(
     alloc: Global,
     literals: &LiteralRows,

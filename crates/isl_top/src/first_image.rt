@@ -1,7 +1,7 @@
 // The image of a program of the first path.
 
 ghost use Rattle.std.specs.Prelude.{◌≡◌, ℕ, ◌<◌, ◌^◌, IfOk, slice_index};
-ghost use Rattle.isl_meaning.specs.View.{forms};
+ghost use Rattle.isl_meaning.specs.model.View.{forms};
 ghost use Rattle.isl_top.specs.Theorem.{Compiled};
 ghost use Rattle.isl_top.specs.Code.{program_code};
 ghost use Rattle.isl_top.specs.Shapes.{IsFirstPath};

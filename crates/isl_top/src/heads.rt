@@ -2,7 +2,7 @@
 
 ghost use Rattle.std.specs.Prelude.{◌≡◌, None, Some, MatchOption};
 ghost use Rattle.isl_base.specs.Data.{item, list, items_of};
-ghost use Rattle.isl_base.specs.DataView.{tail_of};
+ghost use Rattle.isl_base.specs.model.DataView.{tail_of};
 ghost use Rattle.isl_base.specs.declared.place.Place.{Place as PlaceValue};
 ghost use Rattle.isl_top.specs.Shapes.{head_of_text, text_of as text_of_symbol, word_of as word_of_item};
 ghost use Rattle.isl_top.specs.Heads.{head_value, head_in, list_in as list_in_item};

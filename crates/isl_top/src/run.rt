@@ -2,7 +2,7 @@
 
 ghost use Rattle.std.specs.Prelude.{◌≡◌, ◌≤◌, ℕ, None, IfOk, length};
 ghost use Rattle.isl_base.specs.Outside.{Rose};
-ghost use Rattle.isl_meaning.specs.View.{forms};
+ghost use Rattle.isl_meaning.specs.model.View.{forms};
 ghost use Rattle.rv_machine.specs.State.{start};
 ghost use Rattle.isl_top.specs.Shapes.{IsFirstPath};
 ghost use Rattle.isl_top.specs.Code.{program_code};

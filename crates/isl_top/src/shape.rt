@@ -2,7 +2,7 @@
 
 ghost use Rattle.std.specs.Prelude.{◌≡◌, drop, IfOk};
 ghost use Rattle.isl_base.specs.Data.{items_of};
-ghost use Rattle.isl_meaning.specs.View.{forms};
+ghost use Rattle.isl_meaning.specs.model.View.{forms};
 ghost use Rattle.isl_top.specs.Finds.{Finds, FindsAs};
 ghost use Rattle.isl_top.specs.Heads.{list_form};
 ghost use Rattle.isl_top.specs.Shapes.{with_site, form_of, if_form, progn_form, forms_of};
@@ -114,7 +114,7 @@ fn if_form(
 
 // The forms that the data of a list are, from the one at `start` on.
 #[cycle(shape)]
-#[tactic(auto, using(isl_base::specs::DataSizes::item_in_smaller, crate::proofs::Forming::items))]
+#[tactic(auto, using(isl_base::specs::model::DataSizes::item_in_smaller, crate::proofs::Forming::items))]
 fn forms_of(
     alloc: Global,
     names: &Names,

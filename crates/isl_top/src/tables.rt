@@ -2,7 +2,7 @@
 
 ghost use Rattle.std.specs.Prelude.{◌≡◌, Some, IfOk, OnOk};
 ghost use Rattle.isl_top.specs.Shapes.{no_tables, with_literal, with_truth, with_site, next_literal, next_site, program_with};
-ghost use Rattle.isl_meaning.specs.View.{forms};
+ghost use Rattle.isl_meaning.specs.model.View.{forms};
 ghost use Rattle.isl_base.specs.Data.{place_of, content_of};
 
 use isl_base::{Datum, Kind, Name, NoMemory, Place, PlaceList, Symbol};
@@ -76,7 +76,7 @@ impl Tables {
     }
 
     /// The program of these main forms, with these tables.
-    #[tactic(auto, using(isl_meaning::specs::View::forms_back))]
+    #[tactic(auto, using(isl_meaning::specs::model::View::forms_back))]
     pub(crate) fn program(self, alloc: Global, main: CoreList) -> ProgramRows
         ensures { Some result ≡ program_with (Some (forms main, self)) }
     {

@@ -8,7 +8,7 @@ use Rattle.isl_meaning.specs.declared.program.MethodRow.{MethodRow}
 use Rattle.isl_meaning.specs.declared.program.ProgramRows.{ProgramRows}
 use Rattle.isl_meaning.specs.declared.primitive.Primitive.TheVariants.{Subtract, Multiply, Cons, Allocate}
 use Rattle.isl_meaning.specs.Form.{literal, local, call, call_value, prim, dynamic_let, dynamic, def_dynamic, next_method, no_dynamic, dynamic_and}
-use Rattle.isl_meaning.specs.View.{forms}
+use Rattle.isl_meaning.specs.model.View.{forms}
 use Rattle.isl_meaning.specs.Values.{integer, nil}
 use Rattle.isl_meaning.specs.State.{words, unlimited}
 use Rattle.isl_meaning.specs.Meaning.{with_value, for_words, meaning}

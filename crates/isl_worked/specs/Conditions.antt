@@ -4,7 +4,7 @@ use Rattle.isl_meaning.specs.declared.program.LiteralRow.TheVariants as row
 use Rattle.isl_meaning.specs.declared.program.ProgramRows.{ProgramRows}
 use Rattle.isl_meaning.specs.declared.primitive.Primitive.TheVariants.{Add, Divide, Car, Allocate}
 use Rattle.isl_meaning.specs.Form.{Form, literal, local, prim, unwind, catch_form, throw, with_handler, signal_form, continue_form, sited}
-use Rattle.isl_meaning.specs.View.{forms}
+use Rattle.isl_meaning.specs.model.View.{forms}
 use Rattle.isl_meaning.specs.Values.{integer}
 use Rattle.isl_meaning.specs.State.{unlimited}
 use Rattle.isl_meaning.specs.Meaning.{with_value, by_class}

@@ -7,7 +7,7 @@ use Rattle.isl_meaning.specs.declared.program.LiteralRow.TheVariants as row
 use Rattle.isl_meaning.specs.declared.program.ProgramRows.{ProgramRows}
 use Rattle.isl_meaning.specs.declared.primitive.Primitive.TheVariants.{Add, Subtract, Divide, Modulo, NumberLess, Car, Cdr, SetCar, VectorRef, CharAt, GetByte, Allocate, SlotPlace, SlotRef, SlotSet, SlotInitargs, SlotInitform}
 use Rattle.isl_meaning.specs.Form.{Form, literal, local, set_local, set_global, let_form, lambda, call, call_value, apply, prim, while_form, no_binding, binding_and, dynamic_let, dynamic, set_dynamic, def_dynamic, no_dynamic, dynamic_and, sited}
-use Rattle.isl_meaning.specs.View.{forms}
+use Rattle.isl_meaning.specs.model.View.{forms}
 use Rattle.isl_meaning.specs.Values.{integer, character, symbol, named}
 use Rattle.isl_meaning.specs.State.{unlimited, no_place}
 use Rattle.isl_meaning.specs.Meaning.{with_value, by_class, ended_value, meaning}

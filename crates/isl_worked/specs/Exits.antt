@@ -4,7 +4,7 @@ use Rattle.isl_meaning.specs.declared.part.Part.TheVariants.{Exit}
 use Rattle.isl_meaning.specs.declared.program.ProgramRows.{ProgramRows}
 use Rattle.isl_meaning.specs.declared.primitive.Primitive.TheVariants.{Add, Subtract, NumberEqual}
 use Rattle.isl_meaning.specs.Form.{literal, local, set_local, global, set_global, def_global, clauses, let_form, call, call_value, prim, block, return_from, tagbody, go, unwind, catch_form, throw, sited, no_clause, clause_and, with_body, no_binding, binding_and}
-use Rattle.isl_meaning.specs.View.{forms}
+use Rattle.isl_meaning.specs.model.View.{forms}
 use Rattle.isl_meaning.specs.Values.{integer}
 use Rattle.isl_meaning.specs.State.{unlimited}
 use Rattle.isl_meaning.specs.Meaning.{with_value, by_class, for_levels}

@@ -6,7 +6,7 @@ use Rattle.isl_meaning.specs.declared.program.Procedure.{Procedure}
 use Rattle.isl_meaning.specs.declared.program.ProgramRows.{ProgramRows}
 use Rattle.isl_meaning.specs.declared.primitive.Primitive.TheVariants.{Cons}
 use Rattle.isl_meaning.specs.Form.{Form, literal, local, set_local, let_form, call_value, prim, block, tagbody, go, next_method, sited, no_binding, binding_and}
-use Rattle.isl_meaning.specs.View.{forms}
+use Rattle.isl_meaning.specs.model.View.{forms}
 use Rattle.isl_meaning.specs.Captured.{has_cell}
 use Rattle.isl_meaning.specs.Cells.{program_cells}
 use Rattle.isl_meaning.specs.ProgramCounts.{program_nodes}

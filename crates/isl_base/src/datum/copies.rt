@@ -1,7 +1,7 @@
 // Copies of data.
 
 ghost use Rattle.std.specs.Prelude.{◌≡◌, IfOk};
-ghost use Rattle.isl_base.specs.DataView.{view_content, tail_of};
+ghost use Rattle.isl_base.specs.model.DataView.{view_content, tail_of};
 
 use crate::datum::{Datum, DatumList, Kind};
 use crate::faults::NoMemory;
@@ -42,7 +42,7 @@ fn kind_copy(alloc: Global, kind: &Kind) -> Result<Kind, NoMemory>
 }
 
 #[cycle(copy)]
-#[tactic(auto, using(crate::specs::DataSizes::item_in_smaller))]
+#[tactic(auto, using(crate::specs::model::DataSizes::item_in_smaller))]
 fn list_copy(alloc: Global, items: &DatumList) -> Result<DatumList, NoMemory>
     ensures { IfOk result (λ copy. copy ≡ items.now) }
 {

@@ -2,7 +2,7 @@
 
 ghost use Rattle.std.specs.Prelude.{◌≡◌};
 ghost use Rattle.isl_base.specs.Data.{items_of};
-ghost use Rattle.isl_base.specs.DataView.{tail_of};
+ghost use Rattle.isl_base.specs.model.DataView.{tail_of};
 ghost use Rattle.isl_base.specs.DataFormed.{is_formed, is_no_list_item, is_some_item, all_are_formed, is_formed_tail};
 
 use crate::datum::{Datum, DatumList, Kind};
@@ -33,7 +33,7 @@ impl Datum {
 }
 
 #[cycle(formed)]
-#[tactic(auto, using(crate::specs::DataSizes::item_turn))]
+#[tactic(auto, using(crate::specs::model::DataSizes::item_turn))]
 fn are_formed(items: &DatumList) -> bool
     ensures { result ≡ all_are_formed (items_of items.now) }
 {

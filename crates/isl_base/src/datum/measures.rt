@@ -2,7 +2,7 @@
 
 ghost use Rattle.std.specs.Prelude.{◌≡◌, min};
 ghost use Rattle.isl_base.specs.Data.{items_of};
-ghost use Rattle.isl_base.specs.DataView.{tail_of};
+ghost use Rattle.isl_base.specs.model.DataView.{tail_of};
 ghost use Rattle.isl_base.specs.DataMeasures.{size_of, sizes_of, size_of_tail, depth_of, depths_of, depth_of_tail};
 
 use crate::datum::{Datum, DatumList, Kind};
@@ -40,7 +40,7 @@ impl Datum {
 }
 
 #[cycle(size)]
-#[tactic(auto, using(crate::specs::DataSizes::item_in_smaller), unfolding(crate::specs::DataMeasures::sizes_of))]
+#[tactic(auto, using(crate::specs::model::DataSizes::item_in_smaller), unfolding(crate::specs::DataMeasures::sizes_of))]
 fn sizes(items: &DatumList) -> u64
     ensures { result ≡ min (sizes_of (items_of items.now)) 18446744073709551615 }
 {
@@ -66,7 +66,7 @@ fn tail_size(tail: &Option<Box<Datum>>) -> u64
 }
 
 #[cycle(depth)]
-#[tactic(auto, using(crate::specs::DataSizes::item_in_smaller), unfolding(crate::specs::DataMeasures::depths_of))]
+#[tactic(auto, using(crate::specs::model::DataSizes::item_in_smaller), unfolding(crate::specs::DataMeasures::depths_of))]
 fn depths(items: &DatumList) -> u32
     ensures { result ≡ min (depths_of (items_of items.now)) 4294967295 }
 {

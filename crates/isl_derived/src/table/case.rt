@@ -2,7 +2,7 @@
 
 ghost use Rattle.std.specs.Prelude.{◌≡◌};
 ghost use Rattle.isl_derived.specs.Table.{case_rows, case_using_rows};
-ghost use Rattle.isl_derived.specs.TableView.{view_rows};
+ghost use Rattle.isl_derived.specs.model.TableView.{view_rows};
 
 use crate::pattern::Pattern;
 use crate::pattern::Pattern::{Datum, Each, Inside, Name, Others};

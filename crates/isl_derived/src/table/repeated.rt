@@ -2,7 +2,7 @@
 
 ghost use Rattle.std.specs.Prelude.{◌≡◌};
 ghost use Rattle.isl_derived.specs.Table.{loop_rows, place_rows, function_rows};
-ghost use Rattle.isl_derived.specs.TableView.{view_rows};
+ghost use Rattle.isl_derived.specs.model.TableView.{view_rows};
 
 use crate::pattern::Pattern;
 use crate::pattern::Pattern::{Datum, Each, Inside, Name, OneAtMost, Operator, Others, Symbol};

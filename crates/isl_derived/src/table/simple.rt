@@ -2,7 +2,7 @@
 
 ghost use Rattle.std.specs.Prelude.{◌≡◌};
 ghost use Rattle.isl_derived.specs.Table.{conditional_rows, binding_rows, class_rows, quotation_rows};
-ghost use Rattle.isl_derived.specs.TableView.{view_rows};
+ghost use Rattle.isl_derived.specs.model.TableView.{view_rows};
 
 use crate::pattern::Pattern::{Datum, Inside, Others};
 use crate::table::Row;

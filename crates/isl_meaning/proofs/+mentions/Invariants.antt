@@ -1,7 +1,7 @@
 -- The sizes of the forms fall; in a loop it is left to see whether the rest mentions the part.
 use Rattle.std.proofs.Common.{◌≡◌, drop}
 use Rattle.isl_meaning.specs.Form.{form_size, forms_size, clauses_size, maybe_size, bindings_size, dynamics_size}
-use Rattle.isl_meaning.specs.View.{forms, clauses_of, maybe_form, bindings_of, dynamics_of}
+use Rattle.isl_meaning.specs.model.View.{forms, clauses_of, maybe_form, bindings_of, dynamics_of}
 use Rattle.isl_meaning.specs.Mentions.{forms_mention, clauses_mention, bindings_mention, dynamics_mention}
 use Rattle.isl_meaning.proofs.+mentions.Given as goal
 

@@ -1,7 +1,7 @@
 -- The sizes of the forms fall; in a loop it is left to see whether the rest stands.
 use Rattle.std.proofs.Common.{◌≡◌, ◌+◌, ◌*◌, drop}
 use Rattle.isl_meaning.specs.Form.{form_size, forms_size, clauses_size, maybe_size, bindings_size, dynamics_size}
-use Rattle.isl_meaning.specs.View.{forms, clauses_of, maybe_form, bindings_of, dynamics_of}
+use Rattle.isl_meaning.specs.model.View.{forms, clauses_of, maybe_form, bindings_of, dynamics_of}
 use Rattle.isl_meaning.specs.Standing.{forms_stand, clauses_stand, bindings_stand, dynamics_stand}
 use Rattle.isl_meaning.proofs.+stands.Given as goal
 

@@ -1,7 +1,7 @@
 // Copies of core forms.
 
 ghost use Rattle.std.specs.Prelude.{◌≡◌, IfOk};
-ghost use Rattle.isl_meaning.specs.View.{view_form, maybe_form};
+ghost use Rattle.isl_meaning.specs.model.View.{view_form, maybe_form};
 
 use crate::core_form::{
     Binding, BindingList, Clause, ClauseList, Core, CoreForm, CoreList, DynBinding, DynBindings,
@@ -108,7 +108,7 @@ fn boxed(alloc: Global, form: &Core) -> Result<Box<Core>, NoMemory>
 }
 
 #[cycle(copy)]
-#[tactic(auto, using(crate::specs::Sizes::form_in_smaller))]
+#[tactic(auto, using(crate::specs::model::Sizes::form_in_smaller))]
 fn forms_copy(alloc: Global, list: &CoreList) -> Result<CoreList, NoMemory>
     ensures { IfOk result (λ copy. copy ≡ list.now) }
 {
@@ -123,7 +123,7 @@ fn forms_copy(alloc: Global, list: &CoreList) -> Result<CoreList, NoMemory>
 }
 
 #[cycle(copy)]
-#[tactic(auto, using(crate::specs::Sizes::test_in_smaller, crate::specs::Sizes::body_in_smaller))]
+#[tactic(auto, using(crate::specs::model::Sizes::test_in_smaller, crate::specs::model::Sizes::body_in_smaller))]
 fn clauses_copy(alloc: Global, list: &ClauseList) -> Result<ClauseList, NoMemory>
     ensures { IfOk result (λ copy. copy ≡ list.now) }
 {
@@ -150,7 +150,7 @@ fn body_copy(alloc: Global, body: &Option<Core>) -> Result<Option<Core>, NoMemor
 }
 
 #[cycle(copy)]
-#[tactic(auto, using(crate::specs::Sizes::binding_in_smaller))]
+#[tactic(auto, using(crate::specs::model::Sizes::binding_in_smaller))]
 fn bindings_copy(alloc: Global, list: &BindingList) -> Result<BindingList, NoMemory>
     ensures { IfOk result (λ copy. copy ≡ list.now) }
 {
@@ -169,7 +169,7 @@ fn bindings_copy(alloc: Global, list: &BindingList) -> Result<BindingList, NoMem
 }
 
 #[cycle(copy)]
-#[tactic(auto, using(crate::specs::Sizes::dynamic_in_smaller))]
+#[tactic(auto, using(crate::specs::model::Sizes::dynamic_in_smaller))]
 fn dynamics_copy(alloc: Global, list: &DynBindings) -> Result<DynBindings, NoMemory>
     ensures { IfOk result (λ copy. copy ≡ list.now) }
 {

@@ -1,7 +1,7 @@
 // Nodes and depths of core forms, which bound a program and charge its applications.
 
 ghost use Rattle.std.specs.Prelude.{◌≡◌, min, length, Some};
-ghost use Rattle.isl_meaning.specs.View.{forms, clauses_of, maybe_form, bindings_of, dynamics_of};
+ghost use Rattle.isl_meaning.specs.model.View.{forms, clauses_of, maybe_form, bindings_of, dynamics_of};
 ghost use Rattle.isl_meaning.specs.Counts.{of_body, nodes_with, nodes_of_forms, nodes_of_clauses, nodes_of_body, nodes_of_bindings, nodes_of_dynamics};
 
 use crate::core_form::{BindingList, ClauseList, Core, CoreForm, CoreList, DynBindings};
@@ -98,7 +98,7 @@ fn nodes_of_function(body: &Core, bodies: Bodies) -> u64
 }
 
 #[cycle(nodes)]
-#[tactic(auto, using(crate::specs::Sizes::form_in_smaller))]
+#[tactic(auto, using(crate::specs::model::Sizes::form_in_smaller))]
 fn nodes_of_forms(list: &CoreList, bodies: Bodies) -> u64
     ensures { result ≡ min (nodes_of_forms bodies (forms list.now)) 18446744073709551615 }
 {
@@ -113,7 +113,7 @@ fn nodes_of_forms(list: &CoreList, bodies: Bodies) -> u64
 }
 
 #[cycle(nodes)]
-#[tactic(auto, using(crate::specs::Sizes::test_in_smaller, crate::specs::Sizes::body_in_smaller))]
+#[tactic(auto, using(crate::specs::model::Sizes::test_in_smaller, crate::specs::model::Sizes::body_in_smaller))]
 fn nodes_of_clauses(list: &ClauseList, bodies: Bodies) -> u64
     ensures { result ≡ min (nodes_of_clauses bodies (clauses_of list.now)) 18446744073709551615 }
 {
@@ -142,7 +142,7 @@ fn nodes_of_body(body: &Option<Core>, bodies: Bodies) -> u64
 }
 
 #[cycle(nodes)]
-#[tactic(auto, using(crate::specs::Sizes::binding_in_smaller))]
+#[tactic(auto, using(crate::specs::model::Sizes::binding_in_smaller))]
 fn nodes_of_bindings(list: &BindingList, bodies: Bodies) -> u64
     ensures { result ≡ min (nodes_of_bindings bodies (bindings_of list.now)) 18446744073709551615 }
 {
@@ -157,7 +157,7 @@ fn nodes_of_bindings(list: &BindingList, bodies: Bodies) -> u64
 }
 
 #[cycle(nodes)]
-#[tactic(auto, using(crate::specs::Sizes::dynamic_in_smaller))]
+#[tactic(auto, using(crate::specs::model::Sizes::dynamic_in_smaller))]
 fn nodes_of_dynamics(list: &DynBindings, bodies: Bodies) -> u64
     ensures { result ≡ min (nodes_of_dynamics bodies (dynamics_of list.now)) 18446744073709551615 }
 {

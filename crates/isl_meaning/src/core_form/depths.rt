@@ -1,7 +1,7 @@
 // The depth of a core form: how many forms stand inside one another.
 
 ghost use Rattle.std.specs.Prelude.{◌≡◌, min};
-ghost use Rattle.isl_meaning.specs.View.{forms, clauses_of, maybe_form, bindings_of, dynamics_of};
+ghost use Rattle.isl_meaning.specs.model.View.{forms, clauses_of, maybe_form, bindings_of, dynamics_of};
 ghost use Rattle.isl_meaning.specs.Counts.{depth, depth_of_forms, depth_of_clauses, depth_of_body, depth_of_bindings, depth_of_dynamics};
 
 use crate::core_form::{BindingList, ClauseList, Core, CoreForm, CoreList, DynBindings};
@@ -58,7 +58,7 @@ impl Core {
 }
 
 #[cycle(depth)]
-#[tactic(auto, using(crate::specs::Sizes::form_in_smaller))]
+#[tactic(auto, using(crate::specs::model::Sizes::form_in_smaller))]
 fn depth_of_forms(list: &CoreList) -> u32
     ensures { result ≡ min (depth_of_forms (forms list.now)) 4294967295 }
 {
@@ -73,7 +73,7 @@ fn depth_of_forms(list: &CoreList) -> u32
 }
 
 #[cycle(depth)]
-#[tactic(auto, using(crate::specs::Sizes::test_in_smaller, crate::specs::Sizes::body_in_smaller))]
+#[tactic(auto, using(crate::specs::model::Sizes::test_in_smaller, crate::specs::model::Sizes::body_in_smaller))]
 fn depth_of_clauses(list: &ClauseList) -> u32
     ensures { result ≡ min (depth_of_clauses (clauses_of list.now)) 4294967295 }
 {
@@ -99,7 +99,7 @@ fn depth_of_body(body: &Option<Core>) -> u32
 }
 
 #[cycle(depth)]
-#[tactic(auto, using(crate::specs::Sizes::binding_in_smaller))]
+#[tactic(auto, using(crate::specs::model::Sizes::binding_in_smaller))]
 fn depth_of_bindings(list: &BindingList) -> u32
     ensures { result ≡ min (depth_of_bindings (bindings_of list.now)) 4294967295 }
 {
@@ -114,7 +114,7 @@ fn depth_of_bindings(list: &BindingList) -> u32
 }
 
 #[cycle(depth)]
-#[tactic(auto, using(crate::specs::Sizes::dynamic_in_smaller))]
+#[tactic(auto, using(crate::specs::model::Sizes::dynamic_in_smaller))]
 fn depth_of_dynamics(list: &DynBindings) -> u32
     ensures { result ≡ min (depth_of_dynamics (dynamics_of list.now)) 4294967295 }
 {

@@ -1,7 +1,7 @@
 // The words of literals.
 
 ghost use Rattle.std.specs.Prelude.{◌≡◌, slice_get};
-ghost use Rattle.isl_base.specs.DataView.{view_content};
+ghost use Rattle.isl_base.specs.model.DataView.{view_content};
 ghost use Rattle.isl_top.specs.Code.{integer_word, content_word, content_byte, row_word, row_byte};
 
 use crate::emit::instructions::{NIL_WORD, T_WORD};

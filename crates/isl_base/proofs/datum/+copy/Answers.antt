@@ -1,6 +1,6 @@
 -- A loop copies a datum at each turn.
 use Rattle.std.proofs.Common.{◌∷◌, [], ◌++◌, ap, sym, ◌∙◌}
-use Rattle.isl_base.specs.DataRest.{take_at}
+use Rattle.isl_base.specs.model.DataRest.{take_at}
 use Rattle.isl_base.proofs.datum.+copy.Goals as goal
 
 pub copies::list_copy-loop-at-preserved : goal.copies::list_copy-loop-at-preserved

@@ -1,7 +1,7 @@
 -- The sizes of the data fall; a loop has copied what is passed.
 use Rattle.std.proofs.Common.{◌≡◌, take}
 use Rattle.isl_base.specs.Data.{items_of, item_size, content_size, items_size, tail_size}
-use Rattle.isl_base.specs.DataView.{view_content, tail_of}
+use Rattle.isl_base.specs.model.DataView.{view_content, tail_of}
 use Rattle.isl_base.proofs.datum.+copy.Given as goal
 
 abbrev pub decreases-Datum::copy : goal.decreases-Datum::copy

@@ -1,7 +1,7 @@
 -- The sizes of the data fall; a loop has the depth of what is passed, and the rest is still to be measured.
 use Rattle.std.proofs.Common.{◌≡◌, ◌≤◌, max, min, drop}
 use Rattle.isl_base.specs.Data.{items_of, item_size, items_size, tail_size}
-use Rattle.isl_base.specs.DataView.{tail_of}
+use Rattle.isl_base.specs.model.DataView.{tail_of}
 use Rattle.isl_base.specs.DataMeasures.{depths_of}
 use Rattle.isl_base.proofs.datum.+depth.Given as goal
 

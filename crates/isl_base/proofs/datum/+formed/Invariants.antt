@@ -1,7 +1,7 @@
 -- The sizes of the data fall; in a loop it is left to see whether the rest is in form.
 use Rattle.std.proofs.Common.{◌≡◌, drop}
 use Rattle.isl_base.specs.Data.{items_of, item_size, items_size, tail_size}
-use Rattle.isl_base.specs.DataView.{tail_of}
+use Rattle.isl_base.specs.model.DataView.{tail_of}
 use Rattle.isl_base.specs.DataFormed.{all_are_formed}
 use Rattle.isl_base.proofs.datum.+formed.Given as goal
 

@@ -2,7 +2,7 @@
 use Rattle.std.proofs.Common.{◌≡◌, ℕ, ◌+◌, ◌≤◌, min, List, Some, length, drop, slice_get, refl, ap, arith}
 use Rattle.std.proofs.lemmas.List.{drop_all}
 use Rattle.isl_base.specs.Data.{Item, items_of}
-use Rattle.isl_base.specs.DataRest.{items_at}
+use Rattle.isl_base.specs.model.DataRest.{items_at}
 use Rattle.isl_base.specs.DataMeasures.{size_of, sizes_of}
 use Rattle.isl_base.proofs.datum.+size.Goals as goal
 

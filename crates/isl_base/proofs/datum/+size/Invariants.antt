@@ -1,7 +1,7 @@
 -- The sizes of the data fall; a loop has the size of what is passed, and the rest is still to be counted.
 use Rattle.std.proofs.Common.{◌≡◌, ◌≤◌, ◌+◌, min, drop}
 use Rattle.isl_base.specs.Data.{items_of, item_size, items_size, tail_size}
-use Rattle.isl_base.specs.DataView.{tail_of}
+use Rattle.isl_base.specs.model.DataView.{tail_of}
 use Rattle.isl_base.specs.DataMeasures.{sizes_of}
 use Rattle.isl_base.proofs.datum.+size.Given as goal
 

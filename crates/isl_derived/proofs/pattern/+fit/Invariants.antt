@@ -1,7 +1,7 @@
 -- The sizes of patterns fall; a loop over data has passed only such as fit.
 use Rattle.std.proofs.Common.{◌≡◌, ◌+◌, ◌∷◌, [], length}
 use Rattle.isl_derived.specs.Patterns.{pattern_size, patterns_size, all_data, is_some, fit_all}
-use Rattle.isl_derived.specs.PatternView.{view_pattern, view_patterns}
+use Rattle.isl_derived.specs.model.PatternView.{view_pattern, view_patterns}
 use Rattle.isl_derived.proofs.pattern.+fit.Given as goal
 
 abbrev pub decreases-fit : goal.decreases-fit

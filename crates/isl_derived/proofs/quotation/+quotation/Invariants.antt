@@ -1,7 +1,7 @@
 -- The sizes of the data fall, and an item of a list comes before its template.
 use Rattle.std.proofs.Common.{◌≡◌, ◌≤◌, ◌+◌, ◌*◌, length}
 use Rattle.isl_base.specs.Data.{items_of, item_size, items_size, tail_size}
-use Rattle.isl_base.specs.DataView.{tail_of}
+use Rattle.isl_base.specs.model.DataView.{tail_of}
 use Rattle.isl_derived.specs.Pieces.{pieces_of}
 use Rattle.isl_derived.specs.Quotation.{parts}
 use Rattle.isl_derived.specs.Fronts.{pieces_before}

@@ -1,8 +1,8 @@
 -- The sizes of templates fall; a loop over data has written what it has passed.
 use Rattle.std.proofs.Common.{◌≡◌, ◌+◌, ◌++◌, length}
-use Rattle.isl_derived.specs.PatternView.{view_patterns}
+use Rattle.isl_derived.specs.model.PatternView.{view_patterns}
 use Rattle.isl_derived.specs.RightSides.{repeated, write_all, template_size, templates_size}
-use Rattle.isl_derived.specs.TemplateView.{view_template, view_templates}
+use Rattle.isl_derived.specs.model.TemplateView.{view_template, view_templates}
 use Rattle.isl_derived.proofs.template.+write.Given as goal
 
 abbrev pub decreases-write : goal.decreases-write

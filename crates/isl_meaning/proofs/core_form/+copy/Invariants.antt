@@ -1,7 +1,7 @@
 -- The sizes of the forms fall; a loop has copied what is passed.
 use Rattle.std.proofs.Common.{◌≡◌, ◌+◌, ◌*◌, take}
 use Rattle.isl_meaning.specs.Form.{form_size, forms_size, clauses_size, maybe_size, bindings_size, dynamics_size}
-use Rattle.isl_meaning.specs.View.{view_form, forms, clauses_of, maybe_form, bindings_of, dynamics_of}
+use Rattle.isl_meaning.specs.model.View.{view_form, forms, clauses_of, maybe_form, bindings_of, dynamics_of}
 use Rattle.isl_meaning.proofs.core_form.+copy.Given as goal
 
 abbrev pub decreases-Core::copy : goal.decreases-Core::copy

@@ -1,7 +1,7 @@
 -- The sizes of the forms fall; a loop has the depth of what is passed, and the rest is still to be seen.
 use Rattle.std.proofs.Common.{◌≡◌, min, max, drop}
 use Rattle.isl_meaning.specs.Form.{form_size, forms_size, clauses_size, maybe_size, bindings_size, dynamics_size}
-use Rattle.isl_meaning.specs.View.{forms, clauses_of, maybe_form, bindings_of, dynamics_of}
+use Rattle.isl_meaning.specs.model.View.{forms, clauses_of, maybe_form, bindings_of, dynamics_of}
 use Rattle.isl_meaning.specs.Counts.{depth_of_forms, depth_of_clauses, depth_of_bindings, depth_of_dynamics}
 use Rattle.isl_meaning.proofs.core_form.+depth.Given as goal
 

@@ -2,8 +2,8 @@
 use Rattle.std.proofs.Common.{◌≡◌, ℕ, ◌+◌, ◌≤◌, min, List, Some, length, drop, slice_get, refl, ap, arith}
 use Rattle.std.proofs.lemmas.List.{drop_all}
 use Rattle.isl_meaning.specs.Form.{Form}
-use Rattle.isl_meaning.specs.View.{forms, clauses_of, maybe_form, bindings_of, dynamics_of}
-use Rattle.isl_meaning.specs.Rest.{forms_at, clauses_at, bindings_at, dynamics_at}
+use Rattle.isl_meaning.specs.model.View.{forms, clauses_of, maybe_form, bindings_of, dynamics_of}
+use Rattle.isl_meaning.specs.model.Rest.{forms_at, clauses_at, bindings_at, dynamics_at}
 use Rattle.isl_meaning.specs.Counts.{nodes_with, nodes_of_body, nodes_of_forms, nodes_of_clauses, nodes_of_bindings, nodes_of_dynamics}
 use Rattle.isl_meaning.specs.declared.nodes.Bodies.{Bodies}
 use Rattle.isl_meaning.specs.declared.core_form.Clause.{Clause}

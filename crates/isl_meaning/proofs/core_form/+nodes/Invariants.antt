@@ -1,7 +1,7 @@
 -- The sizes of the forms fall; a loop has the nodes of what is passed, and the rest is still to be counted.
 use Rattle.std.proofs.Common.{◌≡◌, ◌≤◌, ◌+◌, min, drop}
 use Rattle.isl_meaning.specs.Form.{form_size, forms_size, clauses_size, maybe_size, bindings_size, dynamics_size}
-use Rattle.isl_meaning.specs.View.{forms, clauses_of, maybe_form, bindings_of, dynamics_of}
+use Rattle.isl_meaning.specs.model.View.{forms, clauses_of, maybe_form, bindings_of, dynamics_of}
 use Rattle.isl_meaning.specs.Counts.{nodes_of_forms, nodes_of_clauses, nodes_of_bindings, nodes_of_dynamics}
 use Rattle.isl_meaning.proofs.core_form.+nodes.Given as goal
 

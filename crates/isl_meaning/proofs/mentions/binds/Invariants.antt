@@ -1,6 +1,6 @@
 -- It is left to see whether the rest binds the part.
 use Rattle.std.proofs.Common.{◌≡◌, drop}
-use Rattle.isl_meaning.specs.View.{bindings_of}
+use Rattle.isl_meaning.specs.model.View.{bindings_of}
 use Rattle.isl_meaning.specs.Mentions.{binds}
 use Rattle.isl_meaning.proofs.mentions.binds.Given as goal
 

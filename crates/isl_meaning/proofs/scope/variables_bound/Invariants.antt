@@ -1,6 +1,6 @@
 -- The variables so far, and those of the rest.
 use Rattle.std.proofs.Common.{◌≡◌, ◌++◌, drop}
-use Rattle.isl_meaning.specs.View.{bindings_of}
+use Rattle.isl_meaning.specs.model.View.{bindings_of}
 use Rattle.isl_meaning.specs.Standing.{variables_bound}
 use Rattle.isl_meaning.proofs.scope.variables_bound.Given as goal
 

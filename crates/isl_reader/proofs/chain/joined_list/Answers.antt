@@ -1,7 +1,7 @@
 use Rattle.std.proofs.Common.{List, ◌≡◌, ◌∙◌, ◌++◌, ap}
 use Rattle.isl_base.specs.declared.place.Place.{Place}
 use Rattle.isl_base.specs.Data.{Item, item, list, items_of, Tail}
-use Rattle.isl_base.specs.DataView.{tail_of}
+use Rattle.isl_base.specs.model.DataView.{tail_of}
 use Rattle.isl_reader.specs.Meanings.{joined}
 use Rattle.isl_reader.proofs.Putting.{items-joined}
 use Rattle.isl_reader.proofs.chain.joined_list.Goals as goal

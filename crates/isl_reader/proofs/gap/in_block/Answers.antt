@@ -1,6 +1,6 @@
 -- One comment more is around.
 use Rattle.std.proofs.Common.{refl, add-one}
-use Rattle.isl_reader.specs.Lexemes.{skip}
+use Rattle.isl_reader.specs.bridge.Lexemes.{skip}
 use Rattle.isl_reader.proofs.gap.in_block.Goals as goal
 
 pub returns-then-is_mark-clause-turned : goal.returns-then-is_mark-clause-turned

@@ -1,8 +1,8 @@
 -- The gap from here on, and fewer comments around than bytes so far.
 use Rattle.std.proofs.Common.{◌≡◌, ◌≤◌, drop}
 use Rattle.isl_reader.specs.declared.gap.Mode.TheVariants.{Between}
-use Rattle.isl_reader.specs.Lexemes as bridge
-use Rattle.isl_reader.specs.Scanning.{depth_of}
+use Rattle.isl_reader.specs.bridge.Lexemes as bridge
+use Rattle.isl_reader.specs.bridge.Scanning.{depth_of}
 use Rattle.isl_reader.proofs.gap.skip.Given as goal
 
 abbrev pub invariant-loop-i : goal.invariant-loop-i

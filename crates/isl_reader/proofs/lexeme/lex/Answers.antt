@@ -2,7 +2,7 @@
 use Rattle.std.proofs.Common.{◌≡◌, ◌-◌, false, length, take, drop, get_or, sym, ap, ◌∙◌, arith, length-drop}
 use Rattle.std.proofs.lemmas.List.{take_all}
 use Rattle.isl_reader.specs.Characters.{is_token}
-use Rattle.isl_reader.specs.Lexemes.{mark_lexed}
+use Rattle.isl_reader.specs.bridge.Lexemes.{mark_lexed}
 use Rattle.isl_reader.proofs.Scans.{lex_first}
 use Rattle.isl_reader.proofs.lexeme.lex.Goals as goal
 

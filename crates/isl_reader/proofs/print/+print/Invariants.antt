@@ -1,7 +1,7 @@
 -- The sizes of the data fall; a loop has what is left to print still before it.
 use Rattle.std.proofs.Common.{◌≡◌, ◌++◌, [], drop}
 use Rattle.isl_base.specs.Data.{items_of, item_size, items_size, tail_size}
-use Rattle.isl_base.specs.DataView.{tail_of}
+use Rattle.isl_base.specs.model.DataView.{tail_of}
 use Rattle.isl_reader.specs.Printing.{gap_before, items_spelling}
 use Rattle.isl_reader.proofs.print.+print.Given as goal
 

@@ -1,6 +1,6 @@
 -- How the bytes that are left go on.
 use Rattle.std.proofs.Common.{◌≡◌, false, drop}
-use Rattle.isl_reader.specs.Lexemes as bridge
+use Rattle.isl_reader.specs.bridge.Lexemes as bridge
 use Rattle.isl_reader.proofs.quoted.scan.Given as goal
 
 abbrev pub invariant-loop-i : goal.invariant-loop-i

@@ -1,5 +1,5 @@
 use Rattle.std.proofs.Common.{rules, refl, reverse, length, []}
-use Rattle.isl_reader.specs.Machine.{more}
+use Rattle.isl_reader.specs.bridge.Machine.{more}
 use Rattle.isl_reader.specs.Meanings.{number_in}
 use Rattle.isl_reader.proofs.Stepping.{state}
 use Rattle.isl_reader.proofs.Numbering.{later-then}

@@ -1,8 +1,8 @@
 use Rattle.std.proofs.Common.{ℕ, List, [], length, reverse}
 use Rattle.isl_reader.specs.Meanings.{number_in}
 use Rattle.isl_reader.specs.Readers.{PlacesFit}
-use Rattle.isl_reader.specs.Steps.{ReadTo}
-use Rattle.isl_reader.specs.Turns.{IsLater}
+use Rattle.isl_reader.specs.bridge.Steps.{ReadTo}
+use Rattle.isl_reader.specs.bridge.Turns.{IsLater}
 use Rattle.isl_reader.proofs.step.read.Given as goal
 
 abbrev pub invariant-loop-behind : goal.invariant-loop-behind

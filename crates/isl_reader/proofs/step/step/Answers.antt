@@ -3,8 +3,8 @@ use Rattle.isl_reader.specs.Meanings.{number_in}
 use Rattle.isl_reader.proofs.step.step.Goals as goal
 use Rattle.std.proofs.Common.{subst, drop, []}
 use Rattle.isl_base.specs.declared.reason.Reason.TheVariants.{UnclosedList, UnclosedComment}
-use Rattle.isl_reader.specs.Machine.{Step}
-use Rattle.isl_reader.specs.Steps.{LeadsTo}
+use Rattle.isl_reader.specs.bridge.Machine.{Step}
+use Rattle.isl_reader.specs.bridge.Steps.{LeadsTo}
 use Rattle.isl_reader.proofs.Leading.{refusal-leads, open-leads, unclosed-leads, ends-leads, lexeme-leads}
 
 pub returns-in-OpenFrom-clause-leads : goal.returns-in-OpenFrom-clause-leads

@@ -1,6 +1,6 @@
 -- The run so far, and that of what is left.
 use Rattle.std.proofs.Common.{◌≡◌, ◌+◌, drop}
-use Rattle.isl_reader.specs.Lexemes as bridge
+use Rattle.isl_reader.specs.bridge.Lexemes as bridge
 use Rattle.isl_reader.proofs.token.token_run.Given as goal
 
 abbrev pub invariant-loop-i : goal.invariant-loop-i

@@ -1,7 +1,7 @@
 use Rattle.std.proofs.Common.{rules, [], ◌∷◌, ◌++◌, Some, ap, ◌∙◌, sym}
-use Rattle.isl_reader.specs.Machine.{next}
+use Rattle.isl_reader.specs.bridge.Machine.{next}
 use Rattle.isl_reader.specs.Meanings.{prefix_item}
-use Rattle.isl_reader.specs.Turns.{with_open}
+use Rattle.isl_reader.specs.bridge.Turns.{with_open}
 use Rattle.isl_reader.proofs.Putting.{put-list, put-vector, put-dot, put-tail, put-prefix, put-top}
 use Rattle.isl_reader.proofs.turn.put_datum.Goals as goal
 

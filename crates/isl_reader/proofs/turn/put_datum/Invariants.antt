@@ -1,5 +1,5 @@
 use Rattle.std.proofs.Common.{◌≡◌, reverse, vec_len}
-use Rattle.isl_reader.specs.Machine.{State, put}
+use Rattle.isl_reader.specs.bridge.Machine.{State, put}
 use Rattle.isl_reader.proofs.turn.put_datum.Given as goal
 
 abbrev pub invariant-loop-open : goal.invariant-loop-open

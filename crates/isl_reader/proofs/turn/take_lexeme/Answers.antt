@@ -1,7 +1,7 @@
 use Rattle.isl_reader.specs.Meanings.{number_in}
-use Rattle.isl_reader.specs.Lexemes.{atom_of}
-use Rattle.isl_reader.specs.Machine.{act, atom_step}
-use Rattle.isl_reader.specs.Turns.{open_state}
+use Rattle.isl_reader.specs.bridge.Lexemes.{atom_of}
+use Rattle.isl_reader.specs.bridge.Machine.{act, atom_step}
+use Rattle.isl_reader.specs.bridge.Turns.{open_state}
 use Rattle.isl_reader.proofs.Acting.{atom-some, act-is-atom, turns-as}
 use Rattle.isl_reader.proofs.turn.take_lexeme.Goals as goal
 

@@ -1,8 +1,8 @@
 -- A loop appends a form's code at each turn, and a primitive takes its operands by their number.
 use Rattle.std.proofs.Common.{◌≡◌, ℕ, ◌+◌, ◌≤◌, List, [], ◌∷◌, ◌++◌, Some, length, drop, slice_get, sym, ap, ◌∙◌, append_assoc, arith}
 use Rattle.isl_meaning.specs.Form.{Form}
-use Rattle.isl_meaning.specs.View.{forms}
-use Rattle.isl_meaning.specs.Rest.{forms_at}
+use Rattle.isl_meaning.specs.model.View.{forms}
+use Rattle.isl_meaning.specs.model.Rest.{forms_at}
 use Rattle.isl_meaning.specs.declared.primitive.Primitive.{Primitive}
 use Rattle.isl_meaning.specs.declared.program.LiteralRow.{LiteralRow}
 use Rattle.isl_top.specs.Code.{form_code, forms_code, primitive_code, operation_code, byte_of, literal_number}

@@ -1,7 +1,7 @@
 -- The sizes of the forms fall; a loop has the code of what is left to write, or of what is passed.
 use Rattle.std.proofs.Common.{◌≡◌, ◌++◌, drop}
 use Rattle.isl_meaning.specs.Form.{form_size, forms_size, clauses_size, maybe_size}
-use Rattle.isl_meaning.specs.View.{forms, clauses_of, maybe_form}
+use Rattle.isl_meaning.specs.model.View.{forms, clauses_of, maybe_form}
 use Rattle.isl_top.specs.Code.{forms_code, clauses_code}
 use Rattle.isl_top.proofs.emit.+emit.Given as goal
 

@@ -19,7 +19,7 @@ use Rattle.isl_reader.specs.declared.pending.Pending.TheVariants.{InList, AtDot,
 use Rattle.isl_reader.specs.Characters.{place_behind}
 use Rattle.isl_reader.specs.Atoms.{Atom}
 use Rattle.isl_reader.specs.Meanings.{atom_content, prefix_name, list_content, joined, prefix_item}
-use Rattle.isl_reader.specs.Lexemes.{skip, lex, atom_of}
+use Rattle.isl_reader.specs.bridge.Lexemes.{skip, lex, atom_of}
 
 -- what is left of a text and its place, the data so far, and those that are open, the innermost first
 pub record State : Type 0 where

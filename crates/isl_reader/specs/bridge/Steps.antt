@@ -8,9 +8,9 @@ use Rattle.isl_reader.specs.declared.cursor.Cursor.{Cursor}
 use Rattle.isl_reader.specs.declared.pending.Pending.{Pending}
 use Rattle.isl_reader.specs.declared.step.Turn.{Turn}
 use Rattle.isl_reader.specs.declared.step.Turn.TheVariants.{Goes, Whole, Ends}
-use Rattle.isl_reader.specs.Lexemes.{lex}
+use Rattle.isl_reader.specs.bridge.Lexemes.{lex}
 use Rattle.isl_reader.specs.Meanings.{number_in}
-use Rattle.isl_reader.specs.Machine.{State, finished, stopped, Step, next, over, by_lexed, step, Steps}
+use Rattle.isl_reader.specs.bridge.Machine.{State, finished, stopped, Step, next, over, by_lexed, step, Steps}
 use Rattle.isl_reader.specs.Readers.{PlacesFit}
 
 -- the step goes to this result, with these data open then, the outermost first

@@ -2,7 +2,7 @@
 use Rattle.std.specs.Prelude.{◌≡◌, Bool, true, false, List, [], ◌∷◌, Option, Some, None}
 use Rattle.std.specs.Coded.{Coded, coded_list}
 use Rattle.isl_base.specs.Data.{Item}
-use Rattle.isl_base.specs.DataCode.{item_code}
+use Rattle.isl_base.specs.model.DataCode.{item_code}
 use Rattle.isl_derived.specs.Patterns.{Pattern, a_datum, a_symbol, the_word, an_operator, inside, others, one_at_most, each_fits, Patterns, no_pattern, pattern_and, Parts}
 use Rattle.isl_derived.specs.Fronts.{before}
 use Rattle.isl_derived.specs.declared.pattern.Pattern.{Pattern as Written, Datum, Symbol, Name, Operator, Others, OneAtMost, Inside', Each', Row_of-Pattern, end_of-Pattern, more_of-Pattern}

@@ -3,7 +3,7 @@ use Rattle.std.specs.Prelude.{◌≡◌, ◌≤◌, ℕ, zero, suc, List, [], �
 use Rattle.std.specs.Coded.{Coded, code_by, coded_list, coded×, coded_ℕ}
 use Rattle.std.proofs.Common.{◌∙◌, ap, arith}
 use Rattle.isl_base.specs.Data.{Item}
-use Rattle.isl_base.specs.DataCode.{item_numbers, item_of_numbers, numbers_back}
+use Rattle.isl_base.specs.model.DataCode.{item_numbers, item_of_numbers, numbers_back}
 use Rattle.isl_derived.specs.Pieces.{Piece, word, made, taken, parens, Pieces, no_piece, piece_and, piece_size, pieces_size, Right}
 
 -- numbers, after a mark each, before those that follow them

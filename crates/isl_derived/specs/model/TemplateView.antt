@@ -1,6 +1,6 @@
 -- Right sides of rows as the code has them, and as the table does.
 use Rattle.std.specs.Prelude.{List, [], ◌∷◌}
-use Rattle.isl_derived.specs.PatternView.{view_patterns}
+use Rattle.isl_derived.specs.model.PatternView.{view_patterns}
 use Rattle.isl_derived.specs.RightSides.{Template, datum, all_of, the_setter, the_quotation, the_symbol, new_symbol, new_behind, own_symbol, group, for_each, Templates, no_template, template_and}
 use Rattle.isl_derived.specs.declared.template.Template.{Template as Written, One, All, Setter, Quotation, Word, New, NewBehind, Own, Group', ForEach', Row_of-Template, end_of-Template, more_of-Template}
 

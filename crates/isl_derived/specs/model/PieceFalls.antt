@@ -3,7 +3,7 @@ use Rattle.std.specs.Prelude.{◌+◌, ◌≤◌, max, List, [], ◌∷◌}
 use Rattle.std.proofs.Common.{arith}
 use denote.Param.Weighed.{most}
 use Rattle.isl_derived.specs.Pieces.{Piece, piece_size, pieces_size, pieces_of}
-use Rattle.isl_derived.specs.PieceView.{view_piece}
+use Rattle.isl_derived.specs.model.PieceView.{view_piece}
 use Rattle.isl_derived.specs.declared.piece.PieceKind.{PieceKind}
 use Rattle.isl_derived.specs.declared.piece.PieceKind.TheVariants.{Word, Named, Made, Taken, Parens}
 use Rattle.isl_derived.specs.declared.piece.Piece.TheDeep.{deep-PieceKind}

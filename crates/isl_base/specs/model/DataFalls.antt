@@ -4,7 +4,7 @@ use Rattle.std.proofs.Common.{arith}
 use denote.Param.Weighed.{most}
 use Rattle.isl_base.specs.declared.place.Place.{Place}
 use Rattle.isl_base.specs.Data.{Item, item_size, items_size, items_of}
-use Rattle.isl_base.specs.DataView.{view_item}
+use Rattle.isl_base.specs.model.DataView.{view_item}
 use Rattle.isl_base.specs.declared.datum.Kind.{Kind}
 use Rattle.isl_base.specs.declared.datum.Kind.TheVariants.{Int, Char, Sym, Str, Vector, Nil, List}
 use Rattle.isl_base.specs.declared.datum.Datum.TheDeep.{deep-Kind}

@@ -8,7 +8,7 @@ use Rattle.isl_reader.specs.declared.gap.Skipped.{Skipped}
 use Rattle.isl_reader.specs.declared.gap.Skipped.TheVariants.{Ends}
 use Rattle.isl_reader.specs.declared.gap.Turn.{Turn}
 use Rattle.isl_reader.specs.declared.gap.Turn.TheVariants.{Goes, Opens, Stops}
-use Rattle.isl_reader.specs.Lexemes.{skip}
+use Rattle.isl_reader.specs.bridge.Lexemes.{skip}
 
 -- the gap from behind the byte on, of which i bytes and this one are taken
 abbrev pub turned : Turn → ℕ → ℕ → List ℕ → Skipped

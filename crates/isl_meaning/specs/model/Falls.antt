@@ -3,7 +3,7 @@ use Rattle.std.specs.Prelude.{◌+◌, ◌≤◌, max, List, [], ◌∷◌, Opti
 use Rattle.std.proofs.Common.{arith}
 use denote.Param.Weighed.{most}
 use Rattle.isl_meaning.specs.Form.{Form, form_size, forms_size, clauses_size, maybe_size, bindings_size, dynamics_size}
-use Rattle.isl_meaning.specs.View.{forms, clauses_of, maybe_form, bindings_of, dynamics_of, view_form}
+use Rattle.isl_meaning.specs.model.View.{forms, clauses_of, maybe_form, bindings_of, dynamics_of, view_form}
 use Rattle.isl_meaning.specs.declared.core_form.Clause.{Clause}
 use Rattle.isl_meaning.specs.declared.core_form.Binding.{Binding}
 use Rattle.isl_meaning.specs.declared.core_form.DynBinding.{DynBinding}

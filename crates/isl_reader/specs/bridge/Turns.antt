@@ -3,18 +3,18 @@ use Rattle.std.specs.Prelude.{◌≡◌, ◌≤◌, length, ℕ, List, [], ◌�
 use Rattle.isl_base.specs.declared.reason.Stop.{Stop}
 use Rattle.isl_base.specs.declared.reason.Stop.TheVariants.{Refused, NoMemory}
 use Rattle.isl_base.specs.Data.{Item}
-use Rattle.isl_base.specs.DataView.{view_content}
+use Rattle.isl_base.specs.model.DataView.{view_content}
 use Rattle.isl_base.specs.declared.datum.Kind.{Kind}
 use Rattle.isl_base.specs.declared.place.Place.{Place}
 use Rattle.isl_reader.specs.declared.opening.Opening.{Opening}
 use Rattle.isl_reader.specs.declared.lexeme.Lexeme.{Lexeme}
 use Rattle.isl_reader.specs.declared.lexeme.Lexeme.TheVariants.{Close, Dot, Open, Integer, Character, Token, Bar, Text}
 use Rattle.isl_reader.specs.Atoms.{Atom}
-use Rattle.isl_reader.specs.Lexemes.{between_quotes}
+use Rattle.isl_reader.specs.bridge.Lexemes.{between_quotes}
 use Rattle.isl_reader.specs.Meanings.{atom_content}
 use Rattle.isl_base.specs.Names.{IsTable, Extends}
 use Rattle.isl_reader.specs.declared.pending.Pending.{Pending}
-use Rattle.isl_reader.specs.Machine.{State, stopped, Step, next, over, pending_place, opened}
+use Rattle.isl_reader.specs.bridge.Machine.{State, stopped, Step, next, over, pending_place, opened}
 
 -- a table of names that begins with these
 pub record IsLater (names table : List (List ℕ)) : Type 0 where

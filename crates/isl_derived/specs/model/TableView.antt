@@ -1,8 +1,8 @@
 -- Rows of the table as the code has them, and as the definition does.
 use Rattle.std.specs.Prelude.{List, [], ◌∷◌}
 use Rattle.std.specs.Borrow.{Bor}
-use Rattle.isl_derived.specs.PatternView.{view_patterns}
-use Rattle.isl_derived.specs.TemplateView.{view_templates}
+use Rattle.isl_derived.specs.model.PatternView.{view_patterns}
+use Rattle.isl_derived.specs.model.TemplateView.{view_templates}
 use Rattle.isl_derived.specs.Table.{Row}
 use Rattle.isl_derived.specs.declared.table.Row.{Row as Written}
 

@@ -1,0 +1,5 @@
+pub mod DataCode
+pub mod DataView
+pub mod DataFalls
+pub mod DataSizes
+pub mod DataRest

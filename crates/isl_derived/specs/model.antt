@@ -1,0 +1,6 @@
+pub mod PieceCode
+pub mod PieceView
+pub mod PieceFalls
+pub mod PatternView
+pub mod TemplateView
+pub mod TableView

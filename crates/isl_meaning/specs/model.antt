@@ -1,0 +1,5 @@
+pub mod FormCode
+pub mod View
+pub mod Falls
+pub mod Sizes
+pub mod Rest

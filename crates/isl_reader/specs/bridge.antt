@@ -1,0 +1,5 @@
+pub mod Lexemes
+pub mod Machine
+pub mod Turns
+pub mod Steps
+pub mod Scanning
