@@ -1,5 +1,5 @@
 -- The turns of the loop over the procedures of a program.
-use Rattle.std.proofs.Common.{◌≡◌, ◌≤◌, ℕ, ◌+◌, Bool, true, false, ◌&&◌, ◌||◌, List, [], ◌∷◌, Some, length, drop, slice_get, ap, sym, ◌∙◌}
+use Rattle.std.proofs.Common.{◌≡◌, ◌≤◌, ℕ, ◌+◌, Bool, true, false, ◌&&◌, ◌||◌, List, Some, length, drop, slice_get, ap, sym, ◌∙◌}
 use Rattle.std.proofs.lemmas.List.{drop_all}
 use Rattle.isl_meaning.specs.declared.program.Procedure.{Procedure}
 use Rattle.isl_meaning.specs.declared.program.ProgramRows.{ProgramRows}

@@ -1,14 +1,11 @@
 -- Every name of a program is bound where it stands: what the test of a program says of each form inside its bodies.
-use Rattle.std.proofs.Common.{◌≡◌, ℕ, zero, suc, ◌+◌, ◌==◌, Bool, true, false, ◌&&◌, ◌||◌, List, [], ◌∷◌, ◌++◌, Option, Some, None, refl, sym, ap, subst, ◌∙◌, length, arith}
+use Rattle.std.proofs.Common.{◌≡◌, ℕ, suc, ◌+◌, ◌==◌, Bool, true, false, ◌&&◌, ◌||◌, List, [], ◌∷◌, ◌++◌, Option, Some, None, refl, sym, ap, subst, ◌∙◌, length, arith}
 use Rattle.std.specs.Prelude.{slice_get, nat_lt, nat_le}
 use Rattle.std.specs.List.{list_all, list_any}
-use Rattle.isl_meaning.specs.declared.part.Part.{Part}
 use Rattle.isl_meaning.specs.declared.program.Procedure.{Procedure}
 use Rattle.isl_meaning.specs.declared.program.Callee.{Callee}
 use Rattle.isl_meaning.specs.declared.program.Callee.TheVariants as callee
 use Rattle.isl_meaning.specs.declared.program.ClassRow.{ClassRow}
-use Rattle.isl_meaning.specs.declared.program.SlotRow.{SlotRow}
-use Rattle.isl_meaning.specs.declared.program.FunctionRow.{FunctionRow}
 use Rattle.isl_meaning.specs.declared.program.GenericRow.{GenericRow}
 use Rattle.isl_meaning.specs.declared.program.MethodRow.{MethodRow}
 use Rattle.isl_meaning.specs.declared.program.ProgramRows.{ProgramRows}
@@ -24,8 +21,8 @@ use Rattle.isl_meaning.specs.Mentions.{in_order}
 use Rattle.isl_meaning.specs.Inside.{inside_form, inside_forms, inside_clauses, inside_body, inside_bindings, inside_dynamics}
 use Rattle.isl_meaning.specs.Signals.{variables}
 use Rattle.isl_meaning.specs.Standing.{alone, variables_bound, with_bound, with_around, seen, is_bound, is_free, are_captured, is_variable, exit_around, is_block, stands, forms_stand, clauses_stand, body_stands, bindings_stand, dynamics_stand, stands_alone, is_alone}
-use Rattle.isl_meaning.specs.Facts.{body_fits, class_fits, initform_fits, is_congruent, knows_next, method_fits, same_method, generic_fits, callee_fits, is_of_method, procedures_stand, rows_fit, bodies_stand, is_whole}
-use Rattle.isl_meaning.specs.BoundNames.{Each, FunctionStands, StandsAsFunction, IsBoundIn, BodyIsBound, ProcedureIsBound, CalleeIsBound, InitformIsBound, NamesAreBound, LawOfNames}
+use Rattle.isl_meaning.specs.Facts.{body_fits, class_fits, initform_fits, knows_next, method_fits, same_method, generic_fits, callee_fits, is_of_method, procedures_stand, rows_fit, bodies_stand}
+use Rattle.isl_meaning.specs.BoundNames.{Each, StandsAsFunction, IsBoundIn, BodyIsBound, ProcedureIsBound, CalleeIsBound, InitformIsBound, LawOfNames}
 use Rattle.std.proofs.lemmas.Bool.{eqb-true}
 use Rattle.isl_meaning.proofs.Bounds.{first_true, second_true}
 

@@ -1,5 +1,5 @@
 -- Worked programs: literals, data, variables and arguments (ISO/IEC 13816:2007, 12 to 15, 19 to 24).
-use Rattle.std.specs.Prelude.{◌≡◌, ℕ, pos, negsuc, false, List, [], ◌∷◌, ◌++◌, ◌+◌, ◌*◌, Some, None}
+use Rattle.std.specs.Prelude.{◌≡◌, ℕ, pos, negsuc, false, List, [], ◌∷◌, ◌++◌, ◌+◌, ◌*◌, Some}
 use Rattle.isl_base.specs.Data as datum
 use Rattle.isl_meaning.specs.declared.part.Part.TheVariants.{Variable}
 use Rattle.isl_meaning.specs.declared.program.LiteralRow.{LiteralRow}

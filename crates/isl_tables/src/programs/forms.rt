@@ -1,8 +1,8 @@
 // Core forms as data: the word of a form, and its parts in order.
 
-use crate::inputs::{command, id, items, name, number};
+use crate::inputs::{command, id, ids, items, name, number};
 use crate::problem::Problem;
-use crate::programs::lambda::lambda;
+use crate::programs::lambda::{captured, rest_or_nil};
 use crate::programs::primitives::primitive;
 use isl_base::{Datum, Kind, Names};
 use isl_meaning::{
@@ -49,7 +49,12 @@ impl Forms<'_> {
             ("sequence" | "call-value" | "call" | "prim" | "tagbody", _) => {
                 self.list(head, parts, depth)
             }
-            ("lambda", _) => lambda(self.alloc, self.names, parts),
+            ("lambda", [variables, rest, body, parts @ ..]) => {
+                let required = ids(self.alloc, items(variables)?)?;
+                let parts = captured(self.alloc, self.names, parts)?;
+                let body = self.boxed(body, depth)?;
+                Ok(CoreForm::Lambda(required, rest_or_nil(rest)?, body, parts))
+            }
             ("go", [exit, segment]) => Ok(CoreForm::Go(id(exit)?, number(segment)?)),
             (_, [first, second]) => self.two(head, first, second, depth),
             _ => leaf(head, parts),

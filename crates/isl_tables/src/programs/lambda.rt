@@ -1,21 +1,26 @@
-// A form that makes a function.
+// What stands round the body of a form that makes a function: its rest variable and the captured parts.
 
 use crate::inputs::{command, id};
 use crate::problem::Problem;
-use isl_base::{Datum, Names};
-use isl_meaning::{CoreForm, Part, PartList};
+use isl_base::{Datum, Kind, Names};
+use isl_meaning::{Part, PartList, Var};
 use std::alloc::Global;
 
-/// The form of a procedure's number and the parts that it captures.
-pub fn lambda(alloc: Global, names: &Names, parts: &[Datum]) -> Result<CoreForm, Problem> {
-    let [procedure, captured @ ..] = parts else {
-        return Err(Problem::Row);
-    };
+/// The number of a rest variable, or nil.
+pub fn rest_or_nil(datum: &Datum) -> Result<Option<Var>, Problem> {
+    match &datum.kind {
+        Kind::Nil => Ok(None),
+        _ => Ok(Some(id(datum)?)),
+    }
+}
+
+/// The parts that a function captures.
+pub fn captured(alloc: Global, names: &Names, data: &[Datum]) -> Result<PartList, Problem> {
     let mut list = PartList::new(alloc);
-    for datum in captured {
+    for datum in data {
         list.push(part(names, datum)?)?;
     }
-    Ok(CoreForm::Lambda(id(procedure)?, list))
+    Ok(list)
 }
 
 // `(v 3)` is the variable 3, `(x 7)` the exit 7, and `(m)` what is around of the method.

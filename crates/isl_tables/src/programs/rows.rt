@@ -7,8 +7,8 @@ use crate::programs::forms::Forms;
 use crate::slots::slot_row;
 use isl_base::{Datum, Kind, Name, Names, Place};
 use isl_meaning::{
-    Callee, ClassRow, FunctionRow, GenericRow, LiteralRow, MethodRows, Procedure, ProgramRows,
-    SlotRows, Var, VarList,
+    Callee, ClassRow, CoreList, FunctionRow, GenericRow, LiteralRow, MethodRows, Procedure,
+    ProgramRows, SlotRows, Var, VarList,
 };
 use std::alloc::Global;
 
@@ -26,6 +26,7 @@ pub fn take(
     match head {
         "cut-classes" => return cut_classes(rows, parts),
         "sites" => return take_sites(rows, parts),
+        "copy" => return copy_main(alloc, rows, parts),
         _ => {}
     }
     for part in parts {
@@ -66,6 +67,19 @@ fn cut_classes(rows: &mut ProgramRows, parts: &[Datum]) -> Result<(), Problem> {
         return Err(Problem::Row);
     }
     rows.classes.cut(count);
+    Ok(())
+}
+
+// A copy of each main form takes its place.
+fn copy_main(alloc: Global, rows: &mut ProgramRows, parts: &[Datum]) -> Result<(), Problem> {
+    let [] = parts else {
+        return Err(Problem::Row);
+    };
+    let mut copies = CoreList::new(alloc);
+    for form in rows.main.as_slice() {
+        copies.push(form.copy(alloc)?)?;
+    }
+    rows.main = copies;
     Ok(())
 }
 

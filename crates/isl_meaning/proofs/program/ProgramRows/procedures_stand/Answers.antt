@@ -1,5 +1,4 @@
 -- A procedure stands, and it is left to see whether those behind it do.
-use Rattle.std.proofs.Common.{◌≡◌, Bool, true, false}
 use Rattle.isl_meaning.proofs.Judged.{stopped, passed}
 use Rattle.isl_meaning.proofs.program.ProgramRows.procedures_stand.Goals as goal
 
