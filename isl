@@ -26,10 +26,11 @@ try() {
     fi
     said=$(mktemp) || return 125
     (cd "$crate" && rt try "${data[@]}" -- "${words[@]}") 2>"$said"
-    # behind what the program says stand two lines of rt, the last of them with the program's status
+    # behind what the program says stand two lines of rt, the last of them with the program's status, and an empty
+    # one before them where its output does not end a line
     last=$(tail -n 1 "$said")
     if [[ $last =~ ^run=ended\ status=([0-9]+) ]]; then
-        head -n -2 "$said" >&2
+        head -n -2 "$said" | sed '${/^$/d}' >&2
         rm "$said"
         return "${BASH_REMATCH[1]}"
     fi
