@@ -1,4 +1,6 @@
 pub mod Form
+pub mod Subforms
+pub mod bridge
 pub mod model
 pub mod Values
 pub mod Objects

@@ -8,20 +8,15 @@ use Rattle.isl_meaning.specs.declared.scope.Around.{Around}
 use Rattle.isl_meaning.specs.declared.scope.Around.TheVariants.{Block, Tagbody}
 use Rattle.isl_meaning.specs.declared.scope.ExitAround.{ExitAround}
 use Rattle.isl_meaning.specs.declared.scope.Scope.{Scope}
-use Rattle.isl_meaning.specs.Form.{Form, literal, local, set_local, global, set_global, def_global, clauses, sequence, let_form, lambda, call, call_value, apply, prim, while_form, block, return_from, tagbody, go, catch_form, throw, unwind, dynamic_let, dynamic, set_dynamic, def_dynamic, with_handler, signal_form, continue_form, next_method, has_next, sited}
-use Rattle.isl_meaning.specs.Form.{Forms, no_form, form_and, ClauseForms, no_clause, clause_and, MaybeForm, no_body, with_body}
-use Rattle.isl_meaning.specs.Form.{BindingForms, no_binding, binding_and, DynamicForms, no_dynamic, dynamic_and, parameters}
+use Rattle.isl_meaning.specs.Form.{Form, local, set_local, let_form, lambda, block, return_from, tagbody, go, next_method, has_next, parameters}
+use Rattle.isl_meaning.specs.Subforms.{fold}
 use Rattle.isl_meaning.specs.Counts.{count_forms}
-use Rattle.isl_meaning.specs.Mentions.{same_part, owns, in_order, mentions}
+use Rattle.isl_meaning.specs.Mentions.{same_part, owns, in_order, variables_bound, mentions}
 use Rattle.isl_meaning.specs.Signals.{variables}
 
 -- where a body stands: with these variables alone
 abbrev pub alone : List ℕ → Bool → Scope
 alone vs in_method = record { variables = vs; exits = []; in_method = in_method }
-
-abbrev pub variables_bound : BindingForms → List ℕ
-variables_bound no_binding = []
-variables_bound (binding_and v f bs) = v ∷ variables_bound bs
 
 abbrev pub with_bound : List ℕ → Scope → Scope
 with_bound vs s = record s { variables = vs ++ s.variables }
@@ -72,62 +67,36 @@ abbrev pub are_captured : Scope → List ℕ → Form → List Part → Bool
 are_captured s vs body parts =
     in_order parts && list_all (is_bound s) parts && list_all (is_free vs body) parts
 
--- every name in a form is bound where it stands; a function sees what it captures and its own variables
-abbrev mutual
-  pub stands : Scope → Form → Bool
-  stands s (literal i) = true
-  stands s (local v) = is_variable s v
-  stands s (set_local v f) = is_variable s v && stands s f
-  stands s (global n) = true
-  stands s (set_global n f) = stands s f
-  stands s (def_global n f) = stands s f
-  stands s (clauses fs) = clauses_stand s fs
-  stands s (sequence fs) = forms_stand s fs
-  stands s (let_form bs body) = bindings_stand s bs && stands (with_bound (variables_bound bs) s) body
-  stands s (lambda vs rest body parts) =
-      are_captured s (parameters vs rest) body parts && stands (with_bound (parameters vs rest) (seen parts s)) body
-  stands s (call n fs) = forms_stand s fs
-  stands s (call_value fs) = forms_stand s fs
-  stands s (apply function f) = stands s function && stands s f
-  stands s (prim which fs) = forms_stand s fs
-  stands s (while_form test body) = stands s test && stands s body
-  stands s (block x body) = stands (with_around x Block s) body
-  stands s (return_from x f) = is_block (exit_around x s.exits) && stands s f
-  stands s (tagbody x ss) = forms_stand (with_around x (Tagbody (count_forms ss)) s) ss
-  stands s (go x segment) = is_segment segment (exit_around x s.exits)
-  stands s (catch_form tag body) = stands s tag && stands s body
-  stands s (throw tag f) = stands s tag && stands s f
-  stands s (unwind form cleanup) = stands s form && stands s cleanup
-  stands s (dynamic_let bs body) = dynamics_stand s bs && stands s body
-  stands s (dynamic n) = true
-  stands s (set_dynamic n f) = stands s f
-  stands s (def_dynamic n f) = stands s f
-  stands s (with_handler handler body) = stands s handler && stands s body
-  stands s (signal_form condition continuable) = stands s condition && stands s continuable
-  stands s (continue_form condition f) = stands s condition && stands s f
-  stands s next_method = s.in_method
-  stands s has_next = s.in_method
-  stands s (sited site inner) = stands s inner
+-- where the inner forms of a form stand: a function sees what it captures and its own variables
+abbrev pub around_inner : Form → Scope → Scope
+around_inner (let_form bs body) s = with_bound (variables_bound bs) s
+around_inner (lambda required rest body parts) s = with_bound (parameters required rest) (seen parts s)
+around_inner (block x body) s = with_around x Block s
+around_inner (tagbody x segments) s = with_around x (Tagbody (count_forms segments)) s
+around_inner f s = s
 
-  pub forms_stand : Scope → Forms → Bool
-  forms_stand s no_form = true
-  forms_stand s (form_and f fs) = stands s f && forms_stand s fs
+-- whether what a form itself names is bound
+abbrev pub stands_itself : Scope → Form → Bool
+stands_itself s (local v) = is_variable s v
+stands_itself s (set_local v f) = is_variable s v
+stands_itself s (lambda required rest body parts) = are_captured s (parameters required rest) body parts
+stands_itself s (return_from x f) = is_block (exit_around x s.exits)
+stands_itself s (go x segment) = is_segment segment (exit_around x s.exits)
+stands_itself s next_method = s.in_method
+stands_itself s has_next = s.in_method
+stands_itself s f = true
 
-  pub clauses_stand : Scope → ClauseForms → Bool
-  clauses_stand s no_clause = true
-  clauses_stand s (clause_and test body cs) = stands s test && body_stands s body && clauses_stand s cs
+-- whether all of these are so in a scope
+abbrev pub all_in : Scope → List (Scope → Bool) → Bool
+all_in s tests = list_all (λ test. test s) tests
 
-  pub body_stands : Scope → MaybeForm → Bool
-  body_stands s no_body = true
-  body_stands s (with_body f) = stands s f
+-- whether every name in a form is bound where it stands
+abbrev pub stands_in : Form → Scope → Bool
+stands_in f =
+    fold (λ g outer inner s. stands_itself s g && all_in s outer && all_in (around_inner g s) inner) f
 
-  pub bindings_stand : Scope → BindingForms → Bool
-  bindings_stand s no_binding = true
-  bindings_stand s (binding_and v f bs) = stands s f && bindings_stand s bs
-
-  pub dynamics_stand : Scope → DynamicForms → Bool
-  dynamics_stand s no_dynamic = true
-  dynamics_stand s (dynamic_and n f bs) = stands s f && dynamics_stand s bs
+abbrev pub stands : Scope → Form → Bool
+stands s f = stands_in f s
 
 -- a form alone, and a procedure, which sees its own variables
 abbrev pub stands_alone : Bool → Form → Bool

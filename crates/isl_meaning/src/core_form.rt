@@ -7,6 +7,7 @@ ghost use Rattle.isl_meaning.specs.model.View.{view_form, forms, clauses_of};
 mod copies;
 mod counts;
 mod depths;
+mod subforms;
 
 use crate::part::{ExitVar, PartList, Var};
 use crate::primitive::Primitive;

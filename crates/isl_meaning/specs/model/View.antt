@@ -4,6 +4,7 @@ use Rattle.std.proofs.Common.{ap}
 use Rattle.isl_meaning.specs.Form.{Form, literal, local, set_local, global, set_global, def_global, clauses, sequence, let_form, lambda, call, call_value, apply, prim, while_form, block, return_from, tagbody, go, catch_form, throw, unwind, dynamic_let, dynamic, set_dynamic, def_dynamic, with_handler, signal_form, continue_form, next_method, has_next, sited}
 use Rattle.isl_meaning.specs.Form.{Forms, no_form, form_and, ClauseForms, no_clause, clause_and, MaybeForm, no_body, with_body}
 use Rattle.isl_meaning.specs.Form.{BindingForms, no_binding, binding_and, DynamicForms, no_dynamic, dynamic_and}
+use Rattle.isl_meaning.specs.Subforms.{forms_list}
 use Rattle.isl_meaning.specs.declared.core_form.Clause.{Clause}
 use Rattle.isl_meaning.specs.declared.core_form.Binding.{Binding}
 use Rattle.isl_meaning.specs.declared.core_form.DynBinding.{DynBinding}
@@ -14,11 +15,6 @@ use Rattle.isl_meaning.specs.declared.core_form.CoreForm.TheVariants.{Literal, L
 abbrev pub forms : List Form → Forms
 forms [] = no_form
 forms (x ∷ xs) = form_and x (forms xs)
-
--- the way back
-abbrev pub forms_list : Forms → List Form
-forms_list no_form = []
-forms_list (form_and f fs) = f ∷ forms_list fs
 
 abbrev pub maybe_form : Option Form → MaybeForm
 maybe_form None = no_body

@@ -1,172 +1,160 @@
-// Nodes and depths of core forms, which bound a program and charge its applications.
+// Nodes of core forms, which bound a program and charge its applications.
 
-ghost use Rattle.std.specs.Prelude.{◌≡◌, min, length, Some};
-ghost use Rattle.isl_meaning.specs.model.View.{forms, clauses_of, maybe_form, bindings_of, dynamics_of};
-ghost use Rattle.isl_meaning.specs.Counts.{of_body, nodes_with, nodes_of_forms, nodes_of_clauses, nodes_of_body, nodes_of_bindings, nodes_of_dynamics};
+ghost use Rattle.std.specs.Prelude.{◌≡◌, min, map, option_to_list, slice_get};
+ghost use Rattle.std.specs.List.{sum};
+ghost use Rattle.isl_meaning.specs.Subforms.{outer, inner};
+ghost use Rattle.isl_meaning.specs.bridge.Turns.{turns, second_of};
+ghost use Rattle.isl_meaning.specs.Counts.{own_nodes, is_function, of_inner, nodes_with};
 
-use crate::core_form::{BindingList, ClauseList, Core, CoreForm, CoreList, DynBindings};
+use crate::core_form::{Core, CoreForm};
 use crate::nodes::Bodies;
 
 impl Core {
-    // Its nodes: one a form, and besides one an argument, binding, clause, tag, captured part and
-    // name of it, and the bodies of functions as that says; 2^64 - 1 where that is more.
+    // Its nodes: its own and those of the forms inside, and the bodies of functions as that says; 2^64 - 1 where
+    // that is more.
     #[cycle(nodes)]
-    #[tactic(auto, using(crate::proofs::Lengths::forms_counted, crate::proofs::Lengths::clauses_counted, crate::proofs::Lengths::bindings_counted, crate::proofs::Lengths::dynamics_counted))]
     pub(crate) fn nodes(&self, bodies: Bodies) -> u64
         ensures { result ≡ min (nodes_with bodies self.now) 18446744073709551615 }
+    {
+        self.own_nodes()
+            .saturating_add(self.outer_nodes(bodies))
+            .saturating_add(self.inner_nodes(bodies))
+    }
+
+    #[cycle(nodes)]
+    fn outer_nodes(&self, bodies: Bodies) -> u64
+        ensures { result ≡ min (sum (map (nodes_with bodies) (outer self.now))) 18446744073709551615 }
+    {
+        let mut total: u64 = 0;
+        for at in 0..self.outer_turns() {
+            let Some(first) = self.outer_first(at) else {
+                unreachable!()
+            };
+            total = total
+                .saturating_add(first.nodes(bodies))
+                .saturating_add(self.second_nodes(at, bodies));
+        }
+        total
+    }
+
+    #[cycle(nodes)]
+    fn second_nodes(&self, at: usize, bodies: Bodies) -> u64
+        ensures { result ≡ min (sum (map (nodes_with bodies) (option_to_list (second_of (slice_get (turns self.now) at))))) 18446744073709551615 }
+    {
+        match self.outer_second(at) {
+            None => 0,
+            Some(second) => second.nodes(bodies),
+        }
+    }
+
+    // The nodes of the inner forms, as the body of a function counts.
+    #[cycle(nodes)]
+    fn inner_nodes(&self, bodies: Bodies) -> u64
+        ensures { result ≡ min (of_inner bodies self.now (sum (map (nodes_with bodies) (inner self.now)))) 18446744073709551615 }
+    {
+        if self.is_function() {
+            match bodies {
+                Bodies::Apart => 0,
+                Bodies::Inside => self.all_inner_nodes(bodies).saturating_add(4),
+            }
+        } else {
+            self.all_inner_nodes(bodies)
+        }
+    }
+
+    #[cycle(nodes)]
+    fn all_inner_nodes(&self, bodies: Bodies) -> u64
+        ensures { result ≡ min (sum (map (nodes_with bodies) (inner self.now))) 18446744073709551615 }
+    {
+        let mut total: u64 = 0;
+        for at in 0..self.inner_count() {
+            let Some(form) = self.inner_at(at) else {
+                unreachable!()
+            };
+            total = total.saturating_add(form.nodes(bodies));
+        }
+        total
+    }
+
+    // What it counts by itself.
+    #[tactic(auto, using(crate::proofs::Lengths::forms_counted, crate::proofs::Lengths::clauses_counted, crate::proofs::Lengths::bindings_counted, crate::proofs::Lengths::dynamics_counted))]
+    fn own_nodes(&self) -> u64
+        ensures { result ≡ min (own_nodes self.now) 18446744073709551615 }
     {
         match &self.form {
             CoreForm::Literal(_)
             | CoreForm::Local(_)
+            | CoreForm::SetLocal(_, _)
+            | CoreForm::Sequence(_)
+            | CoreForm::Apply(_, _)
+            | CoreForm::While(_, _)
+            | CoreForm::Block(_, _)
+            | CoreForm::Return(_, _)
             | CoreForm::Go(_, _)
+            | CoreForm::Catch(_, _)
+            | CoreForm::Throw(_, _)
+            | CoreForm::Unwind(_, _)
+            | CoreForm::WithHandler(_, _)
+            | CoreForm::Signal(_, _)
+            | CoreForm::Continue(_, _)
             | CoreForm::NextMethod
             | CoreForm::HasNext => 1,
-            CoreForm::Global(_) | CoreForm::Dynamic(_) => 2,
-            CoreForm::SetLocal(_, form) | CoreForm::Block(_, form) | CoreForm::Return(_, form) => {
-                form.nodes(bodies).saturating_add(1)
-            }
-            CoreForm::SetGlobal(_, form)
-            | CoreForm::DefGlobal(_, form)
-            | CoreForm::SetDynamic(_, form)
-            | CoreForm::DefDynamic(_, form) => form.nodes(bodies).saturating_add(2),
-            CoreForm::Apply(first, second)
-            | CoreForm::While(first, second)
-            | CoreForm::Catch(first, second)
-            | CoreForm::Throw(first, second)
-            | CoreForm::Unwind(first, second)
-            | CoreForm::WithHandler(first, second)
-            | CoreForm::Signal(first, second)
-            | CoreForm::Continue(first, second) => {
-                first
-                    .nodes(bodies)
-                    .saturating_add(second.nodes(bodies))
-                    .saturating_add(1)
-            }
-            CoreForm::Lambda(_, _, body, parts) => {
-                nodes_of_function(body, bodies)
-                    .saturating_add(parts.len() as u64)
-                    .saturating_add(1)
-            }
-            CoreForm::Clauses(list) => {
-                nodes_of_clauses(list, bodies)
-                    .saturating_add(list.len() as u64)
-                    .saturating_add(1)
-            }
-            CoreForm::Sequence(list) => nodes_of_forms(list, bodies).saturating_add(1),
-            CoreForm::Let(list, body) => {
-                nodes_of_bindings(list, bodies)
-                    .saturating_add(list.len() as u64)
-                    .saturating_add(body.nodes(bodies))
-                    .saturating_add(1)
-            }
-            CoreForm::DynamicLet(list, body) => {
-                nodes_of_dynamics(list, bodies)
-                    .saturating_add(list.len() as u64)
-                    .saturating_add(body.nodes(bodies))
-                    .saturating_add(1)
-            }
-            CoreForm::Call(_, list) => {
-                nodes_of_forms(list, bodies)
-                    .saturating_add(list.len() as u64)
-                    .saturating_add(2)
-            }
-            CoreForm::Prim(_, list) => {
-                nodes_of_forms(list, bodies)
-                    .saturating_add(list.len() as u64)
-                    .saturating_add(1)
-            }
+            CoreForm::Global(_)
+            | CoreForm::SetGlobal(_, _)
+            | CoreForm::DefGlobal(_, _)
+            | CoreForm::Dynamic(_)
+            | CoreForm::SetDynamic(_, _)
+            | CoreForm::DefDynamic(_, _) => 2,
+            CoreForm::Lambda(_, _, _, parts) => (parts.len() as u64).saturating_add(1),
+            CoreForm::Clauses(list) => (list.len() as u64).saturating_add(1),
+            CoreForm::Let(list, _) => (list.len() as u64).saturating_add(1),
+            CoreForm::DynamicLet(list, _) => (list.len() as u64).saturating_add(1),
+            CoreForm::Call(_, list) => (list.len() as u64).saturating_add(2),
+            CoreForm::Prim(_, list) => (list.len() as u64).saturating_add(1),
             CoreForm::CallValue(list) | CoreForm::Tagbody(_, list) => {
-                let others = list.len().saturating_sub(1);
-                nodes_of_forms(list, bodies)
-                    .saturating_add(others as u64)
-                    .saturating_add(1)
+                (list.len().saturating_sub(1) as u64).saturating_add(1)
             }
-            CoreForm::Sited(_, inner) => inner.nodes(bodies),
+            CoreForm::Sited(_, _) => 0,
         }
     }
-}
 
-// What the body of a `lambda` counts.
-#[cycle(nodes)]
-fn nodes_of_function(body: &Core, bodies: Bodies) -> u64
-    ensures { result ≡ min (of_body bodies (nodes_with bodies body.now)) 18446744073709551615 }
-{
-    match bodies {
-        Bodies::Apart => 0,
-        Bodies::Inside => body.nodes(bodies).saturating_add(4),
+    // Whether it is a `lambda`.
+    pub(crate) fn is_function(&self) -> bool
+        ensures { result ≡ is_function self.now }
+    {
+        match &self.form {
+            CoreForm::Lambda(_, _, _, _) => true,
+            CoreForm::Literal(_)
+            | CoreForm::Local(_)
+            | CoreForm::SetLocal(_, _)
+            | CoreForm::Global(_)
+            | CoreForm::SetGlobal(_, _)
+            | CoreForm::DefGlobal(_, _)
+            | CoreForm::Clauses(_)
+            | CoreForm::Sequence(_)
+            | CoreForm::Let(_, _)
+            | CoreForm::Call(_, _)
+            | CoreForm::CallValue(_)
+            | CoreForm::Apply(_, _)
+            | CoreForm::Prim(_, _)
+            | CoreForm::While(_, _)
+            | CoreForm::Block(_, _)
+            | CoreForm::Return(_, _)
+            | CoreForm::Tagbody(_, _)
+            | CoreForm::Go(_, _)
+            | CoreForm::Catch(_, _)
+            | CoreForm::Throw(_, _)
+            | CoreForm::Unwind(_, _)
+            | CoreForm::DynamicLet(_, _)
+            | CoreForm::Dynamic(_)
+            | CoreForm::SetDynamic(_, _)
+            | CoreForm::DefDynamic(_, _)
+            | CoreForm::WithHandler(_, _)
+            | CoreForm::Signal(_, _)
+            | CoreForm::Continue(_, _)
+            | CoreForm::NextMethod
+            | CoreForm::HasNext
+            | CoreForm::Sited(_, _) => false,
+        }
     }
-}
-
-#[cycle(nodes)]
-#[tactic(auto, using(crate::specs::model::Sizes::form_in_smaller))]
-fn nodes_of_forms(list: &CoreList, bodies: Bodies) -> u64
-    ensures { result ≡ min (nodes_of_forms bodies (forms list.now)) 18446744073709551615 }
-{
-    let mut total: u64 = 0;
-    for at in 0..list.len() {
-        let Some(form) = list.get(at) else {
-            unreachable!()
-        };
-        total = total.saturating_add(form.nodes(bodies));
-    }
-    total
-}
-
-#[cycle(nodes)]
-#[tactic(auto, using(crate::specs::model::Sizes::test_in_smaller, crate::specs::model::Sizes::body_in_smaller))]
-fn nodes_of_clauses(list: &ClauseList, bodies: Bodies) -> u64
-    ensures { result ≡ min (nodes_of_clauses bodies (clauses_of list.now)) 18446744073709551615 }
-{
-    let mut total: u64 = 0;
-    for at in 0..list.len() {
-        let Some(clause) = list.get(at) else {
-            unreachable!()
-        };
-        let inside = clause
-            .test
-            .nodes(bodies)
-            .saturating_add(nodes_of_body(&clause.body, bodies));
-        total = total.saturating_add(inside);
-    }
-    total
-}
-
-#[cycle(nodes)]
-fn nodes_of_body(body: &Option<Core>, bodies: Bodies) -> u64
-    ensures { result ≡ min (nodes_of_body bodies (maybe_form body.now)) 18446744073709551615 }
-{
-    match body {
-        None => 0,
-        Some(form) => form.nodes(bodies),
-    }
-}
-
-#[cycle(nodes)]
-#[tactic(auto, using(crate::specs::model::Sizes::binding_in_smaller))]
-fn nodes_of_bindings(list: &BindingList, bodies: Bodies) -> u64
-    ensures { result ≡ min (nodes_of_bindings bodies (bindings_of list.now)) 18446744073709551615 }
-{
-    let mut total: u64 = 0;
-    for at in 0..list.len() {
-        let Some(binding) = list.get(at) else {
-            unreachable!()
-        };
-        total = total.saturating_add(binding.value.nodes(bodies));
-    }
-    total
-}
-
-#[cycle(nodes)]
-#[tactic(auto, using(crate::specs::model::Sizes::dynamic_in_smaller))]
-fn nodes_of_dynamics(list: &DynBindings, bodies: Bodies) -> u64
-    ensures { result ≡ min (nodes_of_dynamics bodies (dynamics_of list.now)) 18446744073709551615 }
-{
-    let mut total: u64 = 0;
-    for at in 0..list.len() {
-        let Some(binding) = list.get(at) else {
-            unreachable!()
-        };
-        total = total.saturating_add(binding.value.nodes(bodies));
-    }
-    total
 }

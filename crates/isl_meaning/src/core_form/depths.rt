@@ -1,10 +1,11 @@
 // The depth of a core form: how many forms stand inside one another.
 
-ghost use Rattle.std.specs.Prelude.{◌≡◌, min};
-ghost use Rattle.isl_meaning.specs.model.View.{forms, clauses_of, maybe_form, bindings_of, dynamics_of};
-ghost use Rattle.isl_meaning.specs.Counts.{depth, depth_of_forms, depth_of_clauses, depth_of_body, depth_of_bindings, depth_of_dynamics};
+ghost use Rattle.std.specs.Prelude.{◌≡◌, min, map, option_to_list, slice_get, if◌then◌else◌};
+ghost use Rattle.isl_meaning.specs.Subforms.{outer, inner};
+ghost use Rattle.isl_meaning.specs.bridge.Turns.{turns, second_of};
+ghost use Rattle.isl_meaning.specs.Counts.{is_function, greatest, own_depth, depth};
 
-use crate::core_form::{BindingList, ClauseList, Core, CoreForm, CoreList, DynBindings};
+use crate::core_form::{Core, CoreForm};
 
 impl Core {
     /// Its depth: the greatest number of forms inside one another, where a `lambda` counts one and
@@ -14,116 +15,98 @@ impl Core {
     pub fn depth(&self) -> u32
         ensures { result ≡ min (depth self.now) 4294967295 }
     {
-        match &self.form {
-            CoreForm::Literal(_)
-            | CoreForm::Local(_)
-            | CoreForm::Global(_)
-            | CoreForm::Lambda(_, _, _, _)
-            | CoreForm::Go(_, _)
-            | CoreForm::Dynamic(_)
-            | CoreForm::NextMethod
-            | CoreForm::HasNext => 1,
-            CoreForm::SetLocal(_, form)
-            | CoreForm::SetGlobal(_, form)
-            | CoreForm::DefGlobal(_, form)
-            | CoreForm::Block(_, form)
-            | CoreForm::Return(_, form)
-            | CoreForm::SetDynamic(_, form)
-            | CoreForm::DefDynamic(_, form) => form.depth().saturating_add(1),
-            CoreForm::Apply(first, second)
-            | CoreForm::While(first, second)
-            | CoreForm::Catch(first, second)
-            | CoreForm::Throw(first, second)
-            | CoreForm::Unwind(first, second)
-            | CoreForm::WithHandler(first, second)
-            | CoreForm::Signal(first, second)
-            | CoreForm::Continue(first, second) => {
-                first.depth().max(second.depth()).saturating_add(1)
-            }
-            CoreForm::Clauses(list) => depth_of_clauses(list).saturating_add(1),
-            CoreForm::Let(list, body) => {
-                depth_of_bindings(list).max(body.depth()).saturating_add(1)
-            }
-            CoreForm::DynamicLet(list, body) => {
-                depth_of_dynamics(list).max(body.depth()).saturating_add(1)
-            }
-            CoreForm::Sequence(list)
-            | CoreForm::Call(_, list)
-            | CoreForm::CallValue(list)
-            | CoreForm::Prim(_, list)
-            | CoreForm::Tagbody(_, list) => depth_of_forms(list).saturating_add(1),
-            CoreForm::Sited(_, inner) => inner.depth(),
+        self.outer_depth()
+            .max(self.inner_depth())
+            .saturating_add(self.own_depth())
+    }
+
+    #[cycle(depth)]
+    fn outer_depth(&self) -> u32
+        ensures { result ≡ min (greatest (map depth (outer self.now))) 4294967295 }
+    {
+        let mut deepest: u32 = 0;
+        for at in 0..self.outer_turns() {
+            let Some(first) = self.outer_first(at) else {
+                unreachable!()
+            };
+            deepest = deepest.max(first.depth()).max(self.second_depth(at));
+        }
+        deepest
+    }
+
+    #[cycle(depth)]
+    fn second_depth(&self, at: usize) -> u32
+        ensures { result ≡ min (greatest (map depth (option_to_list (second_of (slice_get (turns self.now) at))))) 4294967295 }
+    {
+        match self.outer_second(at) {
+            None => 0,
+            Some(second) => second.depth(),
         }
     }
-}
 
-#[cycle(depth)]
-#[tactic(auto, using(crate::specs::model::Sizes::form_in_smaller))]
-fn depth_of_forms(list: &CoreList) -> u32
-    ensures { result ≡ min (depth_of_forms (forms list.now)) 4294967295 }
-{
-    let mut deepest: u32 = 0;
-    for at in 0..list.len() {
-        let Some(form) = list.get(at) else {
-            unreachable!()
-        };
-        deepest = deepest.max(form.depth());
+    // The depth of the inner forms; the body of a function begins anew.
+    #[cycle(depth)]
+    fn inner_depth(&self) -> u32
+        ensures { result ≡ min (if is_function self.now then 0 else greatest (map depth (inner self.now))) 4294967295 }
+    {
+        if self.is_function() {
+            0
+        } else {
+            self.all_inner_depth()
+        }
     }
-    deepest
-}
 
-#[cycle(depth)]
-#[tactic(auto, using(crate::specs::model::Sizes::test_in_smaller, crate::specs::model::Sizes::body_in_smaller))]
-fn depth_of_clauses(list: &ClauseList) -> u32
-    ensures { result ≡ min (depth_of_clauses (clauses_of list.now)) 4294967295 }
-{
-    let mut deepest: u32 = 0;
-    for at in 0..list.len() {
-        let Some(clause) = list.get(at) else {
-            unreachable!()
-        };
-        let inside = clause.test.depth().max(depth_of_body(&clause.body));
-        deepest = deepest.max(inside);
+    #[cycle(depth)]
+    fn all_inner_depth(&self) -> u32
+        ensures { result ≡ min (greatest (map depth (inner self.now))) 4294967295 }
+    {
+        let mut deepest: u32 = 0;
+        for at in 0..self.inner_count() {
+            let Some(form) = self.inner_at(at) else {
+                unreachable!()
+            };
+            deepest = deepest.max(form.depth());
+        }
+        deepest
     }
-    deepest
-}
 
-#[cycle(depth)]
-fn depth_of_body(body: &Option<Core>) -> u32
-    ensures { result ≡ min (depth_of_body (maybe_form body.now)) 4294967295 }
-{
-    match body {
-        None => 0,
-        Some(form) => form.depth(),
+    // How much deeper it is than the forms right inside it.
+    fn own_depth(&self) -> u32
+        ensures { result ≡ own_depth self.now }
+    {
+        match &self.form {
+            CoreForm::Sited(_, _) => 0,
+            CoreForm::Lambda(_, _, _, _)
+            | CoreForm::Literal(_)
+            | CoreForm::Local(_)
+            | CoreForm::SetLocal(_, _)
+            | CoreForm::Global(_)
+            | CoreForm::SetGlobal(_, _)
+            | CoreForm::DefGlobal(_, _)
+            | CoreForm::Clauses(_)
+            | CoreForm::Sequence(_)
+            | CoreForm::Let(_, _)
+            | CoreForm::Call(_, _)
+            | CoreForm::CallValue(_)
+            | CoreForm::Apply(_, _)
+            | CoreForm::Prim(_, _)
+            | CoreForm::While(_, _)
+            | CoreForm::Block(_, _)
+            | CoreForm::Return(_, _)
+            | CoreForm::Tagbody(_, _)
+            | CoreForm::Go(_, _)
+            | CoreForm::Catch(_, _)
+            | CoreForm::Throw(_, _)
+            | CoreForm::Unwind(_, _)
+            | CoreForm::DynamicLet(_, _)
+            | CoreForm::Dynamic(_)
+            | CoreForm::SetDynamic(_, _)
+            | CoreForm::DefDynamic(_, _)
+            | CoreForm::WithHandler(_, _)
+            | CoreForm::Signal(_, _)
+            | CoreForm::Continue(_, _)
+            | CoreForm::NextMethod
+            | CoreForm::HasNext => 1,
+        }
     }
-}
-
-#[cycle(depth)]
-#[tactic(auto, using(crate::specs::model::Sizes::binding_in_smaller))]
-fn depth_of_bindings(list: &BindingList) -> u32
-    ensures { result ≡ min (depth_of_bindings (bindings_of list.now)) 4294967295 }
-{
-    let mut deepest: u32 = 0;
-    for at in 0..list.len() {
-        let Some(binding) = list.get(at) else {
-            unreachable!()
-        };
-        deepest = deepest.max(binding.value.depth());
-    }
-    deepest
-}
-
-#[cycle(depth)]
-#[tactic(auto, using(crate::specs::model::Sizes::dynamic_in_smaller))]
-fn depth_of_dynamics(list: &DynBindings) -> u32
-    ensures { result ≡ min (depth_of_dynamics (dynamics_of list.now)) 4294967295 }
-{
-    let mut deepest: u32 = 0;
-    for at in 0..list.len() {
-        let Some(binding) = list.get(at) else {
-            unreachable!()
-        };
-        deepest = deepest.max(binding.value.depth());
-    }
-    deepest
 }

@@ -1,0 +1,281 @@
+// The forms right inside a form, as code goes over them: the outer ones turn by turn, then the inner ones. A test of a
+// clause and its body, or the two forms of a form that has two, are one turn.
+
+ghost use Rattle.std.specs.Prelude.{◌≡◌, [], ◌∷◌, map, length, slice_get, Some, None, MatchOption};
+ghost use Rattle.isl_meaning.specs.Subforms.{forms_list, value_list, dynamic_value_list, inner};
+ghost use Rattle.isl_meaning.specs.bridge.Turns.{Turn, single, clause_turns, turns, first_of, second_of};
+ghost use Rattle.isl_meaning.specs.model.View.{forms, clauses_of, bindings_of, dynamics_of};
+
+use crate::core_form::{BindingList, ClauseList, Core, CoreForm, CoreList, DynBindings};
+
+impl Core {
+    /// How many turns there are over the forms right inside that stand where this form stands. Takes no
+    /// memory.
+    #[tactic(auto, using(crate::specs::bridge::Turns::forms_have_turns, crate::specs::bridge::Turns::clauses_have_turns, crate::specs::bridge::Turns::values_have_turns, crate::specs::bridge::Turns::dynamics_have_turns))]
+    pub fn outer_turns(&self) -> usize
+        ensures { result ≡ length (turns self.now) }
+    {
+        match &self.form {
+            CoreForm::Literal(_)
+            | CoreForm::Local(_)
+            | CoreForm::Global(_)
+            | CoreForm::Lambda(_, _, _, _)
+            | CoreForm::Block(_, _)
+            | CoreForm::Tagbody(_, _)
+            | CoreForm::Go(_, _)
+            | CoreForm::Dynamic(_)
+            | CoreForm::NextMethod
+            | CoreForm::HasNext => 0,
+            CoreForm::SetLocal(_, _)
+            | CoreForm::SetGlobal(_, _)
+            | CoreForm::DefGlobal(_, _)
+            | CoreForm::Return(_, _)
+            | CoreForm::SetDynamic(_, _)
+            | CoreForm::DefDynamic(_, _)
+            | CoreForm::Sited(_, _)
+            | CoreForm::Apply(_, _)
+            | CoreForm::While(_, _)
+            | CoreForm::Catch(_, _)
+            | CoreForm::Throw(_, _)
+            | CoreForm::Unwind(_, _)
+            | CoreForm::WithHandler(_, _)
+            | CoreForm::Signal(_, _)
+            | CoreForm::Continue(_, _) => 1,
+            CoreForm::Sequence(list)
+            | CoreForm::Call(_, list)
+            | CoreForm::CallValue(list)
+            | CoreForm::Prim(_, list) => list.len(),
+            CoreForm::Clauses(list) => list.len(),
+            CoreForm::Let(list, _) => list.len(),
+            CoreForm::DynamicLet(list, _) => list.len(),
+        }
+    }
+
+    /// The first form of a turn; None exactly where there is no such turn. Takes no memory.
+    #[tactic(auto, using(crate::specs::bridge::Turns::first_alone, crate::specs::bridge::Turns::no_first_alone))]
+    pub fn outer_first(&self, at: usize) -> Option<&Core>
+        ensures { MatchOption result (first_of (slice_get (turns self.now) at) ≡ None)
+            (λ form. first_of (slice_get (turns self.now) at) ≡ Some form.now) }
+    {
+        match &self.form {
+            CoreForm::Literal(_)
+            | CoreForm::Local(_)
+            | CoreForm::Global(_)
+            | CoreForm::Lambda(_, _, _, _)
+            | CoreForm::Block(_, _)
+            | CoreForm::Tagbody(_, _)
+            | CoreForm::Go(_, _)
+            | CoreForm::Dynamic(_)
+            | CoreForm::NextMethod
+            | CoreForm::HasNext => None,
+            CoreForm::SetLocal(_, form)
+            | CoreForm::SetGlobal(_, form)
+            | CoreForm::DefGlobal(_, form)
+            | CoreForm::Return(_, form)
+            | CoreForm::SetDynamic(_, form)
+            | CoreForm::DefDynamic(_, form)
+            | CoreForm::Sited(_, form) => only(form, at),
+            CoreForm::Apply(form, _)
+            | CoreForm::While(form, _)
+            | CoreForm::Catch(form, _)
+            | CoreForm::Throw(form, _)
+            | CoreForm::Unwind(form, _)
+            | CoreForm::WithHandler(form, _)
+            | CoreForm::Signal(form, _)
+            | CoreForm::Continue(form, _) => only(form, at),
+            CoreForm::Sequence(list)
+            | CoreForm::Call(_, list)
+            | CoreForm::CallValue(list)
+            | CoreForm::Prim(_, list) => form_at(list, at),
+            CoreForm::Clauses(list) => test_at(list, at),
+            CoreForm::Let(list, _) => value_at(list, at),
+            CoreForm::DynamicLet(list, _) => dynamic_value_at(list, at),
+        }
+    }
+
+    /// The second form of a turn; None exactly where there is no such turn or it has just one. Takes no
+    /// memory.
+    #[tactic(auto, using(crate::specs::bridge::Turns::no_second, crate::specs::bridge::Turns::no_second_alone, crate::specs::bridge::Turns::second_alone, crate::specs::bridge::Turns::no_second_there))]
+    pub fn outer_second(&self, at: usize) -> Option<&Core>
+        ensures { MatchOption result (second_of (slice_get (turns self.now) at) ≡ None)
+            (λ form. second_of (slice_get (turns self.now) at) ≡ Some form.now) }
+    {
+        match &self.form {
+            CoreForm::Literal(_)
+            | CoreForm::Local(_)
+            | CoreForm::Global(_)
+            | CoreForm::Lambda(_, _, _, _)
+            | CoreForm::Block(_, _)
+            | CoreForm::Tagbody(_, _)
+            | CoreForm::Go(_, _)
+            | CoreForm::Dynamic(_)
+            | CoreForm::NextMethod
+            | CoreForm::HasNext => None,
+            CoreForm::SetLocal(_, _)
+            | CoreForm::SetGlobal(_, _)
+            | CoreForm::DefGlobal(_, _)
+            | CoreForm::Return(_, _)
+            | CoreForm::SetDynamic(_, _)
+            | CoreForm::DefDynamic(_, _)
+            | CoreForm::Sited(_, _) => None,
+            CoreForm::Sequence(_)
+            | CoreForm::Call(_, _)
+            | CoreForm::CallValue(_)
+            | CoreForm::Prim(_, _)
+            | CoreForm::Let(_, _)
+            | CoreForm::DynamicLet(_, _) => None,
+            CoreForm::Apply(_, form)
+            | CoreForm::While(_, form)
+            | CoreForm::Catch(_, form)
+            | CoreForm::Throw(_, form)
+            | CoreForm::Unwind(_, form)
+            | CoreForm::WithHandler(_, form)
+            | CoreForm::Signal(_, form)
+            | CoreForm::Continue(_, form) => only(form, at),
+            CoreForm::Clauses(list) => body_at(list, at),
+        }
+    }
+
+    /// How many forms right inside stand where what this form binds is bound. Takes no memory.
+    #[tactic(auto, using(crate::specs::bridge::Turns::segments_counted))]
+    pub fn inner_count(&self) -> usize
+        ensures { result ≡ length (inner self.now) }
+    {
+        match &self.form {
+            CoreForm::Let(_, _)
+            | CoreForm::Lambda(_, _, _, _)
+            | CoreForm::Block(_, _)
+            | CoreForm::DynamicLet(_, _) => 1,
+            CoreForm::Tagbody(_, list) => list.len(),
+            CoreForm::Literal(_)
+            | CoreForm::Local(_)
+            | CoreForm::SetLocal(_, _)
+            | CoreForm::Global(_)
+            | CoreForm::SetGlobal(_, _)
+            | CoreForm::DefGlobal(_, _)
+            | CoreForm::Clauses(_)
+            | CoreForm::Sequence(_)
+            | CoreForm::Call(_, _)
+            | CoreForm::CallValue(_)
+            | CoreForm::Apply(_, _)
+            | CoreForm::Prim(_, _)
+            | CoreForm::While(_, _)
+            | CoreForm::Return(_, _)
+            | CoreForm::Go(_, _)
+            | CoreForm::Catch(_, _)
+            | CoreForm::Throw(_, _)
+            | CoreForm::Unwind(_, _)
+            | CoreForm::Dynamic(_)
+            | CoreForm::SetDynamic(_, _)
+            | CoreForm::DefDynamic(_, _)
+            | CoreForm::WithHandler(_, _)
+            | CoreForm::Signal(_, _)
+            | CoreForm::Continue(_, _)
+            | CoreForm::NextMethod
+            | CoreForm::HasNext
+            | CoreForm::Sited(_, _) => 0,
+        }
+    }
+
+    /// Such a form; None exactly where there are no more than `at`. Takes no memory.
+    #[tactic(auto, using(crate::specs::bridge::Turns::segment_there, crate::specs::bridge::Turns::no_segment_there))]
+    pub fn inner_at(&self, at: usize) -> Option<&Core>
+        ensures { MatchOption result (slice_get (inner self.now) at ≡ None)
+            (λ form. slice_get (inner self.now) at ≡ Some form.now) }
+    {
+        match &self.form {
+            CoreForm::Let(_, form)
+            | CoreForm::Lambda(_, _, form, _)
+            | CoreForm::Block(_, form)
+            | CoreForm::DynamicLet(_, form) => only(form, at),
+            CoreForm::Tagbody(_, list) => list.get(at),
+            CoreForm::Literal(_)
+            | CoreForm::Local(_)
+            | CoreForm::SetLocal(_, _)
+            | CoreForm::Global(_)
+            | CoreForm::SetGlobal(_, _)
+            | CoreForm::DefGlobal(_, _)
+            | CoreForm::Clauses(_)
+            | CoreForm::Sequence(_)
+            | CoreForm::Call(_, _)
+            | CoreForm::CallValue(_)
+            | CoreForm::Apply(_, _)
+            | CoreForm::Prim(_, _)
+            | CoreForm::While(_, _)
+            | CoreForm::Return(_, _)
+            | CoreForm::Go(_, _)
+            | CoreForm::Catch(_, _)
+            | CoreForm::Throw(_, _)
+            | CoreForm::Unwind(_, _)
+            | CoreForm::Dynamic(_)
+            | CoreForm::SetDynamic(_, _)
+            | CoreForm::DefDynamic(_, _)
+            | CoreForm::WithHandler(_, _)
+            | CoreForm::Signal(_, _)
+            | CoreForm::Continue(_, _)
+            | CoreForm::NextMethod
+            | CoreForm::HasNext
+            | CoreForm::Sited(_, _) => None,
+        }
+    }
+}
+
+// The one form of a turn.
+fn only(form: &Core, at: usize) -> Option<&Core>
+    ensures { MatchOption result (slice_get (form.now ∷ []) at ≡ None)
+        (λ only. slice_get (form.now ∷ []) at ≡ Some only.now) }
+{
+    if at == 0 { Some(form) } else { None }
+}
+
+#[tactic(auto, using(crate::specs::bridge::Turns::form_there, crate::specs::bridge::Turns::no_form_there))]
+fn form_at(list: &CoreList, at: usize) -> Option<&Core>
+    ensures { MatchOption result (first_of (slice_get (map single (forms_list (forms list.now))) at) ≡ None)
+        (λ form. first_of (slice_get (map single (forms_list (forms list.now))) at) ≡ Some form.now) }
+{
+    list.get(at)
+}
+
+#[tactic(auto, using(crate::specs::bridge::Turns::test_there, crate::specs::bridge::Turns::no_test_there))]
+fn test_at(list: &ClauseList, at: usize) -> Option<&Core>
+    ensures { MatchOption result (first_of (slice_get (clause_turns (clauses_of list.now)) at) ≡ None)
+        (λ form. first_of (slice_get (clause_turns (clauses_of list.now)) at) ≡ Some form.now) }
+{
+    match list.get(at) {
+        None => None,
+        Some(clause) => Some(&clause.test),
+    }
+}
+
+#[tactic(auto, using(crate::specs::bridge::Turns::body_there, crate::specs::bridge::Turns::no_body_there))]
+fn body_at(list: &ClauseList, at: usize) -> Option<&Core>
+    ensures { MatchOption result (second_of (slice_get (clause_turns (clauses_of list.now)) at) ≡ None)
+        (λ form. second_of (slice_get (clause_turns (clauses_of list.now)) at) ≡ Some form.now) }
+{
+    match list.get(at) {
+        None => None,
+        Some(clause) => clause.body.as_ref(),
+    }
+}
+
+#[tactic(auto, using(crate::specs::bridge::Turns::value_there, crate::specs::bridge::Turns::no_value_there))]
+fn value_at(list: &BindingList, at: usize) -> Option<&Core>
+    ensures { MatchOption result (first_of (slice_get (map single (value_list (bindings_of list.now))) at) ≡ None)
+        (λ form. first_of (slice_get (map single (value_list (bindings_of list.now))) at) ≡ Some form.now) }
+{
+    match list.get(at) {
+        None => None,
+        Some(binding) => Some(&binding.value),
+    }
+}
+
+#[tactic(auto, using(crate::specs::bridge::Turns::dynamic_there, crate::specs::bridge::Turns::no_dynamic_there))]
+fn dynamic_value_at(list: &DynBindings, at: usize) -> Option<&Core>
+    ensures { MatchOption result (first_of (slice_get (map single (dynamic_value_list (dynamics_of list.now))) at) ≡ None)
+        (λ form. first_of (slice_get (map single (dynamic_value_list (dynamics_of list.now))) at) ≡ Some form.now) }
+{
+    match list.get(at) {
+        None => None,
+        Some(binding) => Some(&binding.value),
+    }
+}
