@@ -11,6 +11,7 @@ pub mod NamesBound
 pub mod Bounds
 pub mod FirstClasses
 pub mod Lengths
+pub mod Counting
 pub mod Totals
 pub mod GroupTurns
 pub mod Decoding

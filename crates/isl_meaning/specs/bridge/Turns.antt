@@ -94,10 +94,8 @@ form_there [] i x h = absurd (cc h)
 form_there (y ∷ ys) zero x h = h
 form_there (y ∷ ys) (suc i) x h = form_there ys i x h
 
-pub no_form_there : (xs : List Form) (i : ℕ) → length xs ≤ i → first_of (slice_get (map single (forms_list (forms xs))) i) ≡ None
-no_form_there [] i h = refl
-no_form_there (y ∷ ys) zero h = absurd (omega (arith, h))
-no_form_there (y ∷ ys) (suc i) h = no_form_there ys i (omega (arith, h))
+pub no_form_there : (xs : List Form) (i : ℕ) → length xs ≤ i → length (map single (forms_list (forms xs))) ≤ i
+no_form_there xs i h = omega (arith, forms_have_turns xs)
 
 pub test_there : (cs : List Clause) (i : ℕ) (c : Clause) → slice_get cs i ≡ Some c
     → first_of (slice_get (clause_turns (clauses_of cs)) i) ≡ Some c.test
@@ -105,10 +103,8 @@ test_there [] i c h = absurd (cc h)
 test_there (d ∷ ds) zero c h = let e : d ≡ c = cc h in ap (λ x. Some x.test) e
 test_there (d ∷ ds) (suc i) c h = test_there ds i c h
 
-pub no_test_there : (cs : List Clause) (i : ℕ) → length cs ≤ i → first_of (slice_get (clause_turns (clauses_of cs)) i) ≡ None
-no_test_there [] i h = refl
-no_test_there (d ∷ ds) zero h = absurd (omega (arith, h))
-no_test_there (d ∷ ds) (suc i) h = no_test_there ds i (omega (arith, h))
+pub no_test_there : (cs : List Clause) (i : ℕ) → length cs ≤ i → length (clause_turns (clauses_of cs)) ≤ i
+no_test_there cs i h = omega (arith, clauses_have_turns cs)
 
 body_back : (b : Option Form) → body_option (maybe_form b) ≡ b
 body_back None = refl
@@ -131,10 +127,8 @@ value_there [] i b h = absurd (cc h)
 value_there (d ∷ ds) zero b h = let e : d ≡ b = cc h in ap (λ x. Some x.value) e
 value_there (d ∷ ds) (suc i) b h = value_there ds i b h
 
-pub no_value_there : (bs : List Binding) (i : ℕ) → length bs ≤ i → first_of (slice_get (map single (value_list (bindings_of bs))) i) ≡ None
-no_value_there [] i h = refl
-no_value_there (d ∷ ds) zero h = absurd (omega (arith, h))
-no_value_there (d ∷ ds) (suc i) h = no_value_there ds i (omega (arith, h))
+pub no_value_there : (bs : List Binding) (i : ℕ) → length bs ≤ i → length (map single (value_list (bindings_of bs))) ≤ i
+no_value_there bs i h = omega (arith, values_have_turns bs)
 
 pub dynamic_there : (bs : List DynBinding) (i : ℕ) (b : DynBinding) → slice_get bs i ≡ Some b
     → first_of (slice_get (map single (dynamic_value_list (dynamics_of bs))) i) ≡ Some b.value
@@ -142,10 +136,8 @@ dynamic_there [] i b h = absurd (cc h)
 dynamic_there (d ∷ ds) zero b h = let e : d ≡ b = cc h in ap (λ x. Some x.value) e
 dynamic_there (d ∷ ds) (suc i) b h = dynamic_there ds i b h
 
-pub no_dynamic_there : (bs : List DynBinding) (i : ℕ) → length bs ≤ i → first_of (slice_get (map single (dynamic_value_list (dynamics_of bs))) i) ≡ None
-no_dynamic_there [] i h = refl
-no_dynamic_there (d ∷ ds) zero h = absurd (omega (arith, h))
-no_dynamic_there (d ∷ ds) (suc i) h = no_dynamic_there ds i (omega (arith, h))
+pub no_dynamic_there : (ds : List DynBinding) (i : ℕ) → length ds ≤ i → length (map single (dynamic_value_list (dynamics_of ds))) ≤ i
+no_dynamic_there ds i h = omega (arith, dynamics_have_turns ds)
 
 pub no_second : (xs : List Form) (i : ℕ) → second_of (slice_get (map single xs) i) ≡ None
 no_second [] i = refl
@@ -160,31 +152,25 @@ pub first_alone : (t : Turn) (i : ℕ) (x : Form) → slice_get (t.first ∷ [])
 first_alone t zero x h = h
 first_alone t (suc i) x h = h
 
-pub no_first_alone : (t : Turn) (i : ℕ) → slice_get (t.first ∷ []) i ≡ None → first_of (slice_get (t ∷ []) i) ≡ None
-no_first_alone t zero h = absurd (cc h)
-no_first_alone t (suc i) h = refl
-
 pub second_alone : (f g : Form) (i : ℕ) (x : Form) → slice_get (g ∷ []) i ≡ Some x → second_of (slice_get (pair f g ∷ []) i) ≡ Some x
 second_alone f g zero x h = h
 second_alone f g (suc i) x h = absurd (cc h)
 
-pub no_second_there : (f g : Form) (i : ℕ) → slice_get (g ∷ []) i ≡ None → second_of (slice_get (pair f g ∷ []) i) ≡ None
-no_second_there f g zero h = absurd (cc h)
+pub no_second_there : (f g : Form) (i : ℕ) → 1 ≤ i → second_of (slice_get (pair f g ∷ []) i) ≡ None
+no_second_there f g zero h = absurd (omega (arith, h))
 no_second_there f g (suc i) h = refl
+
+pub segments_counted : (xs : List Form) → length (forms_list (forms xs)) ≡ length xs
+segments_counted [] = refl
+segments_counted (x ∷ xs) = ap (λ n. suc n) (segments_counted xs)
 
 pub segment_there : (xs : List Form) (i : ℕ) (x : Form) → slice_get xs i ≡ Some x → slice_get (forms_list (forms xs)) i ≡ Some x
 segment_there [] i x h = h
 segment_there (y ∷ ys) zero x h = h
 segment_there (y ∷ ys) (suc i) x h = segment_there ys i x h
 
-pub no_segment_there : (xs : List Form) (i : ℕ) → length xs ≤ i → slice_get (forms_list (forms xs)) i ≡ None
-no_segment_there [] i h = refl
-no_segment_there (y ∷ ys) zero h = absurd (omega (arith, h))
-no_segment_there (y ∷ ys) (suc i) h = no_segment_there ys i (omega (arith, h))
-
-pub segments_counted : (xs : List Form) → length (forms_list (forms xs)) ≡ length xs
-segments_counted [] = refl
-segments_counted (x ∷ xs) = ap (λ n. suc n) (segments_counted xs)
+pub no_segment_there : (xs : List Form) (i : ℕ) → length xs ≤ i → length (forms_list (forms xs)) ≤ i
+no_segment_there xs i h = omega (arith, segments_counted xs)
 
 -- the turns have just the outer forms
 

@@ -13,6 +13,7 @@ impl Core {
     // Its nodes: its own and those of the forms inside, and the bodies of functions as that says; 2^64 - 1 where
     // that is more.
     #[cycle(nodes)]
+    #[tactic(auto, using(crate::specs::bridge::Walks::folded))]
     pub(crate) fn nodes(&self, bodies: Bodies) -> u64
         ensures { result ≡ min (nodes_with bodies self.now) 18446744073709551615 }
     {
@@ -22,6 +23,7 @@ impl Core {
     }
 
     #[cycle(nodes)]
+    #[tactic(auto, using(crate::specs::bridge::Smaller::first_is_smaller))]
     fn outer_nodes(&self, bodies: Bodies) -> u64
         ensures { result ≡ min (sum (map (nodes_with bodies) (outer self.now))) 18446744073709551615 }
     {
@@ -38,6 +40,7 @@ impl Core {
     }
 
     #[cycle(nodes)]
+    #[tactic(auto, using(crate::specs::bridge::Smaller::second_is_smaller, crate::proofs::Counting::sum_of_second, crate::proofs::Counting::sum_of_none))]
     fn second_nodes(&self, at: usize, bodies: Bodies) -> u64
         ensures { result ≡ min (sum (map (nodes_with bodies) (option_to_list (second_of (slice_get (turns self.now) at))))) 18446744073709551615 }
     {
@@ -63,6 +66,7 @@ impl Core {
     }
 
     #[cycle(nodes)]
+    #[tactic(auto, using(crate::specs::bridge::Smaller::inner_is_smaller))]
     fn all_inner_nodes(&self, bodies: Bodies) -> u64
         ensures { result ≡ min (sum (map (nodes_with bodies) (inner self.now))) 18446744073709551615 }
     {

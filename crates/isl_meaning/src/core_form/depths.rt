@@ -12,6 +12,7 @@ impl Core {
     /// its body begins anew, and the place of a form counts nothing; 2^32 - 1 where that is more.
     /// Takes no memory.
     #[cycle(depth)]
+    #[tactic(auto, using(crate::specs::bridge::Walks::folded))]
     pub fn depth(&self) -> u32
         ensures { result ≡ min (depth self.now) 4294967295 }
     {
@@ -21,6 +22,7 @@ impl Core {
     }
 
     #[cycle(depth)]
+    #[tactic(auto, using(crate::specs::bridge::Smaller::first_is_smaller))]
     fn outer_depth(&self) -> u32
         ensures { result ≡ min (greatest (map depth (outer self.now))) 4294967295 }
     {
@@ -35,6 +37,7 @@ impl Core {
     }
 
     #[cycle(depth)]
+    #[tactic(auto, using(crate::specs::bridge::Smaller::second_is_smaller, crate::proofs::Counting::greatest_of_second, crate::proofs::Counting::greatest_of_none))]
     fn second_depth(&self, at: usize) -> u32
         ensures { result ≡ min (greatest (map depth (option_to_list (second_of (slice_get (turns self.now) at))))) 4294967295 }
     {
@@ -57,6 +60,7 @@ impl Core {
     }
 
     #[cycle(depth)]
+    #[tactic(auto, using(crate::specs::bridge::Smaller::inner_is_smaller))]
     fn all_inner_depth(&self) -> u32
         ensures { result ≡ min (greatest (map depth (inner self.now))) 4294967295 }
     {

@@ -1,7 +1,7 @@
 // The forms right inside a form, as code goes over them: the outer ones turn by turn, then the inner ones. A test of a
 // clause and its body, or the two forms of a form that has two, are one turn.
 
-ghost use Rattle.std.specs.Prelude.{◌≡◌, [], ◌∷◌, map, length, slice_get, Some, None, MatchOption};
+ghost use Rattle.std.specs.Prelude.{◌≡◌, ◌≤◌, [], ◌∷◌, map, length, slice_get, Some, None, MatchOption};
 ghost use Rattle.isl_meaning.specs.Subforms.{forms_list, value_list, dynamic_value_list, inner};
 ghost use Rattle.isl_meaning.specs.bridge.Turns.{Turn, single, clause_turns, turns, first_of, second_of};
 ghost use Rattle.isl_meaning.specs.model.View.{forms, clauses_of, bindings_of, dynamics_of};
@@ -52,9 +52,9 @@ impl Core {
     }
 
     /// The first form of a turn; None exactly where there is no such turn. Takes no memory.
-    #[tactic(auto, using(crate::specs::bridge::Turns::first_alone, crate::specs::bridge::Turns::no_first_alone))]
+    #[tactic(auto, using(crate::specs::bridge::Turns::first_alone))]
     pub fn outer_first(&self, at: usize) -> Option<&Core>
-        ensures { MatchOption result (first_of (slice_get (turns self.now) at) ≡ None)
+        ensures { MatchOption result (length (turns self.now) ≤ at)
             (λ form. first_of (slice_get (turns self.now) at) ≡ Some form.now) }
     {
         match &self.form {
@@ -180,7 +180,7 @@ impl Core {
     /// Such a form; None exactly where there are no more than `at`. Takes no memory.
     #[tactic(auto, using(crate::specs::bridge::Turns::segment_there, crate::specs::bridge::Turns::no_segment_there))]
     pub fn inner_at(&self, at: usize) -> Option<&Core>
-        ensures { MatchOption result (slice_get (inner self.now) at ≡ None)
+        ensures { MatchOption result (length (inner self.now) ≤ at)
             (λ form. slice_get (inner self.now) at ≡ Some form.now) }
     {
         match &self.form {
@@ -222,7 +222,7 @@ impl Core {
 
 // The one form of a turn.
 fn only(form: &Core, at: usize) -> Option<&Core>
-    ensures { MatchOption result (slice_get (form.now ∷ []) at ≡ None)
+    ensures { MatchOption result (1 ≤ at)
         (λ only. slice_get (form.now ∷ []) at ≡ Some only.now) }
 {
     if at == 0 { Some(form) } else { None }
@@ -230,7 +230,7 @@ fn only(form: &Core, at: usize) -> Option<&Core>
 
 #[tactic(auto, using(crate::specs::bridge::Turns::form_there, crate::specs::bridge::Turns::no_form_there))]
 fn form_at(list: &CoreList, at: usize) -> Option<&Core>
-    ensures { MatchOption result (first_of (slice_get (map single (forms_list (forms list.now))) at) ≡ None)
+    ensures { MatchOption result (length (map single (forms_list (forms list.now))) ≤ at)
         (λ form. first_of (slice_get (map single (forms_list (forms list.now))) at) ≡ Some form.now) }
 {
     list.get(at)
@@ -238,7 +238,7 @@ fn form_at(list: &CoreList, at: usize) -> Option<&Core>
 
 #[tactic(auto, using(crate::specs::bridge::Turns::test_there, crate::specs::bridge::Turns::no_test_there))]
 fn test_at(list: &ClauseList, at: usize) -> Option<&Core>
-    ensures { MatchOption result (first_of (slice_get (clause_turns (clauses_of list.now)) at) ≡ None)
+    ensures { MatchOption result (length (clause_turns (clauses_of list.now)) ≤ at)
         (λ form. first_of (slice_get (clause_turns (clauses_of list.now)) at) ≡ Some form.now) }
 {
     match list.get(at) {
@@ -260,7 +260,7 @@ fn body_at(list: &ClauseList, at: usize) -> Option<&Core>
 
 #[tactic(auto, using(crate::specs::bridge::Turns::value_there, crate::specs::bridge::Turns::no_value_there))]
 fn value_at(list: &BindingList, at: usize) -> Option<&Core>
-    ensures { MatchOption result (first_of (slice_get (map single (value_list (bindings_of list.now))) at) ≡ None)
+    ensures { MatchOption result (length (map single (value_list (bindings_of list.now))) ≤ at)
         (λ form. first_of (slice_get (map single (value_list (bindings_of list.now))) at) ≡ Some form.now) }
 {
     match list.get(at) {
@@ -271,7 +271,7 @@ fn value_at(list: &BindingList, at: usize) -> Option<&Core>
 
 #[tactic(auto, using(crate::specs::bridge::Turns::dynamic_there, crate::specs::bridge::Turns::no_dynamic_there))]
 fn dynamic_value_at(list: &DynBindings, at: usize) -> Option<&Core>
-    ensures { MatchOption result (first_of (slice_get (map single (dynamic_value_list (dynamics_of list.now))) at) ≡ None)
+    ensures { MatchOption result (length (map single (dynamic_value_list (dynamics_of list.now))) ≤ at)
         (λ form. first_of (slice_get (map single (dynamic_value_list (dynamics_of list.now))) at) ≡ Some form.now) }
 {
     match list.get(at) {
