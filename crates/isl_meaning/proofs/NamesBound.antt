@@ -1,6 +1,6 @@
 -- Every name of a program is bound where it stands: what the test of a program says of each form inside its bodies.
 use Rattle.std.proofs.Common.{◌≡◌, ℕ, suc, ◌+◌, ◌==◌, Bool, true, false, ◌&&◌, ◌||◌, List, [], ◌∷◌, ◌++◌, Option, Some, None, refl, sym, ap, subst, ◌∙◌, length, arith}
-use Rattle.std.specs.Prelude.{slice_get, nat_lt, nat_le}
+use Rattle.std.specs.Prelude.{slice_get, nat_lt, nat_le, map, flat_map}
 use Rattle.std.specs.List.{list_all, list_any}
 use Rattle.isl_meaning.specs.declared.program.Procedure.{Procedure}
 use Rattle.isl_meaning.specs.declared.program.Callee.{Callee}
@@ -10,19 +10,18 @@ use Rattle.isl_meaning.specs.declared.program.GenericRow.{GenericRow}
 use Rattle.isl_meaning.specs.declared.program.MethodRow.{MethodRow}
 use Rattle.isl_meaning.specs.declared.program.ProgramRows.{ProgramRows}
 use Rattle.isl_meaning.specs.declared.scope.Scope.{Scope}
-use Rattle.isl_meaning.specs.declared.scope.Around.TheVariants.{Block, Tagbody}
-use Rattle.isl_meaning.specs.Form.{Form, literal, local, set_local, global, set_global, def_global, clauses, sequence, let_form, lambda, call, call_value, apply, prim, while_form, block, return_from, tagbody, go, catch_form, throw, unwind, dynamic_let, dynamic, set_dynamic, def_dynamic, with_handler, signal_form, continue_form, next_method, has_next, sited}
-use Rattle.isl_meaning.specs.Form.{Forms, no_form, form_and, ClauseForms, no_clause, clause_and, MaybeForm, no_body, with_body}
-use Rattle.isl_meaning.specs.Form.{BindingForms, no_binding, binding_and, DynamicForms, no_dynamic, dynamic_and, parameters}
-use Rattle.isl_meaning.specs.Counts.{count_forms}
+use Rattle.isl_meaning.specs.Form.{Form, lambda, parameters}
+use Rattle.isl_meaning.specs.Subforms.{Each, outer, inner}
+use Rattle.isl_meaning.specs.bridge.Walks.{by_subforms}
+use Rattle.isl_meaning.specs.bridge.Judged.{inside_folded, stands_folded}
 use Rattle.isl_meaning.specs.Cells.{program_cells}
 use Rattle.isl_meaning.specs.Lookup.{all_differ}
 use Rattle.isl_meaning.specs.Mentions.{in_order}
-use Rattle.isl_meaning.specs.Inside.{inside_form, inside_forms, inside_clauses, inside_body, inside_bindings, inside_dynamics}
+use Rattle.isl_meaning.specs.Inside.{inside_form}
 use Rattle.isl_meaning.specs.Signals.{variables}
-use Rattle.isl_meaning.specs.Standing.{alone, variables_bound, with_bound, with_around, seen, is_bound, is_free, are_captured, is_variable, exit_around, is_block, stands, forms_stand, clauses_stand, body_stands, bindings_stand, dynamics_stand, stands_alone, is_alone}
+use Rattle.isl_meaning.specs.Standing.{alone, is_bound, is_free, around_inner, stands_itself, stands, stands_alone, is_alone}
 use Rattle.isl_meaning.specs.Facts.{body_fits, class_fits, initform_fits, knows_next, method_fits, same_method, generic_fits, callee_fits, is_of_method, procedures_stand, rows_fit, bodies_stand}
-use Rattle.isl_meaning.specs.BoundNames.{Each, StandsAsFunction, IsBoundIn, BodyIsBound, ProcedureIsBound, CalleeIsBound, InitformIsBound, LawOfNames}
+use Rattle.isl_meaning.specs.BoundNames.{StandsAsFunction, IsBoundIn, BodyIsBound, ProcedureIsBound, CalleeIsBound, InitformIsBound, LawOfNames}
 use Rattle.std.proofs.lemmas.Bool.{eqb-true}
 use Rattle.isl_meaning.proofs.Bounds.{first_true, second_true}
 
@@ -31,131 +30,42 @@ both : (xs ys : List Form) → Each StandsAsFunction xs → Each StandsAsFunctio
 both [] ys e f = f
 both (x ∷ xs) ys e f = (e.0, both xs ys e.1 f)
 
--- each form inside one that stands
-mutual
-  inside : (s : Scope) (f : Form) → stands s f ≡ true → Each StandsAsFunction (inside_form f)
-  inside s (literal i) h = (tt, tt)
-  inside s (local v) h = (tt, tt)
-  inside s (set_local v f) h = (tt, inside s f (second_true (is_variable s v) (stands s f) h))
-  inside s (global n) h = (tt, tt)
-  inside s (set_global n f) h = (tt, inside s f h)
-  inside s (def_global n f) h = (tt, inside s f h)
-  inside s (clauses cs) h = (tt, in_clauses s cs h)
-  inside s (sequence fs) h = (tt, in_forms s fs h)
-  inside s (let_form bs body) h =
-      let t : Scope = with_bound (variables_bound bs) s in (
-        tt,
-        both (inside_bindings bs) (inside_form body)
-            (in_bindings s bs (first_true (bindings_stand s bs) (stands t body) h))
-            (inside t body (second_true (bindings_stand s bs) (stands t body) h)),
-      )
-  inside s (lambda required rest body parts) h =
-      let own : List ℕ = parameters required rest in
-      let t : Scope = with_bound own (seen parts s) in
-      let captured : are_captured s own body parts ≡ true = first_true (are_captured s own body parts) (stands t body) h in
-      let stood : stands t body ≡ true = second_true (are_captured s own body parts) (stands t body) h in (
-        record {
-          around = s;
-          captured = second_true (in_order parts) (list_all (is_bound s) parts)
-              (first_true (in_order parts && list_all (is_bound s) parts) (list_all (is_free own body) parts) captured);
-          inside = stood;
-        },
-        inside t body stood,
-      )
-  inside s (call n fs) h = (tt, in_forms s fs h)
-  inside s (call_value fs) h = (tt, in_forms s fs h)
-  inside s (apply f g) h = (
-    tt,
-    both (inside_form f) (inside_form g)
-        (inside s f (first_true (stands s f) (stands s g) h)) (inside s g (second_true (stands s f) (stands s g) h)),
-  )
-  inside s (prim which fs) h = (tt, in_forms s fs h)
-  inside s (while_form f g) h = (
-    tt,
-    both (inside_form f) (inside_form g)
-        (inside s f (first_true (stands s f) (stands s g) h)) (inside s g (second_true (stands s f) (stands s g) h)),
-  )
-  inside s (block x body) h = (tt, inside (with_around x Block s) body h)
-  inside s (return_from x f) h = (tt, inside s f (second_true (is_block (exit_around x s.exits)) (stands s f) h))
-  inside s (tagbody x ss) h = (tt, in_forms (with_around x (Tagbody (count_forms ss)) s) ss h)
-  inside s (go x segment) h = (tt, tt)
-  inside s (catch_form f g) h = (
-    tt,
-    both (inside_form f) (inside_form g)
-        (inside s f (first_true (stands s f) (stands s g) h)) (inside s g (second_true (stands s f) (stands s g) h)),
-  )
-  inside s (throw f g) h = (
-    tt,
-    both (inside_form f) (inside_form g)
-        (inside s f (first_true (stands s f) (stands s g) h)) (inside s g (second_true (stands s f) (stands s g) h)),
-  )
-  inside s (unwind f g) h = (
-    tt,
-    both (inside_form f) (inside_form g)
-        (inside s f (first_true (stands s f) (stands s g) h)) (inside s g (second_true (stands s f) (stands s g) h)),
-  )
-  inside s (dynamic_let bs body) h = (
-    tt,
-    both (inside_dynamics bs) (inside_form body)
-        (in_dynamics s bs (first_true (dynamics_stand s bs) (stands s body) h))
-        (inside s body (second_true (dynamics_stand s bs) (stands s body) h)),
-  )
-  inside s (dynamic n) h = (tt, tt)
-  inside s (set_dynamic n f) h = (tt, inside s f h)
-  inside s (def_dynamic n f) h = (tt, inside s f h)
-  inside s (with_handler f g) h = (
-    tt,
-    both (inside_form f) (inside_form g)
-        (inside s f (first_true (stands s f) (stands s g) h)) (inside s g (second_true (stands s f) (stands s g) h)),
-  )
-  inside s (signal_form f g) h = (
-    tt,
-    both (inside_form f) (inside_form g)
-        (inside s f (first_true (stands s f) (stands s g) h)) (inside s g (second_true (stands s f) (stands s g) h)),
-  )
-  inside s (continue_form f g) h = (
-    tt,
-    both (inside_form f) (inside_form g)
-        (inside s f (first_true (stands s f) (stands s g) h)) (inside s g (second_true (stands s f) (stands s g) h)),
-  )
-  inside s next_method h = (tt, tt)
-  inside s has_next h = (tt, tt)
-  inside s (sited site f) h = (tt, inside s f h)
+-- each function inside a form that stands, as the induction has it
+abbrev FunctionsStand : Form → Type 0
+FunctionsStand f = (s : Scope) → stands s f ≡ true → Each StandsAsFunction (inside_form f)
 
-  in_forms : (s : Scope) (fs : Forms) → forms_stand s fs ≡ true → Each StandsAsFunction (inside_forms fs)
-  in_forms s no_form h = tt
-  in_forms s (form_and f fs) h =
-      both (inside_form f) (inside_forms fs)
-      (inside s f (first_true (stands s f) (forms_stand s fs) h))
-      (in_forms s fs (second_true (stands s f) (forms_stand s fs) h))
+in_each : (s : Scope) (xs : List Form) → Each FunctionsStand xs → list_all (stands s) xs ≡ true
+    → Each StandsAsFunction (flat_map (λ fs. fs) (map inside_form xs))
+in_each s [] e h = tt
+in_each s (x ∷ xs) e h =
+    both (inside_form x) (flat_map (λ fs. fs) (map inside_form xs))
+    (e.0 s (first_true (stands s x) (list_all (stands s) xs) h))
+    (in_each s xs e.1 (second_true (stands s x) (list_all (stands s) xs) h))
 
-  in_clauses : (s : Scope) (cs : ClauseForms) → clauses_stand s cs ≡ true → Each StandsAsFunction (inside_clauses cs)
-  in_clauses s no_clause h = tt
-  in_clauses s (clause_and test body cs) h =
-      let here : (stands s test && body_stands s body) ≡ true = first_true (stands s test && body_stands s body) (clauses_stand s cs) h in
-      both (inside_form test ++ inside_body body) (inside_clauses cs)
-      (both (inside_form test) (inside_body body)
-      (inside s test (first_true (stands s test) (body_stands s body) here))
-      (in_body s body (second_true (stands s test) (body_stands s body) here)))
-      (in_clauses s cs (second_true (stands s test && body_stands s body) (clauses_stand s cs) h))
+-- a form that is a function is one that stands
+itself : (s : Scope) (f : Form) → stands_itself s f ≡ true → list_all (stands (around_inner f s)) (inner f) ≡ true → StandsAsFunction f
+itself s (lambda required rest body parts) h k = record {
+  around = s;
+  captured = second_true (in_order parts) (list_all (is_bound s) parts)
+      (first_true (in_order parts && list_all (is_bound s) parts) (list_all (is_free (parameters required rest) body) parts) h);
+  inside = first_true (stands (around_inner (lambda required rest body parts) s) body) true k;
+}
+itself s f h k = tt
 
-  in_body : (s : Scope) (b : MaybeForm) → body_stands s b ≡ true → Each StandsAsFunction (inside_body b)
-  in_body s no_body h = tt
-  in_body s (with_body f) h = inside s f h
+one_step : (f : Form) → Each FunctionsStand (outer f) → Each FunctionsStand (inner f) → FunctionsStand f
+one_step f os is s h =
+    let here : (stands_itself s f && list_all (stands s) (outer f) && list_all (stands (around_inner f s)) (inner f)) ≡ true = sym (stands_folded s f) ∙ h in
+    let around : (stands_itself s f && list_all (stands s) (outer f)) ≡ true = first_true _ (list_all (stands (around_inner f s)) (inner f)) here in
+    let within : list_all (stands (around_inner f s)) (inner f) ≡ true = second_true (stands_itself s f && list_all (stands s) (outer f)) _ here in
+    subst (Each StandsAsFunction) (sym (inside_folded f)) (
+      itself s f (first_true (stands_itself s f) (list_all (stands s) (outer f)) around) within,
+      both (flat_map (λ fs. fs) (map inside_form (outer f))) (flat_map (λ fs. fs) (map inside_form (inner f)))
+          (in_each s (outer f) os (second_true (stands_itself s f) (list_all (stands s) (outer f)) around))
+          (in_each (around_inner f s) (inner f) is within),
+    )
 
-  in_bindings : (s : Scope) (bs : BindingForms) → bindings_stand s bs ≡ true → Each StandsAsFunction (inside_bindings bs)
-  in_bindings s no_binding h = tt
-  in_bindings s (binding_and v f bs) h =
-      both (inside_form f) (inside_bindings bs)
-      (inside s f (first_true (stands s f) (bindings_stand s bs) h))
-      (in_bindings s bs (second_true (stands s f) (bindings_stand s bs) h))
-
-  in_dynamics : (s : Scope) (bs : DynamicForms) → dynamics_stand s bs ≡ true → Each StandsAsFunction (inside_dynamics bs)
-  in_dynamics s no_dynamic h = tt
-  in_dynamics s (dynamic_and n f bs) h =
-      both (inside_form f) (inside_dynamics bs)
-      (inside s f (first_true (stands s f) (dynamics_stand s bs) h))
-      (in_dynamics s bs (second_true (stands s f) (dynamics_stand s bs) h))
+inside : (s : Scope) (f : Form) → stands s f ≡ true → Each StandsAsFunction (inside_form f)
+inside s f h = by_subforms FunctionsStand one_step f s h
 
 bound_in : (s : Scope) (f : Form) → stands s f ≡ true → IsBoundIn s f
 bound_in s f h = record { itself = h; functions = inside s f h }

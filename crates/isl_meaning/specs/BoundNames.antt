@@ -9,15 +9,11 @@ use Rattle.isl_meaning.specs.declared.program.Callee.TheVariants as callee
 use Rattle.isl_meaning.specs.declared.program.ProgramRows.{ProgramRows}
 use Rattle.isl_meaning.specs.declared.scope.Scope.{Scope}
 use Rattle.isl_meaning.specs.Form.{Form, lambda, parameters}
+use Rattle.isl_meaning.specs.Subforms.{Each}
 use Rattle.isl_meaning.specs.Inside.{inside_form}
 use Rattle.isl_meaning.specs.Signals.{variables}
 use Rattle.isl_meaning.specs.Standing.{alone, with_bound, seen, is_bound, stands}
 use Rattle.isl_meaning.specs.Facts.{knows_next, is_whole}
-
--- what holds of each of a list
-abbrev pub Each : {X : Type 0} → (X → Type 0) → List X → Type 0
-Each P [] = ⊤
-Each P (x ∷ xs) = P x × Each P xs
 
 -- a function is made in a scope where what it captures is bound, and its body stands in the scope of just that and
 -- its own variables

@@ -1,6 +1,6 @@
 -- The forms right inside a form, and the walk over all forms inside one another: what is found of a form is made of the
 -- form and of what is found of those right inside it.
-use Rattle.std.specs.Prelude.{List, [], ◌∷◌, ◌++◌}
+use Rattle.std.specs.Prelude.{⊤, List, [], ◌∷◌, ◌++◌}
 use Rattle.isl_meaning.specs.Form.{Form, literal, local, set_local, global, set_global, def_global, clauses, sequence, let_form, lambda, call, call_value, apply, prim, while_form, block, return_from, tagbody, go, catch_form, throw, unwind, dynamic_let, dynamic, set_dynamic, def_dynamic, with_handler, signal_form, continue_form, next_method, has_next, sited}
 use Rattle.isl_meaning.specs.Form.{Forms, no_form, form_and, ClauseForms, no_clause, clause_and, MaybeForm, no_body, with_body}
 use Rattle.isl_meaning.specs.Form.{BindingForms, no_binding, binding_and, DynamicForms, no_dynamic, dynamic_and}
@@ -60,6 +60,11 @@ inner (block x body) = body ∷ []
 inner (tagbody x segments) = forms_list segments
 inner (dynamic_let ds body) = body ∷ []
 inner f = []
+
+-- what holds of each of a list
+abbrev pub Each : {X : Type 0} → (X → Type 0) → List X → Type 0
+Each P [] = ⊤
+Each P (x ∷ xs) = P x × Each P xs
 
 -- the walk: a step makes what is found of a form of what is found of its outer and its inner forms
 module _ {X : Type 0} (step : Form → List X → List X → X) where

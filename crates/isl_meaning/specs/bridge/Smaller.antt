@@ -5,8 +5,7 @@ use Rattle.isl_meaning.specs.Form.{Form, literal, local, set_local, global, set_
 use Rattle.isl_meaning.specs.Form.{Forms, no_form, form_and, ClauseForms, no_clause, clause_and, MaybeForm, no_body, with_body}
 use Rattle.isl_meaning.specs.Form.{BindingForms, no_binding, binding_and, DynamicForms, no_dynamic, dynamic_and}
 use Rattle.isl_meaning.specs.Form.{form_size, forms_size, clauses_size, maybe_size, bindings_size, dynamics_size}
-use Rattle.isl_meaning.specs.Subforms.{forms_list, clause_list, value_list, dynamic_value_list, outer, inner}
-use Rattle.isl_meaning.specs.bridge.Walks.{Each}
+use Rattle.isl_meaning.specs.Subforms.{forms_list, clause_list, value_list, dynamic_value_list, Each, outer, inner}
 use Rattle.isl_meaning.specs.bridge.Turns.{Turn, single, clause_turns, turns, first_of, second_of}
 
 -- the forms of a turn, and a form, are below a size

@@ -12,7 +12,6 @@ use Rattle.isl_meaning.specs.model.View.{forms, maybe_form, clauses_of, bindings
 use Rattle.isl_meaning.specs.declared.core_form.Clause.{Clause}
 use Rattle.isl_meaning.specs.declared.core_form.Binding.{Binding}
 use Rattle.isl_meaning.specs.declared.core_form.DynBinding.{DynBinding}
-use Rattle.isl_meaning.specs.bridge.Walks.{Each}
 
 pub record Turn : Type 0 where
   pub first : Form

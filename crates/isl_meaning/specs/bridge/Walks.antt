@@ -6,12 +6,7 @@ use Rattle.isl_meaning.specs.Form.{Form, literal, local, set_local, global, set_
 use Rattle.isl_meaning.specs.Form.{Forms, no_form, form_and, ClauseForms, no_clause, clause_and, MaybeForm, no_body, with_body}
 use Rattle.isl_meaning.specs.Form.{BindingForms, no_binding, binding_and, DynamicForms, no_dynamic, dynamic_and}
 use Rattle.isl_meaning.specs.Form.{form_size, forms_size, clauses_size, maybe_size, bindings_size, dynamics_size}
-use Rattle.isl_meaning.specs.Subforms.{forms_list, body_list, clause_list, value_list, dynamic_value_list, outer, inner, fold, fold_forms, fold_clauses, fold_body, fold_values, fold_dynamics}
-
--- what holds of each of a list
-abbrev pub Each : {X : Type 0} → (X → Type 0) → List X → Type 0
-Each P [] = ⊤
-Each P (x ∷ xs) = P x × Each P xs
+use Rattle.isl_meaning.specs.Subforms.{forms_list, body_list, clause_list, value_list, dynamic_value_list, Each, outer, inner, fold, fold_forms, fold_clauses, fold_body, fold_values, fold_dynamics}
 
 -- a step of the walk, over the forms right inside
 

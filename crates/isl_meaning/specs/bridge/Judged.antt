@@ -1,0 +1,105 @@
+-- Tests of forms, by the forms right inside: what code and proofs use of the tests that are walks.
+use Rattle.std.specs.Prelude.{◌≡◌, Bool, true, false, not, ◌&&◌, ◌||◌, ℕ, ◌+◌, ◌≤◌, ◌==◌, List, [], ◌∷◌, ◌++◌, Option, Some, None, map, flat_map, option_to_list, length, slice_get, drop, refl}
+use Rattle.std.specs.List.{list_all, list_any}
+use Rattle.std.proofs.Common.{◌∙◌, ap, sym}
+use Rattle.std.proofs.lemmas.List.{drop_all}
+use Rattle.std.proofs.lemmas.List.Folds.{list_all-append, list_any-append, list_all-map}
+use Rattle.isl_meaning.specs.declared.part.Part.{Part}
+use Rattle.isl_meaning.specs.declared.part.Part.TheVariants.{Variable}
+use Rattle.isl_meaning.specs.declared.program.ProgramRows.{ProgramRows}
+use Rattle.isl_meaning.specs.declared.scope.Scope.{Scope}
+use Rattle.isl_meaning.specs.Form.{Form}
+use Rattle.isl_meaning.specs.Subforms.{outer, inner, fold}
+use Rattle.isl_meaning.specs.Inside.{inside_form}
+use Rattle.isl_meaning.specs.Mentions.{some, names_part, binds, mentions}
+use Rattle.isl_meaning.specs.Captured.{captures_inside, captures, sets_itself, sets}
+use Rattle.isl_meaning.specs.Fits.{fits_itself, fits}
+use Rattle.isl_meaning.specs.Standing.{all_in, around_inner, stands_itself, stands_in, stands}
+use Rattle.isl_meaning.specs.model.Rest.{rest_at}
+use Rattle.isl_meaning.specs.bridge.Walks.{folded}
+use Rattle.isl_meaning.specs.bridge.Turns.{turns, first_of, second_of, outer_from, outer_turn, outer_at_last}
+
+some_mapped : {X : Type 0} (test : X → Bool) (xs : List X) → some (map test xs) ≡ list_any test xs
+some_mapped test [] = refl
+some_mapped test (x ∷ xs) = ap (λ b. test x || b) (some_mapped test xs)
+
+all_joined : {X : Type 0} (test : Form → Bool) (g : X → List Form) (xs : List X)
+    → list_all test (flat_map (λ fs. fs) (map g xs)) ≡ list_all (λ x. list_all test (g x)) xs
+all_joined test g [] = refl
+all_joined test g (x ∷ xs) =
+    list_all-append test (g x) (flat_map (λ fs. fs) (map g xs)) ∙ ap (λ b. list_all test (g x) && b) (all_joined test g xs)
+
+and_assoc : (a b c : Bool) → (a && (b && c)) ≡ ((a && b) && c)
+and_assoc true b c = refl
+and_assoc false b c = refl
+
+-- a form and those inside it, by the forms right inside
+pub inside_folded : (f : Form)
+    → inside_form f ≡ f ∷ (flat_map (λ fs. fs) (map inside_form (outer f)) ++ flat_map (λ fs. fs) (map inside_form (inner f)))
+inside_folded f = folded _ f
+
+-- whether all forms inside pass a test
+pub all_inside : (test : Form → Bool) (f : Form)
+    → list_all test (inside_form f)
+    ≡ (test f && list_all (λ g. list_all test (inside_form g)) (outer f) && list_all (λ g. list_all test (inside_form g)) (inner f))
+all_inside test f =
+    ap (list_all test) (inside_folded f)
+    ∙ ap (λ b. test f && b)
+    (list_all-append test (flat_map (λ fs. fs) (map inside_form (outer f))) (flat_map (λ fs. fs) (map inside_form (inner f)))
+    ∙ ap (λ b. b && list_all test (flat_map (λ fs. fs) (map inside_form (inner f)))) (all_joined test inside_form (outer f))
+    ∙ ap (λ b. list_all (λ g. list_all test (inside_form g)) (outer f) && b) (all_joined test inside_form (inner f)))
+    ∙ and_assoc (test f) (list_all (λ g. list_all test (inside_form g)) (outer f)) (list_all (λ g. list_all test (inside_form g)) (inner f))
+
+pub fits_folded : (rows : ProgramRows) (f : Form)
+    → fits rows f ≡ (fits_itself rows f && list_all (fits rows) (outer f) && list_all (fits rows) (inner f))
+fits_folded rows f = all_inside (fits_itself rows) f
+
+pub mentions_folded : (p : Part) (f : Form)
+    → mentions p f ≡ (names_part p f || list_any (mentions p) (outer f) || (not (binds p f) && list_any (mentions p) (inner f)))
+mentions_folded p f =
+    folded _ f
+    ∙ ap (λ b. names_part p f || b || (not (binds p f) && some (map (mentions p) (inner f)))) (some_mapped (mentions p) (outer f))
+    ∙ ap (λ b. names_part p f || list_any (mentions p) (outer f) || (not (binds p f) && b)) (some_mapped (mentions p) (inner f))
+
+pub stands_folded : (s : Scope) (f : Form)
+    → stands s f ≡ (stands_itself s f && list_all (stands s) (outer f) && list_all (stands (around_inner f s)) (inner f))
+stands_folded s f =
+    ap (λ test. test s) (folded _ f)
+    ∙ ap (λ b. stands_itself s f && b && all_in (around_inner f s) (map stands_in (inner f))) (list_all-map (λ test. test s) stands_in (outer f))
+    ∙ ap (λ b. stands_itself s f && list_all (stands s) (outer f) && b) (list_all-map (λ test. test (around_inner f s)) stands_in (inner f))
+
+-- turns: of all, and of one of them
+
+pub all_at_turn : (test : Form → Bool) (f : Form) (i : ℕ) (x : Form) → first_of (slice_get (turns f) i) ≡ Some x
+    → list_all test (outer_from f i)
+    ≡ (test x && (list_all test (option_to_list (second_of (slice_get (turns f) i))) && list_all test (outer_from f (i + 1))))
+all_at_turn test f i x h =
+    ap (list_all test) (outer_turn f i x h)
+    ∙ ap (λ b. test x && b) (list_all-append test (option_to_list (second_of (slice_get (turns f) i))) (outer_from f (i + 1)))
+
+pub all_at_last : (test : Form → Bool) (f : Form) (i : ℕ) → length (turns f) ≤ i → list_all test (outer_from f i) ≡ true
+all_at_last test f i h = ap (list_all test) (outer_at_last f i h)
+
+pub all_at_inner : (test : Form → Bool) (f : Form) (i : ℕ) (x : Form) → slice_get (inner f) i ≡ Some x
+    → list_all test (drop i (inner f)) ≡ (test x && list_all test (drop (i + 1) (inner f)))
+all_at_inner test f i x h = ap (list_all test) (rest_at (inner f) i x h)
+
+pub all_past_inner : (test : Form → Bool) (f : Form) (i : ℕ) → length (inner f) ≤ i → list_all test (drop i (inner f)) ≡ true
+all_past_inner test f i h = ap (list_all test) (drop_all i (inner f) h)
+
+pub one_at_turn : (test : Form → Bool) (f : Form) (i : ℕ) (x : Form) → first_of (slice_get (turns f) i) ≡ Some x
+    → list_any test (outer_from f i)
+    ≡ (test x || (list_any test (option_to_list (second_of (slice_get (turns f) i))) || list_any test (outer_from f (i + 1))))
+one_at_turn test f i x h =
+    ap (list_any test) (outer_turn f i x h)
+    ∙ ap (λ b. test x || b) (list_any-append test (option_to_list (second_of (slice_get (turns f) i))) (outer_from f (i + 1)))
+
+pub one_at_last : (test : Form → Bool) (f : Form) (i : ℕ) → length (turns f) ≤ i → list_any test (outer_from f i) ≡ false
+one_at_last test f i h = ap (list_any test) (outer_at_last f i h)
+
+pub one_at_inner : (test : Form → Bool) (f : Form) (i : ℕ) (x : Form) → slice_get (inner f) i ≡ Some x
+    → list_any test (drop i (inner f)) ≡ (test x || list_any test (drop (i + 1) (inner f)))
+one_at_inner test f i x h = ap (list_any test) (rest_at (inner f) i x h)
+
+pub one_past_inner : (test : Form → Bool) (f : Form) (i : ℕ) → length (inner f) ≤ i → list_any test (drop i (inner f)) ≡ false
+one_past_inner test f i h = ap (list_any test) (drop_all i (inner f) h)
