@@ -1,5 +1,6 @@
 pub mod Form
 pub mod model
+pub mod bridge
 pub mod Values
 pub mod Objects
 pub mod State
@@ -23,8 +24,3 @@ pub mod Standing
 pub mod Facts
 pub mod BoundNames
 pub mod Reached
-pub mod OfClasses
-pub mod Suffixes
-pub mod TuplePlaces
-pub mod GroupNumbers
-pub mod ListTurns

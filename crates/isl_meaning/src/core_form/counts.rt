@@ -11,7 +11,7 @@ impl Core {
     // Its nodes: one a form, and besides one an argument, binding, clause, tag, captured part and
     // name of it, and the bodies of functions as that says; 2^64 - 1 where that is more.
     #[cycle(nodes)]
-    #[tactic(auto, using(crate::proofs::Lengths::forms_counted, crate::proofs::Lengths::clauses_counted, crate::proofs::Lengths::bindings_counted, crate::proofs::Lengths::dynamics_counted))]
+    #[tactic(auto, using(crate::specs::bridge::Lengths::forms_counted, crate::specs::bridge::Lengths::clauses_counted, crate::specs::bridge::Lengths::bindings_counted, crate::specs::bridge::Lengths::dynamics_counted))]
     pub(crate) fn nodes(&self, bodies: Bodies) -> u64
         ensures { result ≡ min (nodes_with bodies self.now) 18446744073709551615 }
     {
