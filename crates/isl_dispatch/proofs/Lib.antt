@@ -5,4 +5,11 @@ pub mod Taking
 pub mod Picking
 pub mod Placing
 pub mod Making
+pub mod ListTurns
+pub mod GroupTurns
+pub mod TuplePlaces
+pub mod Decoding
+pub mod ChainCounts
+pub mod MethodTurns
+pub mod SuffixCells
 pub mod Ordering

@@ -3,10 +3,10 @@ use Rattle.std.proofs.Common.{◌≡◌, ℕ, zero, suc, ◌≤◌, List, [], �
 use Rattle.isl_base.specs.Names.{slice_get-push}
 use Rattle.isl_meaning.specs.declared.program.ProgramRows.{ProgramRows}
 use Rattle.isl_meaning.specs.declared.program.GenericRow.{GenericRow}
-use Rattle.isl_meaning.specs.declared.groups.ArgumentGroups.{ArgumentGroups}
+use Rattle.isl_dispatch.specs.declared.groups.ArgumentGroups.{ArgumentGroups}
 use Rattle.isl_meaning.specs.ProgramCounts.{total}
 use Rattle.isl_meaning.specs.Cells.{argument_classes, group_of}
-use Rattle.isl_meaning.specs.GroupNumbers.{AreGroups, NumbersGroups}
+use Rattle.isl_dispatch.specs.GroupNumbers.{AreGroups, NumbersGroups}
 use Rattle.isl_dispatch.specs.declared.table.ArgumentMap.{ArgumentMap}
 use Rattle.isl_dispatch.specs.declared.table.Table.{Table}
 use Rattle.isl_dispatch.specs.Tables.{map_of, IsMapOf, IsTableOf}

@@ -1,3 +1,6 @@
+pub mod OfClasses
+pub mod GroupNumbers
+pub mod Suffixes
 pub mod Methods
 pub mod NameNumbers
 pub mod Chains

@@ -5,7 +5,7 @@ use Rattle.isl_meaning.specs.declared.program.GenericRow.{GenericRow}
 use Rattle.isl_meaning.specs.Objects.{count_up}
 use Rattle.isl_meaning.specs.Classes.{chain}
 use Rattle.isl_meaning.specs.Cells.{argument_classes, group_of, groups, tuples}
-use Rattle.isl_meaning.specs.GroupNumbers.{NumbersGroups}
+use Rattle.isl_dispatch.specs.GroupNumbers.{NumbersGroups}
 use Rattle.isl_dispatch.specs.declared.table.ArgumentMap.{ArgumentMap}
 use Rattle.isl_dispatch.specs.declared.table.ArgumentMap.TheVariants.{Whole, Mapped}
 use Rattle.isl_dispatch.specs.declared.table.Table.{Table}

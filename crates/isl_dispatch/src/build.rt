@@ -3,7 +3,7 @@
 ghost use Rattle.std.specs.Prelude.{◌≤◌, IfOk};
 ghost use Rattle.isl_meaning.specs.Cells.{generic_cells};
 ghost use Rattle.isl_meaning.specs.ProgramCounts.{total};
-ghost use Rattle.isl_meaning.specs.OfClasses.{with_classes};
+ghost use Rattle.isl_dispatch.specs.OfClasses.{with_classes};
 ghost use Rattle.isl_dispatch.specs.Tables.{AreTablesOf};
 
 use crate::dispatch_tables::Tables;

@@ -2,7 +2,7 @@
 
 ghost use Rattle.std.specs.Prelude.{◌≡◌, List, IfOk, reverse};
 ghost use Rattle.isl_meaning.specs.Classes.{of_kind, chain};
-ghost use Rattle.isl_meaning.specs.OfClasses.{with_classes};
+ghost use Rattle.isl_dispatch.specs.OfClasses.{with_classes};
 ghost use Rattle.isl_meaning.specs.declared.program.MethodRow.{MethodRow};
 ghost use Rattle.isl_dispatch.specs.Chains.{maybe_seen, ArePicked};
 

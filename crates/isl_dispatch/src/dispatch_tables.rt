@@ -4,7 +4,7 @@ ghost use Rattle.std.specs.Prelude.{◌≡◌, ◌≤◌, List, Some, MatchOptio
 ghost use Rattle.isl_meaning.specs.declared.program.ClassRow.{ClassRow as Class};
 ghost use Rattle.isl_meaning.specs.declared.program.GenericRow.{GenericRow as Generic};
 ghost use Rattle.isl_meaning.specs.Classes.{chain};
-ghost use Rattle.isl_meaning.specs.OfClasses.{with_classes};
+ghost use Rattle.isl_dispatch.specs.OfClasses.{with_classes};
 ghost use Rattle.isl_dispatch.specs.Chains.{seen};
 ghost use Rattle.isl_dispatch.specs.Tables.{AreTablesOf, AreCalled};
 

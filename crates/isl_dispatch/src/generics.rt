@@ -5,12 +5,12 @@ ghost use Rattle.isl_meaning.specs.Lookup.{all_of};
 ghost use Rattle.isl_meaning.specs.Lookup.{is_in};
 ghost use Rattle.isl_meaning.specs.ProgramCounts.{total};
 ghost use Rattle.isl_meaning.specs.Cells.{generic_cells};
-ghost use Rattle.isl_meaning.specs.OfClasses.{with_classes};
+ghost use Rattle.isl_dispatch.specs.OfClasses.{with_classes};
 ghost use Rattle.isl_dispatch.specs.Methods.{names_of, new_row, with_method, takes_at, row_is_whole, HaveOwnNames, IsRefusal};
 
+use crate::cells::cells;
 use crate::methods::{push_method, takes};
 use isl_base::{ItemList, Name, NoMemory, Place, Reason, Refusal, Stop};
-use isl_meaning::cells::cells;
 use isl_meaning::{ClassRows, GenericId, GenericRow, GenericRows, MethodRow};
 use std::alloc::Global;
 use std::collections::BTreeMap;

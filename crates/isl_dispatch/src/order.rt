@@ -3,12 +3,13 @@
 ghost use Rattle.std.specs.Prelude.{◌≡◌, ◌==◌, ◌≤◌, ◌+◌, List, IfOk, MatchOption, length, nat_lt};
 ghost use Rattle.isl_meaning.specs.Lookup.{place_in};
 ghost use Rattle.isl_meaning.specs.Classes.{precedence, more_specific, applicable};
-ghost use Rattle.isl_meaning.specs.OfClasses.{with_classes};
+ghost use Rattle.isl_dispatch.specs.OfClasses.{with_classes};
 ghost use Rattle.isl_meaning.specs.declared.program.MethodRow.{MethodRow};
 ghost use Rattle.isl_dispatch.specs.Chains.{ArePicked, more_specific_from};
 
+use crate::applying::applies;
 use isl_base::NoMemory;
-use isl_meaning::{ClassId, ClassIds, ClassRows, GenericRow, MethodRow, applies};
+use isl_meaning::{ClassId, ClassIds, ClassRows, GenericRow, MethodRow};
 use std::alloc::Global;
 
 /// The numbers of the methods that apply, in the order of their specificity.

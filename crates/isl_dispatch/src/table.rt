@@ -6,16 +6,15 @@ ghost use Rattle.isl_meaning.specs.declared.program.GenericRow.{GenericRow as Ge
 ghost use Rattle.isl_meaning.specs.Objects.{count_up};
 ghost use Rattle.isl_meaning.specs.Classes.{chain};
 ghost use Rattle.isl_meaning.specs.Cells.{groups, tuples, generic_cells};
-ghost use Rattle.isl_meaning.specs.OfClasses.{with_classes};
+ghost use Rattle.isl_dispatch.specs.OfClasses.{with_classes};
 ghost use Rattle.isl_dispatch.specs.Chains.{seen, maybe_seen};
 ghost use Rattle.isl_dispatch.specs.Tables.{IsTableOf, AreMapsOf, AreCalled, IsPlaceOf, tuples_of, count_in, number_in, map_of};
 
 use crate::chain::{Chain, chain_of};
+use crate::groups::{ArgumentGroups, GroupNumbers, argument_groups};
+use crate::tuples::{tuple_at, tuple_count};
 use isl_base::{ItemList, NoMemory};
-use isl_meaning::{
-    ArgumentGroups, ClassId, ClassIds, ClassRows, GenericRow, GroupNumbers, argument_groups,
-    tuple_at, tuple_count,
-};
+use isl_meaning::{ClassId, ClassIds, ClassRows, GenericRow};
 use std::alloc::Global;
 
 /// The groups at an argument: one alone, or several with the number of each class's group.

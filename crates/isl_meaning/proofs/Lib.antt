@@ -4,17 +4,6 @@ pub mod Applied
 pub mod Answers
 pub mod Forms
 pub mod Levels
-pub mod Lists
-pub mod Turns
-pub mod Judged
 pub mod NamesBound
 pub mod Bounds
-pub mod FirstClasses
-pub mod Lengths
 pub mod Counting
-pub mod Totals
-pub mod GroupTurns
-pub mod Decoding
-pub mod ChainCounts
-pub mod Methods
-pub mod SuffixCells

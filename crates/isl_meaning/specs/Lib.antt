@@ -2,6 +2,7 @@ pub mod Form
 pub mod Subforms
 pub mod bridge
 pub mod model
+pub mod bridge
 pub mod Values
 pub mod Objects
 pub mod State
@@ -25,8 +26,3 @@ pub mod Standing
 pub mod Facts
 pub mod BoundNames
 pub mod Reached
-pub mod OfClasses
-pub mod Suffixes
-pub mod TuplePlaces
-pub mod GroupNumbers
-pub mod ListTurns

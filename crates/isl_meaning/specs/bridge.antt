@@ -2,3 +2,6 @@ pub mod Walks
 pub mod Turns
 pub mod Smaller
 pub mod Judged
+pub mod Totals
+pub mod Lengths
+pub mod Fronts

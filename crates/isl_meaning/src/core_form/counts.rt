@@ -81,7 +81,7 @@ impl Core {
     }
 
     // What it counts by itself.
-    #[tactic(auto, using(crate::proofs::Lengths::forms_counted, crate::proofs::Lengths::clauses_counted, crate::proofs::Lengths::bindings_counted, crate::proofs::Lengths::dynamics_counted))]
+    #[tactic(auto, using(crate::specs::bridge::Lengths::forms_counted, crate::specs::bridge::Lengths::clauses_counted, crate::specs::bridge::Lengths::bindings_counted, crate::specs::bridge::Lengths::dynamics_counted))]
     fn own_nodes(&self) -> u64
         ensures { result ≡ min (own_nodes self.now) 18446744073709551615 }
     {

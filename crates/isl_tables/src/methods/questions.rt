@@ -7,11 +7,11 @@ use crate::inputs::{id, ids, items, name};
 use crate::methods::setting::Setting;
 use crate::problem::Problem;
 use isl_base::{Datum, ItemList};
-use isl_dispatch::{Chain, tables};
-use isl_meaning::{
-    ClassIds, GenericRow, applies, argument_groups, chain_length, generic_cells, is_below,
-    tuple_at, tuple_count,
+use isl_dispatch::{
+    Chain, applies, argument_groups, chain_length, generic_cells, is_below, tables, tuple_at,
+    tuple_count,
 };
+use isl_meaning::{ClassIds, GenericRow};
 use std::alloc::Global;
 
 /// Puts a question.

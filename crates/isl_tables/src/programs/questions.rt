@@ -5,6 +5,7 @@ use crate::inputs::id;
 use crate::problem::Problem;
 use crate::programs::primitives::primitive;
 use isl_base::{Datum, Names};
+use isl_checker::is_whole;
 use isl_meaning::{Procedure, ProgramRows, frame_words};
 use std::alloc::Global;
 
@@ -18,7 +19,7 @@ pub fn ask(
     got: &mut String,
 ) -> Result<bool, Problem> {
     match (question, parts) {
-        ("whole", []) => push_yes_no(got, rows.is_whole(alloc)?)?,
+        ("whole", []) => push_yes_no(got, is_whole(alloc, rows)?)?,
         ("nodes", []) => push_number(got, rows.nodes())?,
         ("frame", [id]) => push_number(got, frame_words(procedure(rows, id)?))?,
         ("depth", [id]) => push_number(got, u64::from(procedure(rows, id)?.body.depth()))?,

@@ -1,7 +1,7 @@
 -- One table more.
 use Rattle.std.proofs.Common.{◌≡◌, ◌+◌, ◌∷◌, [], length, length-append, ap, ◌∙◌, arith}
 use Rattle.isl_meaning.specs.Cells.{generic_cells}
-use Rattle.isl_meaning.specs.OfClasses.{with_classes}
+use Rattle.isl_dispatch.specs.OfClasses.{with_classes}
 use Rattle.isl_dispatch.proofs.Making.{one_of_total, tables_more}
 use Rattle.isl_dispatch.proofs.build.tables.Goals as goal
 

@@ -1,7 +1,7 @@
 -- The tables so far.
 use Rattle.std.proofs.Common.{◌≡◌, ℕ, Some, length, slice_get}
 use Rattle.isl_meaning.specs.declared.program.GenericRow.{GenericRow}
-use Rattle.isl_meaning.specs.OfClasses.{with_classes}
+use Rattle.isl_dispatch.specs.OfClasses.{with_classes}
 use Rattle.isl_dispatch.specs.declared.table.Table.{Table}
 use Rattle.isl_dispatch.specs.Tables.{IsTableOf}
 use Rattle.isl_dispatch.proofs.build.tables.Given as goal

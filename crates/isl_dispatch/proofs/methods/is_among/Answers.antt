@@ -1,6 +1,6 @@
 -- A method that is not the same leaves it to the rest.
 use Rattle.std.proofs.Common.{◌∙◌, sym}
-use Rattle.isl_meaning.specs.ListTurns.{some_here, some_later}
+use Rattle.isl_dispatch.proofs.ListTurns.{some_here, some_later}
 use Rattle.isl_dispatch.specs.Methods.{is_same}
 use Rattle.isl_dispatch.proofs.methods.is_among.Goals as goal
 

@@ -2,7 +2,7 @@
 use Rattle.std.proofs.Common.{◌+◌, sym, ap, ◌∙◌, arith}
 use Rattle.isl_meaning.specs.declared.program.MethodRow.{MethodRow}
 use Rattle.isl_meaning.specs.Classes.{applies, more_specific}
-use Rattle.isl_meaning.specs.OfClasses.{with_classes}
+use Rattle.isl_dispatch.specs.OfClasses.{with_classes}
 use Rattle.isl_dispatch.proofs.Picking.{applicable_turn, applicable_pass}
 use Rattle.isl_dispatch.proofs.order.applicable.Goals as goal
 use Rattle.isl_dispatch.proofs.order.applicable.Goals.{then-applies+in-Ok, else-applies}

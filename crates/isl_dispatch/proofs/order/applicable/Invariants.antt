@@ -1,7 +1,7 @@
 -- The last methods so far, ordered.
 use Rattle.std.proofs.Common.{◌≡◌, ◌+◌, ℕ, drop, filter, length}
 use Rattle.isl_meaning.specs.Classes.{applies, more_specific, ordered}
-use Rattle.isl_meaning.specs.OfClasses.{with_classes}
+use Rattle.isl_dispatch.specs.OfClasses.{with_classes}
 use Rattle.isl_dispatch.specs.Chains.{ArePicked}
 use Rattle.isl_dispatch.proofs.order.applicable.Given as goal
 

@@ -2,7 +2,7 @@
 use Rattle.std.proofs.Common.{drop, sym, ap, ◌∙◌}
 use Rattle.std.proofs.lemmas.List.{drop_all}
 use Rattle.isl_meaning.specs.Classes.{more_specific}
-use Rattle.isl_meaning.specs.OfClasses.{with_classes}
+use Rattle.isl_dispatch.specs.OfClasses.{with_classes}
 use Rattle.isl_dispatch.proofs.Picking.{short_method, short_other, differ_here, same_here, number_here, number_differs}
 use Rattle.isl_dispatch.proofs.order.decision_at.Goals as goal
 

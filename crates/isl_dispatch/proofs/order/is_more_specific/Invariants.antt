@@ -1,7 +1,7 @@
 -- The arguments that are left decide.
 use Rattle.std.proofs.Common.{◌≡◌}
 use Rattle.isl_meaning.specs.Classes.{more_specific}
-use Rattle.isl_meaning.specs.OfClasses.{with_classes}
+use Rattle.isl_dispatch.specs.OfClasses.{with_classes}
 use Rattle.isl_dispatch.specs.Chains.{more_specific_from}
 use Rattle.isl_dispatch.proofs.order.is_more_specific.Given as goal
 

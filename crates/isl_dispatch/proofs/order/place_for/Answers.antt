@@ -2,7 +2,7 @@
 use Rattle.std.proofs.Common.{sym, ◌∙◌, arith}
 use Rattle.isl_meaning.specs.declared.program.MethodRow.{MethodRow}
 use Rattle.isl_meaning.specs.Classes.{more_specific}
-use Rattle.isl_meaning.specs.OfClasses.{with_classes}
+use Rattle.isl_dispatch.specs.OfClasses.{with_classes}
 use Rattle.isl_dispatch.proofs.Picking.{place_here, place_later, number_at, picked_at, picked_past}
 use Rattle.isl_dispatch.proofs.order.place_for.Goals as goal
 

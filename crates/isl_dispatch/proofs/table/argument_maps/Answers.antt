@@ -2,7 +2,7 @@
 use Rattle.std.proofs.Common.{◌+◌, ◌++◌, ◌∷◌, [], suc, length, map, append_assoc, append-nil, length-append, sym, ap, ◌∙◌, arith}
 use Rattle.isl_meaning.specs.Objects.{count_up}
 use Rattle.isl_meaning.specs.Cells.{groups}
-use Rattle.isl_meaning.specs.OfClasses.{with_classes}
+use Rattle.isl_dispatch.specs.OfClasses.{with_classes}
 use Rattle.isl_dispatch.specs.Tables.{map_of}
 use Rattle.isl_dispatch.proofs.Making.{map_from_groups, maps_more}
 use Rattle.isl_dispatch.proofs.table.argument_maps.Goals as goal

@@ -2,7 +2,7 @@
 use Rattle.std.proofs.Common.{◌≡◌, ◌+◌, ◌++◌, ℕ, Some, length, map, slice_get}
 use Rattle.isl_meaning.specs.Objects.{count_up}
 use Rattle.isl_meaning.specs.Cells.{groups}
-use Rattle.isl_meaning.specs.OfClasses.{with_classes}
+use Rattle.isl_dispatch.specs.OfClasses.{with_classes}
 use Rattle.isl_dispatch.specs.declared.table.ArgumentMap.{ArgumentMap}
 use Rattle.isl_dispatch.specs.Tables.{IsMapOf}
 use Rattle.isl_dispatch.proofs.table.argument_maps.Given as goal

@@ -2,8 +2,8 @@
 use Rattle.std.proofs.Common.{◌+◌, ◌++◌, ◌∷◌, [], map, drop, ap, ◌∙◌}
 use Rattle.isl_meaning.specs.Classes.{chain}
 use Rattle.isl_meaning.specs.Cells.{tuples}
-use Rattle.isl_meaning.specs.ListTurns.{map_turn}
-use Rattle.isl_meaning.specs.OfClasses.{with_classes}
+use Rattle.isl_dispatch.proofs.ListTurns.{map_turn}
+use Rattle.isl_dispatch.specs.OfClasses.{with_classes}
 use Rattle.isl_dispatch.specs.Chains.{maybe_seen}
 use Rattle.isl_dispatch.proofs.Making.{map-more}
 use Rattle.isl_dispatch.proofs.table.chains.Goals as goal

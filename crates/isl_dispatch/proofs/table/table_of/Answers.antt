@@ -2,8 +2,8 @@
 use Rattle.std.proofs.Common.{◌≤◌, length, map, ap, ◌∙◌, arith}
 use Rattle.isl_meaning.specs.Classes.{chain}
 use Rattle.isl_meaning.specs.Cells.{tuples}
-use Rattle.isl_meaning.specs.OfClasses.{with_classes}
-use Rattle.isl_meaning.specs.TuplePlaces.{tuples-le-cells}
+use Rattle.isl_dispatch.specs.OfClasses.{with_classes}
+use Rattle.isl_dispatch.proofs.TuplePlaces.{tuples-le-cells}
 use Rattle.isl_dispatch.specs.Tables.{tuples_of}
 use Rattle.isl_dispatch.proofs.table.table_of.Goals as goal
 

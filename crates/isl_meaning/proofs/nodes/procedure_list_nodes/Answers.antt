@@ -1,7 +1,7 @@
 -- Each turn counts an item, and at the end nothing is left.
 use Rattle.std.proofs.Common.{◌≤◌, length, arith}
 use Rattle.isl_meaning.specs.ProgramCounts.{procedure_nodes}
-use Rattle.isl_meaning.proofs.Totals.{total_left, no_total_left, one_counted, all_counted}
+use Rattle.isl_meaning.specs.bridge.Totals.{total_left, no_total_left, one_counted, all_counted}
 use Rattle.isl_meaning.proofs.nodes.procedure_list_nodes.Goals as goal
 
 pub loop-at-preserved : goal.loop-at-preserved

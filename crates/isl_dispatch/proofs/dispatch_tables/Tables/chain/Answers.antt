@@ -1,7 +1,7 @@
 -- The table of the generic function has the chain.
 use Rattle.std.proofs.Common.{◌<◌, length, arith}
 use Rattle.std.proofs.lemmas.Option.{slice_get_within}
-use Rattle.isl_meaning.specs.OfClasses.{with_classes}
+use Rattle.isl_dispatch.specs.OfClasses.{with_classes}
 use Rattle.isl_dispatch.proofs.dispatch_tables.Tables.chain.Goals as goal
 
 pub returns-in-Some : goal.returns-in-Some

@@ -1,0 +1,5 @@
+pub mod Turns
+pub mod Lists
+pub mod Bounds
+pub mod FirstClasses
+pub mod Judged

@@ -1,0 +1,13 @@
+// Whether rows are those of a program.
+#![tactic(auto)]
+
+mod fits;
+mod mentions;
+mod parts;
+mod procedures;
+mod rows;
+mod scope;
+mod stands;
+pub mod whole;
+
+pub use whole::is_whole;

@@ -1,0 +1,18 @@
+-- What is counted so far, and then the methods of the rest that apply.
+use Rattle.std.proofs.Common.{◌≡◌, ◌+◌, ◌≤◌, length, drop, filter}
+use Rattle.isl_meaning.specs.declared.program.Qualifier.TheVariants.{Primary}
+use Rattle.isl_meaning.specs.Classes.{applies}
+use Rattle.isl_dispatch.specs.OfClasses.{with_classes}
+use Rattle.isl_dispatch.proofs.ChainCounts.{count_of}
+use Rattle.isl_dispatch.proofs.applying.chain_length.Given as goal
+
+abbrev pub invariant-loop-at : goal.invariant-loop-at
+invariant-loop-at l =
+    record {
+      fits : l.found ≤ l.at;
+      primaries : l.primary ≤ l.found;
+      all : l.found + length (filter (λ m. applies (with_classes l.classes) l.tuple m.classes) (drop l.at l.generic.methods))
+          ≡ length (filter (λ m. applies (with_classes l.classes) l.tuple m.classes) l.generic.methods);
+      some : l.primary + count_of Primary (filter (λ m. applies (with_classes l.classes) l.tuple m.classes) (drop l.at l.generic.methods))
+          ≡ count_of Primary (filter (λ m. applies (with_classes l.classes) l.tuple m.classes) l.generic.methods);
+    }

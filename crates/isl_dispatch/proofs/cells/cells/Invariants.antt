@@ -1,0 +1,14 @@
+-- The sum has what is counted, and the rest is still to be counted.
+use Rattle.std.proofs.Common.{◌≡◌, ◌≤◌, ◌+◌, min, drop}
+use Rattle.isl_meaning.specs.ProgramCounts.{total}
+use Rattle.isl_meaning.specs.Cells.{generic_cells}
+use Rattle.isl_dispatch.specs.OfClasses.{with_classes}
+use Rattle.isl_dispatch.proofs.cells.cells.Given as goal
+
+abbrev pub invariant-loop-at : goal.invariant-loop-at
+invariant-loop-at l =
+    record {
+      fits : l.sum ≤ 262145;
+      counted : min (l.sum + total (generic_cells (with_classes l.classes)) (drop l.at l.generics)) 262145
+          ≡ min (total (generic_cells (with_classes l.classes)) l.generics) 262145;
+    }

@@ -1,0 +1,10 @@
+-- Those found so far, and then the ones of the rest that pass.
+use Rattle.std.proofs.Common.{◌≡◌, ◌++◌, drop, filter}
+use Rattle.isl_dispatch.specs.OfClasses.{with_classes}
+use Rattle.isl_dispatch.specs.Suffixes.{passes}
+use Rattle.isl_dispatch.proofs.passing.passing.Given as goal
+
+abbrev pub invariant-loop-at : goal.invariant-loop-at
+invariant-loop-at l =
+    l.few ++ filter (passes (with_classes l.classes) l.argument l.class) (drop l.at l.methods)
+    ≡ filter (passes (with_classes l.classes) l.argument l.class) l.methods

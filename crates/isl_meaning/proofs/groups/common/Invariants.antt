@@ -1,8 +1,0 @@
--- Those of the list so far, and then those of the rest.
-use Rattle.std.proofs.Common.{◌≡◌, ◌++◌, filter, drop}
-use Rattle.isl_meaning.specs.Lookup.{is_in}
-use Rattle.isl_meaning.proofs.groups.common.Given as goal
-
-abbrev pub invariant-loop-at : goal.invariant-loop-at
-invariant-loop-at l =
-    l.both ++ filter (λ d. is_in d l.column) (drop l.at l.list) ≡ filter (λ d. is_in d l.column) l.list

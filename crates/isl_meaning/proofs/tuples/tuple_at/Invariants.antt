@@ -1,6 +1,0 @@
--- The tuple of the lists so far, and the number among the tuples of the others.
-use Rattle.isl_meaning.proofs.Decoding.{Decoding}
-use Rattle.isl_meaning.proofs.tuples.tuple_at.Given as goal
-
-abbrev pub invariant-loop-at : goal.invariant-loop-at
-invariant-loop-at l = Decoding l.lists l.index l.tuple l.left l.place l.at
