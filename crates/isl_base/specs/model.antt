@@ -1,3 +1,4 @@
+pub mod CodedTree
 pub mod DataCode
 pub mod DataView
 pub mod DataFalls

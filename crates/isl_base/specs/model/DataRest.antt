@@ -1,4 +1,4 @@
--- What is left of a list of data from one on, and what is passed: the turns of a loop over the list.
+-- What is left of a list from an item on, and what is passed: the turns of a loop over the list, of data or of anything else.
 use Rattle.std.specs.Prelude.{◌≡◌, ℕ, zero, suc, ◌+◌, List, [], ◌∷◌, Some, slice_get, take, drop, ◌++◌}
 use Rattle.std.proofs.Common.{◌∙◌, ap, add-one}
 use Rattle.isl_base.specs.Data.{Item, item_and, items_of}
