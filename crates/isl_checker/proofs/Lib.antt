@@ -1,4 +1,4 @@
-pub mod Turns
+pub mod Walks
 pub mod Lists
 pub mod Bounds
 pub mod FirstClasses

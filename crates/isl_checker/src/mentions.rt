@@ -1,70 +1,38 @@
 // What a form mentions of what is around it.
 
-ghost use Rattle.std.specs.Prelude.{◌≡◌, option_to_list};
+ghost use Rattle.std.specs.Prelude.{◌≡◌, option_to_list, slice_get};
 ghost use Rattle.std.specs.List.{list_any};
 ghost use Rattle.isl_meaning.specs.declared.part.Part.TheVariants.{Variable};
-ghost use Rattle.isl_meaning.specs.model.View.{forms, clauses_of, maybe_form, bindings_of, dynamics_of};
+ghost use Rattle.isl_meaning.specs.model.View.{bindings_of};
 ghost use Rattle.isl_meaning.specs.Form.{parameters};
-ghost use Rattle.isl_meaning.specs.Mentions.{owns, binds, mentions, forms_mention, clauses_mention, body_mentions, bindings_mention, dynamics_mention, same_part};
+ghost use Rattle.isl_meaning.specs.Mentions.{same_part, owns, variables_bound, binds, names_part, mentions};
+ghost use Rattle.isl_meaning.specs.Subforms.{outer, inner};
+ghost use Rattle.isl_meaning.specs.bridge.Turns.{turns, second_of};
 
 use crate::parts::same_part;
-use isl_meaning::{
-    BindingList, ClauseList, Core, CoreForm, CoreList, DynBindings, Part, Var, VarList,
-};
+use isl_meaning::{BindingList, Core, CoreForm, Part, Var, VarList};
 
 // Whether the part is mentioned and not bound inside.
 #[cycle(mentions)]
+#[tactic(auto, using(isl_meaning::specs::bridge::Judged::mentions_folded))]
 pub fn mentions(form: &Core, part: Part) -> bool
     ensures { result ≡ mentions part form.now }
 {
-    match &form.form {
-        CoreForm::Literal(_) | CoreForm::Global(_) | CoreForm::Dynamic(_) => false,
-        CoreForm::Local(var) => same_part(part, Part::Variable(*var)),
-        CoreForm::SetLocal(var, form) => {
-            same_part(part, Part::Variable(*var)) || mentions(form, part)
-        }
-        CoreForm::SetGlobal(_, form)
-        | CoreForm::DefGlobal(_, form)
-        | CoreForm::SetDynamic(_, form)
-        | CoreForm::DefDynamic(_, form)
-        | CoreForm::Sited(_, form) => mentions(form, part),
-        CoreForm::Apply(first, second)
-        | CoreForm::While(first, second)
-        | CoreForm::Catch(first, second)
-        | CoreForm::Throw(first, second)
-        | CoreForm::Unwind(first, second)
-        | CoreForm::WithHandler(first, second)
-        | CoreForm::Signal(first, second)
-        | CoreForm::Continue(first, second) => mentions(first, part) || mentions(second, part),
-        CoreForm::Clauses(list) => clauses_mention(list, part),
-        CoreForm::Sequence(list)
-        | CoreForm::Call(_, list)
-        | CoreForm::CallValue(list)
-        | CoreForm::Prim(_, list) => forms_mention(list, part),
-        CoreForm::Let(list, body) => {
-            bindings_mention(list, part) || (!binds(list, part) && mentions(body, part))
-        }
-        CoreForm::DynamicLet(list, body) => { dynamics_mention(list, part) || mentions(body, part) }
-        CoreForm::Lambda(required, rest, body, _) => {
-            !is_parameter(required, *rest, part) && mentions(body, part)
-        }
-        CoreForm::Block(exit, body) => !same_part(part, Part::Exit(*exit)) && mentions(body, part),
-        CoreForm::Return(exit, form) => same_part(part, Part::Exit(*exit)) || mentions(form, part),
-        CoreForm::Tagbody(exit, list) => {
-            !same_part(part, Part::Exit(*exit)) && forms_mention(list, part)
-        }
-        CoreForm::Go(exit, _) => same_part(part, Part::Exit(*exit)),
-        CoreForm::NextMethod | CoreForm::HasNext => same_part(part, Part::Method),
-    }
+    names_part(form, part)
+        || outer_mention(form, part)
+        || (!binds(form, part) && inner_mention(form, part))
 }
 
 #[cycle(mentions)]
-#[tactic(auto, using(crate::proofs::Turns::form_turn))]
-fn forms_mention(list: &CoreList, part: Part) -> bool
-    ensures { result ≡ forms_mention part (forms list.now) }
+#[tactic(auto, using(isl_meaning::specs::bridge::Smaller::first_is_smaller))]
+fn outer_mention(form: &Core, part: Part) -> bool
+    ensures { result ≡ list_any (mentions part) (outer form.now) }
 {
-    for form in list.as_slice() {
-        if mentions(form, part) {
+    for at in 0..form.outer_turns() {
+        let Some(first) = form.outer_first(at) else {
+            unreachable!()
+        };
+        if mentions(first, part) || second_mentions(form, at, part) {
             return true;
         }
     }
@@ -72,57 +40,113 @@ fn forms_mention(list: &CoreList, part: Part) -> bool
 }
 
 #[cycle(mentions)]
-#[tactic(auto, using(crate::proofs::Turns::test_turn, crate::proofs::Turns::body_turn))]
-fn clauses_mention(list: &ClauseList, part: Part) -> bool
-    ensures { result ≡ clauses_mention part (clauses_of list.now) }
+#[tactic(auto, using(isl_meaning::specs::bridge::Smaller::second_is_smaller, crate::proofs::Walks::one_of_second, crate::proofs::Walks::one_of_none))]
+fn second_mentions(form: &Core, at: usize, part: Part) -> bool
+    ensures { result ≡ list_any (mentions part) (option_to_list (second_of (slice_get (turns form.now) at))) }
 {
-    for clause in list.as_slice() {
-        if mentions(&clause.test, part) || body_mentions(&clause.body, part) {
-            return true;
-        }
-    }
-    false
-}
-
-#[cycle(mentions)]
-fn body_mentions(body: &Option<Core>, part: Part) -> bool
-    ensures { result ≡ body_mentions part (maybe_form body.now) }
-{
-    match body {
+    match form.outer_second(at) {
         None => false,
-        Some(form) => mentions(form, part),
+        Some(second) => mentions(second, part),
     }
 }
 
 #[cycle(mentions)]
-#[tactic(auto, using(crate::proofs::Turns::binding_turn))]
-fn bindings_mention(list: &BindingList, part: Part) -> bool
-    ensures { result ≡ bindings_mention part (bindings_of list.now) }
+#[tactic(auto, using(isl_meaning::specs::bridge::Smaller::inner_is_smaller))]
+fn inner_mention(form: &Core, part: Part) -> bool
+    ensures { result ≡ list_any (mentions part) (inner form.now) }
 {
-    for binding in list.as_slice() {
-        if mentions(&binding.value, part) {
+    for at in 0..form.inner_count() {
+        let Some(inside) = form.inner_at(at) else {
+            unreachable!()
+        };
+        if mentions(inside, part) {
             return true;
         }
     }
     false
 }
 
-#[cycle(mentions)]
-#[tactic(auto, using(crate::proofs::Turns::dynamic_turn))]
-fn dynamics_mention(list: &DynBindings, part: Part) -> bool
-    ensures { result ≡ dynamics_mention part (dynamics_of list.now) }
+// Whether the form names that part itself.
+fn names_part(form: &Core, part: Part) -> bool
+    ensures { result ≡ names_part part form.now }
 {
-    for binding in list.as_slice() {
-        if mentions(&binding.value, part) {
-            return true;
-        }
+    match &form.form {
+        CoreForm::Local(var) | CoreForm::SetLocal(var, _) => same_part(part, Part::Variable(*var)),
+        CoreForm::Return(exit, _) | CoreForm::Go(exit, _) => same_part(part, Part::Exit(*exit)),
+        CoreForm::NextMethod | CoreForm::HasNext => same_part(part, Part::Method),
+        CoreForm::Literal(_)
+        | CoreForm::Global(_)
+        | CoreForm::SetGlobal(_, _)
+        | CoreForm::DefGlobal(_, _)
+        | CoreForm::Clauses(_)
+        | CoreForm::Sequence(_)
+        | CoreForm::Let(_, _)
+        | CoreForm::Lambda(_, _, _, _)
+        | CoreForm::Call(_, _)
+        | CoreForm::CallValue(_)
+        | CoreForm::Apply(_, _)
+        | CoreForm::Prim(_, _)
+        | CoreForm::While(_, _)
+        | CoreForm::Block(_, _)
+        | CoreForm::Tagbody(_, _)
+        | CoreForm::Catch(_, _)
+        | CoreForm::Throw(_, _)
+        | CoreForm::Unwind(_, _)
+        | CoreForm::DynamicLet(_, _)
+        | CoreForm::Dynamic(_)
+        | CoreForm::SetDynamic(_, _)
+        | CoreForm::DefDynamic(_, _)
+        | CoreForm::WithHandler(_, _)
+        | CoreForm::Signal(_, _)
+        | CoreForm::Continue(_, _)
+        | CoreForm::Sited(_, _) => false,
     }
-    false
+}
+
+// Whether the form binds that part for its inner forms.
+fn binds(form: &Core, part: Part) -> bool
+    ensures { result ≡ binds part form.now }
+{
+    match &form.form {
+        CoreForm::Let(list, _) => is_bound(list, part),
+        CoreForm::Lambda(required, rest, _, _) => is_parameter(required, *rest, part),
+        CoreForm::Block(exit, _) | CoreForm::Tagbody(exit, _) => {
+            same_part(part, Part::Exit(*exit))
+        }
+        CoreForm::Literal(_)
+        | CoreForm::Local(_)
+        | CoreForm::SetLocal(_, _)
+        | CoreForm::Global(_)
+        | CoreForm::SetGlobal(_, _)
+        | CoreForm::DefGlobal(_, _)
+        | CoreForm::Clauses(_)
+        | CoreForm::Sequence(_)
+        | CoreForm::Call(_, _)
+        | CoreForm::CallValue(_)
+        | CoreForm::Apply(_, _)
+        | CoreForm::Prim(_, _)
+        | CoreForm::While(_, _)
+        | CoreForm::Return(_, _)
+        | CoreForm::Go(_, _)
+        | CoreForm::Catch(_, _)
+        | CoreForm::Throw(_, _)
+        | CoreForm::Unwind(_, _)
+        | CoreForm::DynamicLet(_, _)
+        | CoreForm::Dynamic(_)
+        | CoreForm::SetDynamic(_, _)
+        | CoreForm::DefDynamic(_, _)
+        | CoreForm::WithHandler(_, _)
+        | CoreForm::Signal(_, _)
+        | CoreForm::Continue(_, _)
+        | CoreForm::NextMethod
+        | CoreForm::HasNext
+        | CoreForm::Sited(_, _) => false,
+    }
 }
 
 // Whether bindings bind the part.
-fn binds(list: &BindingList, part: Part) -> bool
-    ensures { result ≡ binds part (bindings_of list.now) }
+fn is_bound(list: &BindingList, part: Part) -> bool
+    ensures { result ≡ owns (variables_bound (bindings_of list.now)) part }
 {
     for binding in list.as_slice() {
         if same_part(part, Part::Variable(binding.var)) {

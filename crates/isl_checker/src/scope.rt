@@ -3,8 +3,8 @@
 ghost use Rattle.std.specs.Prelude.{◌≡◌, ◌==◌, ◌++◌, filter, option_to_list, IfOk, OnOk};
 ghost use Rattle.std.specs.List.{list_any};
 ghost use Rattle.isl_meaning.specs.declared.part.Part.TheVariants.{Variable, Exit};
-ghost use Rattle.isl_meaning.specs.Mentions.{same_part};
-ghost use Rattle.isl_meaning.specs.Standing.{alone, with_bound, with_around, variables_bound, is_variable, exit_around, is_block, is_segment, is_bound, seen};
+ghost use Rattle.isl_meaning.specs.Mentions.{same_part, variables_bound};
+ghost use Rattle.isl_meaning.specs.Standing.{alone, with_bound, with_around, is_variable, exit_around, is_block, is_segment, is_bound, seen};
 ghost use Rattle.isl_meaning.specs.Form.{parameters};
 ghost use Rattle.isl_meaning.specs.model.View.{bindings_of};
 
@@ -24,6 +24,20 @@ pub fn alone(alloc: Global, variables: VarList, in_method: bool) -> Scope
         exits: ExitsAround::new(alloc),
         in_method,
     }
+}
+
+pub fn copied(alloc: Global, scope: &Scope) -> Result<Scope, NoMemory>
+    ensures { IfOk result (λ copy. copy ≡ scope.now) }
+{
+    let mut variables = VarList::new(alloc);
+    push_variables(&mut variables, scope.variables.as_slice())?;
+    let mut exits = ExitsAround::new(alloc);
+    push_exits(&mut exits, scope.exits.as_slice())?;
+    Ok(Scope {
+        variables,
+        exits,
+        in_method: scope.in_method,
+    })
 }
 
 // With these variables bound besides.

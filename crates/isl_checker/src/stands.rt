@@ -1,200 +1,185 @@
 // Whether all that a form names is bound where it stands.
 
-ghost use Rattle.std.specs.Prelude.{◌≡◌, ◌&&◌, IfOk};
+ghost use Rattle.std.specs.Prelude.{◌≡◌, option_to_list, slice_get, IfOk};
 ghost use Rattle.std.specs.List.{list_all};
-ghost use Rattle.isl_meaning.specs.Form.{let_form};
-ghost use Rattle.isl_meaning.specs.model.View.{forms, clauses_of, maybe_form, bindings_of, dynamics_of};
 ghost use Rattle.isl_meaning.specs.Mentions.{is_next, in_order};
-ghost use Rattle.isl_meaning.specs.Standing.{is_bound, is_free, are_captured, stands, forms_stand, clauses_stand, body_stands, bindings_stand, dynamics_stand, with_bound, seen};
+ghost use Rattle.isl_meaning.specs.Standing.{is_bound, is_free, are_captured, around_inner, stands_itself, stands};
+ghost use Rattle.isl_meaning.specs.Subforms.{outer, inner};
+ghost use Rattle.isl_meaning.specs.bridge.Turns.{turns, second_of};
 
 use crate::mentions::{mentions, owns};
 use crate::parts::comes_before;
 use crate::scope::{
-    binds, has_block, has_segment, has_variable, parameters, seen, variables_bound, with_around,
-    with_variables,
+    binds, copied, has_block, has_segment, has_variable, parameters, seen, variables_bound,
+    with_around, with_variables,
 };
 use isl_base::NoMemory;
-use isl_meaning::{
-    Around, BindingList, ClauseList, Core, CoreForm, CoreList, DynBindings, Part, PartList, Scope,
-    Var, VarList,
-};
+use isl_meaning::{Around, Core, CoreForm, Part, PartList, Scope, Var, VarList};
 use std::alloc::Global;
 
-// Whether all names are bound.
+// Whether all names in a form are bound.
 #[cycle(stands)]
-#[tactic(auto, using(isl_meaning::specs::bridge::Lengths::forms_counted))]
+#[tactic(auto, using(isl_meaning::specs::bridge::Judged::stands_folded))]
 pub fn stands(form: &Core, alloc: Global, scope: &Scope) -> Result<bool, NoMemory>
     ensures { IfOk result (λ yes. yes ≡ stands scope.now form.now) }
 {
-    match &form.form {
-        CoreForm::Literal(_) | CoreForm::Global(_) | CoreForm::Dynamic(_) => Ok(true),
-        CoreForm::Local(var) => Ok(has_variable(scope, *var)),
-        CoreForm::SetLocal(var, form) => {
-            if has_variable(scope, *var) {
-                stands(form, alloc, scope)
-            } else {
-                Ok(false)
-            }
-        }
-        CoreForm::SetGlobal(_, form)
-        | CoreForm::DefGlobal(_, form)
-        | CoreForm::SetDynamic(_, form)
-        | CoreForm::DefDynamic(_, form)
-        | CoreForm::Sited(_, form) => stands(form, alloc, scope),
-        CoreForm::Apply(first, second)
-        | CoreForm::While(first, second)
-        | CoreForm::Catch(first, second)
-        | CoreForm::Throw(first, second)
-        | CoreForm::Unwind(first, second)
-        | CoreForm::WithHandler(first, second)
-        | CoreForm::Signal(first, second)
-        | CoreForm::Continue(first, second) => { both_stand(first, second, alloc, scope) }
-        CoreForm::Clauses(list) => clauses_stand(list, alloc, scope),
-        CoreForm::Sequence(list)
-        | CoreForm::Call(_, list)
-        | CoreForm::CallValue(list)
-        | CoreForm::Prim(_, list) => forms_stand(list, alloc, scope),
-        CoreForm::Let(list, body) => let_stands(list, body, alloc, scope),
-        CoreForm::DynamicLet(list, body) => {
-            if dynamics_stand(list, alloc, scope)? {
-                stands(body, alloc, scope)
-            } else {
-                Ok(false)
-            }
-        }
-        CoreForm::Lambda(required, rest, body, parts) => {
-            let own = parameters(alloc, required, *rest)?;
-            function_stands(own, body, parts, alloc, scope)
-        }
-        CoreForm::Block(exit, body) => {
-            let inside = with_around(alloc, scope, *exit, Around::Block)?;
-            stands(body, alloc, &inside)
-        }
-        CoreForm::Return(exit, form) => {
-            if has_block(scope, *exit) {
-                stands(form, alloc, scope)
-            } else {
-                Ok(false)
-            }
-        }
-        CoreForm::Tagbody(exit, list) => {
-            let inside = with_around(alloc, scope, *exit, Around::Tagbody(list.len()))?;
-            forms_stand(list, alloc, &inside)
-        }
-        CoreForm::Go(exit, segment) => Ok(has_segment(scope, *exit, *segment)),
-        CoreForm::NextMethod | CoreForm::HasNext => Ok(scope.in_method),
-    }
-}
-
-#[cycle(stands)]
-fn both_stand(first: &Core, second: &Core, alloc: Global, scope: &Scope) -> Result<bool, NoMemory>
-    ensures { IfOk result (λ yes. yes ≡ (stands scope.now first.now && stands scope.now second.now)) }
-{
-    if stands(first, alloc, scope)? {
-        stands(second, alloc, scope)
-    } else {
-        Ok(false)
-    }
-}
-
-#[cycle(stands)]
-fn let_stands(
-    list: &BindingList,
-    body: &Core,
-    alloc: Global,
-    scope: &Scope,
-) -> Result<bool, NoMemory>
-    ensures { IfOk result (λ yes. yes ≡ stands scope.now (let_form (bindings_of list.now) body.now)) }
-{
-    if bindings_stand(list, alloc, scope)? {
-        let inside = with_variables(alloc, scope, variables_bound(alloc, list)?)?;
-        stands(body, alloc, &inside)
-    } else {
-        Ok(false)
-    }
-}
-
-#[cycle(stands)]
-#[tactic(auto, using(crate::proofs::Turns::form_turn))]
-fn forms_stand(list: &CoreList, alloc: Global, scope: &Scope) -> Result<bool, NoMemory>
-    ensures { IfOk result (λ yes. yes ≡ forms_stand scope.now (forms list.now)) }
-{
-    for form in list.as_slice() {
-        if !stands(form, alloc, scope)? {
-            return Ok(false);
-        }
-    }
-    Ok(true)
-}
-
-#[cycle(stands)]
-#[tactic(auto, using(crate::proofs::Turns::test_turn, crate::proofs::Turns::body_turn))]
-fn clauses_stand(list: &ClauseList, alloc: Global, scope: &Scope) -> Result<bool, NoMemory>
-    ensures { IfOk result (λ yes. yes ≡ clauses_stand scope.now (clauses_of list.now)) }
-{
-    for clause in list.as_slice() {
-        if !stands(&clause.test, alloc, scope)? {
-            return Ok(false);
-        }
-        if !body_stands(&clause.body, alloc, scope)? {
-            return Ok(false);
-        }
-    }
-    Ok(true)
-}
-
-#[cycle(stands)]
-fn body_stands(body: &Option<Core>, alloc: Global, scope: &Scope) -> Result<bool, NoMemory>
-    ensures { IfOk result (λ yes. yes ≡ body_stands scope.now (maybe_form body.now)) }
-{
-    match body {
-        None => Ok(true),
-        Some(form) => stands(form, alloc, scope),
-    }
-}
-
-#[cycle(stands)]
-#[tactic(auto, using(crate::proofs::Turns::binding_turn))]
-fn bindings_stand(list: &BindingList, alloc: Global, scope: &Scope) -> Result<bool, NoMemory>
-    ensures { IfOk result (λ yes. yes ≡ bindings_stand scope.now (bindings_of list.now)) }
-{
-    for binding in list.as_slice() {
-        if !stands(&binding.value, alloc, scope)? {
-            return Ok(false);
-        }
-    }
-    Ok(true)
-}
-
-#[cycle(stands)]
-#[tactic(auto, using(crate::proofs::Turns::dynamic_turn))]
-fn dynamics_stand(list: &DynBindings, alloc: Global, scope: &Scope) -> Result<bool, NoMemory>
-    ensures { IfOk result (λ yes. yes ≡ dynamics_stand scope.now (dynamics_of list.now)) }
-{
-    for binding in list.as_slice() {
-        if !stands(&binding.value, alloc, scope)? {
-            return Ok(false);
-        }
-    }
-    Ok(true)
-}
-
-// A `lambda` of these variables of its own and this body that captures these parts.
-#[cycle(stands)]
-fn function_stands(
-    own: VarList,
-    body: &Core,
-    parts: &PartList,
-    alloc: Global,
-    scope: &Scope,
-) -> Result<bool, NoMemory>
-    ensures { IfOk result (λ yes. yes ≡ (are_captured scope.now own body.now parts.now && stands (with_bound own (seen parts.now scope.now)) body.now)) }
-{
-    if !are_captured(scope, own.as_slice(), body, parts.as_slice()) {
+    if !stands_itself(form, alloc, scope)? {
         return Ok(false);
     }
-    let inside = with_variables(alloc, &seen(alloc, scope, parts.as_slice())?, own)?;
-    stands(body, alloc, &inside)
+    if !outer_stand(form, alloc, scope)? {
+        return Ok(false);
+    }
+    inner_stand(form, alloc, scope)
+}
+
+#[cycle(stands)]
+#[tactic(auto, using(isl_meaning::specs::bridge::Smaller::first_is_smaller))]
+fn outer_stand(form: &Core, alloc: Global, scope: &Scope) -> Result<bool, NoMemory>
+    ensures { IfOk result (λ yes. yes ≡ list_all (stands scope.now) (outer form.now)) }
+{
+    for at in 0..form.outer_turns() {
+        let Some(first) = form.outer_first(at) else {
+            unreachable!()
+        };
+        if !stands(first, alloc, scope)? {
+            return Ok(false);
+        }
+        if !second_stands(form, at, alloc, scope)? {
+            return Ok(false);
+        }
+    }
+    Ok(true)
+}
+
+#[cycle(stands)]
+#[tactic(auto, using(isl_meaning::specs::bridge::Smaller::second_is_smaller, crate::proofs::Walks::all_of_second, crate::proofs::Walks::all_of_none))]
+fn second_stands(
+    form: &Core,
+    at: usize,
+    alloc: Global,
+    scope: &Scope,
+) -> Result<bool, NoMemory>
+    ensures { IfOk result (λ yes. yes ≡ list_all (stands scope.now) (option_to_list (second_of (slice_get (turns form.now) at)))) }
+{
+    match form.outer_second(at) {
+        None => Ok(true),
+        Some(second) => stands(second, alloc, scope),
+    }
+}
+
+// The inner forms, where what the form binds is bound.
+#[cycle(stands)]
+fn inner_stand(form: &Core, alloc: Global, scope: &Scope) -> Result<bool, NoMemory>
+    ensures { IfOk result (λ yes. yes ≡ list_all (stands (around_inner form.now scope.now)) (inner form.now)) }
+{
+    if form.inner_count() == 0 {
+        return Ok(true);
+    }
+    let inside = around_inner(form, alloc, scope)?;
+    all_inner_stand(form, alloc, &inside)
+}
+
+#[cycle(stands)]
+#[tactic(auto, using(isl_meaning::specs::bridge::Smaller::inner_is_smaller))]
+fn all_inner_stand(form: &Core, alloc: Global, scope: &Scope) -> Result<bool, NoMemory>
+    ensures { IfOk result (λ yes. yes ≡ list_all (stands scope.now) (inner form.now)) }
+{
+    for at in 0..form.inner_count() {
+        let Some(inside) = form.inner_at(at) else {
+            unreachable!()
+        };
+        if !stands(inside, alloc, scope)? {
+            return Ok(false);
+        }
+    }
+    Ok(true)
+}
+
+// Where the inner forms of a form stand.
+#[tactic(auto, using(isl_meaning::specs::bridge::Lengths::forms_counted))]
+fn around_inner(form: &Core, alloc: Global, scope: &Scope) -> Result<Scope, NoMemory>
+    ensures { IfOk result (λ inside. inside ≡ around_inner form.now scope.now) }
+{
+    match &form.form {
+        CoreForm::Let(list, _) => with_variables(alloc, scope, variables_bound(alloc, list)?),
+        CoreForm::Lambda(required, rest, _, parts) => {
+            let own = parameters(alloc, required, *rest)?;
+            with_variables(alloc, &seen(alloc, scope, parts.as_slice())?, own)
+        }
+        CoreForm::Block(exit, _) => with_around(alloc, scope, *exit, Around::Block),
+        CoreForm::Tagbody(exit, list) => {
+            with_around(alloc, scope, *exit, Around::Tagbody(list.len()))
+        }
+        CoreForm::Literal(_)
+        | CoreForm::Local(_)
+        | CoreForm::SetLocal(_, _)
+        | CoreForm::Global(_)
+        | CoreForm::SetGlobal(_, _)
+        | CoreForm::DefGlobal(_, _)
+        | CoreForm::Clauses(_)
+        | CoreForm::Sequence(_)
+        | CoreForm::Call(_, _)
+        | CoreForm::CallValue(_)
+        | CoreForm::Apply(_, _)
+        | CoreForm::Prim(_, _)
+        | CoreForm::While(_, _)
+        | CoreForm::Return(_, _)
+        | CoreForm::Go(_, _)
+        | CoreForm::Catch(_, _)
+        | CoreForm::Throw(_, _)
+        | CoreForm::Unwind(_, _)
+        | CoreForm::DynamicLet(_, _)
+        | CoreForm::Dynamic(_)
+        | CoreForm::SetDynamic(_, _)
+        | CoreForm::DefDynamic(_, _)
+        | CoreForm::WithHandler(_, _)
+        | CoreForm::Signal(_, _)
+        | CoreForm::Continue(_, _)
+        | CoreForm::NextMethod
+        | CoreForm::HasNext
+        | CoreForm::Sited(_, _) => copied(alloc, scope),
+    }
+}
+
+// Whether what the form itself names is bound.
+fn stands_itself(form: &Core, alloc: Global, scope: &Scope) -> Result<bool, NoMemory>
+    ensures { IfOk result (λ yes. yes ≡ stands_itself scope.now form.now) }
+{
+    match &form.form {
+        CoreForm::Local(var) | CoreForm::SetLocal(var, _) => Ok(has_variable(scope, *var)),
+        CoreForm::Lambda(required, rest, body, parts) => {
+            let own = parameters(alloc, required, *rest)?;
+            Ok(are_captured(scope, own.as_slice(), body, parts.as_slice()))
+        }
+        CoreForm::Return(exit, _) => Ok(has_block(scope, *exit)),
+        CoreForm::Go(exit, segment) => Ok(has_segment(scope, *exit, *segment)),
+        CoreForm::NextMethod | CoreForm::HasNext => Ok(scope.in_method),
+        CoreForm::Literal(_)
+        | CoreForm::Global(_)
+        | CoreForm::SetGlobal(_, _)
+        | CoreForm::DefGlobal(_, _)
+        | CoreForm::Clauses(_)
+        | CoreForm::Sequence(_)
+        | CoreForm::Let(_, _)
+        | CoreForm::Call(_, _)
+        | CoreForm::CallValue(_)
+        | CoreForm::Apply(_, _)
+        | CoreForm::Prim(_, _)
+        | CoreForm::While(_, _)
+        | CoreForm::Block(_, _)
+        | CoreForm::Tagbody(_, _)
+        | CoreForm::Catch(_, _)
+        | CoreForm::Throw(_, _)
+        | CoreForm::Unwind(_, _)
+        | CoreForm::DynamicLet(_, _)
+        | CoreForm::Dynamic(_)
+        | CoreForm::SetDynamic(_, _)
+        | CoreForm::DefDynamic(_, _)
+        | CoreForm::WithHandler(_, _)
+        | CoreForm::Signal(_, _)
+        | CoreForm::Continue(_, _)
+        | CoreForm::Sited(_, _) => Ok(true),
+    }
 }
 
 // Whether they stand in their order, are bound, and are what the body mentions besides its own variables.

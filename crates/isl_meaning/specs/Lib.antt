@@ -2,7 +2,6 @@ pub mod Form
 pub mod Subforms
 pub mod bridge
 pub mod model
-pub mod bridge
 pub mod Values
 pub mod Objects
 pub mod State

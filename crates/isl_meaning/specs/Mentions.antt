@@ -69,6 +69,9 @@ names_part p f = false
 abbrev pub some : List Bool → Bool
 some bs = list_any (λ b. b) bs
 
+abbrev pub mentions_step : Part → Form → List Bool → List Bool → Bool
+mentions_step p f outer inner = names_part p f || some outer || (not (binds p f) && some inner)
+
 -- whether the part is named in a form that does not bind it itself
 abbrev pub mentions : Part → Form → Bool
-mentions p f = fold (λ g outer inner. names_part p g || some outer || (not (binds p g) && some inner)) f
+mentions p f = fold (mentions_step p) f

@@ -90,10 +90,12 @@ stands_itself s f = true
 abbrev pub all_in : Scope → List (Scope → Bool) → Bool
 all_in s tests = list_all (λ test. test s) tests
 
+abbrev pub stands_step : Form → List (Scope → Bool) → List (Scope → Bool) → Scope → Bool
+stands_step f outer inner s = stands_itself s f && all_in s outer && all_in (around_inner f s) inner
+
 -- whether every name in a form is bound where it stands
 abbrev pub stands_in : Form → Scope → Bool
-stands_in f =
-    fold (λ g outer inner s. stands_itself s g && all_in s outer && all_in (around_inner g s) inner) f
+stands_in f = fold stands_step f
 
 abbrev pub stands : Scope → Form → Bool
 stands s f = stands_in f s

@@ -10,11 +10,10 @@ use Rattle.isl_meaning.specs.declared.program.ProgramRows.{ProgramRows}
 use Rattle.isl_meaning.specs.declared.scope.Scope.{Scope}
 use Rattle.isl_meaning.specs.Form.{Form}
 use Rattle.isl_meaning.specs.Subforms.{outer, inner, fold}
-use Rattle.isl_meaning.specs.Inside.{inside_form}
-use Rattle.isl_meaning.specs.Mentions.{some, names_part, binds, mentions}
-use Rattle.isl_meaning.specs.Captured.{captures_inside, captures, sets_itself, sets}
+use Rattle.isl_meaning.specs.Inside.{inside_step, inside_form}
+use Rattle.isl_meaning.specs.Mentions.{some, names_part, binds, mentions_step, mentions}
 use Rattle.isl_meaning.specs.Fits.{fits_itself, fits}
-use Rattle.isl_meaning.specs.Standing.{all_in, around_inner, stands_itself, stands_in, stands}
+use Rattle.isl_meaning.specs.Standing.{all_in, around_inner, stands_itself, stands_step, stands_in, stands}
 use Rattle.isl_meaning.specs.model.Rest.{rest_at}
 use Rattle.isl_meaning.specs.bridge.Walks.{folded}
 use Rattle.isl_meaning.specs.bridge.Turns.{turns, first_of, second_of, outer_from, outer_turn, outer_at_last}
@@ -36,7 +35,7 @@ and_assoc false b c = refl
 -- a form and those inside it, by the forms right inside
 pub inside_folded : (f : Form)
     → inside_form f ≡ f ∷ (flat_map (λ fs. fs) (map inside_form (outer f)) ++ flat_map (λ fs. fs) (map inside_form (inner f)))
-inside_folded f = folded _ f
+inside_folded f = folded inside_step f
 
 -- whether all forms inside pass a test
 pub all_inside : (test : Form → Bool) (f : Form)
@@ -57,14 +56,14 @@ fits_folded rows f = all_inside (fits_itself rows) f
 pub mentions_folded : (p : Part) (f : Form)
     → mentions p f ≡ (names_part p f || list_any (mentions p) (outer f) || (not (binds p f) && list_any (mentions p) (inner f)))
 mentions_folded p f =
-    folded _ f
+    folded (mentions_step p) f
     ∙ ap (λ b. names_part p f || b || (not (binds p f) && some (map (mentions p) (inner f)))) (some_mapped (mentions p) (outer f))
     ∙ ap (λ b. names_part p f || list_any (mentions p) (outer f) || (not (binds p f) && b)) (some_mapped (mentions p) (inner f))
 
 pub stands_folded : (s : Scope) (f : Form)
     → stands s f ≡ (stands_itself s f && list_all (stands s) (outer f) && list_all (stands (around_inner f s)) (inner f))
 stands_folded s f =
-    ap (λ test. test s) (folded _ f)
+    ap (λ (test : Scope → Bool). test s) (folded stands_step f)
     ∙ ap (λ b. stands_itself s f && b && all_in (around_inner f s) (map stands_in (inner f))) (list_all-map (λ test. test s) stands_in (outer f))
     ∙ ap (λ b. stands_itself s f && list_all (stands s) (outer f) && b) (list_all-map (λ test. test (around_inner f s)) stands_in (inner f))
 
