@@ -26,20 +26,6 @@ pub fn alone(alloc: Global, variables: VarList, in_method: bool) -> Scope
     }
 }
 
-pub fn copied(alloc: Global, scope: &Scope) -> Result<Scope, NoMemory>
-    ensures { IfOk result (λ copy. copy ≡ scope.now) }
-{
-    let mut variables = VarList::new(alloc);
-    push_variables(&mut variables, scope.variables.as_slice())?;
-    let mut exits = ExitsAround::new(alloc);
-    push_exits(&mut exits, scope.exits.as_slice())?;
-    Ok(Scope {
-        variables,
-        exits,
-        in_method: scope.in_method,
-    })
-}
-
 // With these variables bound besides.
 pub fn with_variables(alloc: Global, scope: &Scope, variables: VarList) -> Result<Scope, NoMemory>
     ensures { IfOk result (λ inside. inside ≡ with_bound variables scope.now) }

@@ -1,6 +1,6 @@
 // Whether all that a form names is bound where it stands.
 
-ghost use Rattle.std.specs.Prelude.{◌≡◌, option_to_list, slice_get, IfOk};
+ghost use Rattle.std.specs.Prelude.{◌≡◌, option_to_list, slice_get, unwrap_or, IfOk};
 ghost use Rattle.std.specs.List.{list_all};
 ghost use Rattle.isl_meaning.specs.Mentions.{is_next, in_order};
 ghost use Rattle.isl_meaning.specs.Standing.{is_bound, is_free, are_captured, around_inner, stands_itself, stands};
@@ -10,8 +10,8 @@ ghost use Rattle.isl_meaning.specs.bridge.Turns.{turns, second_of};
 use crate::mentions::{mentions, owns};
 use crate::parts::comes_before;
 use crate::scope::{
-    binds, copied, has_block, has_segment, has_variable, parameters, seen, variables_bound,
-    with_around, with_variables,
+    binds, has_block, has_segment, has_variable, parameters, seen, variables_bound, with_around,
+    with_variables,
 };
 use isl_base::NoMemory;
 use isl_meaning::{Around, Core, CoreForm, Part, PartList, Scope, Var, VarList};
@@ -53,12 +53,7 @@ fn outer_stand(form: &Core, alloc: Global, scope: &Scope) -> Result<bool, NoMemo
 
 #[cycle(stands)]
 #[tactic(auto, using(isl_meaning::specs::bridge::Smaller::second_is_smaller, crate::proofs::Walks::all_of_second, crate::proofs::Walks::all_of_none))]
-fn second_stands(
-    form: &Core,
-    at: usize,
-    alloc: Global,
-    scope: &Scope,
-) -> Result<bool, NoMemory>
+fn second_stands(form: &Core, at: usize, alloc: Global, scope: &Scope) -> Result<bool, NoMemory>
     ensures { IfOk result (λ yes. yes ≡ list_all (stands scope.now) (option_to_list (second_of (slice_get (turns form.now) at)))) }
 {
     match form.outer_second(at) {
@@ -72,11 +67,11 @@ fn second_stands(
 fn inner_stand(form: &Core, alloc: Global, scope: &Scope) -> Result<bool, NoMemory>
     ensures { IfOk result (λ yes. yes ≡ list_all (stands (around_inner form.now scope.now)) (inner form.now)) }
 {
-    if form.inner_count() == 0 {
-        return Ok(true);
-    }
     let inside = around_inner(form, alloc, scope)?;
-    all_inner_stand(form, alloc, &inside)
+    match &inside {
+        None => all_inner_stand(form, alloc, scope),
+        Some(inside) => all_inner_stand(form, alloc, inside),
+    }
 }
 
 #[cycle(stands)]
@@ -95,20 +90,25 @@ fn all_inner_stand(form: &Core, alloc: Global, scope: &Scope) -> Result<bool, No
     Ok(true)
 }
 
-// Where the inner forms of a form stand.
+// Where the inner forms of a form stand; None where it binds nothing.
 #[tactic(auto, using(isl_meaning::specs::bridge::Lengths::forms_counted))]
-fn around_inner(form: &Core, alloc: Global, scope: &Scope) -> Result<Scope, NoMemory>
-    ensures { IfOk result (λ inside. inside ≡ around_inner form.now scope.now) }
+fn around_inner(form: &Core, alloc: Global, scope: &Scope) -> Result<Option<Scope>, NoMemory>
+    ensures { IfOk result (λ inside. unwrap_or inside scope.now ≡ around_inner form.now scope.now) }
 {
     match &form.form {
-        CoreForm::Let(list, _) => with_variables(alloc, scope, variables_bound(alloc, list)?),
+        CoreForm::Let(list, _) => {
+            let own = variables_bound(alloc, list)?;
+            Ok(Some(with_variables(alloc, scope, own)?))
+        }
         CoreForm::Lambda(required, rest, _, parts) => {
             let own = parameters(alloc, required, *rest)?;
-            with_variables(alloc, &seen(alloc, scope, parts.as_slice())?, own)
+            let seen = seen(alloc, scope, parts.as_slice())?;
+            Ok(Some(with_variables(alloc, &seen, own)?))
         }
-        CoreForm::Block(exit, _) => with_around(alloc, scope, *exit, Around::Block),
+        CoreForm::Block(exit, _) => Ok(Some(with_around(alloc, scope, *exit, Around::Block)?)),
         CoreForm::Tagbody(exit, list) => {
-            with_around(alloc, scope, *exit, Around::Tagbody(list.len()))
+            let around = Around::Tagbody(list.len());
+            Ok(Some(with_around(alloc, scope, *exit, around)?))
         }
         CoreForm::Literal(_)
         | CoreForm::Local(_)
@@ -137,7 +137,7 @@ fn around_inner(form: &Core, alloc: Global, scope: &Scope) -> Result<Scope, NoMe
         | CoreForm::Continue(_, _)
         | CoreForm::NextMethod
         | CoreForm::HasNext
-        | CoreForm::Sited(_, _) => copied(alloc, scope),
+        | CoreForm::Sited(_, _) => Ok(None),
     }
 }
 
