@@ -8,5 +8,8 @@ pub mod Data
 pub mod model
 pub mod DataMeasures
 pub mod DataFormed
+pub mod DataParts
+pub mod DataNames
+pub mod GoodData
 pub mod Names
 pub mod NameNumbers

@@ -67,6 +67,10 @@ text_stays old new n t x h = rw x.begins (slice_get-front old x.added n t h)
 pub name_stays : (old new : List (List ℕ)) (n : ℕ) → Extends old new → n < length old → n < length new
 name_stays old new n x h = rw x.begins (omega (arith, length-append old x.added))
 
+-- a later table is no shorter
+pub no_shorter : (old new : List (List ℕ)) → Extends old new → length old ≤ length new
+no_shorter old new e = rw e.begins (omega (arith, length-append old e.added))
+
 any_else : (a b : Bool) → b ≡ true → (a || b) ≡ true
 any_else true b h = refl
 any_else false b h = h

@@ -4,10 +4,11 @@ use Rattle.std.proofs.Common.{arith, ap, ◌∙◌, subst}
 use Rattle.isl_base.specs.declared.place.Place.{Place}
 use Rattle.isl_base.specs.Data.{Item, item, integer, character, symbol, string, vector, nil, list, Items, no_item, item_and, Tail, no_tail, dotted}
 use Rattle.isl_base.specs.DataMeasures.{size_of, sizes_of, size_of_tail}
+use Rattle.isl_base.specs.DataParts.{AllItems, AllParts, OfDotted, of_list}
 use Rattle.isl_derived.specs.Pieces.{Piece, word, made, taken, parens, Pieces, no_piece, piece_and, Right, in_parens, Builds, BuildsAll}
 use Rattle.isl_derived.specs.Derived.{becomes, derivation}
-use Rattle.isl_derived.specs.Ends.{piece_weight, pieces_weight, has_derived_name, IfDerived, AllFurther, AllFurtherIn, AllItems, OfDotted, AllParts, Leaves, by_step, by_part}
-use Rattle.isl_derived.proofs.Parts.{GoesDown, of_list}
+use Rattle.isl_derived.specs.Ends.{piece_weight, pieces_weight, has_derived_name, IfDerived, AllFurther, AllFurtherIn, Leaves, by_step, by_part}
+use Rattle.isl_derived.proofs.Parts.{GoesDown}
 use Rattle.isl_derived.proofs.Derivations.{OfDerivation, OfArguments}
 use Rattle.isl_derived.proofs.Further.{Arguments, size_above, sizes_listed, derivation_further}
 

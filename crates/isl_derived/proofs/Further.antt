@@ -4,6 +4,7 @@ use Rattle.std.proofs.Common.{arith, ap, subst, sym}
 use Rattle.std.proofs.Math.Seq.{take-length, drop-length}
 use Rattle.isl_base.specs.Data.{Item, item, integer, character, symbol, string, vector, nil, list, Items, no_item, item_and, items_list, no_tail, dotted}
 use Rattle.isl_base.specs.DataMeasures.{size_of, sizes_of}
+use Rattle.isl_base.specs.DataParts.{AllOf, of_list}
 use Rattle.isl_derived.specs.Pieces.{Piece, taken, parens, Pieces, no_piece, piece_and, pieces_of, listed, form, all_taken}
 use Rattle.isl_derived.specs.Asked.{list_items}
 use Rattle.isl_derived.specs.Patterns.{a_datum, inside, others, Patterns, patterns, Parts, joined, opened, fit, fit_all}
@@ -12,7 +13,7 @@ use Rattle.isl_derived.specs.Quotation.{template}
 use Rattle.isl_derived.specs.Table.{Row, row, true_symbol, table, is_derived, conditional_rows, binding_rows, case_rows, case_using_rows, loop_rows, place_rows, function_rows, condition_rows, class_rows, quotation_rows}
 use Rattle.isl_derived.specs.Derived.{row_right, derivation}
 use Rattle.isl_derived.specs.Ends.{piece_weight, pieces_weight, IfDerived, AllFurther, AllFurtherIn}
-use Rattle.isl_derived.proofs.Parts.{AllOf, AllOfSome, GoesDown, OfParts, of_list, items_too, part_too, fit_all_too}
+use Rattle.isl_derived.proofs.Parts.{AllOfSome, GoesDown, OfParts, items_too, part_too, fit_all_too}
 use Rattle.isl_derived.proofs.Quotations.{AllIn, Keeps, template_kept}
 use Rattle.isl_derived.proofs.Names.{free_front, front_free, both_true, PlainWord, setter_named}
 use Rattle.isl_derived.proofs.Writing.{Each, each_both, repeated_each}

@@ -1,19 +1,21 @@
 -- What a step keeps: its result is in form, its names are in the table, and a later table changes nothing.
-use Rattle.std.specs.Prelude.{◌≡◌, ℕ, zero, suc, ◌+◌, ◌<◌, ◌≤◌, List, [], ◌∷◌, ◌++◌, length, Some, slice_get, refl}
-use Rattle.std.proofs.Common.{arith, ap, ◌∙◌, sym, subst, length-append}
+use Rattle.std.specs.Prelude.{◌≡◌, ℕ, zero, suc, ◌+◌, ◌<◌, List, [], ◌∷◌, ◌++◌, length, Some, slice_get, refl}
+use Rattle.std.proofs.Common.{arith, ◌∙◌, sym, subst}
 use Rattle.isl_base.specs.declared.place.Place.{Place}
 use Rattle.isl_base.specs.declared.datum.Symbol.{Symbol}
 use Rattle.isl_base.specs.declared.datum.Symbol.TheVariants.{Named, Fresh}
 use Rattle.isl_base.specs.Names.{Extends}
-use Rattle.isl_base.specs.Data.{Item, item, Content, integer, character, symbol, string, vector, nil, list, Items, no_item, item_and, Tail, no_tail, dotted, place_of}
-use Rattle.isl_base.specs.DataMeasures.{Formed, AllFormed, FormedTail, NamesBelow, NamesBelowInside, AllNamesBelow, NamesBelowTail, SymbolBelow}
+use Rattle.isl_base.specs.Data.{Item, item, symbol, Items, no_item, item_and, place_of}
+use Rattle.isl_base.specs.DataMeasures.{Formed, AllFormed, NamesBelow, AllNamesBelow}
+use Rattle.isl_base.specs.DataNames.{names_stay, text_same}
+use Rattle.isl_base.specs.DataParts.{AllItems}
+use Rattle.isl_base.specs.GoodData.{formed_parts, below_parts}
 use Rattle.isl_derived.specs.Pieces.{Piece, word, made, taken, parens, Pieces, no_piece, piece_and, Right, in_parens, Builds, BuildsAll}
-use Rattle.isl_derived.specs.Asked.{text_of}
 use Rattle.isl_derived.specs.Derived.{becomes, derivation, Derives, new_symbols}
 use Rattle.isl_derived.specs.declared.one_step.Step.TheVariants.{Derived}
 use Rattle.isl_derived.specs.Steps.{IsStep, IsWhole}
-use Rattle.isl_derived.specs.Ends.{AllItems, OfDotted, AllFurther, AllFurtherIn}
-use Rattle.isl_derived.proofs.Parts.{GoesDown}
+use Rattle.isl_derived.specs.Ends.{AllFurther, AllFurtherIn}
+use Rattle.isl_derived.proofs.Parts.{GoesDown, goes_down}
 use Rattle.isl_derived.proofs.Derivations.{OfDerivation}
 use Rattle.isl_derived.proofs.Further.{arguments_too, derivation_further}
 use Rattle.isl_derived.proofs.Same.{derivation_same}
@@ -62,28 +64,13 @@ step_too P down names up d s e s2 h x =
 
 -- data in form
 
-all_formed : (ds : Items) → AllFormed ds → AllItems Formed ds
-unfolding Formed
-all_formed no_item h = tt
-all_formed (item_and d ds) h = (h.0, all_formed ds h.1)
-
 formed_all : (ds : Items) → AllItems Formed ds → AllFormed ds
 unfolding Formed
 formed_all no_item h = tt
 formed_all (item_and d ds) h = (h.0, formed_all ds h.1)
 
-formed_tail : (t : Tail) → FormedTail t → OfDotted Formed t
-unfolding Formed
-formed_tail no_tail h = tt
-formed_tail (dotted (item p c)) h = h.1
-
 formed_down : GoesDown Formed
-unfolding Formed
-formed_down = record {
-  of_items = λ p ds t h. all_formed ds h.1;
-  of_tail = λ p ds t h. formed_tail t h.2;
-  of_vector = λ p ds h. all_formed ds h;
-}
+formed_down = goes_down Formed formed_parts
 
 formed_over : (p : Place) (ds : Items) → AllItems Formed ds → Formed (item p (in_parens ds))
 unfolding Formed
@@ -99,28 +86,13 @@ step_formed names d s e s2 h x = step_too Formed formed_down names (formed_up (l
 
 -- names of the table
 
-all_below : (n : ℕ) (ds : Items) → AllNamesBelow n ds → AllItems (NamesBelow n) ds
-unfolding NamesBelow
-all_below n no_item h = tt
-all_below n (item_and d ds) h = (h.0, all_below n ds h.1)
-
 below_all : (n : ℕ) (ds : Items) → AllItems (NamesBelow n) ds → AllNamesBelow n ds
 unfolding NamesBelow
 below_all n no_item h = tt
 below_all n (item_and d ds) h = (h.0, below_all n ds h.1)
 
-tail_below : (n : ℕ) (t : Tail) → NamesBelowTail n t → OfDotted (NamesBelow n) t
-unfolding NamesBelow
-tail_below n no_tail h = tt
-tail_below n (dotted d) h = h
-
 below_down : (n : ℕ) → GoesDown (NamesBelow n)
-unfolding NamesBelow
-below_down n = record {
-  of_items = λ p ds t h. all_below n ds h.0;
-  of_tail = λ p ds t h. tail_below n t h.1;
-  of_vector = λ p ds h. all_below n ds h;
-}
+below_down n = goes_down (NamesBelow n) (below_parts n)
 
 below_over : (n : ℕ) (p : Place) (ds : Items) → AllItems (NamesBelow n) ds → NamesBelow n (item p (in_parens ds))
 unfolding NamesBelow
@@ -131,33 +103,6 @@ below_up : (n : ℕ) → GoesUp n (NamesBelow n)
 unfolding NamesBelow
 below_up n = record { over_name = λ p k h. h; over_fresh = λ p i. tt; over_items = below_over n }
 
-symbol_later : (n m : ℕ) (s : Symbol) → n ≤ m → SymbolBelow n s → SymbolBelow m s
-symbol_later n m (Named name) e h = omega arith
-symbol_later n m (Fresh expansion serial) e h = tt
-
-mutual
-  unfolding NamesBelow
-
-  pub below_later : (n m : ℕ) (d : Item) → n ≤ m → NamesBelow n d → NamesBelow m d
-  below_later n m (item p c) e h = inside_later n m c e h
-
-  inside_later : (n m : ℕ) (c : Content) → n ≤ m → NamesBelowInside n c → NamesBelowInside m c
-  inside_later n m (integer z) e h = tt
-  inside_later n m (character z) e h = tt
-  inside_later n m (symbol s) e h = symbol_later n m s e h
-  inside_later n m (string bytes) e h = tt
-  inside_later n m (vector ds) e h = items_later n m ds e h
-  inside_later n m nil e h = tt
-  inside_later n m (list ds t) e h = (items_later n m ds e h.0, tail_later n m t e h.1)
-
-  items_later : (n m : ℕ) (ds : Items) → n ≤ m → AllNamesBelow n ds → AllNamesBelow m ds
-  items_later n m no_item e h = tt
-  items_later n m (item_and d ds) e h = (below_later n m d e h.0, items_later n m ds e h.1)
-
-  tail_later : (n m : ℕ) (t : Tail) → n ≤ m → NamesBelowTail n t → NamesBelowTail m t
-  tail_later n m no_tail e h = tt
-  tail_later n m (dotted d) e h = below_later n m d e h
-
 pub step_named : (names : List (List ℕ)) (d : Item) (s : ℕ) (e : Item) (s2 : ℕ) → NamesBelow (length names) d → Derives names d s e s2
     → NamesBelow (length names) e
 step_named names d s e s2 h x =
@@ -165,30 +110,11 @@ step_named names d s e s2 h x =
 
 -- a later table
 
-front_get : {X : Type 0} (xs ys : List X) (i : ℕ) → i < length xs → slice_get xs i ≡ slice_get (xs ++ ys) i
-front_get [] ys i h = absurd (omega arith)
-front_get (x ∷ xs) ys zero h = refl
-front_get (x ∷ xs) ys (suc i) h = front_get xs ys i (omega arith)
-
-pub text_same : (old new : List (List ℕ)) → Extends old new → (d : Item) → NamesBelow (length old) d → text_of old d ≡ text_of new d
-unfolding NamesBelow
-text_same old new e (item p (integer n)) h = refl
-text_same old new e (item p (character c)) h = refl
-text_same old new e (item p (symbol (Named name))) h = front_get old e.added name.0 h ∙ ap (λ (names : List (List ℕ)). slice_get names name.0) (sym e.begins)
-text_same old new e (item p (symbol (Fresh expansion serial))) h = refl
-text_same old new e (item p (string bytes)) h = refl
-text_same old new e (item p (vector ds)) h = refl
-text_same old new e (item p nil) h = refl
-text_same old new e (item p (list ds t)) h = refl
-
 -- what the table says of a datum stays under a later table of names
 pub derivation_later : (old new : List (List ℕ)) (s : ℕ) (d : Item) → Extends old new → NamesBelow (length old) d
     → derivation old s d ≡ derivation new s d
 derivation_later old new s d e h =
     derivation_same old new (NamesBelow (length old)) (record { down = below_down (length old); same = text_same old new e }) s d h
-
-pub length_later : (old new : List (List ℕ)) → Extends old new → length old ≤ length new
-length_later old new e = rw e.begins (omega (arith, length-append old e.added))
 
 -- a step that is taken, under the names that there are afterwards
 pub step_taken : (old new : List (List ℕ)) (d e : Item) (p : Place) (fresh after : List Symbol) (r : Right)
@@ -214,5 +140,5 @@ pub step_whole : (old new : List (List ℕ)) (d e : Item) (fresh after : List Sy
     → IsStep new d fresh (Derived e) after → IsWhole (length new) (Derived e)
 step_whole old new d e fresh after later formed below h = (
   step_formed new d (length fresh) e (length fresh + h.0) formed h.1.0,
-  step_named new d (length fresh) e (length fresh + h.0) (below_later (length old) (length new) d (length_later old new later) below) h.1.0,
+  step_named new d (length fresh) e (length fresh + h.0) (names_stay old new d later below) h.1.0,
 )

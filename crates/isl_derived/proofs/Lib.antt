@@ -14,3 +14,5 @@ pub mod Same
 pub mod Kept
 pub mod OneStep
 pub mod Ends
+pub mod Ranks
+pub mod Stays

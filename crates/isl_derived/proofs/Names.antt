@@ -3,8 +3,9 @@ use Rattle.std.specs.Prelude.{◌≡◌, ℕ, ◌+◌, nat_le, Bool, true, false
 use Rattle.std.specs.Str.{bytes_eq}
 use Rattle.std.proofs.Common.{ap, ◌∙◌}
 use Rattle.isl_base.specs.Data.{Item}
+use Rattle.isl_base.specs.DataNames.{text_of}
 use Rattle.isl_derived.specs.Pieces.{Piece, word, made, taken, parens, pieces_of, all_taken}
-use Rattle.isl_derived.specs.Asked.{text_of, setter, setf_text}
+use Rattle.isl_derived.specs.Asked.{setter, setf_text}
 use Rattle.isl_derived.specs.Patterns.{Patterns, Parts, fit_all}
 use Rattle.isl_derived.specs.RightSides.{Template, datum, all_of, the_setter, the_quotation, the_symbol, new_symbol, new_behind, own_symbol, group, for_each, Templates, no_template, template_and, part_of, of_first, word_or_none, setter_piece, before_others, repeated, write, write_all}
 use Rattle.isl_derived.specs.Table.{table, is_derived, conditional_rows, binding_rows, case_rows, case_using_rows, loop_rows, place_rows, function_rows, condition_rows, class_rows, quotation_rows}

@@ -1,16 +1,11 @@
 -- What holds of the data behind a name holds of the parts that a left side takes them apart into.
 use Rattle.std.specs.Prelude.{ℕ, zero, suc, ◌-◌, Bool, true, false, List, [], ◌∷◌, ◌++◌, length, take, drop, Option, Some, None}
 use Rattle.isl_base.specs.declared.place.Place.{Place}
-use Rattle.isl_base.specs.Data.{Item, item, integer, character, symbol, string, vector, nil, list, Items, no_item, item_and, items_list, Tail, no_tail, dotted}
+use Rattle.isl_base.specs.Data.{Item, item, integer, character, symbol, string, vector, nil, list, Items, Tail, no_tail, dotted}
+use Rattle.isl_base.specs.DataParts.{AllItems, OfDotted, AllParts, AllOf, of_list, all_take, all_drop}
 use Rattle.isl_derived.specs.Asked.{is_symbol, is_word, list_items}
 use Rattle.isl_derived.specs.Patterns.{Pattern, a_datum, a_symbol, the_word, an_operator, inside, others, one_at_most, each_fits, Patterns, no_pattern, pattern_and, pattern_count, taken_by, Parts, part_if, nothing_if, one_datum, is_none, is_some, all_data, has_setter, joined, opened, of_one, fit, fit_all}
 use Rattle.isl_derived.specs.RightSides.{part_of}
-use Rattle.isl_derived.specs.Ends.{AllItems, OfDotted}
-
--- it holds of each
-abbrev pub AllOf : (Item → Type 0) → List Item → Type 0
-AllOf P [] = Unit {0}
-AllOf P (d ∷ ds) = P d × AllOf P ds
 
 abbrev pub AllOfSome : (Item → Type 0) → Option (List Item) → Type 0
 AllOfSome P None = Unit {0}
@@ -22,6 +17,13 @@ pub record GoesDown (P : Item → Type 0) : Type 0 where
   pub of_tail : (p : Place) (ds : Items) (t : Tail) → P (item p (list ds t)) → OfDotted P t
   pub of_vector : (p : Place) (ds : Items) → P (item p (vector ds)) → AllItems P ds
 
+pub goes_down : (P : Item → Type 0) → ((d : Item) → P d → AllParts P d) → GoesDown P
+goes_down P f = record {
+  of_items = λ p ds t h. (f (item p (list ds t)) h).0;
+  of_tail = λ p ds t h. (f (item p (list ds t)) h).1;
+  of_vector = λ p ds h. f (item p (vector ds)) h;
+}
+
 -- it holds of the data of each part
 abbrev pub OfParts : (Item → Type 0) → Parts → Type 0
 OfParts P [] = Unit {0}
@@ -30,10 +32,6 @@ OfParts P (ds ∷ parts) = AllOf P ds × OfParts P parts
 abbrev pub OfPartsSome : (Item → Type 0) → Option Parts → Type 0
 OfPartsSome P None = Unit {0}
 OfPartsSome P (Some parts) = OfParts P parts
-
-pub of_list : (P : Item → Type 0) (ds : Items) → AllItems P ds → AllOf P (items_list ds)
-of_list P no_item h = tt
-of_list P (item_and d ds) h = (h.0, of_list P ds h.1)
 
 pub items_too : (P : Item → Type 0) → GoesDown P → (d : Item) → P d → AllOfSome P (list_items d)
 items_too P g (item p (integer n)) h = tt
@@ -44,16 +42,6 @@ items_too P g (item p (vector ds)) h = tt
 items_too P g (item p nil) h = tt
 items_too P g (item p (list ds no_tail)) h = of_list P ds (g.of_items p ds no_tail h)
 items_too P g (item p (list ds (dotted d))) h = tt
-
-pub take_too : (P : Item → Type 0) (n : ℕ) (ds : List Item) → AllOf P ds → AllOf P (take n ds)
-take_too P zero ds h = tt
-take_too P (suc n) [] h = tt
-take_too P (suc n) (d ∷ ds) h = (h.0, take_too P n ds h.1)
-
-pub drop_too : (P : Item → Type 0) (n : ℕ) (ds : List Item) → AllOf P ds → AllOf P (drop n ds)
-drop_too P zero ds h = h
-drop_too P (suc n) [] h = tt
-drop_too P (suc n) (d ∷ ds) h = drop_too P n ds h.1
 
 both_parts : (P : Item → Type 0) (xs ys : Parts) → OfParts P xs → OfParts P ys → OfParts P (xs ++ ys)
 both_parts P [] ys g h = h
@@ -101,7 +89,7 @@ mutual
   fit_all_too P g names (pattern_and x xs) ds h =
       let n : ℕ = taken_by x (length ds - pattern_count xs) in
       joined_too P (fit names x (take n ds)) (fit_all names xs (drop n ds))
-      (fit_too P g names x (take n ds) (take_too P n ds h)) (fit_all_too P g names xs (drop n ds) (drop_too P n ds h))
+      (fit_too P g names x (take n ds) (all_take P n ds h)) (fit_all_too P g names xs (drop n ds) (all_drop P n ds h))
 
 -- the data of a variable
 pub part_too : (P : Item → Type 0) (parts : Parts) (i : ℕ) → OfParts P parts → AllOf P (part_of parts i)

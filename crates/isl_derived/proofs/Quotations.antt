@@ -2,10 +2,10 @@
 use Rattle.std.specs.Prelude.{ℕ, zero, suc, ◌+◌, Bool, true, false, List, [], ◌∷◌, if◌then◌else◌, codes}
 use Rattle.isl_base.specs.declared.place.Place.{Place}
 use Rattle.isl_base.specs.Data.{Item, item, Content, integer, character, symbol, string, vector, nil, list, Items, no_item, item_and, Tail, no_tail, dotted}
+use Rattle.isl_base.specs.DataParts.{AllItems, OfDotted}
 use Rattle.isl_derived.specs.Pieces.{Piece, taken, Pieces, no_piece, piece_and, listed, form}
 use Rattle.isl_derived.specs.Asked.{is_word}
 use Rattle.isl_derived.specs.Quotation.{template, template_of, tail_part, template_list, unquoted, spliced, part, parts, kept_prefix, one_piece, appended}
-use Rattle.isl_derived.specs.Ends.{AllItems, OfDotted}
 use Rattle.isl_derived.proofs.Parts.{GoesDown}
 
 -- it holds of each part

@@ -4,15 +4,16 @@ use Rattle.std.specs.Str.{bytes_eq}
 use Rattle.std.proofs.Common.{ap, ◌∙◌}
 use Rattle.isl_base.specs.declared.place.Place.{Place}
 use Rattle.isl_base.specs.Data.{Item, item, Content, integer, character, symbol, string, vector, nil, list, Items, no_item, item_and, items_list, Tail, no_tail, dotted}
+use Rattle.isl_base.specs.DataNames.{text_of}
+use Rattle.isl_base.specs.DataParts.{AllItems, AllOf, OfDotted, all_drop, all_take, of_list}
 use Rattle.isl_derived.specs.Pieces.{Piece, Pieces, no_piece, piece_and, listed, form, Right}
-use Rattle.isl_derived.specs.Asked.{is_word, is_text, text_of, list_items, setter}
+use Rattle.isl_derived.specs.Asked.{is_word, is_text, list_items, setter}
 use Rattle.isl_derived.specs.Patterns.{Pattern, a_datum, a_symbol, the_word, an_operator, inside, others, one_at_most, each_fits, Patterns, no_pattern, pattern_and, pattern_count, taken_by, Parts, part_if, nothing_if, one_datum, is_some, all_data, has_setter, joined, opened, of_one, fit, fit_all}
 use Rattle.isl_derived.specs.RightSides.{Template, datum, all_of, the_setter, the_quotation, the_symbol, new_symbol, new_behind, own_symbol, group, for_each, Templates, no_template, template_and, part_of, of_first, word_or_none, setter_piece, before_others, repeated, write, write_all}
 use Rattle.isl_derived.specs.Quotation.{template, template_of, tail_part, template_list, unquoted, spliced, part, parts, kept_prefix, one_piece, appended}
 use Rattle.isl_derived.specs.Table.{Row, table, is_derived}
 use Rattle.isl_derived.specs.Derived.{right_of, row_right, or_else, first_right, table_right, Derivation, plain, judged, by_table, by_name, list_derivation, derivation}
-use Rattle.isl_derived.specs.Ends.{AllItems, OfDotted}
-use Rattle.isl_derived.proofs.Parts.{AllOf, AllOfSome, GoesDown, OfParts, OfPartsSome, of_list, items_too, take_too, drop_too, part_too, fit_all_too}
+use Rattle.isl_derived.proofs.Parts.{AllOfSome, GoesDown, OfParts, OfPartsSome, items_too, part_too, fit_all_too}
 
 -- the two tables have the same name of each such datum
 pub record Alike (A B : List (List ℕ)) (P : Item → Type 0) : Type 0 where
@@ -185,7 +186,7 @@ module _ (A B : List (List ℕ)) (P : Item → Type 0) (a : Alike A B P) where
     fit_all_same (pattern_and x xs) ds h =
         let n : ℕ = taken_by x (length ds - pattern_count xs) in
         both_joined (fit A x (take n ds)) (fit B x (take n ds)) (fit_all A xs (drop n ds)) (fit_all B xs (drop n ds))
-        (fit_same x (take n ds) (take_too P n ds h)) (fit_all_same xs (drop n ds) (drop_too P n ds h))
+        (fit_same x (take n ds) (all_take P n ds h)) (fit_all_same xs (drop n ds) (all_drop P n ds h))
 
   -- right sides
 

@@ -5,15 +5,15 @@ use Rattle.std.proofs.Common.{ap, ◌∙◌, subst, sym}
 use Rattle.isl_base.specs.declared.place.Place.{Place}
 use Rattle.isl_base.specs.declared.datum.Symbol.TheVariants.{Named}
 use Rattle.isl_base.specs.Data.{Item, item, integer, character, symbol, string, vector, nil, list, Items, no_item, item_and, items_list, Tail, no_tail, dotted}
+use Rattle.isl_base.specs.DataParts.{AllItems, AllOf, OfDotted}
 use Rattle.isl_derived.specs.Pieces.{Piece, word, taken, parens, Pieces, no_piece, piece_and, pieces_of, all_taken, Right, in_parens, Builds}
 use Rattle.isl_derived.specs.Patterns.{Parts, fit_all}
 use Rattle.isl_derived.specs.RightSides.{Template, datum, all_of, the_setter, the_quotation, the_symbol, new_symbol, new_behind, own_symbol, group, for_each, Templates, no_template, template_and, part_of, of_first, setter_piece, write, write_all}
 use Rattle.isl_derived.specs.Quotation.{template}
 use Rattle.isl_derived.specs.Table.{Row, table, is_derived, conditional_rows, binding_rows, case_rows, case_using_rows, loop_rows, place_rows, function_rows, condition_rows, class_rows, quotation_rows}
 use Rattle.isl_derived.specs.Derived.{plain, becomes, by_name, by_table, derivation}
-use Rattle.isl_derived.specs.Ends.{AllItems, OfDotted}
 use Rattle.isl_derived.specs.FormPlaces.{Role, no_form, a_form, a_list, Shape, no_part, each, first, shape_of, StandsAs, StandsNamed, StandBy}
-use Rattle.isl_derived.proofs.Parts.{AllOf, GoesDown, fit_all_too}
+use Rattle.isl_derived.proofs.Parts.{GoesDown, fit_all_too}
 use Rattle.isl_derived.proofs.Quotations.{AllIn, Keeps, template_kept}
 use Rattle.isl_derived.proofs.Names.{both_true, PlainWord, setter_named}
 use Rattle.isl_derived.proofs.Writing.{Each, repeated_each}

@@ -1,10 +1,11 @@
 -- What holds of each part that a right side writes.
 use Rattle.std.specs.Prelude.{ℕ, ◌+◌, List, [], ◌∷◌, ◌++◌, Option, Some, None}
 use Rattle.isl_base.specs.Data.{Item}
+use Rattle.isl_base.specs.DataParts.{AllOf}
 use Rattle.isl_derived.specs.Pieces.{Piece}
 use Rattle.isl_derived.specs.Patterns.{Patterns, Parts, fit_all}
 use Rattle.isl_derived.specs.RightSides.{before_others, repeated}
-use Rattle.isl_derived.proofs.Parts.{AllOf, GoesDown, OfParts, OfPartsSome, fit_all_too}
+use Rattle.isl_derived.proofs.Parts.{GoesDown, OfParts, OfPartsSome, fit_all_too}
 
 abbrev pub Each : (Piece → Type 0) → List Piece → Type 0
 Each Q [] = Unit {0}

@@ -1,28 +1,9 @@
 -- What a row of the table asks of a datum: whether it is a symbol, its name, the items of a list, and the function that
 -- sets the place of an operator.
-use Rattle.std.specs.Prelude.{ℕ, nat_le, Bool, true, false, List, [], ◌++◌, length, Option, Some, None, slice_get, if◌then◌else◌, codes}
+use Rattle.std.specs.Prelude.{ℕ, nat_le, Bool, true, false, List, [], ◌++◌, length, Option, Some, None, if◌then◌else◌, codes}
 use Rattle.std.specs.Str.{bytes_eq}
-use Rattle.isl_base.specs.declared.datum.Symbol.{Symbol}
-use Rattle.isl_base.specs.declared.datum.Symbol.TheVariants.{Named, Fresh}
 use Rattle.isl_base.specs.Data.{Item, item, Content, integer, character, symbol, string, vector, nil, list, items_list, no_tail, dotted}
-
--- the name of a symbol, where a text names it
-abbrev pub symbol_text : List (List ℕ) → Symbol → Option (List ℕ)
-symbol_text names (Named name) = slice_get names name.0
-symbol_text names (Fresh expansion serial) = None
-
--- the text of a datum that is a symbol with a name
-abbrev pub content_text : List (List ℕ) → Content → Option (List ℕ)
-content_text names (symbol s) = symbol_text names s
-content_text names (integer n) = None
-content_text names (character c) = None
-content_text names (string bytes) = None
-content_text names (vector ds) = None
-content_text names nil = None
-content_text names (list ds t) = None
-
-abbrev pub text_of : List (List ℕ) → Item → Option (List ℕ)
-text_of names (item p c) = content_text names c
+use Rattle.isl_base.specs.DataNames.{text_of}
 
 abbrev pub is_text : List ℕ → Option (List ℕ) → Bool
 is_text text None = false

@@ -5,8 +5,8 @@ use Rattle.std.specs.Str.{bytes_eq}
 use Rattle.isl_base.specs.declared.datum.Symbol.{Symbol}
 use Rattle.isl_base.specs.declared.datum.Symbol.TheVariants.{Fresh}
 use Rattle.isl_base.specs.Data.{Item, item, Content, integer, character, symbol, string, vector, nil, list, items_list, Tail, no_tail, dotted, place_of}
+use Rattle.isl_base.specs.DataNames.{text_of}
 use Rattle.isl_derived.specs.Pieces.{Piece, Right, Builds}
-use Rattle.isl_derived.specs.Asked.{text_of}
 use Rattle.isl_derived.specs.Patterns.{Parts, fit_all}
 use Rattle.isl_derived.specs.RightSides.{write_all}
 use Rattle.isl_derived.specs.Table.{Row, table, is_derived}

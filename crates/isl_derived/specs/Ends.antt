@@ -1,8 +1,9 @@
 -- Steps of derived forms end: what a step leaves to be derived is smaller than the form that it was made of.
 use Rattle.std.specs.Prelude.{◌≡◌, ◌≢◌, ℕ, ◌+◌, Bool, true, false, List}
 use Rattle.isl_base.specs.declared.place.Place.{Place}
-use Rattle.isl_base.specs.Data.{Item, item, Content, integer, character, symbol, string, vector, nil, list, Items, no_item, item_and, Tail, no_tail, dotted}
+use Rattle.isl_base.specs.Data.{Item}
 use Rattle.isl_base.specs.DataMeasures.{size_of}
+use Rattle.isl_base.specs.DataParts.{AllParts}
 use Rattle.isl_derived.specs.Pieces.{Piece, word, made, taken, parens, Pieces, no_piece, piece_and, Right, Builds}
 use Rattle.isl_derived.specs.Table.{is_derived}
 use Rattle.isl_derived.specs.Derived.{becomes, derivation}
@@ -44,29 +45,6 @@ abbrev mutual
   pub AllFurtherIn : (Piece → Type 0) → Pieces → Type 0
   AllFurtherIn P no_piece = Unit {0}
   AllFurtherIn P (piece_and x xs) = AllFurther P x × AllFurtherIn P xs
-
--- it holds of each item
-abbrev pub AllItems : (Item → Type 0) → Items → Type 0
-AllItems P no_item = Unit {0}
-AllItems P (item_and d ds) = P d × AllItems P ds
-
--- it holds of what stands behind the dot
-abbrev pub OfDotted : (Item → Type 0) → Tail → Type 0
-OfDotted P no_tail = Unit {0}
-OfDotted P (dotted d) = P d
-
--- it holds of each part of a datum: the items of a list or a vector, and what stands behind the dot
-abbrev pub AllPartsInside : (Item → Type 0) → Content → Type 0
-AllPartsInside P (integer n) = Unit {0}
-AllPartsInside P (character c) = Unit {0}
-AllPartsInside P (symbol s) = Unit {0}
-AllPartsInside P (string bytes) = Unit {0}
-AllPartsInside P (vector ds) = AllItems P ds
-AllPartsInside P nil = Unit {0}
-AllPartsInside P (list ds t) = AllItems P ds × OfDotted P t
-
-abbrev pub AllParts : (Item → Type 0) → Item → Type 0
-AllParts P (item p c) = AllPartsInside P c
 
 -- `Leaves d e`: e is built of some part that may be derived again after a step of d, under some table of
 -- names, or e is a part of d. "Some" is said as "not all are something else".

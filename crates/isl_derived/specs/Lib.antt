@@ -12,4 +12,5 @@ pub mod Fronts
 pub mod Shown
 pub mod Setters
 pub mod Templates
+pub mod Ranks
 pub mod Steps

@@ -1,7 +1,8 @@
 -- The left sides of rows: which data may stand behind a derived name, and what they are called on the right side.
 use Rattle.std.specs.Prelude.{ℕ, ◌+◌, ◌-◌, min, Bool, true, false, List, [], ◌∷◌, ◌++◌, length, take, drop, Option, Some, None, if◌then◌else◌}
 use Rattle.isl_base.specs.Data.{Item}
-use Rattle.isl_derived.specs.Asked.{is_word, is_symbol, list_items, text_of, setter}
+use Rattle.isl_base.specs.DataNames.{text_of}
+use Rattle.isl_derived.specs.Asked.{is_word, is_symbol, list_items, setter}
 
 mutual
   -- what may stand at a place of a form: a datum x; a symbol; the symbol of a text; an operator whose place can be set;

@@ -1,8 +1,9 @@
 -- The right sides of rows as they stand in the table, and the parts that a step makes of them.
 use Rattle.std.specs.Prelude.{ℕ, ◌+◌, List, [], ◌∷◌, ◌++◌, length, Option, Some, None, slice_get}
 use Rattle.isl_base.specs.Data.{Item}
+use Rattle.isl_base.specs.DataNames.{text_of}
 use Rattle.isl_derived.specs.Pieces.{Piece, word, made, taken, listed, all_taken}
-use Rattle.isl_derived.specs.Asked.{text_of, setter}
+use Rattle.isl_derived.specs.Asked.{setter}
 use Rattle.isl_derived.specs.Patterns.{Patterns, Parts, fit_all}
 use Rattle.isl_derived.specs.Quotation.{template}
 

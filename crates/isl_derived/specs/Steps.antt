@@ -1,12 +1,14 @@
 -- What a call of `derive` has done.
-use Rattle.std.specs.Prelude.{◌≡◌, ℕ, ◌+◌, List, ◌++◌, length}
+use Rattle.std.specs.Prelude.{◌≡◌, ℕ, ◌+◌, ◌<◌, List, ◌++◌, length}
 use Rattle.isl_base.specs.declared.datum.Symbol.{Symbol}
 use Rattle.isl_base.specs.declared.reason.Reason.TheVariants.{BadShape}
 use Rattle.isl_base.specs.declared.reason.Stop.{Stop}
 use Rattle.isl_base.specs.declared.reason.Stop.TheVariants.{Refused, NoMemory}
 use Rattle.isl_base.specs.Data.{Item, place_of}
 use Rattle.isl_base.specs.DataMeasures.{Formed, NamesBelow}
+use Rattle.isl_base.specs.Names.{Extends}
 use Rattle.isl_derived.specs.Derived.{Derivation, plain, unfit, becomes, derivation, Derives, new_symbols}
+use Rattle.isl_derived.specs.Ranks.{rank}
 use Rattle.isl_derived.specs.declared.one_step.Derivation.{Derivation as Found}
 use Rattle.isl_derived.specs.declared.one_step.Derivation.TheVariants.{Plain as found_plain, Unfit, Becomes}
 use Rattle.isl_derived.specs.declared.one_step.Step.{Step}
@@ -30,6 +32,18 @@ abbrev pub IsStop : List (List ℕ) → Item → ℕ → Stop → Type 0
 IsStop names d s (Refused refusal) =
     (derivation names s d ≡ unfit) × (refusal ≡ record { place = place_of d; reason = BadShape })
 IsStop names d s NoMemory = Unit {0}
+
+-- the same under this table of names and every later one
+pub record StepStays (names : List (List ℕ)) (d : Item) (fresh : List Symbol) (step : Step) (after : List Symbol) : Type 0 where
+  pub under : (later : List (List ℕ)) → Extends names later → IsStep later d fresh step after
+
+pub record StopStays (names : List (List ℕ)) (d : Item) (s : ℕ) (stop : Stop) : Type 0 where
+  pub under : (later : List (List ℕ)) → Extends names later → IsStop later d s stop
+
+-- the datum that is given has a smaller rank
+abbrev pub RankFalls : List (List ℕ) → ℕ → Step → Type 0
+RankFalls names n Plain = Unit {0}
+RankFalls names n (Derived d) = rank names d < n
 
 -- a datum that is given is in form, and its names are below that number
 abbrev pub IsWhole : ℕ → Step → Type 0

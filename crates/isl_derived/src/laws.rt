@@ -1,14 +1,20 @@
 // Laws of the table of derived forms, for all forms.
 
-ghost use Rattle.std.specs.Prelude.{◌≡◌, ℕ, ◌+◌, ◌<◌, List, length, false};
+ghost use Rattle.std.specs.Prelude.{◌≡◌, ℕ, ◌+◌, ◌<◌, ◌↔◌, List, length, false};
 ghost use Rattle.isl_base.specs.declared.place.Place.{Place};
+ghost use Rattle.isl_base.specs.declared.datum.Symbol.{Symbol};
+ghost use Rattle.isl_base.specs.declared.reason.Stop.{Stop};
+ghost use Rattle.isl_derived.specs.declared.one_step.Step.{Step};
 ghost use Rattle.isl_base.specs.Data.{Item};
 ghost use Rattle.isl_base.specs.DataMeasures.{NamesBelow, size_of};
 ghost use Rattle.isl_base.specs.Names.{IsTable, Extends};
+ghost use Rattle.isl_base.specs.DataParts.{AllParts};
 ghost use Rattle.isl_derived.specs.Table.{is_derived};
 ghost use Rattle.isl_derived.specs.Derived.{Derives, plain, becomes, derivation};
-ghost use Rattle.isl_derived.specs.Ends.{AllFurther, AllParts, Leaves, piece_weight};
+ghost use Rattle.isl_derived.specs.Ends.{AllFurther, Leaves, piece_weight};
 ghost use Rattle.isl_derived.specs.Pieces.{Builds, Piece, word, parens, Pieces, piece_and, Right};
+ghost use Rattle.isl_derived.specs.Ranks.{rank};
+ghost use Rattle.isl_derived.specs.Steps.{IsStep, IsStop};
 ghost use Rattle.isl_derived.specs.FormPlaces.{a_form, StandsAs};
 
 /// A datum fits at most one row, and the step is one datum with one number of new symbols.
@@ -48,4 +54,23 @@ pub fn law_steps_end()
         StandsAs a_form r.piece }
     ensures others { (names : List (List ℕ)) (s : ℕ) (p : Place) (text : List ℕ) (xs : Pieces) (d : Item) →
         is_derived text ≡ false → Builds names p (parens (piece_and (word text) xs)) d → derivation names s d ≡ plain }
+{}
+
+/// One step as `derive` takes it: the step and the stop stay under every later table of names, and a
+/// datum has one step.
+pub fn law_steps_stay()
+    ensures step { (old new : List (List ℕ)) (d : Item) (fresh : List Symbol) (step : Step) (after : List Symbol) → Extends old new →
+        NamesBelow (length old) d → IsStep old d fresh step after → IsStep new d fresh step after }
+    ensures stop { (old new : List (List ℕ)) (d : Item) (s : ℕ) (stop : Stop) → Extends old new →
+        NamesBelow (length old) d → IsStop old d s stop → IsStop new d s stop }
+    ensures one { (names : List (List ℕ)) (d : Item) (fresh : List Symbol) (x y : Step) (after after2 : List Symbol) → IsTable names →
+        IsStep names d fresh x after → IsStep names d fresh y after2 → (x ≡ y) × (after ≡ after2) }
+{}
+
+/// The rank is nothing exactly where a datum is no derived form; it falls at each step, and stays
+/// under every later table of names.
+pub fn law_ranks()
+    ensures none { (names : List (List ℕ)) (s : ℕ) (d : Item) → (derivation names s d ≡ plain) ↔ (rank names d ≡ 0) }
+    ensures falls { (names : List (List ℕ)) (d : Item) (s : ℕ) (d2 : Item) (s2 : ℕ) → Derives names d s d2 s2 → rank names d2 < rank names d }
+    ensures stays { (old new : List (List ℕ)) (d : Item) → Extends old new → NamesBelow (length old) d → rank old d ≡ rank new d }
 {}

@@ -9,7 +9,8 @@ ghost use Rattle.isl_derived.specs.Derived.{right_of, row_right, first_right, ta
 ghost use Rattle.isl_derived.specs.Patterns.{fit_all};
 ghost use Rattle.isl_derived.specs.model.PatternView.{view_patterns};
 ghost use Rattle.isl_derived.specs.model.TableView.{view_row, view_rows, view_groups};
-ghost use Rattle.isl_derived.specs.Steps.{shown, IsStep, IsStop, IsWhole};
+ghost use Rattle.isl_derived.specs.Ranks.{rank};
+ghost use Rattle.isl_derived.specs.Steps.{shown, IsStep, IsStop, StepStays, StopStays, RankFalls, IsWhole};
 
 use crate::build::build;
 use crate::pattern::{Parts, fit_all};
@@ -221,13 +222,8 @@ fn bad_shape(place: Place) -> Stop
     })
 }
 
-/// One step of a derived form, by the table of derived forms. `Plain` comes exactly where the datum
-/// is no list under a derived name. It is refused, by `BadShape` at its place, exactly where it is
-/// one and fits no row, or would need a name `(setf s)` that there is not. Else it becomes the right
-/// side of its row: what the step makes has the place of the form, and what it takes over keeps its
-/// own. The new symbols have the serials from the length of `fresh` on, and are appended to it; it is
-/// unchanged after a stop. Names may have been added, and those that were there keep their texts.
-pub fn derive(
+// The step, under the names that there are afterwards.
+fn step_of(
     alloc: Global,
     datum: &Datum,
     names: &mut Names,
@@ -255,4 +251,32 @@ pub fn derive(
             Ok(Step::Derived(derived))
         }
     }
+}
+
+/// One step of a derived form, by the table of derived forms. `Plain` comes exactly where the datum
+/// is no list under a derived name. It is refused, by `BadShape` at its place, exactly where it is
+/// one and fits no row, or would need a name `(setf s)` that there is not. Else it becomes the right
+/// side of its row: what the step makes has the place of the form, and what it takes over keeps its
+/// own. The new symbols have the serials from the length of `fresh` on, and are appended to it; it is
+/// unchanged after a stop. Names may have been added, and those that were there keep their texts. The step,
+/// or the stop, is the same under every later table of names, and what a step gives has a smaller
+/// rank than the datum.
+pub fn derive(
+    alloc: Global,
+    datum: &Datum,
+    names: &mut Names,
+    fresh: &mut FreshList,
+) -> Result<Step, Stop>
+    requires formed { Formed datum.now }
+    requires named { NamesBelow (length names.old) datum.now }
+    ensures step { IfOk result (λ step. IsStep names.new datum.now fresh.old step fresh.new) }
+    ensures stop { IfErr result (λ stop. IsStop names.new datum.now (length fresh.old) stop) }
+    ensures step_stays { IfOk result (λ step. StepStays names.new datum.now fresh.old step fresh.new) }
+    ensures stop_stays { IfErr result (λ stop. StopStays names.new datum.now (length fresh.old) stop) }
+    ensures falls { IfOk result (RankFalls names.new (rank names.old datum.now)) }
+    ensures whole { IfOk result (IsWhole (length names.new)) }
+    ensures fresh { OnErr result (fresh.new ≡ fresh.old) }
+    ensures names { Extends names.old names.new }
+{
+    step_of(alloc, datum, names, fresh)
 }

@@ -1,7 +1,8 @@
 // The functions that set the places of operators (ISO/IEC 13816:2007, 14.1).
 
 ghost use Rattle.std.specs.Prelude.{◌≡◌, ◌≤◌, length, Some, None, IfOk, IfSome, MatchOption};
-ghost use Rattle.isl_derived.specs.Asked.{text_of, setf_text, setter_of, setter};
+ghost use Rattle.isl_base.specs.DataNames.{text_of};
+ghost use Rattle.isl_derived.specs.Asked.{setf_text, setter_of, setter};
 ghost use Rattle.isl_derived.specs.Setters.{known_setter, setter_word};
 
 use crate::piece::{Piece, named, word};

@@ -1,7 +1,8 @@
 // What a row asks of a datum: whether it is a symbol, its name, and the items of a list.
 
 ghost use Rattle.std.specs.Prelude.{◌≡◌, Some, None, MatchOption};
-ghost use Rattle.isl_derived.specs.Asked.{symbol_text, text_of, is_word, is_symbol, list_items};
+ghost use Rattle.isl_base.specs.DataNames.{symbol_text, text_of};
+ghost use Rattle.isl_derived.specs.Asked.{is_word, is_symbol, list_items};
 
 use isl_base::{Datum, Kind, Names, Symbol};
 

@@ -1,16 +1,12 @@
--- The step is that of the table under the names that there are afterwards.
-use Rattle.std.proofs.Common.{rules}
-use Rattle.isl_derived.proofs.Kept.{step_taken, step_whole}
+-- What holds of the step holds under later tables too.
+use Rattle.isl_derived.proofs.Stays.{call_stays, call_stop_stays, call_falls}
 use Rattle.isl_derived.proofs.one_step.derive.Goals as goal
 
-pub returns-in_ok-derived-in-Becomes-clause-step : goal.returns-in_ok-derived-in-Becomes-clause-step
-returns-in_ok-derived-in-Becomes-clause-step c =
-    step_taken c.args.names.now _ c.args.datum.now _ _ c.args.fresh.now _ c.in-Becomes.right
-    c.in_ok-derived-in-Becomes.ensures.names c.requires.named (search rules) (search rules)
-    c.in_ok-derived-in-Becomes.ensures.builds c.in_ok-derived-in-Becomes.ensures.ok
+pub returns-clause-step_stays : goal.returns-clause-step_stays
+returns-clause-step_stays c = call_stays _ _ _ _ _ _ c.step_of.ensures.names c.requires.named c.step_of.ensures.step
 
-pub returns-in_ok-derived-in-Becomes-clause-whole : goal.returns-in_ok-derived-in-Becomes-clause-whole
-returns-in_ok-derived-in-Becomes-clause-whole c =
-    step_whole c.args.names.now _ c.args.datum.now _ c.args.fresh.now _
-    c.in_ok-derived-in-Becomes.ensures.names c.requires.formed c.requires.named
-    (returns-in_ok-derived-in-Becomes-clause-step c)
+pub returns-clause-stop_stays : goal.returns-clause-stop_stays
+returns-clause-stop_stays c = call_stop_stays _ _ _ _ _ c.step_of.ensures.names c.requires.named c.step_of.ensures.stop
+
+pub returns-clause-falls : goal.returns-clause-falls
+returns-clause-falls c = call_falls _ _ _ _ _ _ c.step_of.ensures.names c.requires.named c.step_of.ensures.step
