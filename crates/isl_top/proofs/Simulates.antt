@@ -185,7 +185,7 @@ integer_simulated program id p n small h = record {
   within = wider n small;
   units = 1;
   cost = 2;
-  means = literal_means program id p (datum.integer n) (integer n) (λ m. refl) h;
+  means = literal_means program id p (datum.integer n) (integer n) refl h;
   operand = subst (λ w. Operand (constant w) (integer_word n) 2) (sym (ap row_word h)) (constant_operand (integer_word n));
   cheap = omega arith;
   forward = omega arith;
@@ -200,7 +200,7 @@ module _ (program : ProgramRows) (site i j : ℕ) (p q : Place) (a b : ℤ) (x :
     within = sum_within a b x y;
     units = 5;
     cost = 6;
-    means = sited_means (two_mean Add (integer (a +ℤ b)) (literal_means program i p (datum.integer a) (integer a) (λ n. refl) h) (literal_means program j q (datum.integer b) (integer b) (λ n. refl) k) (λ z. rw (within_range (a +ℤ b) (sum_within a b x y)) refl));
+    means = sited_means (two_mean Add (integer (a +ℤ b)) (literal_means program i p (datum.integer a) (integer a) refl h) (literal_means program j q (datum.integer b) (integer b) refl k) (λ z. rw (within_range (a +ℤ b) (sum_within a b x y)) refl));
     operand =
         subst (λ v. Operand (between (constant v) move_12_from_10 (constant (row_word (slice_get program.literals j))) (add_12_and_10 ∷ [])) (integer_word (a +ℤ b)) 6) (sym (ap row_word h))
         (subst (λ w. Operand (between (constant (integer_word a)) move_12_from_10 (constant w) (add_12_and_10 ∷ [])) (integer_word (a +ℤ b)) 6) (sym (ap row_word k))
@@ -216,7 +216,7 @@ module _ (program : ProgramRows) (site i j : ℕ) (p q : Place) (a b : ℤ) (x :
     within = difference_within a b x y;
     units = 5;
     cost = 6;
-    means = sited_means (two_mean Subtract (integer (a -ℤ b)) (literal_means program i p (datum.integer a) (integer a) (λ n. refl) h) (literal_means program j q (datum.integer b) (integer b) (λ n. refl) k) (λ z. rw (within_range (a -ℤ b) (difference_within a b x y)) refl));
+    means = sited_means (two_mean Subtract (integer (a -ℤ b)) (literal_means program i p (datum.integer a) (integer a) refl h) (literal_means program j q (datum.integer b) (integer b) refl k) (λ z. rw (within_range (a -ℤ b) (difference_within a b x y)) refl));
     operand =
         subst (λ v. Operand (between (constant v) move_12_from_10 (constant (row_word (slice_get program.literals j))) (subtract_10_from_12 ∷ [])) (integer_word (a -ℤ b)) 6) (sym (ap row_word h))
         (subst (λ w. Operand (between (constant (integer_word a)) move_12_from_10 (constant w) (subtract_10_from_12 ∷ [])) (integer_word (a -ℤ b)) 6) (sym (ap row_word k))
@@ -283,7 +283,7 @@ choice_simulated program id p f g h e test false b s r =
       bytes = r.bytes;
       units = 3 + test.units + (1 + r.units);
       cost = test.cost + 3 + 4 + (2 + 3 + r.cost + 4);
-      means = passed_means id (subst (λ x. Means program f (truth x) [] test.units) b test.means) (literal_means program id p (datum.symbol (Named (record { 0 = 0 }))) true_value (λ n. refl) e) r.means;
+      means = passed_means id (subst (λ x. Means program f (truth x) [] test.units) b test.means) (literal_means program id p (datum.symbol (Named (record { 0 = 0 }))) true_value refl e) r.means;
       yields = λ before. passed_yields before (form_code program.literals f) (form_code program.literals g) others r.bytes (word_of r.v) test.cost (2 + 3 + r.cost + 4) (subst (λ x. Yields before (form_code program.literals f) [] (truth_word x) test.cost) b (test.yields before)) (subst (λ x. Yields nil_word (clause_code x (form_code program.literals h) (constant nil_word)) r.bytes (word_of r.v) (2 + 3 + r.cost + 4)) (sym truth_there) second);
       cheap = omega (arith, test.cheap, r.cheap);
       forward = omega (arith, test.forward, r.forward, clause_length (form_code program.literals f) (form_code program.literals g) others, clause_length (constant (row_word (slice_get program.literals id))) (form_code program.literals h) (constant nil_word));

@@ -16,7 +16,7 @@ use Rattle.isl_meaning.specs.model.View.{forms, forms_list}
 use Rattle.isl_meaning.specs.Counts.{bound}
 use Rattle.isl_meaning.specs.Values.{Value, integer, character, symbol, named, unnamed, nil, object}
 use Rattle.isl_meaning.specs.State.{State, Limit, words, unlimited, first_state}
-use Rattle.isl_meaning.specs.Literals.{objects_at_start}
+use Rattle.isl_meaning.specs.Layout.{objects_at_start}
 use Rattle.isl_meaning.specs.Meaning.{Meant, ended_value, ended_full, meaning, mean_mains, end_of}
 use Rattle.isl_top.specs.Shapes.{program_of_parts, names, no_tables, Found, forms_of, program_of, program_with}
 use Rattle.isl_base.specs.Data.{Items}
