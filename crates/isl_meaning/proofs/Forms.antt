@@ -2,14 +2,13 @@
 use Rattle.std.proofs.Common.{ℕ, ◌+◌, ◌-◌, List, [], ◌∷◌, ◌++◌, Option, Some, None, length}
 use Rattle.isl_meaning.specs.declared.program.LiteralRow.{LiteralRow}
 use Rattle.isl_meaning.specs.declared.program.LiteralRow.TheVariants as row
-use Rattle.isl_meaning.specs.declared.program.ProgramRows.{ProgramRows}
 use Rattle.isl_meaning.specs.Form.{Form, literal, local, set_local, global, set_global, def_global, clauses, sequence, let_form, lambda, call, call_value, apply, prim, while_form, block, return_from, tagbody, go, catch_form, throw, unwind, dynamic_let, dynamic, set_dynamic, def_dynamic, with_handler, signal_form, continue_form, next_method, has_next, sited}
 use Rattle.isl_meaning.specs.Form.{Forms, no_form, form_and, ClauseForms, no_clause, clause_and, MaybeForm, no_body, with_body}
 use Rattle.isl_meaning.specs.Form.{BindingForms, no_binding, binding_and, DynamicForms, no_dynamic, dynamic_and}
 use Rattle.isl_meaning.specs.Counts.{count_forms, count_clauses, count_bindings, count_dynamics}
 use Rattle.isl_meaning.specs.Values.{Value, symbol, named, nil, is_true, same_text}
 use Rattle.isl_meaning.specs.Objects.{Called, Environment, fresh_symbol, function_class, list_class, serious_condition_class, control_error_class, unbound_variable_class}
-use Rattle.isl_meaning.specs.State.{State, Surroundings, Exit, block_exit, tagbody_exit, catch_exit, at_segment, Evaluated, Act, inside, exit_made, Limit, charged}
+use Rattle.isl_meaning.specs.State.{State, Surroundings, Exit, block_exit, tagbody_exit, catch_exit, at_segment, Evaluated, Act, inside, exit_made, charged}
 use Rattle.isl_meaning.specs.Lookup.{text, under_text, under_number, value_at, set_at, numbered, with_variables, with_values, with_exit}
 use Rattle.isl_meaning.specs.Classes.{fetch, is_condition}
 use Rattle.isl_meaning.specs.Literals.{function_row}

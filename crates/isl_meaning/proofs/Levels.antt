@@ -5,13 +5,13 @@ use Rattle.isl_meaning.specs.Laws.{IsSettled, LawOfLevels, LawOfGrowth, LawOfTra
 use Rattle.isl_meaning.specs.Form.{Form}
 use Rattle.isl_meaning.specs.Counts.{nodes, application_words}
 use Rattle.isl_meaning.specs.Values.{Value, nil}
-use Rattle.isl_meaning.specs.Objects.{Environment, no_environment}
-use Rattle.isl_meaning.specs.State.{State, first_state, Surroundings, main_surroundings, more, Evaluated, Limit}
+use Rattle.isl_meaning.specs.Objects.{no_environment}
+use Rattle.isl_meaning.specs.State.{State, first_state, main_surroundings, more, Evaluated, Limit}
 use Rattle.isl_meaning.specs.Layout.{objects_at_start}
 use Rattle.isl_meaning.specs.Signals.{Task, form, Evaluation}
 use Rattle.isl_meaning.specs.Meaning.{mean_task, none_below, context_of, meaning_at, mean_main, mean_mains, end_of, meant, meaning}
 use Rattle.isl_meaning.proofs.Steps.{IsKept, GrowsAnew, anew_kept, begins_itself}
-use Rattle.isl_meaning.proofs.Compared.{IsCut, Extends, Within, itself, given, on, requests}
+use Rattle.isl_meaning.proofs.Compared.{Extends, Within, itself, given, on, requests}
 use Rattle.isl_meaning.proofs.Forms.{tasks}
 
 module _ {R : State → State → Type 0} {k : IsKept R} where

@@ -75,7 +75,7 @@ is_next (Some called) = by called.rest.primary
     by [] = false
     by (p ∷ ps) = true
 
--- a context
+-- forms and tasks, in a context
 module _ (context : Context) where
   -- a literal: an atom, or an object that is there from the start; a name without a function is undefined
   abbrev pub mean_literal : ℕ → Option LiteralRow → Act

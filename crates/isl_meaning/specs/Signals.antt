@@ -121,7 +121,7 @@ undefined_function wrong name = wrong undefined_function_class (symbol (named na
 abbrev pub unbound_variable : Signals → List ℕ → Act
 unbound_variable wrong name = wrong unbound_variable_class (symbol (named name) ∷ [])
 
--- a context
+-- applications, signals and transfers, in a context
 module _ (context : Context) where
   -- an object that is not of the expected class: a condition with both (ISO/IEC 13816:2007, 29.3)
   abbrev pub signal_domain_error : Signals → Value → (expected : ℕ) → Act
