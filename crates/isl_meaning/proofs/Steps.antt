@@ -39,64 +39,10 @@ begins_both {xs} {ys} {zs} b c = record {
 pub begins_more : (xs : List ℕ) (c : ℕ) → Begins xs (xs ++ c ∷ [])
 begins_more xs c = record { rest = c ∷ []; is = refl }
 
--- a later state whose bytes are the same
-pub later_by : {a b : State} → a.printed ≡ b.printed → a.units ≤ b.units → a.peak ≤ b.peak → a.exits ≤ b.exits
-    → a.symbols ≤ b.symbols → IsLater a b
-later_by {a} {b} p u k e s = record {
-  printed = record { rest = []; is = append-nil a.printed ∙ p };
-  units = u;
-  peak = k;
-  exits = e;
-  symbols = s;
-}
-
-unchanged : (n : ℕ) → n ≤ n
-unchanged n = le_refl n
-
--- nothing of what is counted falls
-pub later_kept : IsKept IsLater
-later_kept = record {
-  begins = λ l. l.printed;
-  none = λ z. later_by refl (omega arith) (omega arith) (omega arith) (omega arith);
-  both = λ {a} {b} {c} l m. record {
-    printed = begins_both l.printed m.printed;
-    units = le_trans l.units m.units;
-    peak = le_trans l.peak m.peak;
-    exits = le_trans l.exits m.exits;
-    symbols = le_trans l.symbols m.symbols;
-  };
-  charge = λ n z. later_by refl (omega arith) (omega arith) (omega arith) (omega arith);
-  words = λ h s z. later_by refl (omega arith) (omega arith) (omega arith) (omega arith);
-  stack = λ n z. later_by refl (omega arith) (omega arith) (omega arith) (omega arith);
-  store = λ o z. later_by refl (omega arith) (omega arith) (omega arith) (omega arith);
-  change = λ i o z. later_by refl (omega arith) (omega arith) (omega arith) (omega arith);
-  print = λ c z. record {
-    printed = begins_more z.printed c;
-    units = omega arith;
-    peak = omega arith;
-    exits = omega arith;
-    symbols = omega arith;
-  };
-  exit = λ z. later_by refl (omega arith) (omega arith) (omega arith) (omega arith);
-  symbol = λ z. later_by refl (omega arith) (omega arith) (omega arith) (omega arith);
-  input = λ left z. later_by refl (omega arith) (omega arith) (omega arith) (omega arith);
-  values = λ vs z. later_by refl (omega arith) (omega arith) (omega arith) (omega arith);
-  set = λ i v z. later_by refl (omega arith) (omega arith) (omega arith) (omega arith);
-  globals = λ now z. later_by refl (omega arith) (omega arith) (omega arith) (omega arith);
-  dynamics = λ now z. later_by refl (omega arith) (omega arith) (omega arith) (omega arith);
-}
-
 -- a later state, with exits of new numbers
 pub record GrowsAnew (a b : State) : Type 0 where
   pub later : IsLater a b
   pub exits : MakesNewExits a b
-
-no_exit : {a b : State} → b.exits ≡ a.exits → b.made ≡ a.made → MakesNewExits a b
-no_exit {a} {b} e m = record {
-  new = [];
-  kept = m;
-  differ = λ h. subst (λ n. Falling n b.made) (sym e) (subst (λ ns. Falling a.exits ns) (sym m) h);
-}
 
 more_exits : {a b c : State} → MakesNewExits a b → MakesNewExits b c → MakesNewExits a c
 more_exits {a} {b} {c} x y = record {
@@ -105,26 +51,66 @@ more_exits {a} {b} {c} x y = record {
   differ = λ h. y.differ (x.differ h);
 }
 
-one_exit : (z : State) → MakesNewExits z (exit_made z)
-one_exit z = record { new = z.exits ∷ []; kept = refl; differ = λ h. (omega arith, h) }
+both_grow : {a b c : State} → GrowsAnew a b → GrowsAnew b c → GrowsAnew a c
+both_grow g h = record {
+  later = record {
+    printed = begins_both g.later.printed h.later.printed;
+    units = le_trans g.later.units h.later.units;
+    peak = le_trans g.later.peak h.later.peak;
+    exits = le_trans g.later.exits h.later.exits;
+    symbols = le_trans g.later.symbols h.later.symbols;
+  };
+  exits = more_exits g.exits h.exits;
+}
 
--- no number is used twice
+-- a state with more bytes, units, words and fresh symbols, and the same exits
+grown : {a b : State} → Begins a.printed b.printed → a.units ≤ b.units → a.peak ≤ b.peak → a.symbols ≤ b.symbols
+    → b.exits ≡ a.exits → b.made ≡ a.made → GrowsAnew a b
+grown {a} {b} p u k s e m = record {
+  later = record { printed = p; units = u; peak = k; exits = subst (λ n. a.exits ≤ n) (sym e) (le_refl a.exits); symbols = s };
+  exits = record {
+    new = [];
+    kept = m;
+    differ = λ h. subst (λ n. Falling n b.made) (sym e) (subst (λ ns. Falling a.exits ns) (sym m) h);
+  };
+}
+
+-- a state in which none of this is changed
+same : {a b : State} → b.printed ≡ a.printed → b.units ≡ a.units → b.peak ≡ a.peak → b.symbols ≡ a.symbols
+    → b.exits ≡ a.exits → b.made ≡ a.made → GrowsAnew a b
+same {a} {b} p u k s e m =
+    grown (subst (Begins a.printed) (sym p) (begins_itself a.printed)) (subst (λ n. a.units ≤ n) (sym u) (le_refl a.units))
+    (subst (λ n. a.peak ≤ n) (sym k) (le_refl a.peak)) (subst (λ n. a.symbols ≤ n) (sym s) (le_refl a.symbols)) e m
+
+exit_grows : (z : State) → GrowsAnew z (exit_made z)
+exit_grows z = record {
+  later = record {
+    printed = begins_itself z.printed;
+    units = le_refl z.units;
+    peak = le_refl z.peak;
+    exits = omega arith;
+    symbols = le_refl z.symbols;
+  };
+  exits = record { new = z.exits ∷ []; kept = refl; differ = λ h. (omega arith, h) };
+}
+
+-- nothing of what is counted falls, and no number of an exit is used twice
 pub anew_kept : IsKept GrowsAnew
 anew_kept = record {
   begins = λ g. g.later.printed;
-  none = λ z. record { later = later_kept.none z; exits = no_exit refl refl };
-  both = λ {a} {b} {c} g h. record { later = later_kept.both g.later h.later; exits = more_exits g.exits h.exits };
-  charge = λ n z. record { later = later_kept.charge n z; exits = no_exit refl refl };
-  words = λ h s z. record { later = later_kept.words h s z; exits = no_exit refl refl };
-  stack = λ n z. record { later = later_kept.stack n z; exits = no_exit refl refl };
-  store = λ o z. record { later = later_kept.store o z; exits = no_exit refl refl };
-  change = λ i o z. record { later = later_kept.change i o z; exits = no_exit refl refl };
-  print = λ c z. record { later = later_kept.print c z; exits = no_exit refl refl };
-  exit = λ z. record { later = later_kept.exit z; exits = one_exit z };
-  symbol = λ z. record { later = later_kept.symbol z; exits = no_exit refl refl };
-  input = λ left z. record { later = later_kept.input left z; exits = no_exit refl refl };
-  values = λ vs z. record { later = later_kept.values vs z; exits = no_exit refl refl };
-  set = λ i v z. record { later = later_kept.set i v z; exits = no_exit refl refl };
-  globals = λ now z. record { later = later_kept.globals now z; exits = no_exit refl refl };
-  dynamics = λ now z. record { later = later_kept.dynamics now z; exits = no_exit refl refl };
+  none = λ z. same refl refl refl refl refl refl;
+  both = both_grow;
+  charge = λ n z. grown (begins_itself z.printed) (omega arith) (le_refl z.peak) (le_refl z.symbols) refl refl;
+  words = λ h s z. grown (begins_itself z.printed) (le_refl z.units) (omega arith) (le_refl z.symbols) refl refl;
+  stack = λ n z. same refl refl refl refl refl refl;
+  store = λ o z. same refl refl refl refl refl refl;
+  change = λ i o z. same refl refl refl refl refl refl;
+  print = λ c z. grown (begins_more z.printed c) (le_refl z.units) (le_refl z.peak) (le_refl z.symbols) refl refl;
+  exit = exit_grows;
+  symbol = λ z. grown (begins_itself z.printed) (le_refl z.units) (le_refl z.peak) (omega arith) refl refl;
+  input = λ left z. same refl refl refl refl refl refl;
+  values = λ vs z. same refl refl refl refl refl refl;
+  set = λ i v z. same refl refl refl refl refl refl;
+  globals = λ now z. same refl refl refl refl refl refl;
+  dynamics = λ now z. same refl refl refl refl refl refl;
 }

@@ -26,7 +26,7 @@ all_differ alike (x ∷ xs) = not (some_of (alike x) xs) && all_differ alike xs
 abbrev pub is_in : ℕ → List ℕ → Bool
 is_in n ns = some_of (λ m. n == m) ns
 
--- how many are passed in a search from the front, the one that is found too
+-- how many are passed in a search from the first on, the one that is found too
 abbrev pub passed : {X : Type 0} → (X → Bool) → List X → ℕ
 passed p [] = 0
 passed p (x ∷ xs) = if p x then 1 else 1 + passed p xs

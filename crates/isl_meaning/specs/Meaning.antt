@@ -10,13 +10,14 @@ use Rattle.isl_meaning.specs.Form.{Forms, no_form, form_and, ClauseForms, no_cla
 use Rattle.isl_meaning.specs.Form.{BindingForms, no_binding, binding_and, DynamicForms, no_dynamic, dynamic_and}
 use Rattle.isl_meaning.specs.Counts.{count_forms, count_clauses, count_bindings, count_dynamics, nodes, application_words}
 use Rattle.isl_meaning.specs.Values.{Value, symbol, named, nil, object, truth, is_true, same_text}
-use Rattle.isl_meaning.specs.Objects.{Called, Environment, no_environment, Object, cons, closure, function_class, list_class, serious_condition_class, control_error_class, domain_error_class}
+use Rattle.isl_meaning.specs.Objects.{Called, Environment, no_environment, Object, cons, closure, function_class, list_class, serious_condition_class, control_error_class}
 use Rattle.isl_meaning.specs.State.{State, first_state, Surroundings, main_surroundings, no_place, block_exit, tagbody_exit, catch_exit, Landing, at_segment, at_site, Outcome, value, exit, full, more, Evaluated, gives, Act, go_on, landed, caught, cleaned, inside, exit_made, Limit, request, charged, make}
 use Rattle.isl_meaning.specs.Lookup.{text, is_in, under_text, under_number, value_at, set_at, numbered, with_variables, with_values, with_exit}
 use Rattle.isl_meaning.specs.Classes.{class_of_object, fetch, is_condition}
-use Rattle.isl_meaning.specs.Literals.{lay, lays, laid_before, first_literal, class_value, function_row, function_value, objects_at_start}
+use Rattle.isl_meaning.specs.Literals.{function_row}
+use Rattle.isl_meaning.specs.Layout.{class_value, function_value, literal_value, objects_at_start}
 use Rattle.isl_meaning.specs.Primitives.{primitive, is_function}
-use Rattle.isl_meaning.specs.Signals.{Task, nothing, form, turn, methods, Evaluation, with_some, run_chain, apply_value, apply_row, undefined_function, unbound_variable, signal_under, signal, answered, search, transfer, throw_to, continue_with, with_cells}
+use Rattle.isl_meaning.specs.Signals.{Context, Task, nothing, form, turn, methods, Evaluation, with_some, run_chain, apply_value, apply_row, undefined_function, unbound_variable, signal_domain_error, signal_under, signal, answered, search, transfer, throw_to, continue_with, with_cells}
 
 -- the place of a site, counted from 1
 abbrev pub place_of_site : List Place → ℕ → Place
@@ -36,7 +37,7 @@ abbrev pub segment_of : Landing → ℕ
 segment_of (at_segment i) = i
 segment_of (at_site place) = 0
 
--- the exit of a tagbody in front
+-- the exit of a tagbody, innermost
 abbrev pub with_turns : ℕ → Surroundings → Surroundings
 with_turns e around = record around { exits = record { number = e; kind = tagbody_exit } ∷ around.exits }
 
@@ -65,47 +66,52 @@ abbrev pub spread : ℕ → State → List ℕ → Value → Spread
 spread zero z seen v = record { elements = []; proper = false }
 spread (suc n) z seen v = spread_at (λ i d. spread n z (i ∷ seen) d) seen v (fetch z v)
 
--- a program with the texts of its names, the words there are, and the meaning one level below
-module _ (names : List (List ℕ)) (program : ProgramRows) (limit : Limit) (below : Task → Evaluation) where
-  -- the signal of a condition, as rules and primitives do it
-  abbrev pub wrong : ℕ → List Value → Act
-  wrong = signal names program limit below
+-- whether a method is left to run
+abbrev pub is_next : Option Called → Bool
+is_next None = false
+is_next (Some called) = by called.rest.primary
+  where
+    by : List ℕ → Bool
+    by [] = false
+    by (p ∷ ps) = true
 
-  -- a literal: an object that is there from the start; a name without a function is undefined
+-- forms and tasks, in a context
+module _ (context : Context) where
+  -- a literal: an atom, or an object that is there from the start; a name without a function is undefined
   abbrev pub mean_literal : ℕ → Option LiteralRow → Act
   mean_literal id None around z = gives nil z
   mean_literal id (Some (row.Datum d)) around z =
-      gives (lay names d (first_literal program + laid_before id (lays names program))).value z
-  mean_literal id (Some (row.Class c)) around z = gives (class_value c) z
+      gives (literal_value context.names context.program id d) z
+  mean_literal id (Some (row.Class c)) around z = gives (class_value context.names context.program c) z
   mean_literal id (Some (row.Function name)) around z =
-      with_some (function_row names program.functions (text names name.0))
-      (undefined_function names program limit below wrong (text names name.0))
-      (λ f a y. gives (function_value names program (text names name.0)) y)
+      with_some (function_row context.names context.program.functions (text context.names name.0))
+      (undefined_function (signal context) (text context.names name.0))
+      (λ f a y. gives (function_value context.names context.program (text context.names name.0)) y)
       around z
 
   -- a global variable (ISO/IEC 13816:2007, 14.2) has no value before its definition has run
   abbrev pub mean_global : List ℕ → Act
   mean_global name around z =
-      with_some (under_text name z.globals) (unbound_variable names program limit below wrong name)
+      with_some (under_text name z.globals) (unbound_variable (signal context) name)
       (λ v a y. gives v y) around z
 
   abbrev pub set_global_to : List ℕ → Value → Act
   set_global_to name v around z =
-      with_some (under_text name z.globals) (unbound_variable names program limit below wrong name)
+      with_some (under_text name z.globals) (unbound_variable (signal context) name)
       (λ old a y. gives v (record y { globals = (name, v) ∷ y.globals })) around z
 
   -- a dynamic variable (ISO/IEC 13816:2007, 14.3): the innermost binding, else the outermost value
   abbrev pub mean_dynamic : List ℕ → Act
   mean_dynamic name around z =
-      search names program limit below (λ (b : List ℕ × ℕ). same_text name b.0) (λ b y. gives (value_at (Some b.1) y) y)
-      (λ y. with_some (under_text name y.dynamics) (unbound_variable names program limit below wrong name)
+      search (λ (b : List ℕ × ℕ). same_text name b.0) (λ b y. gives (value_at (Some b.1) y) y)
+      (λ y. with_some (under_text name y.dynamics) (unbound_variable (signal context) name)
       (λ v a x. gives v x) around y)
       around.bindings z
 
   abbrev pub set_dynamic_to : List ℕ → Value → Act
   set_dynamic_to name v around z =
-      search names program limit below (λ (b : List ℕ × ℕ). same_text name b.0) (λ b y. gives v (set_at (Some b.1) v y))
-      (λ y. with_some (under_text name y.dynamics) (unbound_variable names program limit below wrong name)
+      search (λ (b : List ℕ × ℕ). same_text name b.0) (λ b y. gives v (set_at (Some b.1) v y))
+      (λ y. with_some (under_text name y.dynamics) (unbound_variable (signal context) name)
       (λ old a x. gives v (record x { dynamics = (name, v) ∷ x.dynamics })) around y)
       around.bindings z
 
@@ -114,72 +120,64 @@ module _ (names : List (List ℕ)) (program : ProgramRows) (limit : Limit) (belo
   mean_apply f list around z =
       if is_function (fetch z f) then
       (let s = spread (length z.store + 1) z [] list in
-      if s.proper then apply_value names program limit below wrong f s.elements around (charged (length s.elements) z)
-      else wrong domain_error_class (list ∷ class_value list_class ∷ []) around (charged (length s.elements) z))
-      else wrong domain_error_class (f ∷ class_value function_class ∷ []) around z
+      if s.proper then apply_value context (signal context) f s.elements around (charged (length s.elements) z)
+      else signal_domain_error context (signal context) list list_class around (charged (length s.elements) z))
+      else signal_domain_error context (signal context) f function_class around z
 
   -- the first value is applied to the others
   abbrev pub mean_call_value : List Value → Act
   mean_call_value [] around z = gives nil z
-  mean_call_value (f ∷ vs) around z = apply_value names program limit below wrong f vs around z
+  mean_call_value (f ∷ vs) around z = apply_value context (signal context) f vs around z
 
   -- a condition is signalled; what is no condition is a domain error
   abbrev pub mean_signal : Value → Value → Act
   mean_signal c mark around z =
-      if is_condition program z c then signal_under names program limit below around.handlers c mark around z
-      else wrong domain_error_class (c ∷ class_value serious_condition_class ∷ []) around z
+      if is_condition context.program z c then signal_under context around.handlers c mark around z
+      else signal_domain_error context (signal context) c serious_condition_class around z
 
-  -- a body with a handler in front, which is to be a function
+  -- a body inside a handler, which is to be a function
   abbrev pub with_handler_value : Value → (Act) → Act
   with_handler_value h body around z =
       if is_function (fetch z h) then body (record around { handlers = h ∷ around.handlers }) z
-      else wrong domain_error_class (h ∷ class_value function_class ∷ []) around z
+      else signal_domain_error context (signal context) h function_class around z
 
   -- the rest of the chain of the method around, with the arguments of this one
   abbrev pub mean_next : Option Called → Act
-  mean_next None = wrong control_error_class []
-  mean_next (Some called) = run_chain names program limit below wrong called.rest called.arguments
+  mean_next None = signal context control_error_class []
+  mean_next (Some called) = run_chain context (signal context) called.rest called.arguments
 
-  abbrev pub is_next : Option Called → Bool
-  is_next None = false
-  is_next (Some called) = by called.rest.primary
-    where
-      by : List ℕ → Bool
-      by [] = false
-      by (p ∷ ps) = true
-
-  -- the segments of a tagbody, whose exit is in front while they run: a transfer to it goes on from a segment,
+  -- the segments of a tagbody, whose exit is the innermost one while they run: a transfer to it goes on from a segment,
   -- one level below
   abbrev pub turned : ℕ → Forms → Environment → Surroundings → Evaluated → Evaluated
   turned e all env around r =
-      landed e (λ v landing z. below (turn e (from_segment (segment_of landing) all) all) env around z)
+      landed e (λ v landing z. context.below (turn e (from_segment (segment_of landing) all) all) env around z)
       (go_on r (λ v after. gives nil after))
 
   unfoldable mutual
     -- the meaning of a form: one unit for it and one for each argument, binding, clause, tag, captured part and
     -- name of it
     pub mean : Form → Evaluation
-    mean (literal id) env around z = mean_literal id (slice_get program.literals id) around (charged 1 z)
+    mean (literal id) env around z = mean_literal id (slice_get context.program.literals id) around (charged 1 z)
     mean (local v) env around z = gives (value_at (under_number v env.variables) z) (charged 1 z)
     mean (set_local v f) env around z =
         go_on (mean f env around (charged 1 z)) (λ x after. gives x (set_at (under_number v env.variables) x after))
-    mean (global n) env around z = mean_global (text names n) around (charged 2 z)
+    mean (global n) env around z = mean_global (text context.names n) around (charged 2 z)
     mean (set_global n f) env around z =
-        go_on (mean f env around (charged 2 z)) (λ x after. set_global_to (text names n) x around after)
+        go_on (mean f env around (charged 2 z)) (λ x after. set_global_to (text context.names n) x around after)
     mean (def_global n f) env around z =
         go_on (mean f env around (charged 2 z)) (λ x after.
-        gives (symbol (named (text names n))) (record after { globals = (text names n, x) ∷ after.globals }))
+        gives (symbol (named (text context.names n))) (record after { globals = (text context.names n, x) ∷ after.globals }))
     mean (clauses cs) env around z = mean_clauses cs env around (charged (1 + count_clauses cs) z)
     mean (sequence fs) env around z = mean_sequence nil fs env around (charged 1 z)
     mean (let_form bs body) env around z =
         mean_bindings bs [] env around (charged (1 + count_bindings bs) z) (λ vs after.
-        with_cells names program limit below (bound_variables bs) body after (λ ready.
+        with_cells context.limit (bound_variables bs) body after (λ ready.
         mean body (with_variables (bound_variables bs) ready env) around (with_values vs ready)))
     mean (lambda required rest body parts) env around z =
-        make limit (2 + length parts) 0 (closure required rest body env) (charged (1 + length parts) z) (λ v after. gives v after)
+        make context.limit (2 + length parts) 0 (closure required rest body env) (charged (1 + length parts) z) (λ v after. gives v after)
     mean (call n fs) env around z =
         mean_arguments fs [] env around (charged (2 + count_forms fs) z) (λ vs after.
-        apply_row names program limit below wrong (text names n) (function_row names program.functions (text names n)) vs around after)
+        apply_row context (signal context) (text context.names n) (function_row context.names context.program.functions (text context.names n)) vs around after)
     mean (call_value fs) env around z =
         mean_arguments fs [] env around (charged (1 + (count_forms fs - 1)) z) (λ vs after. mean_call_value vs around after)
     mean (apply f list) env around z =
@@ -187,42 +185,42 @@ module _ (names : List (List ℕ)) (program : ProgramRows) (limit : Limit) (belo
         go_on (mean list env around after) (λ v ready. mean_apply function v around ready))
     mean (prim which fs) env around z =
         mean_arguments fs [] env around (charged (1 + count_forms fs) z) (λ vs after.
-        answered names program limit below (primitive names program which vs after) around after)
+        answered context (primitive context.names context.program which vs after) around after)
     mean (while_form test body) env around z =
         go_on (mean test env around (charged 1 z)) (λ v after.
         unless_nil v
-        (go_on (mean body env around after) (λ ignored again. below (form (while_form test body)) env around again))
+        (go_on (mean body env around after) (λ ignored again. context.below (form (while_form test body)) env around again))
         (gives nil after))
     mean (block x body) env around z =
         caught z.exits (mean body (with_exit x z env) (inside block_exit around z) (exit_made (charged 1 z)))
     mean (return_from x f) env around z =
         go_on (mean f env around (charged 1 z)) (λ v after.
-        transfer names program limit below (under_number x env.exits) v (at_segment 0) around after)
+        transfer context (under_number x env.exits) v (at_segment 0) around after)
     mean (tagbody x segments) env around z =
         turned z.exits segments (with_exit x z env) around
         (mean_sequence nil segments (with_exit x z env) (with_turns z.exits around)
         (exit_made (charged (1 + (count_forms segments - 1)) z)))
     mean (go x segment) env around z =
-        transfer names program limit below (under_number x env.exits) nil (at_segment segment) around (charged 1 z)
+        transfer context (under_number x env.exits) nil (at_segment segment) around (charged 1 z)
     mean (catch_form tag body) env around z =
         go_on (mean tag env around (charged 1 z)) (λ v after.
         caught after.exits (mean body env (inside (catch_exit v) around after) (exit_made after)))
     mean (throw tag f) env around z =
         go_on (mean tag env around (charged 1 z)) (λ v after.
-        go_on (mean f env around after) (λ x ready. throw_to names program limit below v x around ready))
+        go_on (mean f env around after) (λ x ready. throw_to context v x around ready))
     mean (unwind f cleanup) env around z =
         cleaned (λ within after. mean cleanup env within after) around (mean f env around (charged 1 z))
     mean (dynamic_let bs body) env around z =
         mean_dynamics bs [] env around (charged (1 + count_dynamics bs) z) (λ vs after.
         mean body env
-        (record around { bindings = numbered (bound_names names bs) (length after.variables) ++ around.bindings })
+        (record around { bindings = numbered (bound_names context.names bs) (length after.variables) ++ around.bindings })
         (with_values vs after))
-    mean (dynamic n) env around z = mean_dynamic (text names n) around (charged 2 z)
+    mean (dynamic n) env around z = mean_dynamic (text context.names n) around (charged 2 z)
     mean (set_dynamic n f) env around z =
-        go_on (mean f env around (charged 2 z)) (λ x after. set_dynamic_to (text names n) x around after)
+        go_on (mean f env around (charged 2 z)) (λ x after. set_dynamic_to (text context.names n) x around after)
     mean (def_dynamic n f) env around z =
         go_on (mean f env around (charged 2 z)) (λ x after.
-        gives (symbol (named (text names n))) (record after { dynamics = (text names n, x) ∷ after.dynamics }))
+        gives (symbol (named (text context.names n))) (record after { dynamics = (text context.names n, x) ∷ after.dynamics }))
     mean (with_handler handler body) env around z =
         go_on (mean handler env around (charged 1 z)) (λ h after.
         with_handler_value h (λ within ready. mean body env within ready) around after)
@@ -231,11 +229,11 @@ module _ (names : List (List ℕ)) (program : ProgramRows) (limit : Limit) (belo
         go_on (mean continuable env around after) (λ mark ready. mean_signal c mark around ready))
     mean (continue_form condition f) env around z =
         go_on (mean condition env around (charged 1 z)) (λ c after.
-        go_on (mean f env around after) (λ v ready. continue_with names program limit below c v around ready))
+        go_on (mean f env around after) (λ v ready. continue_with context c v around ready))
     mean next_method env around z = mean_next env.method around (charged 1 z)
     mean has_next env around z = gives (truth (is_next env.method)) (charged 1 z)
     mean (sited site f) env around z =
-        mean f env (record around { site = place_of_site program.sites site }) z
+        mean f env (record around { site = place_of_site context.program.sites site }) z
 
     -- forms in order; the value is the last one's, or the given one where there is none
     pub mean_sequence : Value → Forms → Evaluation
@@ -243,7 +241,7 @@ module _ (names : List (List ℕ)) (program : ProgramRows) (limit : Limit) (belo
     mean_sequence last (form_and f fs) env around z =
         go_on (mean f env around z) (λ v after. mean_sequence v fs env around after)
 
-    -- arguments from left to right, behind those already evaluated
+    -- arguments from left to right, after those already evaluated
     pub mean_arguments : Forms → List Value → Environment → Surroundings → State → (List Value → State → Evaluated) → Evaluated
     mean_arguments no_form vs env around z next = next vs z
     mean_arguments (form_and f fs) vs env around z next =
@@ -260,7 +258,7 @@ module _ (names : List (List ℕ)) (program : ProgramRows) (limit : Limit) (belo
     mean_body v no_body env around z = gives v z
     mean_body v (with_body f) env around z = mean f env around z
 
-    -- the values of bindings, behind those already evaluated
+    -- the values of bindings, after those already evaluated
     pub mean_bindings : BindingForms → List Value → Environment → Surroundings → State → (List Value → State → Evaluated) → Evaluated
     mean_bindings no_binding vs env around z next = next vs z
     mean_bindings (binding_and x f bs) vs env around z next =
@@ -277,16 +275,19 @@ module _ (names : List (List ℕ)) (program : ProgramRows) (limit : Limit) (belo
   mean_task (form f) env around z = mean f env around z
   mean_task (turn e rest all) env around z =
       turned e all env around (mean_sequence nil rest env (with_turns e around) z)
-  mean_task (methods c vs) env around z = run_chain names program limit below wrong c vs around z
+  mean_task (methods c vs) env around z = run_chain context (signal context) c vs around z
 
 -- below the last level there is no meaning
 abbrev pub none_below : Task → Evaluation
 none_below task env around z = record { outcome = more; state = z }
 
+abbrev pub context_of : List (List ℕ) → ProgramRows → Limit → (below : Task → Evaluation) → Context
+context_of names program limit below = record { names = names; program = program; limit = limit; below = below }
+
 -- the meaning with so many levels
 unfoldable pub meaning_at : List (List ℕ) → ProgramRows → Limit → ℕ → Task → Evaluation
-meaning_at names program limit zero = mean_task names program limit none_below
-meaning_at names program limit (suc k) = mean_task names program limit (meaning_at names program limit k)
+meaning_at names program limit zero = mean_task (context_of names program limit none_below)
+meaning_at names program limit (suc k) = mean_task (context_of names program limit (meaning_at names program limit k))
 
 -- a main form is charged as the body of an application without arguments, and takes no level
 abbrev pub mean_main : List (List ℕ) → ProgramRows → Limit → ℕ → Form → State → Evaluated
@@ -295,7 +296,7 @@ mean_main names program limit k f z =
     go_on (meaning_at names program limit k (form f) no_environment main_surroundings entered) (λ v after.
     gives v (record after { stack = z.stack })))
 
--- the main forms in order, behind a last value
+-- the main forms in order, after a last value
 abbrev pub mean_mains : List (List ℕ) → ProgramRows → Limit → ℕ → List Form → Value → State → Evaluated
 mean_mains names program limit k [] last z = gives last z
 mean_mains names program limit k (f ∷ fs) last z =

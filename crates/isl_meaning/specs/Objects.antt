@@ -1,9 +1,9 @@
 -- Objects (ISO/IEC 13816:2007, 15), and what functions keep of the place where they were made.
-use Rattle.std.specs.Prelude.{ℕ, zero, suc, ◌+◌, List, [], ◌∷◌, ◌++◌, Option, None, map}
+use Rattle.std.specs.Prelude.{ℕ, zero, suc, ◌+◌, List, [], ◌∷◌, Option, None}
 use Rattle.isl_meaning.specs.Form.{Form}
-use Rattle.isl_meaning.specs.Values.{Value, object}
+use Rattle.isl_meaning.specs.Values.{Value}
 
--- the methods that a call still has to run, by their procedures (ISO/IEC 13816:2007, 15.3.4); behind
+-- the methods that a call still has to run, by their procedures (ISO/IEC 13816:2007, 15.3.4); after
 -- a primary method only primary methods are left
 pub record Chain : Type 0 where
   pub around : List ℕ
@@ -52,16 +52,6 @@ count_up first (suc n) = first ∷ count_up (first + 1) n
 -- the number of built-in classes
 abbrev pub built_in_classes : ℕ
 built_in_classes = 34
-
--- the objects of every program: each built-in class once, and the two streams
-abbrev pub first_objects : List Object
-first_objects = map class_object (count_up 0 34) ++ input_stream ∷ output_stream ∷ []
-
-abbrev pub standard_input : Value
-standard_input = object 34
-
-abbrev pub standard_output : Value
-standard_output = object 35
 
 -- the built-in classes that rules name, by their numbers
 abbrev pub vector_class : ℕ

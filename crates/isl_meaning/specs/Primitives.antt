@@ -9,24 +9,21 @@ use Rattle.isl_meaning.specs.declared.program.ProgramRows.{ProgramRows}
 use Rattle.isl_meaning.specs.declared.program.ClassRow.{ClassRow}
 use Rattle.isl_meaning.specs.declared.program.SlotRow.{SlotRow}
 use Rattle.isl_meaning.specs.Values.{named, unnamed, Value, integer, character, symbol, nil, object, truth, in_range, int_equal, same, same_text}
-use Rattle.isl_meaning.specs.Objects.{Object, cons, string, vector, instance, function, closure, generic_function, class_object, input_stream, output_stream, fresh_symbol, standard_input, standard_output, built_in_classes}
-use Rattle.isl_meaning.specs.Objects.{vector_class, string_class, character_class, cons_class, symbol_class, integer_class, stream_class, standard_class_class, standard_object_class, serious_condition_class, program_error_class, division_by_zero_class, integer_overflow_class, domain_error_class}
+use Rattle.isl_meaning.specs.Objects.{Object, cons, string, vector, instance, function, closure, generic_function, class_object, input_stream, output_stream, fresh_symbol, built_in_classes}
+use Rattle.isl_meaning.specs.Objects.{vector_class, string_class, character_class, cons_class, symbol_class, integer_class, stream_class, standard_class_class, standard_object_class, serious_condition_class, program_error_class, division_by_zero_class, integer_overflow_class}
 use Rattle.isl_meaning.specs.State.{State, charged, changed}
 use Rattle.isl_meaning.specs.Lookup.{text, place_in, passed}
 use Rattle.isl_meaning.specs.Classes.{class_of, fetch, precedence, slots, is_below, is_condition}
-use Rattle.isl_meaning.specs.Literals.{class_value, initargs_value, initform_value}
+use Rattle.isl_meaning.specs.Layout.{class_value, initargs_value, initform_value, standard_input, standard_output}
 
 -- what a primitive answers: a value, an object to be made of so many words and with so many units besides, the
--- next fresh symbol, or the class and the slots of a condition to signal
+-- next fresh symbol, or a condition to signal: its class and its slots, or an argument that is not of the expected class
 pub data Answer : Type 0 where
   result : Value → State → Answer
   makes : (size besides : ℕ) → Object → State → Answer
   makes_symbol : State → Answer
   fails : (class : ℕ) → List Value → State → Answer
-
--- an argument of a wrong class: the object and the expected class (ISO/IEC 13816:2007, 29.3)
-abbrev pub domain_error : Value → ℕ → State → Answer
-domain_error v expected = fails domain_error_class (v ∷ class_value expected ∷ [])
+  domain_error : Value → (expected : ℕ) → State → Answer
 
 abbrev pub program_error : State → Answer
 program_error = fails program_error_class []
@@ -318,7 +315,7 @@ primitive names program SymbolSerial = of_one (λ v z. a_symbol v z (λ s. resul
     serial_of (by_name name) = nil
     serial_of (by_serial serial) = integer (pos (serial % 536870912))
 primitive names program Gensym = of_none (λ z. makes_symbol z)
-primitive names program ClassOf = of_one (λ v z. result (class_value (class_of z v)) z)
+primitive names program ClassOf = of_one (λ v z. result (class_value names program (class_of z v)) z)
 primitive names program ClassName = of_one (λ v z.
     a_class v z (λ c. result (symbol (named (class_name names (slice_get program.classes c)))) z))
 primitive names program IsSubclass = of_two (λ v w z.
@@ -347,8 +344,8 @@ primitive names program SlotInitform = of_two (λ v w z. a_slot v w z (λ i at. 
 primitive names program Continuable = of_one (λ v z.
     if is_condition program z v then an_instance v z (λ i. result i.2 z)
     else domain_error v serious_condition_class z)
-primitive names program StandardInput = of_none (result standard_input)
-primitive names program StandardOutput = of_none (result standard_output)
+primitive names program StandardInput = of_none (result (standard_input names program))
+primitive names program StandardOutput = of_none (result (standard_output names program))
 primitive names program PutChar = of_two (λ v w z.
     needs (as_stream (fetch z v)) (domain_error v stream_class z) (λ is_output.
     a_character w z (λ c.

@@ -17,8 +17,8 @@ use Rattle.isl_meaning.specs.Lookup.{text, with_variables, with_values}
 use Rattle.isl_meaning.specs.declared.part.Part.TheVariants.{Method}
 use Rattle.isl_meaning.specs.Captured.{captures, has_cell}
 use Rattle.isl_meaning.specs.Classes.{class_of, fetch, chain}
-use Rattle.isl_meaning.specs.Literals.{class_value}
-use Rattle.isl_meaning.specs.Primitives.{Answer, result, makes, makes_symbol, fails, instance_words}
+use Rattle.isl_meaning.specs.Layout.{class_value}
+use Rattle.isl_meaning.specs.Primitives.{Answer, result, makes, makes_symbol, fails, domain_error, instance_words}
 
 -- what is evaluated one level below: nothing, to see that there is a level; a form; the segments of
 -- a tagbody from one of them on, with its exit and all its segments; the methods of a chain
@@ -31,6 +31,13 @@ pub data Task : Type 0 where
 -- an evaluation from an environment, surroundings and a state
 abbrev pub Evaluation : Type 0
 Evaluation = Environment → Act
+
+-- what a meaning depends on: the texts of names, the program, the words there are, and the meaning one level below
+pub record Context : Type 0 where
+  pub names : List (List ℕ)
+  pub program : ProgramRows
+  pub limit : Limit
+  pub below : Task → Evaluation
 
 -- how a condition of a class is signalled, with its slots
 abbrev pub Signals : Type 0
@@ -70,38 +77,56 @@ abbrev pub is_continuable : ExitKind → Bool
 is_continuable (signal_exit c mark) = is_true mark
 is_continuable kind = false
 
--- a program with the texts of its names, the words there are, and the meaning one level below
-module _ (names : List (List ℕ)) (program : ProgramRows) (limit : Limit) (below : Task → Evaluation) where
-  -- what needs a level: More where there is none
-  abbrev pub descend : (State → Evaluated) → Act
-  descend next around z = go_on (below nothing no_environment around z) (λ v after. next after)
+-- what needs a level: More where there is none
+abbrev pub descend : (below : Task → Evaluation) → (State → Evaluated) → Act
+descend below next around z = go_on (below nothing no_environment around z) (λ v after. next after)
 
-  -- a list of values is made, one cons after another
-  abbrev pub make_list : List Value → State → (Value → State → Evaluated) → Evaluated
-  make_list [] z next = next nil z
-  make_list (v ∷ vs) z next =
-      make_list vs z (λ tail after. make limit 2 0 (cons v tail) after next)
+-- a list of values is made, one cons after another
+abbrev pub make_list : Limit → List Value → State → (Value → State → Evaluated) → Evaluated
+make_list limit [] z next = next nil z
+make_list limit (v ∷ vs) z next =
+    make_list limit vs z (λ tail after. make limit 2 0 (cons v tail) after next)
 
-  -- the arguments as the variables' values: those behind the required ones are one list
-  abbrev pub gathered : ℕ → Option ℕ → List Value → State → (List Value → State → Evaluated) → Evaluated
-  gathered required None vs z next = next vs z
-  gathered required (Some rest) vs z next =
-      make_list (drop required vs) z (λ tail after. next (take required vs ++ tail ∷ []) after)
+-- the arguments as the variables' values: those after the required ones are one list
+abbrev pub gathered : Limit → ℕ → Option ℕ → List Value → State → (List Value → State → Evaluated) → Evaluated
+gathered limit required None vs z next = next vs z
+gathered limit required (Some rest) vs z next =
+    make_list limit (drop required vs) z (λ tail after. next (take required vs ++ tail ∷ []) after)
 
-  -- a word for the cell of each variable that has one
-  abbrev pub with_cells : List ℕ → Form → State → (State → Evaluated) → Evaluated
-  with_cells [] body z next = next z
-  with_cells (v ∷ vs) body z next =
-      if has_cell v body then request limit 1 0 z (λ entered. with_cells vs body (charged 1 entered) next)
-      else with_cells vs body z next
+-- a word for the cell of each variable that has one
+abbrev pub with_cells : Limit → List ℕ → Form → State → (State → Evaluated) → Evaluated
+with_cells limit [] body z next = next z
+with_cells limit (v ∷ vs) body z next =
+    if has_cell v body then request limit 1 0 z (λ entered. with_cells limit vs body (charged 1 entered) next)
+    else with_cells limit vs body z next
 
-  -- the words of the arguments and the chain of a method, where a function in it captures them
-  abbrev pub with_record : Option Called → Form → State → (State → Evaluated) → Evaluated
-  with_record None body z next = next z
-  with_record (Some called) body z next =
-      if captures Method body then
-      request limit (2 + length called.arguments) 0 z (λ entered. next (charged (2 + length called.arguments) entered))
-      else next z
+-- the words of the arguments and the chain of a method, where a function in it captures them
+abbrev pub with_record : Limit → Option Called → Form → State → (State → Evaluated) → Evaluated
+with_record limit None body z next = next z
+with_record limit (Some called) body z next =
+    if captures Method body then
+    request limit (2 + length called.arguments) 0 z (λ entered. next (charged (2 + length called.arguments) entered))
+    else next z
+
+-- a search from the first one on, which counts each one that it passes
+abbrev pub search : {X : Type 0} → (X → Bool) → (X → State → Evaluated) → (State → Evaluated) → List X → State → Evaluated
+search p found otherwise [] z = otherwise z
+search p found otherwise (x ∷ xs) z =
+    if p x then found x (charged 1 z) else search p found otherwise xs (charged 1 z)
+
+-- the name slot of an undefined function, and of an unbound variable
+abbrev pub undefined_function : Signals → List ℕ → Act
+undefined_function wrong name = wrong undefined_function_class (symbol (named name) ∷ [])
+
+abbrev pub unbound_variable : Signals → List ℕ → Act
+unbound_variable wrong name = wrong unbound_variable_class (symbol (named name) ∷ [])
+
+-- applications, signals and transfers, in a context
+module _ (context : Context) where
+  -- an object that is not of the expected class: a condition with both (ISO/IEC 13816:2007, 29.3)
+  abbrev pub signal_domain_error : Signals → Value → (expected : ℕ) → Act
+  signal_domain_error wrong v expected =
+      wrong domain_error_class (v ∷ class_value context.names context.program expected ∷ [])
 
   -- the application of a function in an environment, with what a method is called with; the number of
   -- arguments is judged first, and then each request comes one by one. `wrong` signals what goes wrong in the
@@ -109,11 +134,11 @@ module _ (names : List (List ℕ)) (program : ProgramRows) (limit : Limit) (belo
   abbrev pub enter : Signals → (required : List ℕ) → (rest : Option ℕ) → (body : Form) → Environment → Option Called → List Value → Act
   enter wrong required rest body env called vs around z =
       if takes (length required) (is_some rest) (length vs) then
-      in_frame limit (application_words (nodes body) + length vs)
-      (λ entered. gathered (length required) rest vs (charged (length vs) entered) (λ ws gone.
-      with_record called body gone (λ recorded.
-      with_cells (parameters required rest) body recorded (λ ready.
-      below (form body) (with_variables (parameters required rest) ready env) around (with_values ws ready)))))
+      in_frame context.limit (application_words (nodes body) + length vs)
+      (λ entered. gathered context.limit (length required) rest vs (charged (length vs) entered) (λ ws gone.
+      with_record context.limit called body gone (λ recorded.
+      with_cells context.limit (parameters required rest) body recorded (λ ready.
+      context.below (form body) (with_variables (parameters required rest) ready env) around (with_values ws ready)))))
       z
       else wrong program_error_class [] around z
 
@@ -121,15 +146,15 @@ module _ (names : List (List ℕ)) (program : ProgramRows) (limit : Limit) (belo
   -- variables and no exits.
   abbrev pub apply_procedure : Signals → ℕ → Option Called → List Value → Act
   apply_procedure wrong i called vs around z =
-      descend (λ entered.
-      with_some (slice_get program.procedures i) (λ a y. gives nil y)
+      descend context.below (λ entered.
+      with_some (slice_get context.program.procedures i) (λ a y. gives nil y)
       (λ p. enter wrong p.required p.rest p.body (record no_environment { method = called }) called vs) around entered)
       around z
 
   -- the application of a function that a `lambda` made, in the environment in which it was made
   abbrev pub apply_closure : Signals → (required : List ℕ) → (rest : Option ℕ) → (body : Form) → Environment → List Value → Act
   apply_closure wrong required rest body env vs around z =
-      descend (λ entered. enter wrong required rest body env None vs around entered) around z
+      descend context.below (λ entered. enter wrong required rest body env None vs around entered) around z
 
   -- a method, with the arguments and the rest of the chain
   abbrev pub apply_method : Signals → ℕ → Called → Act
@@ -160,38 +185,31 @@ module _ (names : List (List ℕ)) (program : ProgramRows) (limit : Limit) (belo
   abbrev pub run_chain : Signals → Chain → List Value → Act
   run_chain wrong c vs around z = run_around wrong c c.around vs around z
 
-  -- the name slot of an undefined function, and of an unbound variable
-  abbrev pub undefined_function : Signals → List ℕ → Act
-  undefined_function wrong name = wrong undefined_function_class (symbol (named name) ∷ [])
-
-  abbrev pub unbound_variable : Signals → List ℕ → Act
-  unbound_variable wrong name = wrong unbound_variable_class (symbol (named name) ∷ [])
-
   -- the application of a generic function: a wrong number of arguments, or no chain, is no application
   abbrev pub apply_chain : Signals → GenericRow → Option Chain → List Value → Act
-  apply_chain wrong g None vs around z = undefined_function wrong (text names g.name.0) around z
+  apply_chain wrong g None vs around z = undefined_function wrong (text context.names g.name.0) around z
   apply_chain wrong g (Some c) vs around z =
-      descend (λ entered.
-      in_frame limit (16 + length vs)
-      (λ inner. below (methods c vs) no_environment around (charged (length vs) inner)) entered)
+      descend context.below (λ entered.
+      in_frame context.limit (16 + length vs)
+      (λ inner. context.below (methods c vs) no_environment around (charged (length vs) inner)) entered)
       around z
 
   abbrev pub apply_generic_row : Signals → Option GenericRow → List Value → Act
   apply_generic_row wrong None vs around z = gives nil z
   apply_generic_row wrong (Some g) vs around z =
       if takes g.required g.rest (length vs) then
-      apply_chain wrong g (chain program g (map (class_of z) (take g.required vs))) vs around z
+      apply_chain wrong g (chain context.program g (map (class_of z) (take g.required vs))) vs around z
       else wrong program_error_class [] around z
 
   abbrev pub apply_generic : Signals → ℕ → List Value → Act
-  apply_generic wrong i vs around z = apply_generic_row wrong (slice_get program.generics i) vs around z
+  apply_generic wrong i vs around z = apply_generic_row wrong (slice_get context.program.generics i) vs around z
 
   -- the application of a value, which is to be a function
   abbrev pub apply_object : Signals → Option Object → Value → List Value → Act
   apply_object wrong (Some (function p)) f vs = apply_procedure wrong p None vs
   apply_object wrong (Some (closure required rest body env)) f vs = apply_closure wrong required rest body env vs
   apply_object wrong (Some (generic_function g)) f vs = apply_generic wrong g vs
-  apply_object wrong o f vs = wrong domain_error_class (f ∷ class_value function_class ∷ [])
+  apply_object wrong o f vs = signal_domain_error wrong f function_class
 
   abbrev pub apply_value : Signals → Value → List Value → Act
   apply_value wrong f vs around z = apply_object wrong (fetch z f) f vs around z
@@ -208,7 +226,7 @@ module _ (names : List (List ℕ)) (program : ProgramRows) (limit : Limit) (belo
   -- a new condition of a class, with its slots
   abbrev pub new_condition : ℕ → List Value → State → (Value → State → Evaluated) → Evaluated
   new_condition class slots z next =
-      make limit (instance_words program class (length slots)) 0 (instance class (map Some slots) nil) z next
+      make context.limit (instance_words context.program class (length slots)) 0 (instance class (map Some slots) nil) z next
 
   -- a condition is signalled with a mark under handlers (ISO/IEC 13816:2007, 29.2): without any, the program
   -- ends unhandled; else the innermost one is applied to it with those outside it alone. A transfer to the
@@ -231,16 +249,11 @@ module _ (names : List (List ℕ)) (program : ProgramRows) (limit : Limit) (belo
   -- the answer of a primitive
   abbrev pub answered : Answer → Act
   answered (result v z) around y = gives v z
-  answered (makes size besides made z) around y = make limit size besides made z (λ v after. gives v after)
+  answered (makes size besides made z) around y = make context.limit size besides made z (λ v after. gives v after)
   answered (makes_symbol z) around y =
-      make limit 2 0 (fresh_symbol z.symbols) z (λ v after. gives v (record after { symbols = after.symbols + 1 }))
+      make context.limit 2 0 (fresh_symbol z.symbols) z (λ v after. gives v (record after { symbols = after.symbols + 1 }))
   answered (fails class slots z) around y = signal class slots around z
-
-  -- a search from the front, which counts each one that it passes
-  abbrev pub search : {X : Type 0} → (X → Bool) → (X → State → Evaluated) → (State → Evaluated) → List X → State → Evaluated
-  search p found otherwise [] z = otherwise z
-  search p found otherwise (x ∷ xs) z =
-      if p x then found x (charged 1 z) else search p found otherwise xs (charged 1 z)
+  answered (domain_error v expected z) around y = signal_domain_error signal v expected around z
 
   -- transfers (ISO/IEC 13816:2007, 14.8.1): where there is no such exit, a control error
 

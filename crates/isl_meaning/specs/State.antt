@@ -147,7 +147,7 @@ cleaned cleanup around r = cleaned_from cleanup around r.outcome r.state
 
 -- exits
 
--- a fresh exit in front
+-- a fresh exit, innermost
 abbrev pub inside : ExitKind → Surroundings → State → Surroundings
 inside kind around z = record around { exits = record { number = z.exits; kind = kind } ∷ around.exits }
 

@@ -3,9 +3,9 @@ use Rattle.std.proofs.Common.{◌≡◌, ℕ, ◌+◌, ◌-◌, ◌*◌, ◌%◌
 use Rattle.std.specs.Prelude.{slice_index, slice_set}
 use Rattle.rv_encode.specs.declared.instruction.Instr.TheVariants.{Add, Bne, Jalr}
 use Rattle.isl_top.specs.Code.{load_6, load_11, add_6_to_5, go_to_5, over_jump_unless_same, jump_over, second_constant, clause_code, nil_word, t_word}
-use Rattle.isl_top.proofs.Instructions.{is_add_6_to_5, is_go_to_5, is_load_11, is_load_6, is_over_jump_unless_same}
+use Rattle.isl_top.proofs.Instructions.{instructions}
 use Rattle.isl_top.proofs.Runs.{at, word_in, Comes, and_on, HasAt, one, linked, moved, loaded, next_place}
-use Rattle.isl_top.proofs.Yields.{Ready, ready_set, same, other, has_front, has_back, Yields}
+use Rattle.isl_top.proofs.Yields.{Ready, ready_set, same, other, has_prefix, has_suffix, Yields}
 
 -- register 10 is as before
 record Passes (steps : ℕ) (arena registers printed : List ℕ) (i n i' : ℕ) : Type 0 where
@@ -25,19 +25,19 @@ jumped words arena registers printed i n ready room has =
     let j : i + 1 + 1 ≡ i + 2 = omega arith in
     let at_load : word_in arena (i + 2) ≡ Some load_6 = subst (λ x. word_in arena x ≡ Some load_6) j has.1.1.0 in
     let link = linked arena registers printed i n (omega arith) has.0 in
-    let load = loaded arena five printed (i + 2) (n + 1) load_6 6 (i + 1) (words * 4 + 16) (omega arith) (omega arith) is_load_6 at_load (same registers 5 (4 * (i + 1)) (omega arith) ready) has.1.0 in
+    let load = loaded arena five printed (i + 2) (n + 1) load_6 6 (i + 1) (words * 4 + 16) (omega arith) (omega arith) instructions.load_6 at_load (same registers 5 (4 * (i + 1)) (omega arith) ready) has.1.0 in
     let k : i + 1 + 1 + 1 ≡ i + 2 + 1 = omega arith in
     let at_add : word_in arena (i + 2 + 1) ≡ Some add_6_to_5 = subst (λ x. word_in arena x ≡ Some add_6_to_5) k has.1.1.1.0 in
     let x5 : slice_index six 5 ≡ 4 * (i + 1) = other five 6 (words * 4 + 16) 5 (omega arith) ∙ same registers 5 (4 * (i + 1)) (omega arith) ready in
     let x6 : slice_index six 6 ≡ words * 4 + 16 = same five 6 (words * 4 + 16) (omega arith) five_ready in
     let sum : (4 * (i + 1) + (words * 4 + 16)) % 2 ^ 32 ≡ 4 * (i + 5 + words) = omega arith in
-    let add = one arena six printed (i + 2 + 1) (n + 1 + 1) add_6_to_5 (Add 5 5 6) (at arena (i + 2 + 1 + 1) target printed (n + 1 + 1 + 1)) at_add is_add_6_to_5 (λ input go_on. rw (x5, x6, sum, next_place (i + 2 + 1) (omega arith)) refl) in
+    let add = one arena six printed (i + 2 + 1) (n + 1 + 1) add_6_to_5 (Add 5 5 6) (at arena (i + 2 + 1 + 1) target printed (n + 1 + 1 + 1)) at_add instructions.add_6_to_5 (λ input go_on. rw (x5, x6, sum, next_place (i + 2 + 1) (omega arith)) refl) in
     let m : i + 1 + 1 + 1 + 1 ≡ i + 2 + 1 + 1 = omega arith in
     let at_go : word_in arena (i + 2 + 1 + 1) ≡ Some go_to_5 = subst (λ x. word_in arena x ≡ Some go_to_5) m has.1.1.1.1.0 in
     let t5 : slice_index target 5 ≡ 4 * (i + 5 + words) = same six 5 (4 * (i + 5 + words)) (omega arith) six_ready in
     let there : (4 * (i + 5 + words) + 0) % 2 ^ 32 ≡ 4 * (i + 5 + words) = omega arith in
     let whole : 4 * (i + 5 + words) - 4 * (i + 5 + words) % 2 ≡ 4 * (i + 5 + words) = omega arith in
-    let go = one arena target printed (i + 2 + 1 + 1) (n + 1 + 1 + 1) go_to_5 (Jalr 0 5 0) (at arena (i + 5 + words) target printed (n + 1 + 1 + 1 + 1)) at_go is_go_to_5 (λ input go_on. rw (t5, there, whole) refl) in
+    let go = one arena target printed (i + 2 + 1 + 1) (n + 1 + 1 + 1) go_to_5 (Jalr 0 5 0) (at arena (i + 5 + words) target printed (n + 1 + 1 + 1 + 1)) at_go instructions.go_to_5 (λ input go_on. rw (t5, there, whole) refl) in
     record {
       registers' = target;
       comes = moved (i + 5 + words) (n + 4) refl (omega arith) (and_on (and_on (and_on link load) add) go);
@@ -53,7 +53,7 @@ second_loaded arena registers printed i n word ready room has =
     let j : i + 1 + 1 ≡ i + 2 = omega arith in
     let load : word_in arena (i + 2) ≡ Some load_11 = subst (λ x. word_in arena x ≡ Some load_11) j has.1.1.0 in
     let a = linked arena registers printed i n (omega arith) has.0 in
-    let b = loaded arena five printed (i + 2) (n + 1) load_11 11 (i + 1) word (omega arith) (omega arith) is_load_11 load (same registers 5 (4 * (i + 1)) (omega arith) ready) has.1.0 in (
+    let b = loaded arena five printed (i + 2) (n + 1) load_11 11 (i + 1) word (omega arith) (omega arith) instructions.load_11 load (same registers 5 (4 * (i + 1)) (omega arith) ready) has.1.0 in (
       slice_set five 11 word,
       moved (i + 3) (n + 2) (omega arith) (omega arith) (and_on a b),
       ready_set five 11 word (omega arith) five_ready,
@@ -67,14 +67,14 @@ tested_true arena registers printed i n ready room ten has branch =
     let s = second_loaded arena registers printed i n nil_word ready (omega arith) has in
     let x10 : slice_index s.0 10 ≡ t_word = s.3 ∙ ten in
     let p : (4 * (i + 3) + 24) % 2 ^ 32 ≡ 4 * (i + 9) = omega arith in
-    let b = one arena s.0 printed (i + 3) (n + 2) over_jump_unless_same (Bne 10 11 24) (at arena (i + 9) s.0 printed (n + 2 + 1)) branch is_over_jump_unless_same (λ input go_on. rw (x10, s.4, p) refl) in
+    let b = one arena s.0 printed (i + 3) (n + 2) over_jump_unless_same (Bne 10 11 24) (at arena (i + 9) s.0 printed (n + 2 + 1)) branch instructions.over_jump_unless_same (λ input go_on. rw (x10, s.4, p) refl) in
     record { registers' = s.0; comes = moved (i + 9) (n + 3) refl (omega arith) (and_on s.1 b); ready = s.2; first = s.3 }
 
 tested_false : (arena registers printed : List ℕ) (i n : ℕ) → Ready registers → i + 9 < 2 ^ 25 → slice_index registers 10 ≡ nil_word → HasAt arena i (second_constant nil_word) → word_in arena (i + 3) ≡ Some over_jump_unless_same → Passes 3 arena registers printed i n (i + 4)
 tested_false arena registers printed i n ready room ten has branch =
     let s = second_loaded arena registers printed i n nil_word ready (omega arith) has in
     let x10 : slice_index s.0 10 ≡ nil_word = s.3 ∙ ten in
-    let b = one arena s.0 printed (i + 3) (n + 2) over_jump_unless_same (Bne 10 11 24) (at arena (i + 3 + 1) s.0 printed (n + 2 + 1)) branch is_over_jump_unless_same (λ input go_on. rw (x10, s.4, next_place (i + 3) (omega arith)) refl) in
+    let b = one arena s.0 printed (i + 3) (n + 2) over_jump_unless_same (Bne 10 11 24) (at arena (i + 3 + 1) s.0 printed (n + 2 + 1)) branch instructions.over_jump_unless_same (λ input go_on. rw (x10, s.4, next_place (i + 3) (omega arith)) refl) in
     record { registers' = s.0; comes = moved (i + 4) (n + 3) (omega arith) (omega arith) (and_on s.1 b); ready = s.2; first = s.3 }
 
 -- where the parts of a clause's code stand
@@ -99,17 +99,17 @@ placed arena i test body others has =
     let l2 : length (test ++ s ++ b) ≡ length test + 9 = length-append (test ++ s) b ∙ omega (arith, l1) in
     let l3 : length (test ++ s ++ b ++ body) ≡ length test + 9 + length body = length-append (test ++ s ++ b) body ∙ omega (arith, l2) in
     let l4 : length (test ++ s ++ b ++ body ++ j) ≡ length test + 14 + length body = length-append (test ++ s ++ b ++ body) j ∙ omega (arith, l3) in
-    let h4 = has_front arena i (test ++ s ++ b ++ body ++ j) others has in
-    let h3 = has_front arena i (test ++ s ++ b ++ body) j h4 in
-    let h2 = has_front arena i (test ++ s ++ b) body h3 in
-    let h1 = has_front arena i (test ++ s) b h2 in
+    let h4 = has_prefix arena i (test ++ s ++ b ++ body ++ j) others has in
+    let h3 = has_prefix arena i (test ++ s ++ b ++ body) j h4 in
+    let h2 = has_prefix arena i (test ++ s ++ b) body h3 in
+    let h1 = has_prefix arena i (test ++ s) b h2 in
     record {
-      test_at = has_front arena i test s h1;
-      nil_at = has_back arena i test s h1;
-      branch_at = shifted arena b _ _ (omega (arith, l1)) (has_back arena i (test ++ s) b h2);
-      body_at = shifted arena body _ _ (omega (arith, l2)) (has_back arena i (test ++ s ++ b) body h3);
-      jump_at = shifted arena j _ _ (omega (arith, l3)) (has_back arena i (test ++ s ++ b ++ body) j h4);
-      others_at = shifted arena others _ _ (omega (arith, l4)) (has_back arena i (test ++ s ++ b ++ body ++ j) others has);
+      test_at = has_prefix arena i test s h1;
+      nil_at = has_suffix arena i test s h1;
+      branch_at = shifted arena b _ _ (omega (arith, l1)) (has_suffix arena i (test ++ s) b h2);
+      body_at = shifted arena body _ _ (omega (arith, l2)) (has_suffix arena i (test ++ s ++ b) body h3);
+      jump_at = shifted arena j _ _ (omega (arith, l3)) (has_suffix arena i (test ++ s ++ b ++ body) j h4);
+      others_at = shifted arena others _ _ (omega (arith, l4)) (has_suffix arena i (test ++ s ++ b ++ body ++ j) others has);
       size = length-append (test ++ s ++ b ++ body ++ j) others ∙ omega (arith, l4);
     }
 

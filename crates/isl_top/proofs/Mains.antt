@@ -35,12 +35,12 @@ unfolding meaning_at
 at_levels program f v bytes units m limit zero z s = m.by limit none_below no_environment main_surroundings z s
 at_levels program f v bytes units m limit (suc k) z s = m.by limit (meaning_at names program limit k) no_environment main_surroundings z s
 
--- the state behind a main form
-abbrev behind : Form → List ℕ → ℕ → State → State
-behind f bytes units z = record (after bytes units (with_words 0 (application_words (nodes f)) z)) { stack = z.stack }
+-- the state after a main form
+abbrev after_main : Form → List ℕ → ℕ → State → State
+after_main f bytes units z = record (after bytes units (with_words 0 (application_words (nodes f)) z)) { stack = z.stack }
 
 -- a main form whose words there are
-main_value : (program : ProgramRows) (f : Form) (v : Value) (bytes : List ℕ) (units : ℕ) → Means program f v bytes units → (limit : Limit) (k : ℕ) (z : State) → HasOutput z → has_room limit (z.heap + z.stack + 0 + application_words (nodes f)) ≡ true → mean_main names program limit k f z ≡ gives v (behind f bytes units z)
+main_value : (program : ProgramRows) (f : Form) (v : Value) (bytes : List ℕ) (units : ℕ) → Means program f v bytes units → (limit : Limit) (k : ℕ) (z : State) → HasOutput z → has_room limit (z.heap + z.stack + 0 + application_words (nodes f)) ≡ true → mean_main names program limit k f z ≡ gives v (after_main f bytes units z)
 main_value program f v bytes units m limit k z s room =
     let entered = with_words 0 (application_words (nodes f)) z in
     rw room (ap (λ r. go_on r (λ x q. gives x (record q { stack = z.stack }))) (at_levels program f v bytes units m limit k entered s))
@@ -66,9 +66,9 @@ pub main_and : (program : ProgramRows) (last v w : Value) (f : Form) (fs : List 
 main_and program last v w f fs bytes more units others m ms = record {
   limited = λ l k z s. with_room l k z s (has_room (words l) (z.heap + z.stack + 0 + application_words (nodes f))) refl;
   free = λ k z s.
-      let e : mean_mains names program unlimited k (f ∷ fs) last z ≡ mean_mains names program unlimited k fs v (behind f bytes units z) =
+      let e : mean_mains names program unlimited k (f ∷ fs) last z ≡ mean_mains names program unlimited k fs v (after_main f bytes units z) =
       ap (λ r. go_on r (λ x q. mean_mains names program unlimited k fs x q)) (main_value program f v bytes units m unlimited k z s refl) in
-      subst (Went z w (bytes ++ more) (units + others)) (sym e) (went_on bytes units refl refl (ms.free k (behind f bytes units z) s));
+      subst (Went z w (bytes ++ more) (units + others)) (sym e) (went_on bytes units refl refl (ms.free k (after_main f bytes units z) s));
 }
   where
     with_room : (l k : ℕ) (z : State) → HasOutput z → (b : Bool) → has_room (words l) (z.heap + z.stack + 0 + application_words (nodes f)) ≡ b → WantsWords (mean_mains names program (words l) k (f ∷ fs) last z) ⊎ Went z w (bytes ++ more) (units + others) (mean_mains names program (words l) k (f ∷ fs) last z)
@@ -76,9 +76,9 @@ main_and program last v w f fs bytes more units others m ms = record {
         let e = ap (λ r. go_on r (λ x q. mean_mains names program (words l) k fs x q)) (no_room program f (words l) k z b) in
         inl (record { asked = 0 + application_words (nodes f); left = room_left (words l) (z.heap + z.stack); is = ap (λ r. r.outcome) e })
     with_room l k z s true b =
-        let e : mean_mains names program (words l) k (f ∷ fs) last z ≡ mean_mains names program (words l) k fs v (behind f bytes units z) =
+        let e : mean_mains names program (words l) k (f ∷ fs) last z ≡ mean_mains names program (words l) k fs v (after_main f bytes units z) =
         ap (λ r. go_on r (λ x q. mean_mains names program (words l) k fs x q)) (main_value program f v bytes units m (words l) k z s b) in
         ⊎_elim
         (λ h. inl (subst WantsWords (sym e) h))
         (λ h. inr (subst (Went z w (bytes ++ more) (units + others)) (sym e) (went_on bytes units refl refl h)))
-        (ms.limited l k (behind f bytes units z) s)
+        (ms.limited l k (after_main f bytes units z) s)

@@ -12,11 +12,11 @@ use Rattle.isl_meaning.specs.Form.{Form, literal, clauses, sequence, prim, sited
 use Rattle.isl_meaning.specs.Form.{Forms, no_form, form_and}
 use Rattle.isl_meaning.specs.Values.{Value, t, nil}
 use Rattle.isl_meaning.specs.Objects.{Environment, output_stream}
-use Rattle.isl_meaning.specs.Literals.{lay_content, lays, laid_before, first_literal}
+use Rattle.isl_meaning.specs.Layout.{literal_value}
 use Rattle.isl_meaning.specs.Primitives.{primitive, result}
 use Rattle.isl_meaning.specs.State.{State, Surroundings, gives, go_on, Limit, charged}
-use Rattle.isl_meaning.specs.Signals.{Task, Evaluation, answered}
-use Rattle.isl_meaning.specs.Meaning.{unless_nil, mean, mean_sequence, mean_arguments, mean_clauses}
+use Rattle.isl_meaning.specs.Signals.{Context, Task, Evaluation, answered}
+use Rattle.isl_meaning.specs.Meaning.{unless_nil, mean, mean_sequence, mean_arguments, mean_clauses, context_of}
 use Rattle.isl_top.specs.Shapes.{names}
 
 -- the standard output has its number among the objects
@@ -32,12 +32,16 @@ after_both bytes more units others z =
     ap (λ p. record z { printed = p; units = z.units + units + others }) (append_assoc z.printed bytes more)
     ∙ ap (λ u. record z { printed = z.printed ++ (bytes ++ more); units = u }) (add_assoc z.units units others)
 
+-- a program of the first path, with a limit and a meaning one level below
+abbrev pub at : ProgramRows → Limit → (Task → Evaluation) → Context
+at = context_of names
+
 -- under any limit and with anything below, where the standard output is there, the form has this value
 pub record Means (program : ProgramRows) (f : Form) (v : Value) (bytes : List ℕ) (units : ℕ) : Type 0 where
-  pub by : (limit : Limit) (below : Task → Evaluation) (env : Environment) (around : Surroundings) (z : State) → HasOutput z → mean names program limit below f env around z ≡ gives v (after bytes units z)
+  pub by : (limit : Limit) (below : Task → Evaluation) (env : Environment) (around : Surroundings) (z : State) → HasOutput z → mean (at program limit below) f env around z ≡ gives v (after bytes units z)
 
 pub record MeansSequence (program : ProgramRows) (last : Value) (fs : Forms) (v : Value) (bytes : List ℕ) (units : ℕ) : Type 0 where
-  pub by : (limit : Limit) (below : Task → Evaluation) (env : Environment) (around : Surroundings) (z : State) → HasOutput z → mean_sequence names program limit below last fs env around z ≡ gives v (after bytes units z)
+  pub by : (limit : Limit) (below : Task → Evaluation) (env : Environment) (around : Surroundings) (z : State) → HasOutput z → mean_sequence (at program limit below) last fs env around z ≡ gives v (after bytes units z)
 
 pub no_forms_mean : (program : ProgramRows) (last : Value) → MeansSequence program last no_form last [] 0
 unfolding mean
@@ -51,7 +55,7 @@ pub forms_mean : {program : ProgramRows} {last v w : Value} {f : Form} {fs : For
 unfolding mean
 forms_mean {program} {last} {v} {w} {f} {fs} {bytes} {more} {units} {others} m s = record {
   by = λ limit below env around z e.
-      ap (λ r. go_on r (λ x q. mean_sequence names program limit below x fs env around q)) (m.by limit below env around z e)
+      ap (λ r. go_on r (λ x q. mean_sequence (at program limit below) x fs env around q)) (m.by limit below env around z e)
       ∙ s.by limit below env around (after bytes units z) e
       ∙ ap (gives w) (after_both bytes more units others z);
 }
@@ -78,11 +82,11 @@ put_means program site id c p h = record {
 }
 
 -- a literal
-pub literal_means : (program : ProgramRows) (id : ℕ) (p : Place) (content : Content) (v : Value) → ((n : ℕ) → (lay_content names content n).value ≡ v) → slice_get program.literals id ≡ Some (row.Datum (datum.item p content)) → Means program (literal id) v [] 1
+pub literal_means : (program : ProgramRows) (id : ℕ) (p : Place) (content : Content) (v : Value) → literal_value names program id (datum.item p content) ≡ v → slice_get program.literals id ≡ Some (row.Datum (datum.item p content)) → Means program (literal id) v [] 1
 unfolding mean
 literal_means program id p content v laid h = record {
   by = λ limit below env around z e.
-      rw h (ap (λ x. gives x (charged 1 z)) (laid (first_literal program + laid_before id (lays names program))) ∙ ap (λ q. gives v (record z { printed = q; units = z.units + 1 })) (sym (append-nil z.printed)));
+      rw h (ap (λ x. gives x (charged 1 z)) laid ∙ ap (λ q. gives v (record z { printed = q; units = z.units + 1 })) (sym (append-nil z.printed)));
 }
 
 -- a primitive of two arguments that put nothing, where it has this value at theirs
@@ -92,9 +96,9 @@ two_mean {program} {f} {g} {x} {y} {u} {w} which v m n e = record {
   by = λ limit below env around z s.
       let first = charged 3 z in
       let second = after [] u first in
-      ap (λ r. go_on r (λ a q. mean_arguments names program limit below (form_and g no_form) (a ∷ []) env around q (λ vs q'. answered names program limit below (primitive names program which vs q') around q'))) (m.by limit below env around first s)
-      ∙ ap (λ r. go_on r (λ a q. mean_arguments names program limit below no_form (x ∷ a ∷ []) env around q (λ vs q'. answered names program limit below (primitive names program which vs q') around q'))) (n.by limit below env around second s)
-      ∙ ap (λ a. answered names program limit below a around (after [] w second)) (e (after [] w second))
+      ap (λ r. go_on r (λ a q. mean_arguments (at program limit below) (form_and g no_form) (a ∷ []) env around q (λ vs q'. answered (at program limit below) (primitive names program which vs q') around q'))) (m.by limit below env around first s)
+      ∙ ap (λ r. go_on r (λ a q. mean_arguments (at program limit below) no_form (x ∷ a ∷ []) env around q (λ vs q'. answered (at program limit below) (primitive names program which vs q') around q'))) (n.by limit below env around second s)
+      ∙ ap (λ a. answered (at program limit below) a around (after [] w second)) (e (after [] w second))
       ∙ ap (gives v) (after_both [] [] u w first)
       ∙ ap (λ k. gives v (record z { printed = z.printed ++ []; units = k })) (sum_of_three z.units u w);
 }
@@ -108,7 +112,7 @@ unfolding mean
 chosen_means {program} {f} {g} {h} {v} {bytes} {u} {w} id m n = record {
   by = λ limit below env around z e.
       let first = charged 3 z in
-      ap (λ r. go_on r (λ x q. unless_nil x (mean names program limit below g env around q) (mean_clauses names program limit below (clause_and (literal id) (with_body h) no_clause) env around q))) (m.by limit below env around first e)
+      ap (λ r. go_on r (λ x q. unless_nil x (mean (at program limit below) g env around q) (mean_clauses (at program limit below) (clause_and (literal id) (with_body h) no_clause) env around q))) (m.by limit below env around first e)
       ∙ n.by limit below env around (after [] u first) e
       ∙ ap (gives v) (after_both [] bytes u w first)
       ∙ ap (λ k. gives v (record z { printed = z.printed ++ bytes; units = k })) (sum_of_three z.units u w);
@@ -123,8 +127,8 @@ passed_means {program} {f} {g} {h} {v} {bytes} {u} {w} id m l n = record {
   by = λ limit below env around z e.
       let first = charged 3 z in
       let second = after [] u first in
-      ap (λ r. go_on r (λ x q. unless_nil x (mean names program limit below g env around q) (mean_clauses names program limit below (clause_and (literal id) (with_body h) no_clause) env around q))) (m.by limit below env around first e)
-      ∙ ap (λ r. go_on r (λ x q. unless_nil x (mean names program limit below h env around q) (mean_clauses names program limit below no_clause env around q))) (l.by limit below env around second e)
+      ap (λ r. go_on r (λ x q. unless_nil x (mean (at program limit below) g env around q) (mean_clauses (at program limit below) (clause_and (literal id) (with_body h) no_clause) env around q))) (m.by limit below env around first e)
+      ∙ ap (λ r. go_on r (λ x q. unless_nil x (mean (at program limit below) h env around q) (mean_clauses (at program limit below) no_clause env around q))) (l.by limit below env around second e)
       ∙ n.by limit below env around (after [] 1 second) e
       ∙ ap (gives v) (after_both [] bytes 1 w second ∙ after_both [] bytes u (1 + w) first)
       ∙ ap (λ k. gives v (record z { printed = z.printed ++ bytes; units = k })) (sum_of_three z.units u (1 + w));

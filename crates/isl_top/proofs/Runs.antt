@@ -9,7 +9,7 @@ use Rattle.rv_machine.specs.State.{put}
 use Rattle.rv_machine.specs.Step.{execute, step_of, fetched, decoded}
 use Rattle.rv_machine.specs.Run.{Moment, Ended, act, run_from}
 use Rattle.isl_top.specs.Code.{link_5_over_word}
-use Rattle.isl_top.proofs.Instructions.{is_link_5_over_word}
+use Rattle.isl_top.proofs.Instructions.{instructions}
 
 -- a moment of a run, whatever the input
 abbrev pub Point : Type 0
@@ -65,7 +65,7 @@ pub linked : (arena registers printed : List ℕ) (i n : ℕ) → i < 2 ^ 25 →
 linked arena registers printed i n b h =
     let p : (4 * i + 8) % 2 ^ 32 ≡ 4 * (i + 2) = omega arith in
     let q : (4 * i + 4) % 2 ^ 32 ≡ 4 * (i + 1) = omega arith in
-    one arena registers printed i n link_5_over_word (Jal 5 8) (at arena (i + 2) (slice_set registers 5 (4 * (i + 1))) printed (n + 1)) h is_link_5_over_word (λ input go_on. rw (p, q) refl)
+    one arena registers printed i n link_5_over_word (Jal 5 8) (at arena (i + 2) (slice_set registers 5 (4 * (i + 1))) printed (n + 1)) h instructions.link_5_over_word (λ input go_on. rw (p, q) refl)
 
 -- a moment may be told by equal numbers
 pub moved : {a : ℕ} {m : Point} {arena registers printed : List ℕ} {i n : ℕ} (i' n' : ℕ) → i ≡ i' → n ≡ n' → Comes a m (at arena i registers printed n) → Comes a m (at arena i' registers printed n')

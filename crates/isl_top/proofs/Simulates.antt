@@ -12,8 +12,10 @@ use Rattle.isl_meaning.specs.Form.{Form, literal, clauses, sequence, prim, sited
 use Rattle.isl_meaning.specs.Form.{Forms, no_form, form_and}
 use Rattle.isl_meaning.specs.Values.{t as true_value, Value, integer, character, symbol, nil, object, truth, int_equal}
 use Rattle.isl_base.specs.Data.{Item, item, list, Items, no_item, item_and, no_tail}
-use Rattle.isl_top.specs.Shapes.{Tables, with_site, with_truth, next_literal, next_site, and_then, as_form, head_of, format_char_form, progn_form, sum_form, test_of, choice, if_form, form_of, forms_of}
-use Rattle.isl_top.specs.Code.{integer_word, character_word, nil_word, t_word, stream_word, constant, put_code, row_word, row_byte, between, truth_code, clause_code, move_12_from_10, move_13_from_10, add_12_and_10, subtract_10_from_12, over_four_if_same, over_four_if_less, form_code, forms_code}
+use Rattle.isl_meaning.specs.Primitives.{primitive, result}
+use Rattle.isl_meaning.specs.State.{State}
+use Rattle.isl_top.specs.Shapes.{names, Tables, with_site, with_truth, next_literal, next_site, and_then, as_form, head_of, format_char_form, progn_form, sum_form, test_of, choice, if_form, form_of, forms_of}
+use Rattle.isl_top.specs.Code.{integer_word, character_word, nil_word, t_word, stream_word, constant, put_code, row_word, row_byte, byte_of, literal_number, between, operation_code, truth_code, clause_code, move_12_from_10, move_13_from_10, add_12_and_10, subtract_10_from_12, over_four_if_same, over_four_if_less, form_code, forms_code}
 use Rattle.isl_top.proofs.Yields.{Yields, nothing, constant_yields, put_yields}
 use Rattle.isl_top.proofs.Yields.{and_then as yields_then}
 use Rattle.isl_top.proofs.Means.{Means, MeansSequence, no_forms_mean, forms_mean, sequence_means, sited_means, put_means, literal_means, two_mean, chosen_means, passed_means}
@@ -53,7 +55,7 @@ pub record Simulates (program : ProgramRows) (f : Form) : Type 0 where
   pub forward : cost ≤ length (form_code program.literals f)
   pub plain : IsPlain v
 
--- forms in order behind a value
+-- forms in order after a value
 pub record SimulatesAll (program : ProgramRows) (last : Value) (fs : Forms) : Type 0 where
   pub v : Value
   pub bytes : List ℕ
@@ -185,76 +187,99 @@ integer_simulated program id p n small h = record {
   within = wider n small;
   units = 1;
   cost = 2;
-  means = literal_means program id p (datum.integer n) (integer n) (λ m. refl) h;
+  means = literal_means program id p (datum.integer n) (integer n) refl h;
   operand = subst (λ w. Operand (constant w) (integer_word n) 2) (sym (ap row_word h)) (constant_operand (integer_word n));
   cheap = omega arith;
   forward = omega arith;
 }
 
--- a sum or a difference under a site
-module _ (program : ProgramRows) (site i j : ℕ) (p q : Place) (a b : ℤ) (x : Within 99999999 a) (y : Within 99999999 b) (h : slice_get program.literals i ≡ Some (row.Datum (datum.item p (datum.integer a)))) (k : slice_get program.literals j ≡ Some (row.Datum (datum.item q (datum.integer b)))) where
-  added_simulated : SimulatesOperand program (sited site (prim Add (form_and (literal i) (form_and (literal j) no_form))))
-  unfolding form_code
-  added_simulated = record {
-    n = a +ℤ b;
-    within = sum_within a b x y;
-    units = 5;
-    cost = 6;
-    means = sited_means (two_mean Add (integer (a +ℤ b)) (literal_means program i p (datum.integer a) (integer a) (λ n. refl) h) (literal_means program j q (datum.integer b) (integer b) (λ n. refl) k) (λ z. rw (within_range (a +ℤ b) (sum_within a b x y)) refl));
-    operand =
-        subst (λ v. Operand (between (constant v) move_12_from_10 (constant (row_word (slice_get program.literals j))) (add_12_and_10 ∷ [])) (integer_word (a +ℤ b)) 6) (sym (ap row_word h))
-        (subst (λ w. Operand (between (constant (integer_word a)) move_12_from_10 (constant w) (add_12_and_10 ∷ [])) (integer_word (a +ℤ b)) 6) (sym (ap row_word k))
-        (subst (λ w. Operand (between (constant (integer_word a)) move_12_from_10 (constant (integer_word b)) (add_12_and_10 ∷ [])) w 6) (sum_word a b x y) (sum_operand (integer_word a) (integer_word b) (small_word a))));
-    cheap = omega arith;
-    forward = omega arith;
-  }
+-- a primitive of two integers that gives an integer, and the instruction that computes it
+record IsSum (which : Primitive) (instruction : ℕ) (f : ℤ → ℤ → ℤ) : Type 0 where
+  within : (a b : ℤ) → Within 99999999 a → Within 99999999 b → Within 199999998 (f a b)
+  gives : (program : ProgramRows) (a b : ℤ) (z : State) → Within 199999998 (f a b) → primitive names program which (integer a ∷ integer b ∷ []) z ≡ result (integer (f a b)) z
+  code : (first second : List ℕ) (byte : ℕ) → operation_code which first second byte ≡ between first move_12_from_10 second (instruction ∷ [])
+  computes : (a b : ℤ) → Within 99999999 a → Within 99999999 b → Operand (between (constant (integer_word a)) move_12_from_10 (constant (integer_word b)) (instruction ∷ [])) (integer_word (f a b)) 6
 
-  subtracted_simulated : SimulatesOperand program (sited site (prim Subtract (form_and (literal i) (form_and (literal j) no_form))))
-  unfolding form_code
-  subtracted_simulated = record {
-    n = a -ℤ b;
-    within = difference_within a b x y;
-    units = 5;
-    cost = 6;
-    means = sited_means (two_mean Subtract (integer (a -ℤ b)) (literal_means program i p (datum.integer a) (integer a) (λ n. refl) h) (literal_means program j q (datum.integer b) (integer b) (λ n. refl) k) (λ z. rw (within_range (a -ℤ b) (difference_within a b x y)) refl));
-    operand =
-        subst (λ v. Operand (between (constant v) move_12_from_10 (constant (row_word (slice_get program.literals j))) (subtract_10_from_12 ∷ [])) (integer_word (a -ℤ b)) 6) (sym (ap row_word h))
-        (subst (λ w. Operand (between (constant (integer_word a)) move_12_from_10 (constant w) (subtract_10_from_12 ∷ [])) (integer_word (a -ℤ b)) 6) (sym (ap row_word k))
-        (subst (λ w. Operand (between (constant (integer_word a)) move_12_from_10 (constant (integer_word b)) (subtract_10_from_12 ∷ [])) w 6) (difference_word a b x y) (difference_operand (integer_word a) (integer_word b) (small_word a))));
-    cheap = omega arith;
-    forward = omega arith;
-  }
+addition : IsSum Add add_12_and_10 (λ a b. a +ℤ b)
+addition = record {
+  within = sum_within;
+  gives = λ program a b z w. rw (within_range (a +ℤ b) w) refl;
+  code = λ first second byte. refl;
+  computes = λ a b x y. subst (λ w. Operand (between (constant (integer_word a)) move_12_from_10 (constant (integer_word b)) (add_12_and_10 ∷ [])) w 6) (sum_word a b x y) (sum_operand (integer_word a) (integer_word b) (small_word a));
+}
+
+subtraction : IsSum Subtract subtract_10_from_12 (λ a b. a -ℤ b)
+subtraction = record {
+  within = difference_within;
+  gives = λ program a b z w. rw (within_range (a -ℤ b) w) refl;
+  code = λ first second byte. refl;
+  computes = λ a b x y. subst (λ w. Operand (between (constant (integer_word a)) move_12_from_10 (constant (integer_word b)) (subtract_10_from_12 ∷ [])) w 6) (difference_word a b x y) (difference_operand (integer_word a) (integer_word b) (small_word a));
+}
+
+-- such a primitive of two literals under a site
+sum_simulated : {which : Primitive} {instruction : ℕ} {f : ℤ → ℤ → ℤ} → IsSum which instruction f → (program : ProgramRows) (site i j : ℕ) (p q : Place) (a b : ℤ) → Within 99999999 a → Within 99999999 b → slice_get program.literals i ≡ Some (row.Datum (datum.item p (datum.integer a))) → slice_get program.literals j ≡ Some (row.Datum (datum.item q (datum.integer b))) → SimulatesOperand program (sited site (prim which (form_and (literal i) (form_and (literal j) no_form))))
+unfolding form_code
+sum_simulated {which} {instruction} {f} s program site i j p q a b x y h k =
+    let code = s.code (constant (row_word (slice_get program.literals i))) (constant (row_word (slice_get program.literals j))) (row_byte (slice_get program.literals j)) in
+    record {
+      n = f a b;
+      within = s.within a b x y;
+      units = 5;
+      cost = 6;
+      means = sited_means (two_mean which (integer (f a b)) (literal_means program i p (datum.integer a) (integer a) refl h) (literal_means program j q (datum.integer b) (integer b) refl k) (λ z. s.gives program a b z (s.within a b x y)));
+      operand =
+          subst (λ c. Operand c (integer_word (f a b)) 6) (sym code)
+          (subst (λ v. Operand (between (constant v) move_12_from_10 (constant (row_word (slice_get program.literals j))) (instruction ∷ [])) (integer_word (f a b)) 6) (sym (ap row_word h))
+          (subst (λ w. Operand (between (constant (integer_word a)) move_12_from_10 (constant w) (instruction ∷ [])) (integer_word (f a b)) 6) (sym (ap row_word k)) (s.computes a b x y)));
+      cheap = omega arith;
+      forward = subst (λ c. 6 ≤ length c) (sym code) (omega arith);
+    }
 
 -- a truth takes at most four instructions, and its code has eight words
 truth_short : (so : Bool) → truth_cost so ≤ 4
 truth_short true = omega arith
 truth_short false = omega arith
 
--- comparisons of two operands under a site
-module _ (program : ProgramRows) (site : ℕ) (f g : Form) (o : SimulatesOperand program f) (p : SimulatesOperand program g) where
-  equal_simulated : SimulatesTest program (sited site (prim NumberEqual (form_and f (form_and g no_form))))
-  unfolding form_code
-  equal_simulated = record {
-    so = int_equal o.n p.n;
-    units = 3 + o.units + p.units;
-    cost = o.cost + 1 + p.cost + truth_cost (int_equal o.n p.n);
-    means = sited_means (two_mean NumberEqual (truth (int_equal o.n p.n)) o.means p.means (λ z. refl));
-    yields = λ before. same_yields (int_equal o.n p.n) before _ _ (integer_word o.n) (integer_word p.n) o.cost p.cost o.operand p.operand (small_word o.n) (same_word o.n p.n o.within p.within);
-    cheap = omega (arith, o.cheap, p.cheap, truth_short (int_equal o.n p.n));
-    forward = omega (arith, o.forward, p.forward, truth_short (int_equal o.n p.n), length-append (form_code program.literals f) (move_13_from_10 ∷ (form_code program.literals g ++ truth_code over_four_if_same)), length-append (form_code program.literals g) (truth_code over_four_if_same));
-  }
+-- a primitive that compares two integers, and the branch that does
+record IsComparison (which : Primitive) (branch : ℕ) (f : ℤ → ℤ → Bool) : Type 0 where
+  gives : (program : ProgramRows) (a b : ℤ) (z : State) → primitive names program which (integer a ∷ integer b ∷ []) z ≡ result (truth (f a b)) z
+  code : (first second : List ℕ) (byte : ℕ) → operation_code which first second byte ≡ between first move_13_from_10 second (truth_code branch)
+  tells : (a b : ℤ) → Within 199999998 a → Within 199999998 b → (before : ℕ) (first second : List ℕ) (c d : ℕ) → Operand first (integer_word a) c → Operand second (integer_word b) d → Yields before (between first move_13_from_10 second (truth_code branch)) [] (truth_word (f a b)) (c + 1 + d + truth_cost (f a b))
 
-  less_simulated : SimulatesTest program (sited site (prim NumberLess (form_and f (form_and g no_form))))
-  unfolding form_code
-  less_simulated = record {
-    so = int_lt o.n p.n;
-    units = 3 + o.units + p.units;
-    cost = o.cost + 1 + p.cost + truth_cost (int_lt o.n p.n);
-    means = sited_means (two_mean NumberLess (truth (int_lt o.n p.n)) o.means p.means (λ z. refl));
-    yields = λ before. less_yields (int_lt o.n p.n) before _ _ (integer_word o.n) (integer_word p.n) o.cost p.cost o.operand p.operand (small_word o.n) (less_word o.n p.n o.within p.within);
-    cheap = omega (arith, o.cheap, p.cheap, truth_short (int_lt o.n p.n));
-    forward = omega (arith, o.forward, p.forward, truth_short (int_lt o.n p.n), length-append (form_code program.literals f) (move_13_from_10 ∷ (form_code program.literals g ++ truth_code over_four_if_less)), length-append (form_code program.literals g) (truth_code over_four_if_less));
-  }
+equality : IsComparison NumberEqual over_four_if_same int_equal
+equality = record {
+  gives = λ program a b z. refl;
+  code = λ first second byte. refl;
+  tells = λ a b x y before first second c d o p. same_yields (int_equal a b) before first second (integer_word a) (integer_word b) c d o p (small_word a) (same_word a b x y);
+}
+
+order : IsComparison NumberLess over_four_if_less int_lt
+order = record {
+  gives = λ program a b z. refl;
+  code = λ first second byte. refl;
+  tells = λ a b x y before first second c d o p. less_yields (int_lt a b) before first second (integer_word a) (integer_word b) c d o p (small_word a) (less_word a b x y);
+}
+
+compared_length : (first second : List ℕ) (branch : ℕ) → length (between first move_13_from_10 second (truth_code branch)) ≡ length first + length second + 9
+compared_length first second branch = omega (arith, length-append first (move_13_from_10 ∷ (second ++ truth_code branch)), length-append second (truth_code branch))
+
+-- such a primitive of two operands under a site
+comparison_simulated : {which : Primitive} {branch : ℕ} {f : ℤ → ℤ → Bool} → IsComparison which branch f → (program : ProgramRows) (site : ℕ) (g h : Form) → SimulatesOperand program g → SimulatesOperand program h → SimulatesTest program (sited site (prim which (form_and g (form_and h no_form))))
+unfolding form_code
+comparison_simulated {which} {branch} {f} s program site g h o p =
+    let first = form_code program.literals g in
+    let second = form_code program.literals h in
+    let code = s.code first second (byte_of program.literals (literal_number h)) in
+    let cost : ℕ = o.cost + 1 + p.cost + truth_cost (f o.n p.n) in
+    record {
+      so = f o.n p.n;
+      units = 3 + o.units + p.units;
+      cost = cost;
+      means = sited_means (two_mean which (truth (f o.n p.n)) o.means p.means (s.gives program o.n p.n));
+      yields = λ before. subst (λ c. Yields before c [] (truth_word (f o.n p.n)) cost) (sym code) (s.tells o.n p.n o.within p.within before first second o.cost p.cost o.operand p.operand);
+      cheap = omega (arith, o.cheap, p.cheap, truth_short (f o.n p.n));
+      forward = subst (λ c. cost ≤ length c) (sym code) (omega (arith, o.forward, p.forward, truth_short (f o.n p.n), compared_length first second branch));
+    }
 
 -- the choice between two bodies
 clause_length : (test body others : List ℕ) → length (clause_code test body others) ≡ length test + 14 + length body + length others
@@ -283,7 +308,7 @@ choice_simulated program id p f g h e test false b s r =
       bytes = r.bytes;
       units = 3 + test.units + (1 + r.units);
       cost = test.cost + 3 + 4 + (2 + 3 + r.cost + 4);
-      means = passed_means id (subst (λ x. Means program f (truth x) [] test.units) b test.means) (literal_means program id p (datum.symbol (Named (record { 0 = 0 }))) true_value (λ n. refl) e) r.means;
+      means = passed_means id (subst (λ x. Means program f (truth x) [] test.units) b test.means) (literal_means program id p (datum.symbol (Named (record { 0 = 0 }))) true_value refl e) r.means;
       yields = λ before. passed_yields before (form_code program.literals f) (form_code program.literals g) others r.bytes (word_of r.v) test.cost (2 + 3 + r.cost + 4) (subst (λ x. Yields before (form_code program.literals f) [] (truth_word x) test.cost) b (test.yields before)) (subst (λ x. Yields nil_word (clause_code x (form_code program.literals h) (constant nil_word)) r.bytes (word_of r.v) (2 + 3 + r.cost + 4)) (sym truth_there) second);
       cheap = omega (arith, test.cheap, r.cheap);
       forward = omega (arith, test.forward, r.forward, clause_length (form_code program.literals f) (form_code program.literals g) others, clause_length (constant (row_word (slice_get program.literals id))) (form_code program.literals h) (constant nil_word));
@@ -298,7 +323,7 @@ row_there before rows r g = rw (g.is, append_assoc before (r ∷ []) g.more) (at
 grew_one : (rows : List LiteralRow) (r : LiteralRow) → Grew rows (rows ++ r ∷ [])
 grew_one rows r = record { more = r ∷ []; is = refl }
 
--- the rows that a form adds come behind the rows before it
+-- the rows that a form adds come after the rows before it
 grew_tables : (t u t' : Tables) → t' ≡ u → Grew t.literals u.literals → Grew t.literals t'.literals
 grew_tables t u t' e g = subst (λ x. Grew t.literals x.literals) (sym e) g
 
@@ -353,32 +378,27 @@ both_rows which program t f t' w g =
       right = subst (λ i. slice_get program.literals i ≡ Some b) l (row_there (t.literals ++ a ∷ []) program.literals b g');
     }
 
-found_added_simulated : (program : ProgramRows) (t : Tables) (f : Form) (t' : Tables) → WasSum Add t f t' → Grew t'.literals program.literals → SimulatesOperand program f
-found_added_simulated program t f t' w g =
-    let rows = both_rows Add program t f t' w g in
-    subst (SimulatesOperand program) (sym w.form) (added_simulated program (next_site t) (next_literal t) (next_literal t + 1) w.q w.r w.a w.b w.first w.second rows.left rows.right)
-
-found_subtracted_simulated : (program : ProgramRows) (t : Tables) (f : Form) (t' : Tables) → WasSum Subtract t f t' → Grew t'.literals program.literals → SimulatesOperand program f
-found_subtracted_simulated program t f t' w g =
-    let rows = both_rows Subtract program t f t' w g in
-    subst (SimulatesOperand program) (sym w.form) (subtracted_simulated program (next_site t) (next_literal t) (next_literal t + 1) w.q w.r w.a w.b w.first w.second rows.left rows.right)
+found_sum_simulated : {which : Primitive} {instruction : ℕ} {h : ℤ → ℤ → ℤ} → IsSum which instruction h → (program : ProgramRows) (t : Tables) (f : Form) (t' : Tables) → WasSum which t f t' → Grew t'.literals program.literals → SimulatesOperand program f
+found_sum_simulated {which} s program t f t' w g =
+    let rows = both_rows which program t f t' w g in
+    subst (SimulatesOperand program) (sym w.form) (sum_simulated s program (next_site t) (next_literal t) (next_literal t + 1) w.q w.r w.a w.b w.first w.second rows.left rows.right)
 
 found_operand_simulated : (program : ProgramRows) (t : Tables) (f : Form) (t' : Tables) → WasOperand t f t' → Grew t'.literals program.literals → SimulatesOperand program f
 found_operand_simulated program t f t' (was_number w) g = found_integer_simulated program t f t' w g
-found_operand_simulated program t f t' (was_added w) g = found_added_simulated program t f t' w g
-found_operand_simulated program t f t' (was_subtracted w) g = found_subtracted_simulated program t f t' w g
+found_operand_simulated program t f t' (was_added w) g = found_sum_simulated addition program t f t' w g
+found_operand_simulated program t f t' (was_subtracted w) g = found_sum_simulated subtraction program t f t' w g
+
+found_comparison_simulated : {which : Primitive} {branch : ℕ} {h : ℤ → ℤ → Bool} → IsComparison which branch h → (program : ProgramRows) (t : Tables) (f : Form) (t' : Tables) → WasComparison which t f t' → Grew t'.literals program.literals → SimulatesTest program f
+found_comparison_simulated s program t f t' w g =
+    let a = found_operand_simulated program (with_site w.p t) w.first w.middle w.one (grew_both (operand_grew w.middle w.second t' w.two) g) in
+    let b = found_operand_simulated program w.middle w.second t' w.two g in
+    subst (SimulatesTest program) (sym w.form) (comparison_simulated s program (next_site t) w.first w.second a b)
 
 found_test_simulated : (texts : List (List ℕ)) (program : ProgramRows) (x : Item) (t : Tables) (f : Form) (t' : Tables) → test_of texts x t ≡ Some (f, t') → Grew t'.literals program.literals → SimulatesTest program f
 found_test_simulated texts program x t f t' e g =
     ⊎_elim
-    (λ w.
-    let a = found_operand_simulated program (with_site w.p t) w.first w.middle w.one (grew_both (operand_grew w.middle w.second t' w.two) g) in
-    let b = found_operand_simulated program w.middle w.second t' w.two g in
-    subst (SimulatesTest program) (sym w.form) (equal_simulated program (next_site t) w.first w.second a b))
-    (λ w.
-    let a = found_operand_simulated program (with_site w.p t) w.first w.middle w.one (grew_both (operand_grew w.middle w.second t' w.two) g) in
-    let b = found_operand_simulated program w.middle w.second t' w.two g in
-    subst (SimulatesTest program) (sym w.form) (less_simulated program (next_site t) w.first w.second a b))
+    (λ w. found_comparison_simulated equality program t f t' w g)
+    (λ w. found_comparison_simulated order program t f t' w g)
     (was_test texts x t f t' e)
 
 -- the parts of an `if`
@@ -404,7 +424,7 @@ was_if_form texts p x a b t f t' e =
 mutual
   unfolding form_of
 
-  -- the rows of a form come behind the rows before it
+  -- the rows of a form come after the rows before it
   form_grew : (texts : List (List ℕ)) (x : Item) (t : Tables) (f : Form) (t' : Tables) → form_of texts x t ≡ Some (f, t') → Grew t.literals t'.literals
   form_grew texts (item p (list (item_and h ts) no_tail)) t f t' e =
       elim (was_headed (head_of texts h) (progn_form t (forms_of texts ts (with_site p t))) (format_char_form texts p ts t) (if_form texts p ts t) (sum_form Add p ts t) (sum_form Subtract p ts t) f t' e) [
@@ -446,8 +466,8 @@ mutual
             subst (Simulates program) m.made (sited_simulated program (next_site t) (sequence m.part) (sequence_simulated program m.part (forms_simulated texts program ts (with_site p t) m.part t' nil m.found g)))
         | was_format_char k ↦ found_put_simulated program t f t' (was_put texts p ts t f t' k) g
         | was_if k ↦ if_simulated texts program p ts t f t' k g
-        | was_plus k ↦ operand_simulated program f (found_added_simulated program t f t' (was_sum Add p ts t f t' k) g)
-        | was_minus k ↦ operand_simulated program f (found_subtracted_simulated program t f t' (was_sum Subtract p ts t f t' k) g)
+        | was_plus k ↦ operand_simulated program f (found_sum_simulated addition program t f t' (was_sum Add p ts t f t' k) g)
+        | was_minus k ↦ operand_simulated program f (found_sum_simulated subtraction program t f t' (was_sum Subtract p ts t f t' k) g)
       ]
   form_simulated texts program (item p c) t f t' e g = operand_simulated program f (found_integer_simulated program t f t' (was_integer (item p c) t f t' e) g)
 

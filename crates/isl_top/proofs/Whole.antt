@@ -16,16 +16,16 @@ use Rattle.isl_meaning.specs.model.View.{forms, forms_list}
 use Rattle.isl_meaning.specs.Counts.{bound}
 use Rattle.isl_meaning.specs.Values.{Value, integer, character, symbol, named, unnamed, nil, object}
 use Rattle.isl_meaning.specs.State.{State, Limit, words, unlimited, first_state}
-use Rattle.isl_meaning.specs.Literals.{objects_at_start}
+use Rattle.isl_meaning.specs.Layout.{objects_at_start}
 use Rattle.isl_meaning.specs.Meaning.{Meant, ended_value, ended_full, meaning, mean_mains, end_of}
 use Rattle.isl_top.specs.Shapes.{program_of_parts, names, no_tables, Found, forms_of, program_of, program_with}
 use Rattle.isl_base.specs.Data.{Items}
 use Rattle.isl_top.specs.Code.{program_code, entry, constant, nil_word, forms_code, choose_halt, environment}
 use Rattle.isl_top.specs.Represents.{Represents}
 use Rattle.isl_top.specs.Theorem.{IsPrefixOf, HaltsWith, Faithful, Compiled}
-use Rattle.isl_top.proofs.Instructions.{is_choose_halt, is_environment}
+use Rattle.isl_top.proofs.Instructions.{instructions}
 use Rattle.isl_top.proofs.Runs.{Point, at, word_in, Comes, HasAt, one, and_on}
-use Rattle.isl_top.proofs.Yields.{Yields, Ready, has_front, has_back, same, other, constant_yields}
+use Rattle.isl_top.proofs.Yields.{Yields, Ready, has_prefix, has_suffix, same, other, constant_yields}
 use Rattle.isl_top.proofs.Yields.{and_then as yields_then}
 use Rattle.isl_top.proofs.Mains.{MeansMains, Went}
 use Rattle.isl_top.proofs.Founds.{Grew, grew_none, at_seam}
@@ -36,7 +36,7 @@ halt_chosen : (arena registers printed : List ℕ) (i n : ℕ) → i < 2 ^ 25 �
 halt_chosen arena registers printed i n b ready h =
     let v : (slice_index registers 0 + 0) % 2 ^ 32 ≡ 0 = ap (λ z. (z + 0) % 2 ^ 32) ready.zero_is in
     let p : (4 * i + 4) % 2 ^ 32 ≡ 4 * (i + 1) = omega arith in
-    one arena registers printed i n choose_halt (Addi 17 0 0) (at arena (i + 1) (slice_set registers 17 0) printed (n + 1)) h is_choose_halt
+    one arena registers printed i n choose_halt (Addi 17 0 0) (at arena (i + 1) (slice_set registers 17 0) printed (n + 1)) h instructions.choose_halt
     (λ input go_on. rw (v, p) refl)
 
 -- from a moment every run of enough instructions ends so
@@ -56,7 +56,7 @@ halted arena registers printed i n chosen h = record {
       let p : k ≡ suc (k - 1) = omega (arith, le) in
       ap (λ x. run_from x (at arena i registers printed n input)) p
       ∙ ap (λ o. act (run_from (k - 1)) (fetched o (at arena i registers printed n input).state) (at arena i registers printed n input)) h
-      ∙ ap (λ o. act (run_from (k - 1)) (decoded o (at arena i registers printed n input).state) (at arena i registers printed n input)) is_environment
+      ∙ ap (λ o. act (run_from (k - 1)) (decoded o (at arena i registers printed n input).state) (at arena i registers printed n input)) instructions.environment
       ∙ rw chosen refl;
 }
 
@@ -68,8 +68,8 @@ start_ready size arena = record { long = refl; zero_is = refl }
 module _ (arena : List ℕ) (code bytes : List ℕ) (word cost : ℕ) (y : Yields 0 code bytes word cost) where
   ends : (registers : List ℕ) → Ready registers → slice_index registers 10 ≡ 0 → 2 + length code + 2 < 2 ^ 25 → HasAt arena 2 (code ++ choose_halt ∷ environment ∷ []) → (e : List ℕ → Ended) × EndsIn (cost + 2) (at arena 2 registers [] 0) e × ((input : List ℕ) → (e input).ending ≡ Halt word) × ((input : List ℕ) → (e input).at.printed ≡ bytes) × ((input : List ℕ) → (e input).at.gets ≡ 0)
   ends registers ready held room has =
-      let r = y.by arena registers [] 2 0 ready held (omega (arith, room)) (has_front arena 2 code (choose_halt ∷ environment ∷ []) has) in
-      let last = has_back arena 2 code (choose_halt ∷ environment ∷ []) has in
+      let r = y.by arena registers [] 2 0 ready held (omega (arith, room)) (has_prefix arena 2 code (choose_halt ∷ environment ∷ []) has) in
+      let last = has_suffix arena 2 code (choose_halt ∷ environment ∷ []) has in
       let chosen : List ℕ = slice_set r.registers' 17 0 in
       let ten : slice_index chosen 10 ≡ word = other r.registers' 17 0 10 (omega arith) ∙ r.holds in
       let a = and_on r.comes (halt_chosen arena r.registers' bytes (2 + length code) (0 + cost) (omega (arith, room)) r.ready last.0) in
@@ -82,12 +82,12 @@ abbrev pub StandsIn : List ℕ → ℕ → List ℕ → Type 0
 StandsIn list i [] = Unit {0}
 StandsIn list i (w ∷ ws) = (slice_get list i ≡ Some w) × StandsIn list (i + 1) ws
 
-has_in : (front ws tail : List ℕ) → StandsIn (front ++ (ws ++ tail)) (length front) ws
-has_in front [] tail = tt
-has_in front (w ∷ ws) tail =
-    let e : (front ++ w ∷ []) ++ (ws ++ tail) ≡ front ++ (w ∷ (ws ++ tail)) = append_assoc front (w ∷ []) (ws ++ tail) in
-    let l : length (front ++ w ∷ []) ≡ length front + 1 = length-append front (w ∷ []) in
-    (at_seam front (ws ++ tail) w, subst (λ a. StandsIn a (length front + 1) ws) e (subst (λ i. StandsIn ((front ++ w ∷ []) ++ (ws ++ tail)) i ws) l (has_in (front ++ w ∷ []) ws tail)))
+has_in : (before ws tail : List ℕ) → StandsIn (before ++ (ws ++ tail)) (length before) ws
+has_in before [] tail = tt
+has_in before (w ∷ ws) tail =
+    let e : (before ++ w ∷ []) ++ (ws ++ tail) ≡ before ++ (w ∷ (ws ++ tail)) = append_assoc before (w ∷ []) (ws ++ tail) in
+    let l : length (before ++ w ∷ []) ≡ length before + 1 = length-append before (w ∷ []) in
+    (at_seam before (ws ++ tail) w, subst (λ a. StandsIn a (length before + 1) ws) e (subst (λ i. StandsIn ((before ++ w ∷ []) ++ (ws ++ tail)) i ws) l (has_in (before ++ w ∷ []) ws tail)))
 
 -- so they stand in the memory of that list's bytes
 in_memory : (list ws : List ℕ) (i : ℕ) → ((k : ℕ) → get_or ws k 0 < 2 ^ 32) → StandsIn list i ws → HasAt (bytes_of list) i ws

@@ -4,19 +4,19 @@ use Rattle.std.specs.Prelude.{slice_index, slice_set}
 use Rattle.std.proofs.lemmas.List.{get_or-set_same, get_or-set_other, length-set}
 use Rattle.rv_encode.specs.declared.instruction.Instr.TheVariants.{Addi, Ecall}
 use Rattle.isl_top.specs.Code.{load_10, constant, put_code, nil_word, choose_put, environment}
-use Rattle.isl_top.proofs.Instructions.{is_choose_put, is_environment, is_load_10}
+use Rattle.isl_top.proofs.Instructions.{instructions}
 use Rattle.isl_top.proofs.Runs.{at, word_in, Comes, stays, and_on, HasAt, one, linked, moved, loaded, next_place}
 
 -- a value in the arena from which code is read
-pub has_front : (arena : List ℕ) (i : ℕ) (a b : List ℕ) → HasAt arena i (a ++ b) → HasAt arena i a
-has_front arena i [] b h = tt
-has_front arena i (w ∷ ws) b h = (h.0, has_front arena (i + 1) ws b h.1)
+pub has_prefix : (arena : List ℕ) (i : ℕ) (a b : List ℕ) → HasAt arena i (a ++ b) → HasAt arena i a
+has_prefix arena i [] b h = tt
+has_prefix arena i (w ∷ ws) b h = (h.0, has_prefix arena (i + 1) ws b h.1)
 
-pub has_back : (arena : List ℕ) (i : ℕ) (a b : List ℕ) → HasAt arena i (a ++ b) → HasAt arena (i + length a) b
-has_back arena i [] b h = let e : i ≡ i + 0 = omega arith in subst (λ x. HasAt arena x b) e h
-has_back arena i (w ∷ ws) b h =
+pub has_suffix : (arena : List ℕ) (i : ℕ) (a b : List ℕ) → HasAt arena i (a ++ b) → HasAt arena (i + length a) b
+has_suffix arena i [] b h = let e : i ≡ i + 0 = omega arith in subst (λ x. HasAt arena x b) e h
+has_suffix arena i (w ∷ ws) b h =
     let e : i + 1 + length ws ≡ i + length (w ∷ ws) = omega arith in
-    subst (λ x. HasAt arena x b) e (has_back arena (i + 1) ws b h.1)
+    subst (λ x. HasAt arena x b) e (has_suffix arena (i + 1) ws b h.1)
 
 -- 32 registers of which number 0 is 0
 pub record Ready (registers : List ℕ) : Type 0 where
@@ -52,8 +52,8 @@ pub and_then : {before middle word c d : ℕ} {code more bytes after : List ℕ}
 and_then {before} {middle} {word} {c} {d} {code} {more} {bytes} {after} y z = record {
   by = λ arena registers printed i n ready held room has.
       let len : length (code ++ more) ≡ length code + length more = length-append code more in
-      let first = y.by arena registers printed i n ready held (omega (arith, len)) (has_front arena i code more has) in
-      let second = z.by arena first.registers' (printed ++ bytes) (i + length code) (n + c) first.ready first.holds (omega (arith, len)) (has_back arena i code more has) in
+      let first = y.by arena registers printed i n ready held (omega (arith, len)) (has_prefix arena i code more has) in
+      let second = z.by arena first.registers' (printed ++ bytes) (i + length code) (n + c) first.ready first.holds (omega (arith, len)) (has_suffix arena i code more has) in
       record {
         registers' = second.registers';
         comes = subst (λ p. Comes (c + d) (at arena i registers printed n) (at arena (i + length (code ++ more)) second.registers' p (n + (c + d)))) (append_assoc printed bytes after)
@@ -90,7 +90,7 @@ constant_reached arena registers printed i n word ready room has =
     let j : i + 1 + 1 ≡ i + 2 = omega arith in
     let load : word_in arena (i + 2) ≡ Some load_10 = subst (λ x. word_in arena x ≡ Some load_10) j has.1.1.0 in
     let a = linked arena registers printed i n (omega arith) has.0 in
-    let b = loaded arena five printed (i + 2) (n + 1) load_10 10 (i + 1) word (omega arith) (omega arith) is_load_10 load (same registers 5 (4 * (i + 1)) (omega arith) ready) has.1.0 in
+    let b = loaded arena five printed (i + 2) (n + 1) load_10 10 (i + 1) word (omega arith) (omega arith) instructions.load_10 load (same registers 5 (4 * (i + 1)) (omega arith) ready) has.1.0 in
     record {
       registers' = slice_set five 10 word;
       comes = moved (i + 3) (n + 2) (omega arith) (omega arith) (and_on a b);
@@ -117,13 +117,13 @@ constant_yields before word = record {
 put_chosen : (arena registers printed : List ℕ) (i n : ℕ) → i < 2 ^ 25 → Ready registers → word_in arena i ≡ Some choose_put → Comes 1 (at arena i registers printed n) (at arena (i + 1) (slice_set registers 17 1) printed (n + 1))
 put_chosen arena registers printed i n b ready h =
     let v : (slice_index registers 0 + 1) % 2 ^ 32 ≡ 1 = ap (λ z. (z + 1) % 2 ^ 32) ready.zero_is in
-    one arena registers printed i n choose_put (Addi 17 0 1) (at arena (i + 1) (slice_set registers 17 1) printed (n + 1)) h is_choose_put
+    one arena registers printed i n choose_put (Addi 17 0 1) (at arena (i + 1) (slice_set registers 17 1) printed (n + 1)) h instructions.choose_put
     (λ input go_on. rw (v, next_place i b) refl)
 
 -- and the call puts it
 byte_put : (arena registers printed : List ℕ) (i n : ℕ) → i < 2 ^ 25 → slice_index registers 17 ≡ 1 → word_in arena i ≡ Some environment → Comes 1 (at arena i registers printed n) (at arena (i + 1) registers (printed ++ slice_index registers 10 % 256 ∷ []) (n + 1))
 byte_put arena registers printed i n b chosen h =
-    one arena registers printed i n environment Ecall (at arena (i + 1) registers (printed ++ slice_index registers 10 % 256 ∷ []) (n + 1)) h is_environment
+    one arena registers printed i n environment Ecall (at arena (i + 1) registers (printed ++ slice_index registers 10 % 256 ∷ []) (n + 1)) h instructions.environment
     (λ input go_on. rw (chosen, next_place i b) refl)
 
 -- the byte in register 10 is put, and nil is the value

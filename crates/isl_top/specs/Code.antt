@@ -5,12 +5,12 @@
 -- comparison in x13, so that an operand may itself be a sum.
 use Rattle.std.specs.Prelude.{ℕ, ◌+◌, ◌*◌, ◌%◌, ◌^◌, ℤ, List, [], ◌∷◌, ◌++◌, length, Option, Some, None, slice_get}
 use Rattle.std.specs.Int.{cast_unsigned, w32}
-use Rattle.isl_base.specs.Data.{Content, content_of, integer, character, symbol, string, vector, nil, list}
+use Rattle.isl_base.specs.Data.{Content, content_of, integer, character, symbol}
 use Rattle.isl_meaning.specs.declared.program.LiteralRow.{LiteralRow}
 use Rattle.isl_meaning.specs.declared.program.LiteralRow.TheVariants as row
 use Rattle.isl_meaning.specs.declared.primitive.Primitive.{Primitive}
 use Rattle.isl_meaning.specs.declared.primitive.Primitive.TheVariants.{Add, Subtract, NumberEqual, NumberLess, PutChar}
-use Rattle.isl_meaning.specs.Form.{Form, literal, local, set_local, global, set_global, def_global, clauses, sequence, let_form, lambda, call, call_value, apply, prim, while_form, block, return_from, tagbody, go, catch_form, throw, unwind, dynamic_let, dynamic, set_dynamic, def_dynamic, with_handler, signal_form, continue_form, next_method, has_next, sited}
+use Rattle.isl_meaning.specs.Form.{Form, literal, clauses, sequence, prim, sited}
 use Rattle.isl_meaning.specs.Form.{Forms, no_form, form_and, ClauseForms, no_clause, clause_and, MaybeForm, no_body, with_body}
 
 -- the words of values: an integer has the tag 00, the symbol t and the stream 10, the rest 11
@@ -119,32 +119,20 @@ abbrev pub content_word : Content → ℕ
 content_word (integer n) = integer_word n
 content_word (character c) = character_word c
 content_word (symbol s) = t_word
-content_word (string bytes) = nil_word
-content_word (vector ds) = nil_word
-content_word nil = nil_word
-content_word (list ds t) = nil_word
+content_word content = nil_word
 
 abbrev pub row_word : Option LiteralRow → ℕ
 row_word (Some (row.Datum d)) = content_word (content_of d)
-row_word (Some (row.Class c)) = nil_word
-row_word (Some (row.Function name)) = nil_word
-row_word None = nil_word
+row_word r = nil_word
 
 -- the byte of a literal that is a character
 abbrev pub content_byte : Content → ℕ
-content_byte (integer n) = 0
 content_byte (character c) = c
-content_byte (symbol s) = 0
-content_byte (string bytes) = 0
-content_byte (vector ds) = 0
-content_byte nil = 0
-content_byte (list ds t) = 0
+content_byte content = 0
 
 abbrev pub row_byte : Option LiteralRow → ℕ
 row_byte (Some (row.Datum d)) = content_byte (content_of d)
-row_byte (Some (row.Class c)) = 0
-row_byte (Some (row.Function name)) = 0
-row_byte None = 0
+row_byte r = 0
 
 -- a literal's number, where a form is one
 abbrev pub literal_number : Form → Option ℕ
@@ -179,33 +167,7 @@ module _ (literals : List LiteralRow) where
     form_code (sequence fs) = constant nil_word ++ forms_code fs
     form_code (prim which fs) = primitive_code which fs
     form_code (sited site f) = form_code f
-    form_code (local v) = constant nil_word
-    form_code (set_local v f) = constant nil_word
-    form_code (global n) = constant nil_word
-    form_code (set_global n f) = constant nil_word
-    form_code (def_global n f) = constant nil_word
-    form_code (let_form bs body) = constant nil_word
-    form_code (lambda vs rest body ps) = constant nil_word
-    form_code (call n fs) = constant nil_word
-    form_code (call_value fs) = constant nil_word
-    form_code (apply function fs) = constant nil_word
-    form_code (while_form test body) = constant nil_word
-    form_code (block x body) = constant nil_word
-    form_code (return_from x f) = constant nil_word
-    form_code (tagbody x ss) = constant nil_word
-    form_code (go x segment) = constant nil_word
-    form_code (catch_form tag body) = constant nil_word
-    form_code (throw tag f) = constant nil_word
-    form_code (unwind form cleanup) = constant nil_word
-    form_code (dynamic_let bs body) = constant nil_word
-    form_code (dynamic n) = constant nil_word
-    form_code (set_dynamic n f) = constant nil_word
-    form_code (def_dynamic n f) = constant nil_word
-    form_code (with_handler handler body) = constant nil_word
-    form_code (signal_form condition continuable) = constant nil_word
-    form_code (continue_form condition f) = constant nil_word
-    form_code next_method = constant nil_word
-    form_code has_next = constant nil_word
+    form_code f = constant nil_word
 
     -- forms in order
     pub forms_code : Forms → List ℕ
