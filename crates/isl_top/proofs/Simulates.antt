@@ -23,7 +23,7 @@ use Rattle.isl_top.proofs.OperandCode.{Operand, operand_yields, constant_operand
 use Rattle.isl_top.proofs.ChoiceCode.{chosen_yields, passed_yields, placed_length}
 use Rattle.isl_top.proofs.Integers.{Within, wider, sum_within, difference_within, within_range, small_word, sum_word, difference_word, less_word, same_word}
 use Rattle.isl_top.proofs.Mains.{MeansMains, no_mains, main_and}
-use Rattle.isl_meaning.specs.model.View.{forms_list}
+use Rattle.isl_meaning.specs.Subforms.{forms_list}
 use Rattle.isl_meaning.specs.declared.primitive.Primitive.{Primitive}
 use Rattle.isl_top.proofs.Founds.{at_seam, Grew, grew_none, grew_both, was_made, was_and, was_headed, was_progn, was_format_char, was_if, was_plus, was_minus, was_put, WasPut, WasInteger, was_integer, WasSum, was_sum, WasOperand, was_number, was_added, was_subtracted, WasComparison, was_test}
 

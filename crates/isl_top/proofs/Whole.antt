@@ -12,7 +12,8 @@ use Rattle.rv_machine.specs.Step.{step_of, fetched, decoded}
 use Rattle.rv_machine.specs.Run.{Moment, Ended, act, run_from, run_of, first}
 use Rattle.isl_meaning.specs.declared.program.ProgramRows.{ProgramRows}
 use Rattle.isl_meaning.specs.Form.{Forms, no_form, form_and}
-use Rattle.isl_meaning.specs.model.View.{forms, forms_list}
+use Rattle.isl_meaning.specs.Subforms.{forms_list}
+use Rattle.isl_meaning.specs.model.View.{forms}
 use Rattle.isl_meaning.specs.Counts.{bound}
 use Rattle.isl_meaning.specs.Values.{Value, integer, character, symbol, named, unnamed, nil, object}
 use Rattle.isl_meaning.specs.State.{State, Limit, words, unlimited, first_state}

@@ -17,7 +17,7 @@ use Rattle.isl_meaning.specs.declared.primitive.Primitive.TheVariants.{Add, Subt
 use Rattle.isl_meaning.specs.declared.primitive.Primitive.{Primitive}
 use Rattle.isl_meaning.specs.Form.{Form, literal, clauses, sequence, prim, sited}
 use Rattle.isl_meaning.specs.Form.{Forms, no_form, form_and, no_clause, clause_and, with_body}
-use Rattle.isl_meaning.specs.model.View.{forms_list}
+use Rattle.isl_meaning.specs.Subforms.{forms_list}
 use Rattle.isl_top.specs.declared.operands.Number.{Number}
 use Rattle.isl_top.specs.declared.format_char.Letter.{Letter}
 
