@@ -1,11 +1,11 @@
--- The code of a core form: a list of numbers that gives it back.
-use Rattle.std.specs.Prelude.{◌≡◌, ◌≤◌, ℕ, zero, suc, List, [], ◌∷◌, ◌++◌, length, Option, Some, None, get_or, refl}
-use Rattle.std.specs.Coded.{Coded, code_by, coded_list, coded_ℕ}
-use Rattle.std.proofs.Common.{ap, arith}
+-- The code of a core form: a tree that gives it back. Forms of one shape stand at their places in one list.
+use Rattle.std.specs.Prelude.{◌≡◌, ℕ, zero, suc, List, [], ◌∷◌, Option, Some, None, get_or, refl}
+use Rattle.std.specs.Coded.{Coded, code_by}
+use Rattle.std.proofs.Common.{ap, ◌∙◌}
+use Rattle.isl_base.specs.model.CodedTree.{Tree, node, Trees, no_tree, tree_and, leaf, above_one, numbers_trees, numbers_of, numbers_back, tree_code}
 use Rattle.isl_meaning.specs.Form.{Form, literal, local, set_local, global, set_global, def_global, clauses, sequence, let_form, lambda, call, call_value, apply, prim, while_form, block, return_from, tagbody, go, catch_form, throw, unwind, dynamic_let, dynamic, set_dynamic, def_dynamic, with_handler, signal_form, continue_form, next_method, has_next, sited}
 use Rattle.isl_meaning.specs.Form.{Forms, no_form, form_and, ClauseForms, no_clause, clause_and, MaybeForm, no_body, with_body}
 use Rattle.isl_meaning.specs.Form.{BindingForms, no_binding, binding_and, DynamicForms, no_dynamic, dynamic_and}
-use Rattle.isl_meaning.specs.Form.{parts_size, form_size, forms_size, clauses_size, maybe_size, bindings_size, dynamics_size}
 use Rattle.isl_meaning.specs.declared.part.Part.{Part}
 use Rattle.isl_meaning.specs.declared.part.Part.TheVariants.{Variable, Exit, Method}
 use Rattle.isl_meaning.specs.declared.primitive.Primitive.{Primitive}
@@ -149,336 +149,222 @@ primitive_back IsFreshLine = refl
 primitive_back GetByte = refl
 primitive_back PeekByte = refl
 
--- the numbers of captured parts, before those that follow them
-abbrev write_parts : List Part → List ℕ → List ℕ
-write_parts [] rest = 0 ∷ rest
-write_parts (Variable v ∷ ps) rest = 1 ∷ v ∷ write_parts ps rest
-write_parts (Exit x ∷ ps) rest = 2 ∷ x ∷ write_parts ps rest
-write_parts (Method ∷ ps) rest = 3 ∷ write_parts ps rest
 
--- the numbers of a rest variable, before those that follow them
-abbrev write_rest : Option ℕ → List ℕ → List ℕ
-write_rest None after_it = 0 ∷ after_it
-write_rest (Some v) after_it = 1 ∷ v ∷ after_it
+-- captured parts, and a rest variable
+abbrev part_tree : Part → Tree
+part_tree (Variable v) = above_one 0 (leaf v)
+part_tree (Exit x) = above_one 1 (leaf x)
+part_tree Method = leaf 2
 
--- the numbers of a form, before those that follow it
-abbrev mutual
-  write_form : Form → List ℕ → List ℕ
-  write_form (literal i) rest = 0 ∷ i ∷ rest
-  write_form (local v) rest = 1 ∷ v ∷ rest
-  write_form (set_local v f) rest = 2 ∷ v ∷ write_form f rest
-  write_form (global n) rest = 3 ∷ n ∷ rest
-  write_form (set_global n f) rest = 4 ∷ n ∷ write_form f rest
-  write_form (def_global n f) rest = 5 ∷ n ∷ write_form f rest
-  write_form (clauses fs) rest = 6 ∷ write_clauses fs rest
-  write_form (sequence fs) rest = 7 ∷ write_forms fs rest
-  write_form (let_form bs body) rest = 8 ∷ write_bindings bs (write_form body rest)
-  write_form (lambda vs last body ps) rest = 9 ∷ length vs ∷ vs ++ write_rest last (write_form body (write_parts ps rest))
-  write_form (call n fs) rest = 10 ∷ n ∷ write_forms fs rest
-  write_form (call_value fs) rest = 11 ∷ write_forms fs rest
-  write_form (apply function fs) rest = 12 ∷ write_form function (write_form fs rest)
-  write_form (prim p fs) rest = 13 ∷ primitive_number p ∷ write_forms fs rest
-  write_form (while_form test body) rest = 14 ∷ write_form test (write_form body rest)
-  write_form (block x body) rest = 15 ∷ x ∷ write_form body rest
-  write_form (return_from x f) rest = 16 ∷ x ∷ write_form f rest
-  write_form (tagbody x ss) rest = 17 ∷ x ∷ write_forms ss rest
-  write_form (go x segment) rest = 18 ∷ x ∷ segment ∷ rest
-  write_form (catch_form tag body) rest = 19 ∷ write_form tag (write_form body rest)
-  write_form (throw tag f) rest = 20 ∷ write_form tag (write_form f rest)
-  write_form (unwind form cleanup) rest = 21 ∷ write_form form (write_form cleanup rest)
-  write_form (dynamic_let bs body) rest = 22 ∷ write_dynamics bs (write_form body rest)
-  write_form (dynamic n) rest = 23 ∷ n ∷ rest
-  write_form (set_dynamic n f) rest = 24 ∷ n ∷ write_form f rest
-  write_form (def_dynamic n f) rest = 25 ∷ n ∷ write_form f rest
-  write_form (with_handler handler body) rest = 26 ∷ write_form handler (write_form body rest)
-  write_form (signal_form condition continuable) rest = 27 ∷ write_form condition (write_form continuable rest)
-  write_form (continue_form condition f) rest = 28 ∷ write_form condition (write_form f rest)
-  write_form next_method rest = 29 ∷ rest
-  write_form has_next rest = 30 ∷ rest
-  write_form (sited s inner) rest = 31 ∷ s ∷ write_form inner rest
+abbrev part_of : Tree → Part
+part_of (node zero (tree_and (node v us) ts)) = Variable v
+part_of (node (suc n) (tree_and (node x us) ts)) = Exit x
+part_of (node n no_tree) = Method
 
-  write_forms : Forms → List ℕ → List ℕ
-  write_forms no_form rest = 0 ∷ rest
-  write_forms (form_and f fs) rest = 1 ∷ write_form f (write_forms fs rest)
+part_back : (p : Part) → part_of (part_tree p) ≡ p
+part_back (Variable v) = refl
+part_back (Exit x) = refl
+part_back Method = refl
 
-  write_clauses : ClauseForms → List ℕ → List ℕ
-  write_clauses no_clause rest = 0 ∷ rest
-  write_clauses (clause_and t b cs) rest = 1 ∷ write_form t (write_maybe b (write_clauses cs rest))
+abbrev parts_trees : List Part → Trees
+parts_trees [] = no_tree
+parts_trees (p ∷ ps) = tree_and (part_tree p) (parts_trees ps)
 
-  write_maybe : MaybeForm → List ℕ → List ℕ
-  write_maybe no_body rest = 0 ∷ rest
-  write_maybe (with_body f) rest = 1 ∷ write_form f rest
+abbrev parts_of : Trees → List Part
+parts_of no_tree = []
+parts_of (tree_and t ts) = part_of t ∷ parts_of ts
 
-  write_bindings : BindingForms → List ℕ → List ℕ
-  write_bindings no_binding rest = 0 ∷ rest
-  write_bindings (binding_and v f bs) rest = 1 ∷ v ∷ write_form f (write_bindings bs rest)
+parts_back : (ps : List Part) → parts_of (parts_trees ps) ≡ ps
+parts_back [] = refl
+parts_back (p ∷ ps) = cc (part_back p, parts_back ps)
 
-  write_dynamics : DynamicForms → List ℕ → List ℕ
-  write_dynamics no_dynamic rest = 0 ∷ rest
-  write_dynamics (dynamic_and n f bs) rest = 1 ∷ n ∷ write_form f (write_dynamics bs rest)
+abbrev rest_tree : Option ℕ → Tree
+rest_tree None = leaf 0
+rest_tree (Some v) = above_one 1 (leaf v)
 
--- what was read, with its last part put under another
-abbrev under : {A B : Type 0} → (A → B) → A × List ℕ → B × List ℕ
-under f r = (f r.0, r.1)
+abbrev rest_of : Tree → Option ℕ
+rest_of (node n no_tree) = None
+rest_of (node n (tree_and (node v us) ts)) = Some v
 
--- the first number, and those after it
-abbrev first : List ℕ → ℕ
-first [] = 0
-first (x ∷ xs) = x
+rest_back : (o : Option ℕ) → rest_of (rest_tree o) ≡ o
+rest_back None = refl
+rest_back (Some v) = refl
 
-abbrev after : List ℕ → List ℕ
-after [] = []
-after (x ∷ xs) = xs
+-- the forms of a number, of a number and a form, of two forms, and of a number and forms, each at its place
 
--- what the numbers give, read to that depth, with the numbers left
-abbrev read_parts : ℕ → List ℕ → List Part × List ℕ
-read_parts zero xs = ([], xs)
-read_parts (suc k) [] = ([], [])
-read_parts (suc k) (zero ∷ xs) = ([], xs)
-read_parts (suc k) (suc zero ∷ xs) = under (λ ps. Variable (first xs) ∷ ps) (read_parts k (after xs))
-read_parts (suc k) (suc (suc zero) ∷ xs) = under (λ ps. Exit (first xs) ∷ ps) (read_parts k (after xs))
-read_parts (suc k) (suc (suc (suc n)) ∷ xs) = under (λ ps. Method ∷ ps) (read_parts k xs)
+abbrev of_number : ℕ → ℕ → Form
+of_number place n = get_or (literal n ∷ local n ∷ global n ∷ dynamic n ∷ next_method ∷ []) place has_next
 
--- so many numbers, and those left
-abbrev read_numbers : ℕ → List ℕ → List ℕ × List ℕ
-read_numbers zero xs = ([], xs)
-read_numbers (suc n) xs = under (λ ns. first xs ∷ ns) (read_numbers n (after xs))
+abbrev of_one : ℕ → ℕ → Form → Form
+of_one place n f =
+    get_or (set_local n f ∷ set_global n f ∷ def_global n f ∷ block n f ∷ return_from n f ∷ set_dynamic n f ∷ def_dynamic n f ∷ [])
+    place (sited n f)
 
-abbrev read_rest : List ℕ → Option ℕ × List ℕ
-read_rest [] = (None, [])
-read_rest (zero ∷ xs) = (None, xs)
-read_rest (suc n ∷ xs) = (Some (first xs), after xs)
+abbrev of_two : ℕ → Form → Form → Form
+of_two place f g =
+    get_or (apply f g ∷ while_form f g ∷ catch_form f g ∷ throw f g ∷ unwind f g ∷ with_handler f g ∷ signal_form f g ∷ [])
+    place (continue_form f g)
+
+abbrev of_many : ℕ → ℕ → Forms → Form
+of_many place n fs =
+    get_or (sequence fs ∷ call n fs ∷ call_value fs ∷ prim (primitive_at n) fs ∷ []) place (tagbody n fs)
+
+abbrev number_tree : ℕ → ℕ → Tree
+number_tree place n = node 0 (tree_and (leaf place) (tree_and (leaf n) no_tree))
+
+abbrev one_tree : ℕ → ℕ → Tree → Tree
+one_tree place n t = node 1 (tree_and (leaf place) (tree_and (leaf n) (tree_and t no_tree)))
+
+abbrev two_tree : ℕ → Tree → Tree → Tree
+two_tree place t u = node 2 (tree_and (leaf place) (tree_and t (tree_and u no_tree)))
+
+abbrev many_tree : ℕ → ℕ → Trees → Tree
+many_tree place n ts = node 3 (tree_and (leaf place) (tree_and (leaf n) ts))
 
 abbrev mutual
-  read_form : ℕ → List ℕ → Form × List ℕ
-  read_form zero xs = (literal 0, xs)
-  read_form (suc k) [] = (literal 0, [])
-  read_form (suc k) (zero ∷ xs) = (literal (first xs), after xs)
-  read_form (suc k) (suc zero ∷ xs) = (local (first xs), after xs)
-  read_form (suc k) (suc (suc zero) ∷ xs) = under (set_local (first xs)) (read_form k (after xs))
-  read_form (suc k) (suc (suc (suc zero)) ∷ xs) = (global (first xs), after xs)
-  read_form (suc k) (suc (suc (suc (suc zero))) ∷ xs) = under (set_global (first xs)) (read_form k (after xs))
-  read_form (suc k) (suc (suc (suc (suc (suc zero)))) ∷ xs) = under (def_global (first xs)) (read_form k (after xs))
-  read_form (suc k) (suc (suc (suc (suc (suc (suc zero))))) ∷ xs) = under clauses (read_clauses k xs)
-  read_form (suc k) (suc (suc (suc (suc (suc (suc (suc zero)))))) ∷ xs) = under sequence (read_forms k xs)
-  read_form (suc k) (suc (suc (suc (suc (suc (suc (suc (suc zero))))))) ∷ xs) = let part = read_bindings k xs in under (let_form part.0) (read_form k part.1)
-  read_form (suc k) (suc (suc (suc (suc (suc (suc (suc (suc (suc zero)))))))) ∷ xs) =
-      let vs = read_numbers (first xs) (after xs) in
-      let last = read_rest vs.1 in
-      let body = read_form k last.1 in
-      under (lambda vs.0 last.0 body.0) (read_parts k body.1)
-  read_form (suc k) (suc (suc (suc (suc (suc (suc (suc (suc (suc (suc zero))))))))) ∷ xs) = under (call (first xs)) (read_forms k (after xs))
-  read_form (suc k) (suc (suc (suc (suc (suc (suc (suc (suc (suc (suc (suc zero)))))))))) ∷ xs) = under call_value (read_forms k xs)
-  read_form (suc k) (suc (suc (suc (suc (suc (suc (suc (suc (suc (suc (suc (suc zero))))))))))) ∷ xs) = let part = read_form k xs in under (apply part.0) (read_form k part.1)
-  read_form (suc k) (suc (suc (suc (suc (suc (suc (suc (suc (suc (suc (suc (suc (suc zero)))))))))))) ∷ xs) = under (prim (primitive_at (first xs))) (read_forms k (after xs))
-  read_form (suc k) (suc (suc (suc (suc (suc (suc (suc (suc (suc (suc (suc (suc (suc (suc zero))))))))))))) ∷ xs) = let part = read_form k xs in under (while_form part.0) (read_form k part.1)
-  read_form (suc k) (suc (suc (suc (suc (suc (suc (suc (suc (suc (suc (suc (suc (suc (suc (suc zero)))))))))))))) ∷ xs) = under (block (first xs)) (read_form k (after xs))
-  read_form (suc k) (suc (suc (suc (suc (suc (suc (suc (suc (suc (suc (suc (suc (suc (suc (suc (suc zero))))))))))))))) ∷ xs) = under (return_from (first xs)) (read_form k (after xs))
-  read_form (suc k) (suc (suc (suc (suc (suc (suc (suc (suc (suc (suc (suc (suc (suc (suc (suc (suc (suc zero)))))))))))))))) ∷ xs) = under (tagbody (first xs)) (read_forms k (after xs))
-  read_form (suc k) (suc (suc (suc (suc (suc (suc (suc (suc (suc (suc (suc (suc (suc (suc (suc (suc (suc (suc zero))))))))))))))))) ∷ xs) = (go (first xs) (first (after xs)), after (after xs))
-  read_form (suc k) (suc (suc (suc (suc (suc (suc (suc (suc (suc (suc (suc (suc (suc (suc (suc (suc (suc (suc (suc zero)))))))))))))))))) ∷ xs) = let part = read_form k xs in under (catch_form part.0) (read_form k part.1)
-  read_form (suc k) (suc (suc (suc (suc (suc (suc (suc (suc (suc (suc (suc (suc (suc (suc (suc (suc (suc (suc (suc (suc zero))))))))))))))))))) ∷ xs) = let part = read_form k xs in under (throw part.0) (read_form k part.1)
-  read_form (suc k) (suc (suc (suc (suc (suc (suc (suc (suc (suc (suc (suc (suc (suc (suc (suc (suc (suc (suc (suc (suc (suc zero)))))))))))))))))))) ∷ xs) = let part = read_form k xs in under (unwind part.0) (read_form k part.1)
-  read_form (suc k) (suc (suc (suc (suc (suc (suc (suc (suc (suc (suc (suc (suc (suc (suc (suc (suc (suc (suc (suc (suc (suc (suc zero))))))))))))))))))))) ∷ xs) = let part = read_dynamics k xs in under (dynamic_let part.0) (read_form k part.1)
-  read_form (suc k) (suc (suc (suc (suc (suc (suc (suc (suc (suc (suc (suc (suc (suc (suc (suc (suc (suc (suc (suc (suc (suc (suc (suc zero)))))))))))))))))))))) ∷ xs) = (dynamic (first xs), after xs)
-  read_form (suc k) (suc (suc (suc (suc (suc (suc (suc (suc (suc (suc (suc (suc (suc (suc (suc (suc (suc (suc (suc (suc (suc (suc (suc (suc zero))))))))))))))))))))))) ∷ xs) = under (set_dynamic (first xs)) (read_form k (after xs))
-  read_form (suc k) (suc (suc (suc (suc (suc (suc (suc (suc (suc (suc (suc (suc (suc (suc (suc (suc (suc (suc (suc (suc (suc (suc (suc (suc (suc zero)))))))))))))))))))))))) ∷ xs) = under (def_dynamic (first xs)) (read_form k (after xs))
-  read_form (suc k) (suc (suc (suc (suc (suc (suc (suc (suc (suc (suc (suc (suc (suc (suc (suc (suc (suc (suc (suc (suc (suc (suc (suc (suc (suc (suc zero))))))))))))))))))))))))) ∷ xs) = let part = read_form k xs in under (with_handler part.0) (read_form k part.1)
-  read_form (suc k) (suc (suc (suc (suc (suc (suc (suc (suc (suc (suc (suc (suc (suc (suc (suc (suc (suc (suc (suc (suc (suc (suc (suc (suc (suc (suc (suc zero)))))))))))))))))))))))))) ∷ xs) = let part = read_form k xs in under (signal_form part.0) (read_form k part.1)
-  read_form (suc k) (suc (suc (suc (suc (suc (suc (suc (suc (suc (suc (suc (suc (suc (suc (suc (suc (suc (suc (suc (suc (suc (suc (suc (suc (suc (suc (suc (suc zero))))))))))))))))))))))))))) ∷ xs) = let part = read_form k xs in under (continue_form part.0) (read_form k part.1)
-  read_form (suc k) (suc (suc (suc (suc (suc (suc (suc (suc (suc (suc (suc (suc (suc (suc (suc (suc (suc (suc (suc (suc (suc (suc (suc (suc (suc (suc (suc (suc (suc zero)))))))))))))))))))))))))))) ∷ xs) = (next_method, xs)
-  read_form (suc k) (suc (suc (suc (suc (suc (suc (suc (suc (suc (suc (suc (suc (suc (suc (suc (suc (suc (suc (suc (suc (suc (suc (suc (suc (suc (suc (suc (suc (suc (suc zero))))))))))))))))))))))))))))) ∷ xs) = (has_next, xs)
-  read_form (suc k) (suc (suc (suc (suc (suc (suc (suc (suc (suc (suc (suc (suc (suc (suc (suc (suc (suc (suc (suc (suc (suc (suc (suc (suc (suc (suc (suc (suc (suc (suc (suc n)))))))))))))))))))))))))))))) ∷ xs) = under (sited (first xs)) (read_form k (after xs))
+  form_tree : Form → Tree
+  form_tree (literal i) = number_tree 0 i
+  form_tree (local v) = number_tree 1 v
+  form_tree (global n) = number_tree 2 n
+  form_tree (dynamic n) = number_tree 3 n
+  form_tree next_method = number_tree 4 0
+  form_tree has_next = number_tree 5 0
+  form_tree (set_local v f) = one_tree 0 v (form_tree f)
+  form_tree (set_global n f) = one_tree 1 n (form_tree f)
+  form_tree (def_global n f) = one_tree 2 n (form_tree f)
+  form_tree (block x body) = one_tree 3 x (form_tree body)
+  form_tree (return_from x f) = one_tree 4 x (form_tree f)
+  form_tree (set_dynamic n f) = one_tree 5 n (form_tree f)
+  form_tree (def_dynamic n f) = one_tree 6 n (form_tree f)
+  form_tree (sited site f) = one_tree 7 site (form_tree f)
+  form_tree (apply function list) = two_tree 0 (form_tree function) (form_tree list)
+  form_tree (while_form test body) = two_tree 1 (form_tree test) (form_tree body)
+  form_tree (catch_form tag body) = two_tree 2 (form_tree tag) (form_tree body)
+  form_tree (throw tag f) = two_tree 3 (form_tree tag) (form_tree f)
+  form_tree (unwind f cleanup) = two_tree 4 (form_tree f) (form_tree cleanup)
+  form_tree (with_handler handler body) = two_tree 5 (form_tree handler) (form_tree body)
+  form_tree (signal_form condition mark) = two_tree 6 (form_tree condition) (form_tree mark)
+  form_tree (continue_form condition f) = two_tree 7 (form_tree condition) (form_tree f)
+  form_tree (sequence fs) = many_tree 0 0 (forms_trees fs)
+  form_tree (call n fs) = many_tree 1 n (forms_trees fs)
+  form_tree (call_value fs) = many_tree 2 0 (forms_trees fs)
+  form_tree (prim which fs) = many_tree 3 (primitive_number which) (forms_trees fs)
+  form_tree (tagbody x segments) = many_tree 4 x (forms_trees segments)
+  form_tree (go x segment) = node 4 (tree_and (leaf x) (tree_and (leaf segment) no_tree))
+  form_tree (clauses cs) = node 5 (clauses_trees cs)
+  form_tree (let_form bs body) = node 6 (tree_and (form_tree body) (bindings_trees bs))
+  form_tree (dynamic_let ds body) = node 7 (tree_and (form_tree body) (dynamics_trees ds))
+  form_tree (lambda required rest body parts) =
+      node 8 (tree_and (form_tree body) (tree_and (rest_tree rest) (tree_and (node 0 (numbers_trees required)) (parts_trees parts))))
 
-  read_forms : ℕ → List ℕ → Forms × List ℕ
-  read_forms zero xs = (no_form, xs)
-  read_forms (suc k) [] = (no_form, [])
-  read_forms (suc k) (zero ∷ xs) = (no_form, xs)
-  read_forms (suc k) (suc n ∷ xs) =
-      let head = read_form k xs in under (form_and head.0) (read_forms k head.1)
+  forms_trees : Forms → Trees
+  forms_trees no_form = no_tree
+  forms_trees (form_and f fs) = tree_and (form_tree f) (forms_trees fs)
 
-  read_clauses : ℕ → List ℕ → ClauseForms × List ℕ
-  read_clauses zero xs = (no_clause, xs)
-  read_clauses (suc k) [] = (no_clause, [])
-  read_clauses (suc k) (zero ∷ xs) = (no_clause, xs)
-  read_clauses (suc k) (suc n ∷ xs) =
-      let test = read_form k xs in
-      let body = read_maybe k test.1 in
-      under (clause_and test.0 body.0) (read_clauses k body.1)
+  clauses_trees : ClauseForms → Trees
+  clauses_trees no_clause = no_tree
+  clauses_trees (clause_and test body cs) = tree_and (form_tree test) (tree_and (body_tree body) (clauses_trees cs))
 
-  read_maybe : ℕ → List ℕ → MaybeForm × List ℕ
-  read_maybe zero xs = (no_body, xs)
-  read_maybe (suc k) [] = (no_body, [])
-  read_maybe (suc k) (zero ∷ xs) = (no_body, xs)
-  read_maybe (suc k) (suc n ∷ xs) = under with_body (read_form k xs)
+  body_tree : MaybeForm → Tree
+  body_tree no_body = leaf 0
+  body_tree (with_body f) = above_one 1 (form_tree f)
 
-  read_bindings : ℕ → List ℕ → BindingForms × List ℕ
-  read_bindings zero xs = (no_binding, xs)
-  read_bindings (suc k) [] = (no_binding, [])
-  read_bindings (suc k) (zero ∷ xs) = (no_binding, xs)
-  read_bindings (suc k) (suc n ∷ xs) =
-      let value = read_form k (after xs) in
-      under (binding_and (first xs) value.0) (read_bindings k value.1)
+  bindings_trees : BindingForms → Trees
+  bindings_trees no_binding = no_tree
+  bindings_trees (binding_and v f bs) = tree_and (leaf v) (tree_and (form_tree f) (bindings_trees bs))
 
-  read_dynamics : ℕ → List ℕ → DynamicForms × List ℕ
-  read_dynamics zero xs = (no_dynamic, xs)
-  read_dynamics (suc k) [] = (no_dynamic, [])
-  read_dynamics (suc k) (zero ∷ xs) = (no_dynamic, xs)
-  read_dynamics (suc k) (suc n ∷ xs) =
-      let value = read_form k (after xs) in
-      under (dynamic_and (first xs) value.0) (read_dynamics k value.1)
+  dynamics_trees : DynamicForms → Trees
+  dynamics_trees no_dynamic = no_tree
+  dynamics_trees (dynamic_and n f ds) = tree_and (leaf n) (tree_and (form_tree f) (dynamics_trees ds))
 
-parts_back : (k : ℕ) (ps : List Part) (rest : List ℕ) → parts_size ps ≤ k
-    → read_parts k (write_parts ps rest) ≡ (ps, rest)
-parts_back zero [] rest h = absurd (omega arith)
-parts_back zero (p ∷ ps) rest h = absurd (omega arith)
-parts_back (suc k) [] rest h = refl
-parts_back (suc k) (Variable v ∷ ps) rest h = ap (under (λ qs. Variable v ∷ qs)) (parts_back k ps rest (omega arith))
-parts_back (suc k) (Exit x ∷ ps) rest h = ap (under (λ qs. Exit x ∷ qs)) (parts_back k ps rest (omega arith))
-parts_back (suc k) (Method ∷ ps) rest h = ap (under (λ qs. Method ∷ qs)) (parts_back k ps rest (omega arith))
+abbrev mutual
+  form_of : Tree → Form
+  form_of (node zero (tree_and (node place us) (tree_and (node n vs) ts))) = of_number place n
+  form_of (node (suc zero) (tree_and (node place us) (tree_and (node n vs) (tree_and t ts)))) = of_one place n (form_of t)
+  form_of (node (suc (suc zero)) (tree_and (node place us) (tree_and t (tree_and u ts)))) = of_two place (form_of t) (form_of u)
+  form_of (node (suc (suc (suc zero))) (tree_and (node place us) (tree_and (node n vs) ts))) = of_many place n (forms_of ts)
+  form_of (node (suc (suc (suc (suc zero)))) (tree_and (node x us) (tree_and (node segment vs) ts))) = go x segment
+  form_of (node (suc (suc (suc (suc (suc zero))))) ts) = clauses (clauses_of_trees ts)
+  form_of (node (suc (suc (suc (suc (suc (suc zero)))))) (tree_and t ts)) = let_form (bindings_of_trees ts) (form_of t)
+  form_of (node (suc (suc (suc (suc (suc (suc (suc zero))))))) (tree_and t ts)) = dynamic_let (dynamics_of_trees ts) (form_of t)
+  form_of (node (suc (suc (suc (suc (suc (suc (suc (suc m)))))))) (tree_and t (tree_and u (tree_and (node n vs) ts)))) =
+      lambda (numbers_of vs) (rest_of u) (form_of t) (parts_of ts)
+  form_of t = has_next
 
-numbers_read : (ns rest : List ℕ) → read_numbers (length ns) (ns ++ rest) ≡ (ns, rest)
-numbers_read [] rest = refl
-numbers_read (n ∷ ns) rest = ap (under (λ ms. n ∷ ms)) (numbers_read ns rest)
+  forms_of : Trees → Forms
+  forms_of no_tree = no_form
+  forms_of (tree_and t ts) = form_and (form_of t) (forms_of ts)
 
-rest_read : (last : Option ℕ) (rest : List ℕ) → read_rest (write_rest last rest) ≡ (last, rest)
-rest_read None rest = refl
-rest_read (Some v) rest = refl
+  clauses_of_trees : Trees → ClauseForms
+  clauses_of_trees (tree_and t (tree_and u ts)) = clause_and (form_of t) (body_of_tree u) (clauses_of_trees ts)
+  clauses_of_trees ts = no_clause
 
--- captured parts and a form have a size
-parts_above : (ps : List Part) → 1 ≤ parts_size ps
-parts_above [] = omega arith
-parts_above (p ∷ ps) = omega arith
+  body_of_tree : Tree → MaybeForm
+  body_of_tree (node n no_tree) = no_body
+  body_of_tree (node n (tree_and t ts)) = with_body (form_of t)
 
-form_above : (f : Form) → 1 ≤ form_size f
-form_above (literal i) = omega arith
-form_above (local v) = omega arith
-form_above (set_local v f) = omega arith
-form_above (global n) = omega arith
-form_above (set_global n f) = omega arith
-form_above (def_global n f) = omega arith
-form_above (clauses fs) = omega arith
-form_above (sequence fs) = omega arith
-form_above (let_form bs body) = omega arith
-form_above (lambda vs last body ps) = omega arith
-form_above (call n fs) = omega arith
-form_above (call_value fs) = omega arith
-form_above (apply function fs) = omega arith
-form_above (prim p fs) = omega arith
-form_above (while_form test body) = omega arith
-form_above (block x body) = omega arith
-form_above (return_from x f) = omega arith
-form_above (tagbody x ss) = omega arith
-form_above (go x segment) = omega arith
-form_above (catch_form tag body) = omega arith
-form_above (throw tag f) = omega arith
-form_above (unwind form cleanup) = omega arith
-form_above (dynamic_let bs body) = omega arith
-form_above (dynamic n) = omega arith
-form_above (set_dynamic n f) = omega arith
-form_above (def_dynamic n f) = omega arith
-form_above (with_handler handler body) = omega arith
-form_above (signal_form condition continuable) = omega arith
-form_above (continue_form condition f) = omega arith
-form_above next_method = omega arith
-form_above has_next = omega arith
-form_above (sited s inner) = omega arith
+  bindings_of_trees : Trees → BindingForms
+  bindings_of_trees (tree_and (node v us) (tree_and t ts)) = binding_and v (form_of t) (bindings_of_trees ts)
+  bindings_of_trees ts = no_binding
 
--- to the depth of its size, a form is read back from its numbers
+  dynamics_of_trees : Trees → DynamicForms
+  dynamics_of_trees (tree_and (node n us) (tree_and t ts)) = dynamic_and n (form_of t) (dynamics_of_trees ts)
+  dynamics_of_trees ts = no_dynamic
+
 mutual
-  form_back : (k : ℕ) (f : Form) (rest : List ℕ) → form_size f ≤ k
-      → read_form k (write_form f rest) ≡ (f, rest)
-  form_back zero f rest h = absurd (omega (arith, form_above f))
-  form_back (suc k) (literal i) rest h = refl
-  form_back (suc k) (local v) rest h = refl
-  form_back (suc k) (set_local v f) rest h = ap (under (set_local v)) (form_back k f rest (omega arith))
-  form_back (suc k) (global n) rest h = refl
-  form_back (suc k) (set_global n f) rest h = ap (under (set_global n)) (form_back k f rest (omega arith))
-  form_back (suc k) (def_global n f) rest h = ap (under (def_global n)) (form_back k f rest (omega arith))
-  form_back (suc k) (clauses fs) rest h = ap (under clauses) (clauses_back k fs rest (omega arith))
-  form_back (suc k) (sequence fs) rest h = ap (under sequence) (forms_back k fs rest (omega arith))
-  form_back (suc k) (let_form bs body) rest h = rw (bindings_back k bs (write_form body rest) (omega arith)) (ap (under (let_form bs)) (form_back k body rest (omega arith)))
-  form_back (suc k) (lambda vs last body ps) rest h =
-      rw (numbers_read vs (write_rest last (write_form body (write_parts ps rest))))
-      (rw (rest_read last (write_form body (write_parts ps rest)))
-      (rw (form_back k body (write_parts ps rest) (omega (arith, parts_above ps)))
-      (ap (under (lambda vs last body)) (parts_back k ps rest (omega (arith, form_above body))))))
-  form_back (suc k) (call n fs) rest h = ap (under (call n)) (forms_back k fs rest (omega arith))
-  form_back (suc k) (call_value fs) rest h = ap (under call_value) (forms_back k fs rest (omega arith))
-  form_back (suc k) (apply function fs) rest h = rw (form_back k function (write_form fs rest) (omega arith)) (ap (under (apply function)) (form_back k fs rest (omega arith)))
-  form_back (suc k) (prim p fs) rest h = rw (primitive_back p) (ap (under (prim p)) (forms_back k fs rest (omega arith)))
-  form_back (suc k) (while_form test body) rest h = rw (form_back k test (write_form body rest) (omega arith)) (ap (under (while_form test)) (form_back k body rest (omega arith)))
-  form_back (suc k) (block x body) rest h = ap (under (block x)) (form_back k body rest (omega arith))
-  form_back (suc k) (return_from x f) rest h = ap (under (return_from x)) (form_back k f rest (omega arith))
-  form_back (suc k) (tagbody x ss) rest h = ap (under (tagbody x)) (forms_back k ss rest (omega arith))
-  form_back (suc k) (go x segment) rest h = refl
-  form_back (suc k) (catch_form tag body) rest h = rw (form_back k tag (write_form body rest) (omega arith)) (ap (under (catch_form tag)) (form_back k body rest (omega arith)))
-  form_back (suc k) (throw tag f) rest h = rw (form_back k tag (write_form f rest) (omega arith)) (ap (under (throw tag)) (form_back k f rest (omega arith)))
-  form_back (suc k) (unwind form cleanup) rest h = rw (form_back k form (write_form cleanup rest) (omega arith)) (ap (under (unwind form)) (form_back k cleanup rest (omega arith)))
-  form_back (suc k) (dynamic_let bs body) rest h = rw (dynamics_back k bs (write_form body rest) (omega arith)) (ap (under (dynamic_let bs)) (form_back k body rest (omega arith)))
-  form_back (suc k) (dynamic n) rest h = refl
-  form_back (suc k) (set_dynamic n f) rest h = ap (under (set_dynamic n)) (form_back k f rest (omega arith))
-  form_back (suc k) (def_dynamic n f) rest h = ap (under (def_dynamic n)) (form_back k f rest (omega arith))
-  form_back (suc k) (with_handler handler body) rest h = rw (form_back k handler (write_form body rest) (omega arith)) (ap (under (with_handler handler)) (form_back k body rest (omega arith)))
-  form_back (suc k) (signal_form condition continuable) rest h = rw (form_back k condition (write_form continuable rest) (omega arith)) (ap (under (signal_form condition)) (form_back k continuable rest (omega arith)))
-  form_back (suc k) (continue_form condition f) rest h = rw (form_back k condition (write_form f rest) (omega arith)) (ap (under (continue_form condition)) (form_back k f rest (omega arith)))
-  form_back (suc k) next_method rest h = refl
-  form_back (suc k) has_next rest h = refl
-  form_back (suc k) (sited s inner) rest h = ap (under (sited s)) (form_back k inner rest (omega arith))
+  form_back : (f : Form) → form_of (form_tree f) ≡ f
+  form_back (literal i) = refl
+  form_back (local v) = refl
+  form_back (global n) = refl
+  form_back (dynamic n) = refl
+  form_back next_method = refl
+  form_back has_next = refl
+  form_back (set_local v f) = ap (set_local v) (form_back f)
+  form_back (set_global n f) = ap (set_global n) (form_back f)
+  form_back (def_global n f) = ap (def_global n) (form_back f)
+  form_back (block x body) = ap (block x) (form_back body)
+  form_back (return_from x f) = ap (return_from x) (form_back f)
+  form_back (set_dynamic n f) = ap (set_dynamic n) (form_back f)
+  form_back (def_dynamic n f) = ap (def_dynamic n) (form_back f)
+  form_back (sited site f) = ap (sited site) (form_back f)
+  form_back (apply f g) = cc (form_back f, form_back g)
+  form_back (while_form f g) = cc (form_back f, form_back g)
+  form_back (catch_form f g) = cc (form_back f, form_back g)
+  form_back (throw f g) = cc (form_back f, form_back g)
+  form_back (unwind f g) = cc (form_back f, form_back g)
+  form_back (with_handler f g) = cc (form_back f, form_back g)
+  form_back (signal_form f g) = cc (form_back f, form_back g)
+  form_back (continue_form f g) = cc (form_back f, form_back g)
+  form_back (sequence fs) = ap sequence (forms_back fs)
+  form_back (call n fs) = ap (call n) (forms_back fs)
+  form_back (call_value fs) = ap call_value (forms_back fs)
+  form_back (prim which fs) = cc (primitive_back which, forms_back fs)
+  form_back (tagbody x segments) = ap (tagbody x) (forms_back segments)
+  form_back (go x segment) = refl
+  form_back (clauses cs) = ap clauses (clauses_back cs)
+  form_back (let_form bs body) = cc (bindings_back bs, form_back body)
+  form_back (dynamic_let ds body) = cc (dynamics_back ds, form_back body)
+  form_back (lambda required rest body parts) = cc (numbers_back required, rest_back rest, form_back body, parts_back parts)
 
-  forms_back : (k : ℕ) (fs : Forms) (rest : List ℕ) → forms_size fs ≤ k
-      → read_forms k (write_forms fs rest) ≡ (fs, rest)
-  forms_back zero no_form rest h = absurd (omega arith)
-  forms_back zero (form_and f fs) rest h = absurd (omega arith)
-  forms_back (suc k) no_form rest h = refl
-  forms_back (suc k) (form_and f fs) rest h =
-      rw (form_back k f (write_forms fs rest) (omega arith))
-      (ap (under (form_and f)) (forms_back k fs rest (omega arith)))
+  forms_back : (fs : Forms) → forms_of (forms_trees fs) ≡ fs
+  forms_back no_form = refl
+  forms_back (form_and f fs) = cc (form_back f, forms_back fs)
 
-  clauses_back : (k : ℕ) (cs : ClauseForms) (rest : List ℕ) → clauses_size cs ≤ k
-      → read_clauses k (write_clauses cs rest) ≡ (cs, rest)
-  clauses_back zero no_clause rest h = absurd (omega arith)
-  clauses_back zero (clause_and t b cs) rest h = absurd (omega arith)
-  clauses_back (suc k) no_clause rest h = refl
-  clauses_back (suc k) (clause_and t b cs) rest h =
-      rw (form_back k t (write_maybe b (write_clauses cs rest)) (omega arith))
-      (rw (maybe_back k b (write_clauses cs rest) (omega arith))
-      (ap (under (clause_and t b)) (clauses_back k cs rest (omega arith))))
+  clauses_back : (cs : ClauseForms) → clauses_of_trees (clauses_trees cs) ≡ cs
+  clauses_back no_clause = refl
+  clauses_back (clause_and test body cs) = cc (form_back test, body_back body, clauses_back cs)
 
-  maybe_back : (k : ℕ) (b : MaybeForm) (rest : List ℕ) → maybe_size b ≤ k
-      → read_maybe k (write_maybe b rest) ≡ (b, rest)
-  maybe_back zero no_body rest h = absurd (omega arith)
-  maybe_back zero (with_body f) rest h = absurd (omega arith)
-  maybe_back (suc k) no_body rest h = refl
-  maybe_back (suc k) (with_body f) rest h = ap (under with_body) (form_back k f rest (omega arith))
+  body_back : (b : MaybeForm) → body_of_tree (body_tree b) ≡ b
+  body_back no_body = refl
+  body_back (with_body f) = ap with_body (form_back f)
 
-  bindings_back : (k : ℕ) (bs : BindingForms) (rest : List ℕ) → bindings_size bs ≤ k
-      → read_bindings k (write_bindings bs rest) ≡ (bs, rest)
-  bindings_back zero no_binding rest h = absurd (omega arith)
-  bindings_back zero (binding_and v f bs) rest h = absurd (omega arith)
-  bindings_back (suc k) no_binding rest h = refl
-  bindings_back (suc k) (binding_and v f bs) rest h =
-      rw (form_back k f (write_bindings bs rest) (omega arith))
-      (ap (under (binding_and v f)) (bindings_back k bs rest (omega arith)))
+  bindings_back : (bs : BindingForms) → bindings_of_trees (bindings_trees bs) ≡ bs
+  bindings_back no_binding = refl
+  bindings_back (binding_and v f bs) = cc (form_back f, bindings_back bs)
 
-  dynamics_back : (k : ℕ) (bs : DynamicForms) (rest : List ℕ) → dynamics_size bs ≤ k
-      → read_dynamics k (write_dynamics bs rest) ≡ (bs, rest)
-  dynamics_back zero no_dynamic rest h = absurd (omega arith)
-  dynamics_back zero (dynamic_and n f bs) rest h = absurd (omega arith)
-  dynamics_back (suc k) no_dynamic rest h = refl
-  dynamics_back (suc k) (dynamic_and n f bs) rest h =
-      rw (form_back k f (write_dynamics bs rest) (omega arith))
-      (ap (under (dynamic_and n f)) (dynamics_back k bs rest (omega arith)))
+  dynamics_back : (ds : DynamicForms) → dynamics_of_trees (dynamics_trees ds) ≡ ds
+  dynamics_back no_dynamic = refl
+  dynamics_back (dynamic_and n f ds) = cc (form_back f, dynamics_back ds)
 
--- the size of a form, and then its numbers
-abbrev pub form_numbers : Form → List ℕ
-form_numbers f = form_size f ∷ write_form f []
-
-abbrev pub form_of_numbers : List ℕ → Form
-form_of_numbers xs = (read_form (first xs) (after xs)).0
-
-pub numbers_back : (f : Form) → form_of_numbers (form_numbers f) ≡ f
-numbers_back f = ap (λ (r : Form × List ℕ). r.0) (form_back (form_size f) f [] (omega arith))
-
-abbrev pub form_code : Coded Form
-form_code = code_by (List ℕ) (coded_list coded_ℕ) form_numbers form_of_numbers numbers_back
+pub form_code : Coded Form
+form_code = code_by Tree tree_code form_tree form_of form_back
