@@ -1,10 +1,10 @@
--- What a walk over the forms right inside sees at a turn, where all or one of them are to pass a test.
+-- What a walk over the forms right inside sees at a visit, where all or one of them are to pass a test.
 use Rattle.std.proofs.Common.{◌≡◌, Bool, true, false, ◌&&◌, ◌||◌, ℕ, ◌+◌, List, Option, Some, None, option_to_list, slice_get, drop, ap, sym, ◌∙◌, refl}
 use Rattle.std.specs.List.{list_all, list_any}
 use Rattle.isl_meaning.specs.Form.{Form}
 use Rattle.isl_meaning.specs.Subforms.{outer, inner}
-use Rattle.isl_meaning.specs.bridge.Turns.{turns, first_of, second_of, outer_from, outer_at_first}
-use Rattle.isl_meaning.specs.bridge.Judged.{all_at_turn, all_at_inner, one_at_turn, one_at_inner}
+use Rattle.isl_meaning.specs.bridge.Visits.{visits, first_of, second_of, outer_from, outer_at_first}
+use Rattle.isl_meaning.specs.bridge.Judged.{all_at_visit, all_at_inner, one_at_visit, one_at_inner}
 
 all_of_one : (b : Bool) → (b && true) ≡ b
 all_of_one true = refl
@@ -26,32 +26,32 @@ one_of_second test x o h = ap (λ p. list_any test (option_to_list p)) h ∙ one
 pub one_of_none : (test : Form → Bool) (o : Option Form) → o ≡ None → list_any test (option_to_list o) ≡ false
 one_of_none test o h = ap (λ p. list_any test (option_to_list p)) h
 
--- turns of a walk over which all are to pass: the invariant goes on, or the walk stops
+-- visits of a walk over which all are to pass: the invariant goes on, or the walk stops
 
-pub turn_passes : (test : Form → Bool) (f : Form) (i : ℕ) (x : Form) (whole : Bool) → first_of (slice_get (turns f) i) ≡ Some x
-    → test x ≡ true → list_all test (option_to_list (second_of (slice_get (turns f) i))) ≡ true
+pub visit_passes : (test : Form → Bool) (f : Form) (i : ℕ) (x : Form) (whole : Bool) → first_of (slice_get (visits f) i) ≡ Some x
+    → test x ≡ true → list_all test (option_to_list (second_of (slice_get (visits f) i))) ≡ true
     → list_all test (outer_from f i) ≡ whole → list_all test (outer_from f (i + 1)) ≡ whole
-turn_passes test f i x whole h e d w =
+visit_passes test f i x whole h e d w =
     ap (λ b. b && list_all test (outer_from f (i + 1))) (sym d)
-    ∙ ap (λ b. b && (list_all test (option_to_list (second_of (slice_get (turns f) i))) && list_all test (outer_from f (i + 1)))) (sym e)
-    ∙ sym (all_at_turn test f i x h) ∙ w
+    ∙ ap (λ b. b && (list_all test (option_to_list (second_of (slice_get (visits f) i))) && list_all test (outer_from f (i + 1)))) (sym e)
+    ∙ sym (all_at_visit test f i x h) ∙ w
 
-pub first_fails : (test : Form → Bool) (f : Form) (i : ℕ) (x : Form) (whole : Bool) → first_of (slice_get (turns f) i) ≡ Some x
+pub first_fails : (test : Form → Bool) (f : Form) (i : ℕ) (x : Form) (whole : Bool) → first_of (slice_get (visits f) i) ≡ Some x
     → test x ≡ false → list_all test (outer_from f i) ≡ whole → false ≡ whole
 first_fails test f i x whole h e w =
-    ap (λ b. b && (list_all test (option_to_list (second_of (slice_get (turns f) i))) && list_all test (outer_from f (i + 1)))) (sym e)
-    ∙ sym (all_at_turn test f i x h) ∙ w
+    ap (λ b. b && (list_all test (option_to_list (second_of (slice_get (visits f) i))) && list_all test (outer_from f (i + 1)))) (sym e)
+    ∙ sym (all_at_visit test f i x h) ∙ w
 
 both_fail : (a rest : Bool) → false ≡ (a && (false && rest))
 both_fail true rest = refl
 both_fail false rest = refl
 
-pub second_fails : (test : Form → Bool) (f : Form) (i : ℕ) (x : Form) (whole : Bool) → first_of (slice_get (turns f) i) ≡ Some x
-    → list_all test (option_to_list (second_of (slice_get (turns f) i))) ≡ false → list_all test (outer_from f i) ≡ whole → false ≡ whole
+pub second_fails : (test : Form → Bool) (f : Form) (i : ℕ) (x : Form) (whole : Bool) → first_of (slice_get (visits f) i) ≡ Some x
+    → list_all test (option_to_list (second_of (slice_get (visits f) i))) ≡ false → list_all test (outer_from f i) ≡ whole → false ≡ whole
 second_fails test f i x whole h d w =
     both_fail (test x) (list_all test (outer_from f (i + 1)))
     ∙ ap (λ b. test x && (b && list_all test (outer_from f (i + 1)))) (sym d)
-    ∙ sym (all_at_turn test f i x h) ∙ w
+    ∙ sym (all_at_visit test f i x h) ∙ w
 
 pub inner_passes : (test : Form → Bool) (f : Form) (i : ℕ) (x : Form) (whole : Bool) → slice_get (inner f) i ≡ Some x
     → test x ≡ true → list_all test (drop i (inner f)) ≡ whole → list_all test (drop (i + 1) (inner f)) ≡ whole
@@ -63,32 +63,32 @@ pub inner_fails : (test : Form → Bool) (f : Form) (i : ℕ) (x : Form) (whole 
 inner_fails test f i x whole h e w =
     ap (λ b. b && list_all test (drop (i + 1) (inner f))) (sym e) ∙ sym (all_at_inner test f i x h) ∙ w
 
--- turns of a walk that looks for one that passes
+-- visits of a walk that looks for one that passes
 
-pub turn_goes_on : (test : Form → Bool) (f : Form) (i : ℕ) (x : Form) (whole : Bool) → first_of (slice_get (turns f) i) ≡ Some x
-    → test x ≡ false → list_any test (option_to_list (second_of (slice_get (turns f) i))) ≡ false
+pub visit_goes_on : (test : Form → Bool) (f : Form) (i : ℕ) (x : Form) (whole : Bool) → first_of (slice_get (visits f) i) ≡ Some x
+    → test x ≡ false → list_any test (option_to_list (second_of (slice_get (visits f) i))) ≡ false
     → list_any test (outer_from f i) ≡ whole → list_any test (outer_from f (i + 1)) ≡ whole
-turn_goes_on test f i x whole h e d w =
+visit_goes_on test f i x whole h e d w =
     ap (λ b. b || list_any test (outer_from f (i + 1))) (sym d)
-    ∙ ap (λ b. b || (list_any test (option_to_list (second_of (slice_get (turns f) i))) || list_any test (outer_from f (i + 1)))) (sym e)
-    ∙ sym (one_at_turn test f i x h) ∙ w
+    ∙ ap (λ b. b || (list_any test (option_to_list (second_of (slice_get (visits f) i))) || list_any test (outer_from f (i + 1)))) (sym e)
+    ∙ sym (one_at_visit test f i x h) ∙ w
 
-pub first_found : (test : Form → Bool) (f : Form) (i : ℕ) (x : Form) (whole : Bool) → first_of (slice_get (turns f) i) ≡ Some x
+pub first_found : (test : Form → Bool) (f : Form) (i : ℕ) (x : Form) (whole : Bool) → first_of (slice_get (visits f) i) ≡ Some x
     → test x ≡ true → list_any test (outer_from f i) ≡ whole → true ≡ whole
 first_found test f i x whole h e w =
-    ap (λ b. b || (list_any test (option_to_list (second_of (slice_get (turns f) i))) || list_any test (outer_from f (i + 1)))) (sym e)
-    ∙ sym (one_at_turn test f i x h) ∙ w
+    ap (λ b. b || (list_any test (option_to_list (second_of (slice_get (visits f) i))) || list_any test (outer_from f (i + 1)))) (sym e)
+    ∙ sym (one_at_visit test f i x h) ∙ w
 
 both_found : (a rest : Bool) → true ≡ (a || (true || rest))
 both_found true rest = refl
 both_found false rest = refl
 
-pub second_found : (test : Form → Bool) (f : Form) (i : ℕ) (x : Form) (whole : Bool) → first_of (slice_get (turns f) i) ≡ Some x
-    → list_any test (option_to_list (second_of (slice_get (turns f) i))) ≡ true → list_any test (outer_from f i) ≡ whole → true ≡ whole
+pub second_found : (test : Form → Bool) (f : Form) (i : ℕ) (x : Form) (whole : Bool) → first_of (slice_get (visits f) i) ≡ Some x
+    → list_any test (option_to_list (second_of (slice_get (visits f) i))) ≡ true → list_any test (outer_from f i) ≡ whole → true ≡ whole
 second_found test f i x whole h d w =
     both_found (test x) (list_any test (outer_from f (i + 1)))
     ∙ ap (λ b. test x || (b || list_any test (outer_from f (i + 1)))) (sym d)
-    ∙ sym (one_at_turn test f i x h) ∙ w
+    ∙ sym (one_at_visit test f i x h) ∙ w
 
 pub inner_goes_on : (test : Form → Bool) (f : Form) (i : ℕ) (x : Form) (whole : Bool) → slice_get (inner f) i ≡ Some x
     → test x ≡ false → list_any test (drop i (inner f)) ≡ whole → list_any test (drop (i + 1) (inner f)) ≡ whole

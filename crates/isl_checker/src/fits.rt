@@ -6,7 +6,7 @@ ghost use Rattle.std.specs.List.{list_all};
 ghost use Rattle.isl_meaning.specs.Counts.{depth};
 ghost use Rattle.isl_meaning.specs.Fits.{fits_itself, fits};
 ghost use Rattle.isl_meaning.specs.Subforms.{outer, inner};
-ghost use Rattle.isl_meaning.specs.bridge.Turns.{turns, second_of};
+ghost use Rattle.isl_meaning.specs.bridge.Visits.{visits, second_of};
 
 use isl_meaning::{Core, CoreForm, ProgramRows};
 
@@ -25,7 +25,7 @@ pub fn fits(form: &Core, rows: &ProgramRows) -> bool
 fn outer_fit(form: &Core, rows: &ProgramRows) -> bool
     ensures { result ≡ list_all (fits rows.now) (outer form.now) }
 {
-    for at in 0..form.outer_turns() {
+    for at in 0..form.outer_visits() {
         let Some(first) = form.outer_first(at) else {
             unreachable!()
         };
@@ -39,7 +39,7 @@ fn outer_fit(form: &Core, rows: &ProgramRows) -> bool
 #[cycle(fits)]
 #[tactic(auto, using(isl_meaning::specs::bridge::Smaller::second_is_smaller, crate::proofs::Walks::all_of_second, crate::proofs::Walks::all_of_none))]
 fn second_fits(form: &Core, at: usize, rows: &ProgramRows) -> bool
-    ensures { result ≡ list_all (fits rows.now) (option_to_list (second_of (slice_get (turns form.now) at))) }
+    ensures { result ≡ list_all (fits rows.now) (option_to_list (second_of (slice_get (visits form.now) at))) }
 {
     match form.outer_second(at) {
         None => true,

@@ -7,7 +7,7 @@ ghost use Rattle.isl_meaning.specs.model.View.{bindings_of};
 ghost use Rattle.isl_meaning.specs.Form.{parameters};
 ghost use Rattle.isl_meaning.specs.Mentions.{same_part, owns, variables_bound, binds, names_part, mentions};
 ghost use Rattle.isl_meaning.specs.Subforms.{outer, inner};
-ghost use Rattle.isl_meaning.specs.bridge.Turns.{turns, second_of};
+ghost use Rattle.isl_meaning.specs.bridge.Visits.{visits, second_of};
 
 use crate::parts::same_part;
 use isl_meaning::{BindingList, Core, CoreForm, Part, Var, VarList};
@@ -28,7 +28,7 @@ pub fn mentions(form: &Core, part: Part) -> bool
 fn outer_mention(form: &Core, part: Part) -> bool
     ensures { result ≡ list_any (mentions part) (outer form.now) }
 {
-    for at in 0..form.outer_turns() {
+    for at in 0..form.outer_visits() {
         let Some(first) = form.outer_first(at) else {
             unreachable!()
         };
@@ -42,7 +42,7 @@ fn outer_mention(form: &Core, part: Part) -> bool
 #[cycle(mentions)]
 #[tactic(auto, using(isl_meaning::specs::bridge::Smaller::second_is_smaller, crate::proofs::Walks::one_of_second, crate::proofs::Walks::one_of_none))]
 fn second_mentions(form: &Core, at: usize, part: Part) -> bool
-    ensures { result ≡ list_any (mentions part) (option_to_list (second_of (slice_get (turns form.now) at))) }
+    ensures { result ≡ list_any (mentions part) (option_to_list (second_of (slice_get (visits form.now) at))) }
 {
     match form.outer_second(at) {
         None => false,

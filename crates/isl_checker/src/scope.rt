@@ -11,15 +11,15 @@ ghost use Rattle.isl_meaning.specs.model.View.{bindings_of};
 use crate::parts::has_part;
 use isl_base::NoMemory;
 use isl_meaning::{
-    Around, BindingList, ExitAround, ExitVar, ExitsAround, Part, Scope, Var, VarList,
+    Around, BindingList, ExitAround, ExitVar, ExitsAround, Part, LexicalScope, Var, VarList,
 };
 use std::alloc::Global;
 
 // That of a body that sees these variables and nothing else.
-pub fn alone(alloc: Global, variables: VarList, in_method: bool) -> Scope
+pub fn alone(alloc: Global, variables: VarList, in_method: bool) -> LexicalScope
     ensures { result ≡ alone variables in_method }
 {
-    Scope {
+    LexicalScope {
         variables,
         exits: ExitsAround::new(alloc),
         in_method,
@@ -27,14 +27,14 @@ pub fn alone(alloc: Global, variables: VarList, in_method: bool) -> Scope
 }
 
 // With these variables bound besides.
-pub fn with_variables(alloc: Global, scope: &Scope, variables: VarList) -> Result<Scope, NoMemory>
+pub fn with_variables(alloc: Global, scope: &LexicalScope, variables: VarList) -> Result<LexicalScope, NoMemory>
     ensures { IfOk result (λ inside. inside ≡ with_bound variables scope.now) }
 {
     let mut variables = variables;
     push_variables(&mut variables, scope.variables.as_slice())?;
     let mut exits = ExitsAround::new(alloc);
     push_exits(&mut exits, scope.exits.as_slice())?;
-    Ok(Scope {
+    Ok(LexicalScope {
         variables,
         exits,
         in_method: scope.in_method,
@@ -44,10 +44,10 @@ pub fn with_variables(alloc: Global, scope: &Scope, variables: VarList) -> Resul
 // With an exit in front of those around it.
 pub fn with_around(
     alloc: Global,
-    scope: &Scope,
+    scope: &LexicalScope,
     exit: ExitVar,
     around: Around,
-) -> Result<Scope, NoMemory>
+) -> Result<LexicalScope, NoMemory>
     ensures { IfOk result (λ inside. inside ≡ with_around exit around scope.now) }
 {
     let mut variables = VarList::new(alloc);
@@ -55,7 +55,7 @@ pub fn with_around(
     let mut exits = ExitsAround::new(alloc);
     exits.push(ExitAround { exit, around })?;
     push_exits(&mut exits, scope.exits.as_slice())?;
-    Ok(Scope {
+    Ok(LexicalScope {
         variables,
         exits,
         in_method: scope.in_method,
@@ -63,24 +63,24 @@ pub fn with_around(
 }
 
 // What a function sees that captures these parts.
-pub fn seen(alloc: Global, scope: &Scope, parts: &[Part]) -> Result<Scope, NoMemory>
+pub fn seen(alloc: Global, scope: &LexicalScope, parts: &[Part]) -> Result<LexicalScope, NoMemory>
     ensures { IfOk result (λ inside. inside ≡ seen parts.now scope.now) }
 {
-    Ok(Scope {
+    Ok(LexicalScope {
         variables: seen_variables(alloc, scope.variables.as_slice(), parts)?,
         exits: seen_exits(alloc, scope.exits.as_slice(), parts)?,
         in_method: scope.in_method && has_part(Part::Method, parts),
     })
 }
 
-pub fn has_variable(scope: &Scope, var: Var) -> bool
+pub fn has_variable(scope: &LexicalScope, var: Var) -> bool
     ensures { result ≡ is_variable scope.now var }
 {
     scope.variables.as_slice().iter().any(|v| var == *v)
 }
 
 // Whether the innermost exit of that name is a block's.
-pub fn has_block(scope: &Scope, exit: ExitVar) -> bool
+pub fn has_block(scope: &LexicalScope, exit: ExitVar) -> bool
     ensures { result ≡ is_block (exit_around exit scope.now.exits) }
 {
     match exit_around(exit, scope.exits.as_slice()) {
@@ -90,7 +90,7 @@ pub fn has_block(scope: &Scope, exit: ExitVar) -> bool
 }
 
 // Whether it is that of a tagbody with such a segment.
-pub fn has_segment(scope: &Scope, exit: ExitVar, segment: u32) -> bool
+pub fn has_segment(scope: &LexicalScope, exit: ExitVar, segment: u32) -> bool
     ensures { result ≡ is_segment segment (exit_around exit scope.now.exits) }
 {
     match exit_around(exit, scope.exits.as_slice()) {
@@ -99,14 +99,14 @@ pub fn has_segment(scope: &Scope, exit: ExitVar, segment: u32) -> bool
     }
 }
 
-fn has_exit(scope: &Scope, exit: ExitVar) -> bool
+fn has_exit(scope: &LexicalScope, exit: ExitVar) -> bool
     ensures { result ≡ list_any (λ e. exit == e.exit) scope.now.exits }
 {
     scope.exits.as_slice().iter().any(|e| exit == e.exit)
 }
 
 // Whether the part is bound.
-pub fn binds(scope: &Scope, part: Part) -> bool
+pub fn binds(scope: &LexicalScope, part: Part) -> bool
     ensures { result ≡ is_bound scope.now part }
 {
     match part {

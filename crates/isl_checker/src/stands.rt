@@ -5,7 +5,7 @@ ghost use Rattle.std.specs.List.{list_all};
 ghost use Rattle.isl_meaning.specs.Mentions.{is_next, in_order};
 ghost use Rattle.isl_meaning.specs.Standing.{is_bound, is_free, are_captured, around_inner, stands_itself, stands};
 ghost use Rattle.isl_meaning.specs.Subforms.{outer, inner};
-ghost use Rattle.isl_meaning.specs.bridge.Turns.{turns, second_of};
+ghost use Rattle.isl_meaning.specs.bridge.Visits.{visits, second_of};
 
 use crate::mentions::{mentions, owns};
 use crate::parts::comes_before;
@@ -14,13 +14,13 @@ use crate::scope::{
     with_variables,
 };
 use isl_base::NoMemory;
-use isl_meaning::{Around, Core, CoreForm, Part, PartList, Scope, Var, VarList};
+use isl_meaning::{Around, Core, CoreForm, Part, PartList, LexicalScope, Var, VarList};
 use std::alloc::Global;
 
 // Whether all names in a form are bound.
 #[cycle(stands)]
 #[tactic(auto, using(isl_meaning::specs::bridge::Judged::stands_folded))]
-pub fn stands(form: &Core, alloc: Global, scope: &Scope) -> Result<bool, NoMemory>
+pub fn stands(form: &Core, alloc: Global, scope: &LexicalScope) -> Result<bool, NoMemory>
     ensures { IfOk result (λ yes. yes ≡ stands scope.now form.now) }
 {
     if !stands_itself(form, alloc, scope)? {
@@ -34,10 +34,10 @@ pub fn stands(form: &Core, alloc: Global, scope: &Scope) -> Result<bool, NoMemor
 
 #[cycle(stands)]
 #[tactic(auto, using(isl_meaning::specs::bridge::Smaller::first_is_smaller))]
-fn outer_stand(form: &Core, alloc: Global, scope: &Scope) -> Result<bool, NoMemory>
+fn outer_stand(form: &Core, alloc: Global, scope: &LexicalScope) -> Result<bool, NoMemory>
     ensures { IfOk result (λ yes. yes ≡ list_all (stands scope.now) (outer form.now)) }
 {
-    for at in 0..form.outer_turns() {
+    for at in 0..form.outer_visits() {
         let Some(first) = form.outer_first(at) else {
             unreachable!()
         };
@@ -53,8 +53,8 @@ fn outer_stand(form: &Core, alloc: Global, scope: &Scope) -> Result<bool, NoMemo
 
 #[cycle(stands)]
 #[tactic(auto, using(isl_meaning::specs::bridge::Smaller::second_is_smaller, crate::proofs::Walks::all_of_second, crate::proofs::Walks::all_of_none))]
-fn second_stands(form: &Core, at: usize, alloc: Global, scope: &Scope) -> Result<bool, NoMemory>
-    ensures { IfOk result (λ yes. yes ≡ list_all (stands scope.now) (option_to_list (second_of (slice_get (turns form.now) at)))) }
+fn second_stands(form: &Core, at: usize, alloc: Global, scope: &LexicalScope) -> Result<bool, NoMemory>
+    ensures { IfOk result (λ yes. yes ≡ list_all (stands scope.now) (option_to_list (second_of (slice_get (visits form.now) at)))) }
 {
     match form.outer_second(at) {
         None => Ok(true),
@@ -64,7 +64,7 @@ fn second_stands(form: &Core, at: usize, alloc: Global, scope: &Scope) -> Result
 
 // The inner forms, where what the form binds is bound.
 #[cycle(stands)]
-fn inner_stand(form: &Core, alloc: Global, scope: &Scope) -> Result<bool, NoMemory>
+fn inner_stand(form: &Core, alloc: Global, scope: &LexicalScope) -> Result<bool, NoMemory>
     ensures { IfOk result (λ yes. yes ≡ list_all (stands (around_inner form.now scope.now)) (inner form.now)) }
 {
     let inside = around_inner(form, alloc, scope)?;
@@ -76,7 +76,7 @@ fn inner_stand(form: &Core, alloc: Global, scope: &Scope) -> Result<bool, NoMemo
 
 #[cycle(stands)]
 #[tactic(auto, using(isl_meaning::specs::bridge::Smaller::inner_is_smaller))]
-fn all_inner_stand(form: &Core, alloc: Global, scope: &Scope) -> Result<bool, NoMemory>
+fn all_inner_stand(form: &Core, alloc: Global, scope: &LexicalScope) -> Result<bool, NoMemory>
     ensures { IfOk result (λ yes. yes ≡ list_all (stands scope.now) (inner form.now)) }
 {
     for at in 0..form.inner_count() {
@@ -92,7 +92,7 @@ fn all_inner_stand(form: &Core, alloc: Global, scope: &Scope) -> Result<bool, No
 
 // Where the inner forms of a form stand; None where it binds nothing.
 #[tactic(auto, using(isl_meaning::specs::bridge::Lengths::forms_counted))]
-fn around_inner(form: &Core, alloc: Global, scope: &Scope) -> Result<Option<Scope>, NoMemory>
+fn around_inner(form: &Core, alloc: Global, scope: &LexicalScope) -> Result<Option<LexicalScope>, NoMemory>
     ensures { IfOk result (λ inside. unwrap_or inside scope.now ≡ around_inner form.now scope.now) }
 {
     match &form.form {
@@ -142,7 +142,7 @@ fn around_inner(form: &Core, alloc: Global, scope: &Scope) -> Result<Option<Scop
 }
 
 // Whether what the form itself names is bound.
-fn stands_itself(form: &Core, alloc: Global, scope: &Scope) -> Result<bool, NoMemory>
+fn stands_itself(form: &Core, alloc: Global, scope: &LexicalScope) -> Result<bool, NoMemory>
     ensures { IfOk result (λ yes. yes ≡ stands_itself scope.now form.now) }
 {
     match &form.form {
@@ -183,13 +183,13 @@ fn stands_itself(form: &Core, alloc: Global, scope: &Scope) -> Result<bool, NoMe
 }
 
 // Whether they stand in their order, are bound, and are what the body mentions besides its own variables.
-fn are_captured(scope: &Scope, own: &[Var], body: &Core, parts: &[Part]) -> bool
+fn are_captured(scope: &LexicalScope, own: &[Var], body: &Core, parts: &[Part]) -> bool
     ensures { result ≡ are_captured scope.now own.now body.now parts.now }
 {
     in_order(parts) && are_bound(scope, parts) && are_free(own, body, parts)
 }
 
-fn are_bound(scope: &Scope, parts: &[Part]) -> bool
+fn are_bound(scope: &LexicalScope, parts: &[Part]) -> bool
     ensures { result ≡ list_all (is_bound scope.now) parts.now }
 {
     parts.iter().all(|part| binds(scope, *part))

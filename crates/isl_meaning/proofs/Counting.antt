@@ -1,4 +1,4 @@
--- What a walk counts at a turn, and when nothing is left.
+-- What a walk counts at a visit, and when nothing is left.
 use Rattle.std.proofs.Common.{◌≡◌, ℕ, ◌+◌, ◌≤◌, min, max, List, [], ◌∷◌, ◌++◌, Option, Some, None, map, option_to_list, length, slice_get, drop, refl, ap, sym, ◌∙◌, arith}
 use Rattle.std.specs.List.{sum}
 use Rattle.std.proofs.lemmas.List.{map-append, drop_all}
@@ -7,7 +7,7 @@ use Rattle.isl_meaning.specs.Form.{Form}
 use Rattle.isl_meaning.specs.Subforms.{outer, inner}
 use Rattle.isl_meaning.specs.Counts.{greatest}
 use Rattle.isl_meaning.specs.model.Rest.{rest_at}
-use Rattle.isl_meaning.specs.bridge.Turns.{turns, first_of, second_of, outer_from, outer_turn, outer_at_last}
+use Rattle.isl_meaning.specs.bridge.Visits.{visits, first_of, second_of, outer_from, outer_visit, outer_at_last}
 
 -- sums
 
@@ -17,16 +17,16 @@ sum_split x ys zs = omega (arith, sum_by-cons (λ n. n) x (ys ++ zs), sum_by-app
 mapped : {X : Type 0} (g : Form → X) (x : Form) (ys zs : List Form) → map g (x ∷ (ys ++ zs)) ≡ g x ∷ (map g ys ++ map g zs)
 mapped g x ys zs = ap (λ xs. g x ∷ xs) (map-append g ys zs)
 
-outer_mapped : {X : Type 0} (g : Form → X) (f : Form) (i : ℕ) (x : Form) → first_of (slice_get (turns f) i) ≡ Some x
-    → map g (outer_from f i) ≡ g x ∷ (map g (option_to_list (second_of (slice_get (turns f) i))) ++ map g (outer_from f (i + 1)))
+outer_mapped : {X : Type 0} (g : Form → X) (f : Form) (i : ℕ) (x : Form) → first_of (slice_get (visits f) i) ≡ Some x
+    → map g (outer_from f i) ≡ g x ∷ (map g (option_to_list (second_of (slice_get (visits f) i))) ++ map g (outer_from f (i + 1)))
 outer_mapped g f i x h =
-    ap (map g) (outer_turn f i x h) ∙ mapped g x (option_to_list (second_of (slice_get (turns f) i))) (outer_from f (i + 1))
+    ap (map g) (outer_visit f i x h) ∙ mapped g x (option_to_list (second_of (slice_get (visits f) i))) (outer_from f (i + 1))
 
-pub outer_sum : (g : Form → ℕ) (f : Form) (i : ℕ) (x : Form) → first_of (slice_get (turns f) i) ≡ Some x
-    → sum (map g (outer_from f i)) ≡ g x + sum (map g (option_to_list (second_of (slice_get (turns f) i)))) + sum (map g (outer_from f (i + 1)))
-outer_sum g f i x h = ap sum (outer_mapped g f i x h) ∙ sum_split (g x) (map g (option_to_list (second_of (slice_get (turns f) i)))) (map g (outer_from f (i + 1)))
+pub outer_sum : (g : Form → ℕ) (f : Form) (i : ℕ) (x : Form) → first_of (slice_get (visits f) i) ≡ Some x
+    → sum (map g (outer_from f i)) ≡ g x + sum (map g (option_to_list (second_of (slice_get (visits f) i)))) + sum (map g (outer_from f (i + 1)))
+outer_sum g f i x h = ap sum (outer_mapped g f i x h) ∙ sum_split (g x) (map g (option_to_list (second_of (slice_get (visits f) i)))) (map g (outer_from f (i + 1)))
 
-pub no_outer_sum : (g : Form → ℕ) (f : Form) (i : ℕ) → length (turns f) ≤ i → sum (map g (outer_from f i)) ≡ 0
+pub no_outer_sum : (g : Form → ℕ) (f : Form) (i : ℕ) → length (visits f) ≤ i → sum (map g (outer_from f i)) ≡ 0
 no_outer_sum g f i h = ap (λ xs. sum (map g xs)) (outer_at_last f i h)
 
 pub inner_sum : (g : Form → ℕ) (f : Form) (i : ℕ) (x : Form) → slice_get (inner f) i ≡ Some x
@@ -59,11 +59,11 @@ greatest_split : (ys zs : List ℕ) → greatest (ys ++ zs) ≡ max (greatest ys
 greatest_split [] zs = omega arith
 greatest_split (y ∷ ys) zs = omega (arith, greatest_split ys zs)
 
-pub outer_greatest : (g : Form → ℕ) (f : Form) (i : ℕ) (x : Form) → first_of (slice_get (turns f) i) ≡ Some x
-    → greatest (map g (outer_from f i)) ≡ max (g x) (max (greatest (map g (option_to_list (second_of (slice_get (turns f) i))))) (greatest (map g (outer_from f (i + 1)))))
-outer_greatest g f i x h = ap greatest (outer_mapped g f i x h) ∙ ap (max (g x)) (greatest_split (map g (option_to_list (second_of (slice_get (turns f) i)))) (map g (outer_from f (i + 1))))
+pub outer_greatest : (g : Form → ℕ) (f : Form) (i : ℕ) (x : Form) → first_of (slice_get (visits f) i) ≡ Some x
+    → greatest (map g (outer_from f i)) ≡ max (g x) (max (greatest (map g (option_to_list (second_of (slice_get (visits f) i))))) (greatest (map g (outer_from f (i + 1)))))
+outer_greatest g f i x h = ap greatest (outer_mapped g f i x h) ∙ ap (max (g x)) (greatest_split (map g (option_to_list (second_of (slice_get (visits f) i)))) (map g (outer_from f (i + 1))))
 
-pub no_outer_greatest : (g : Form → ℕ) (f : Form) (i : ℕ) → length (turns f) ≤ i → greatest (map g (outer_from f i)) ≡ 0
+pub no_outer_greatest : (g : Form → ℕ) (f : Form) (i : ℕ) → length (visits f) ≤ i → greatest (map g (outer_from f i)) ≡ 0
 no_outer_greatest g f i h = ap (λ xs. greatest (map g xs)) (outer_at_last f i h)
 
 pub inner_greatest : (g : Form → ℕ) (f : Form) (i : ℕ) (x : Form) → slice_get (inner f) i ≡ Some x

@@ -9,7 +9,7 @@ use Rattle.isl_meaning.specs.declared.program.ClassRow.{ClassRow}
 use Rattle.isl_meaning.specs.declared.program.GenericRow.{GenericRow}
 use Rattle.isl_meaning.specs.declared.program.MethodRow.{MethodRow}
 use Rattle.isl_meaning.specs.declared.program.ProgramRows.{ProgramRows}
-use Rattle.isl_meaning.specs.declared.scope.Scope.{Scope}
+use Rattle.isl_meaning.specs.declared.scope.LexicalScope.{LexicalScope}
 use Rattle.isl_meaning.specs.Form.{Form, lambda, parameters}
 use Rattle.isl_meaning.specs.Subforms.{Each, outer, inner}
 use Rattle.isl_meaning.specs.bridge.Walks.{by_subforms}
@@ -32,9 +32,9 @@ both (x ∷ xs) ys e f = (e.0, both xs ys e.1 f)
 
 -- each function inside a form that stands, as the induction has it
 abbrev FunctionsStand : Form → Type 0
-FunctionsStand f = (s : Scope) → stands s f ≡ true → Each StandsAsFunction (inside_form f)
+FunctionsStand f = (s : LexicalScope) → stands s f ≡ true → Each StandsAsFunction (inside_form f)
 
-in_each : (s : Scope) (xs : List Form) → Each FunctionsStand xs → list_all (stands s) xs ≡ true
+in_each : (s : LexicalScope) (xs : List Form) → Each FunctionsStand xs → list_all (stands s) xs ≡ true
     → Each StandsAsFunction (flat_map (λ fs. fs) (map inside_form xs))
 in_each s [] e h = tt
 in_each s (x ∷ xs) e h =
@@ -43,7 +43,7 @@ in_each s (x ∷ xs) e h =
     (in_each s xs e.1 (second_true (stands s x) (list_all (stands s) xs) h))
 
 -- a form that is a function is one that stands
-itself : (s : Scope) (f : Form) → stands_itself s f ≡ true → list_all (stands (around_inner f s)) (inner f) ≡ true → StandsAsFunction f
+itself : (s : LexicalScope) (f : Form) → stands_itself s f ≡ true → list_all (stands (around_inner f s)) (inner f) ≡ true → StandsAsFunction f
 itself s (lambda required rest body parts) h k = record {
   around = s;
   captured = second_true (in_order parts) (list_all (is_bound s) parts)
@@ -64,10 +64,10 @@ one_step f os is s h =
           (in_each (around_inner f s) (inner f) is within),
     )
 
-inside : (s : Scope) (f : Form) → stands s f ≡ true → Each StandsAsFunction (inside_form f)
+inside : (s : LexicalScope) (f : Form) → stands s f ≡ true → Each StandsAsFunction (inside_form f)
 inside s f h = by_subforms FunctionsStand one_step f s h
 
-bound_in : (s : Scope) (f : Form) → stands s f ≡ true → IsBoundIn s f
+bound_in : (s : LexicalScope) (f : Form) → stands s f ≡ true → IsBoundIn s f
 bound_in s f h = record { itself = h; functions = inside s f h }
 
 -- what passes a test has what the test says

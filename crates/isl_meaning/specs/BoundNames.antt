@@ -7,7 +7,7 @@ use Rattle.isl_meaning.specs.declared.program.Procedure.{Procedure}
 use Rattle.isl_meaning.specs.declared.program.Callee.{Callee}
 use Rattle.isl_meaning.specs.declared.program.Callee.TheVariants as callee
 use Rattle.isl_meaning.specs.declared.program.ProgramRows.{ProgramRows}
-use Rattle.isl_meaning.specs.declared.scope.Scope.{Scope}
+use Rattle.isl_meaning.specs.declared.scope.LexicalScope.{LexicalScope}
 use Rattle.isl_meaning.specs.Form.{Form, lambda, parameters}
 use Rattle.isl_meaning.specs.Subforms.{Each}
 use Rattle.isl_meaning.specs.Inside.{inside_form}
@@ -18,7 +18,7 @@ use Rattle.isl_meaning.specs.Facts.{knows_next, is_whole}
 -- a function is made in a scope where what it captures is bound, and its body stands in the scope of just that and
 -- its own variables
 pub record FunctionStands (required : List ℕ) (rest : Option ℕ) (body : Form) (parts : List Part) : Type 0 where
-  pub around : Scope
+  pub around : LexicalScope
   pub captured : list_all (is_bound around) parts ≡ true
   pub inside : stands (with_bound (parameters required rest) (seen parts around)) body ≡ true
 
@@ -28,7 +28,7 @@ StandsAsFunction (lambda required rest body parts) = FunctionStands required res
 StandsAsFunction f = ⊤
 
 -- a body stands in a scope, and each function inside it stands
-pub record IsBoundIn (s : Scope) (body : Form) : Type 0 where
+pub record IsBoundIn (s : LexicalScope) (body : Form) : Type 0 where
   pub itself : stands s body ≡ true
   pub functions : Each StandsAsFunction (inside_form body)
 

@@ -8,7 +8,7 @@ use Rattle.isl_meaning.specs.declared.program.ProgramRows.{ProgramRows}
 use Rattle.isl_meaning.specs.Form.{Form, literal, local, set_local, global, set_global, def_global, clauses, sequence, let_form, lambda, call, call_value, apply, prim, while_form, block, return_from, tagbody, go, catch_form, throw, unwind, dynamic_let, dynamic, set_dynamic, def_dynamic, with_handler, signal_form, continue_form, next_method, has_next, sited}
 use Rattle.isl_meaning.specs.Form.{Forms, no_form, form_and, ClauseForms, no_clause, clause_and, MaybeForm, no_body, with_body}
 use Rattle.isl_meaning.specs.Form.{BindingForms, no_binding, binding_and, DynamicForms, no_dynamic, dynamic_and}
-use Rattle.isl_meaning.specs.Counts.{count_forms, count_clauses, count_bindings, count_dynamics, nodes, application_words}
+use Rattle.isl_meaning.specs.Counts.{own_nodes, nodes, application_words}
 use Rattle.isl_meaning.specs.Values.{Value, symbol, named, nil, object, truth, is_true, same_text}
 use Rattle.isl_meaning.specs.Objects.{Called, Environment, no_environment, Object, cons, closure, function_class, list_class, serious_condition_class, control_error_class}
 use Rattle.isl_meaning.specs.State.{State, first_state, Surroundings, main_surroundings, no_place, block_exit, tagbody_exit, catch_exit, Landing, at_segment, at_site, Outcome, value, exit, full, more, Evaluated, gives, Act, go_on, landed, caught, cleaned, inside, exit_made, Limit, request, charged, make}
@@ -22,6 +22,10 @@ use Rattle.isl_meaning.specs.Signals.{Context, Task, nothing, form, turn, method
 -- the place of a site, counted from 1
 abbrev pub place_of_site : List Place → ℕ → Place
 place_of_site sites site = slice_index_or sites (site - 1) no_place
+
+-- a form is charged what it counts by itself when its evaluation begins
+abbrev pub charged_for : Form → State → State
+charged_for f z = charged (own_nodes f) z
 
 -- the test's value where it is not nil, else what follows
 abbrev pub unless_nil : Value → Evaluated → Evaluated → Evaluated
@@ -154,84 +158,83 @@ module _ (context : Context) where
       (go_on r (λ v after. gives nil after))
 
   unfoldable mutual
-    -- the meaning of a form: one unit for it and one for each argument, binding, clause, tag, captured part and
-    -- name of it
+    -- the meaning of a form
     pub mean : Form → Evaluation
-    mean (literal id) env around z = mean_literal id (slice_get context.program.literals id) around (charged 1 z)
-    mean (local v) env around z = gives (value_at (under_number v env.variables) z) (charged 1 z)
+    mean (literal id) env around z = mean_literal id (slice_get context.program.literals id) around (charged_for (literal id) z)
+    mean (local v) env around z = gives (value_at (under_number v env.variables) z) (charged_for (local v) z)
     mean (set_local v f) env around z =
-        go_on (mean f env around (charged 1 z)) (λ x after. gives x (set_at (under_number v env.variables) x after))
-    mean (global n) env around z = mean_global (text context.names n) around (charged 2 z)
+        go_on (mean f env around (charged_for (set_local v f) z)) (λ x after. gives x (set_at (under_number v env.variables) x after))
+    mean (global n) env around z = mean_global (text context.names n) around (charged_for (global n) z)
     mean (set_global n f) env around z =
-        go_on (mean f env around (charged 2 z)) (λ x after. set_global_to (text context.names n) x around after)
+        go_on (mean f env around (charged_for (set_global n f) z)) (λ x after. set_global_to (text context.names n) x around after)
     mean (def_global n f) env around z =
-        go_on (mean f env around (charged 2 z)) (λ x after.
+        go_on (mean f env around (charged_for (def_global n f) z)) (λ x after.
         gives (symbol (named (text context.names n))) (record after { globals = (text context.names n, x) ∷ after.globals }))
-    mean (clauses cs) env around z = mean_clauses cs env around (charged (1 + count_clauses cs) z)
-    mean (sequence fs) env around z = mean_sequence nil fs env around (charged 1 z)
+    mean (clauses cs) env around z = mean_clauses cs env around (charged_for (clauses cs) z)
+    mean (sequence fs) env around z = mean_sequence nil fs env around (charged_for (sequence fs) z)
     mean (let_form bs body) env around z =
-        mean_bindings bs [] env around (charged (1 + count_bindings bs) z) (λ vs after.
+        mean_bindings bs [] env around (charged_for (let_form bs body) z) (λ vs after.
         with_cells context.limit (bound_variables bs) body after (λ ready.
         mean body (with_variables (bound_variables bs) ready env) around (with_values vs ready)))
     mean (lambda required rest body parts) env around z =
-        make context.limit (2 + length parts) 0 (closure required rest body env) (charged (1 + length parts) z) (λ v after. gives v after)
+        make context.limit (2 + length parts) 0 (closure required rest body env) (charged_for (lambda required rest body parts) z) (λ v after. gives v after)
     mean (call n fs) env around z =
-        mean_arguments fs [] env around (charged (2 + count_forms fs) z) (λ vs after.
+        mean_arguments fs [] env around (charged_for (call n fs) z) (λ vs after.
         apply_row context (signal context) (text context.names n) (function_row context.names context.program.functions (text context.names n)) vs around after)
     mean (call_value fs) env around z =
-        mean_arguments fs [] env around (charged (1 + (count_forms fs - 1)) z) (λ vs after. mean_call_value vs around after)
+        mean_arguments fs [] env around (charged_for (call_value fs) z) (λ vs after. mean_call_value vs around after)
     mean (apply f list) env around z =
-        go_on (mean f env around (charged 1 z)) (λ function after.
+        go_on (mean f env around (charged_for (apply f list) z)) (λ function after.
         go_on (mean list env around after) (λ v ready. mean_apply function v around ready))
     mean (prim which fs) env around z =
-        mean_arguments fs [] env around (charged (1 + count_forms fs) z) (λ vs after.
+        mean_arguments fs [] env around (charged_for (prim which fs) z) (λ vs after.
         answered context (primitive context.names context.program which vs after) around after)
     mean (while_form test body) env around z =
-        go_on (mean test env around (charged 1 z)) (λ v after.
+        go_on (mean test env around (charged_for (while_form test body) z)) (λ v after.
         unless_nil v
         (go_on (mean body env around after) (λ ignored again. context.below (form (while_form test body)) env around again))
         (gives nil after))
     mean (block x body) env around z =
-        caught z.exits (mean body (with_exit x z env) (inside block_exit around z) (exit_made (charged 1 z)))
+        caught z.exits (mean body (with_exit x z env) (inside block_exit around z) (exit_made (charged_for (block x body) z)))
     mean (return_from x f) env around z =
-        go_on (mean f env around (charged 1 z)) (λ v after.
+        go_on (mean f env around (charged_for (return_from x f) z)) (λ v after.
         transfer context (under_number x env.exits) v (at_segment 0) around after)
     mean (tagbody x segments) env around z =
         turned z.exits segments (with_exit x z env) around
         (mean_sequence nil segments (with_exit x z env) (with_turns z.exits around)
-        (exit_made (charged (1 + (count_forms segments - 1)) z)))
+        (exit_made (charged_for (tagbody x segments) z)))
     mean (go x segment) env around z =
-        transfer context (under_number x env.exits) nil (at_segment segment) around (charged 1 z)
+        transfer context (under_number x env.exits) nil (at_segment segment) around (charged_for (go x segment) z)
     mean (catch_form tag body) env around z =
-        go_on (mean tag env around (charged 1 z)) (λ v after.
+        go_on (mean tag env around (charged_for (catch_form tag body) z)) (λ v after.
         caught after.exits (mean body env (inside (catch_exit v) around after) (exit_made after)))
     mean (throw tag f) env around z =
-        go_on (mean tag env around (charged 1 z)) (λ v after.
+        go_on (mean tag env around (charged_for (throw tag f) z)) (λ v after.
         go_on (mean f env around after) (λ x ready. throw_to context v x around ready))
     mean (unwind f cleanup) env around z =
-        cleaned (λ within after. mean cleanup env within after) around (mean f env around (charged 1 z))
+        cleaned (λ within after. mean cleanup env within after) around (mean f env around (charged_for (unwind f cleanup) z))
     mean (dynamic_let bs body) env around z =
-        mean_dynamics bs [] env around (charged (1 + count_dynamics bs) z) (λ vs after.
+        mean_dynamics bs [] env around (charged_for (dynamic_let bs body) z) (λ vs after.
         mean body env
         (record around { bindings = numbered (bound_names context.names bs) (length after.variables) ++ around.bindings })
         (with_values vs after))
-    mean (dynamic n) env around z = mean_dynamic (text context.names n) around (charged 2 z)
+    mean (dynamic n) env around z = mean_dynamic (text context.names n) around (charged_for (dynamic n) z)
     mean (set_dynamic n f) env around z =
-        go_on (mean f env around (charged 2 z)) (λ x after. set_dynamic_to (text context.names n) x around after)
+        go_on (mean f env around (charged_for (set_dynamic n f) z)) (λ x after. set_dynamic_to (text context.names n) x around after)
     mean (def_dynamic n f) env around z =
-        go_on (mean f env around (charged 2 z)) (λ x after.
+        go_on (mean f env around (charged_for (def_dynamic n f) z)) (λ x after.
         gives (symbol (named (text context.names n))) (record after { dynamics = (text context.names n, x) ∷ after.dynamics }))
     mean (with_handler handler body) env around z =
-        go_on (mean handler env around (charged 1 z)) (λ h after.
+        go_on (mean handler env around (charged_for (with_handler handler body) z)) (λ h after.
         with_handler_value h (λ within ready. mean body env within ready) around after)
     mean (signal_form condition continuable) env around z =
-        go_on (mean condition env around (charged 1 z)) (λ c after.
+        go_on (mean condition env around (charged_for (signal_form condition continuable) z)) (λ c after.
         go_on (mean continuable env around after) (λ mark ready. mean_signal c mark around ready))
     mean (continue_form condition f) env around z =
-        go_on (mean condition env around (charged 1 z)) (λ c after.
+        go_on (mean condition env around (charged_for (continue_form condition f) z)) (λ c after.
         go_on (mean f env around after) (λ v ready. continue_with context c v around ready))
-    mean next_method env around z = mean_next env.method around (charged 1 z)
-    mean has_next env around z = gives (truth (is_next env.method)) (charged 1 z)
+    mean next_method env around z = mean_next env.method around (charged_for next_method z)
+    mean has_next env around z = gives (truth (is_next env.method)) (charged_for has_next z)
     mean (sited site f) env around z =
         mean f env (record around { site = place_of_site context.program.sites site }) z
 

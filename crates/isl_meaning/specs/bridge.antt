@@ -1,5 +1,5 @@
 pub mod Walks
-pub mod Turns
+pub mod Visits
 pub mod Smaller
 pub mod Judged
 pub mod Totals

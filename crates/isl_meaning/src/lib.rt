@@ -24,5 +24,5 @@ pub use program::{
     GenericRow, GenericRows, LiteralId, LiteralRow, LiteralRows, MethodRow, MethodRows, Procedure,
     ProcedureId, ProcedureList, ProgramRows, Qualifier, SiteId, SlotRow, SlotRows, VarList,
 };
-pub use scope::{Around, ExitAround, ExitsAround, Scope};
+pub use scope::{Around, ExitAround, ExitsAround, LexicalScope};
 pub use whole::Program;

@@ -24,7 +24,7 @@ pub type ExitsAround = ItemList<ExitAround>;
 /// What is bound around a form: variables, exits, and whether it is inside a method that may have
 /// a next one.
 #[derive(Drop)]
-pub struct Scope {
+pub struct LexicalScope {
     pub variables: VarList,
     pub exits: ExitsAround,
     pub in_method: bool,

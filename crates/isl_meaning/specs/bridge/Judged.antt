@@ -7,7 +7,7 @@ use Rattle.std.proofs.lemmas.List.Folds.{list_all-append, list_any-append, list_
 use Rattle.isl_meaning.specs.declared.part.Part.{Part}
 use Rattle.isl_meaning.specs.declared.part.Part.TheVariants.{Variable}
 use Rattle.isl_meaning.specs.declared.program.ProgramRows.{ProgramRows}
-use Rattle.isl_meaning.specs.declared.scope.Scope.{Scope}
+use Rattle.isl_meaning.specs.declared.scope.LexicalScope.{LexicalScope}
 use Rattle.isl_meaning.specs.Form.{Form}
 use Rattle.isl_meaning.specs.Subforms.{outer, inner, fold}
 use Rattle.isl_meaning.specs.Inside.{inside_step, inside_form}
@@ -16,7 +16,7 @@ use Rattle.isl_meaning.specs.Fits.{fits_itself, fits}
 use Rattle.isl_meaning.specs.Standing.{all_in, around_inner, stands_itself, stands_step, stands_in, stands}
 use Rattle.isl_meaning.specs.model.Rest.{rest_at}
 use Rattle.isl_meaning.specs.bridge.Walks.{folded}
-use Rattle.isl_meaning.specs.bridge.Turns.{turns, first_of, second_of, outer_from, outer_turn, outer_at_last}
+use Rattle.isl_meaning.specs.bridge.Visits.{visits, first_of, second_of, outer_from, outer_visit, outer_at_last}
 
 some_mapped : {X : Type 0} (test : X → Bool) (xs : List X) → some (map test xs) ≡ list_any test xs
 some_mapped test [] = refl
@@ -60,23 +60,23 @@ mentions_folded p f =
     ∙ ap (λ b. names_part p f || b || (not (binds p f) && some (map (mentions p) (inner f)))) (some_mapped (mentions p) (outer f))
     ∙ ap (λ b. names_part p f || list_any (mentions p) (outer f) || (not (binds p f) && b)) (some_mapped (mentions p) (inner f))
 
-pub stands_folded : (s : Scope) (f : Form)
+pub stands_folded : (s : LexicalScope) (f : Form)
     → stands s f ≡ (stands_itself s f && list_all (stands s) (outer f) && list_all (stands (around_inner f s)) (inner f))
 stands_folded s f =
-    ap (λ (test : Scope → Bool). test s) (folded stands_step f)
+    ap (λ (test : LexicalScope → Bool). test s) (folded stands_step f)
     ∙ ap (λ b. stands_itself s f && b && all_in (around_inner f s) (map stands_in (inner f))) (list_all-map (λ test. test s) stands_in (outer f))
     ∙ ap (λ b. stands_itself s f && list_all (stands s) (outer f) && b) (list_all-map (λ test. test (around_inner f s)) stands_in (inner f))
 
--- turns: of all, and of one of them
+-- visits: of all, and of one of them
 
-pub all_at_turn : (test : Form → Bool) (f : Form) (i : ℕ) (x : Form) → first_of (slice_get (turns f) i) ≡ Some x
+pub all_at_visit : (test : Form → Bool) (f : Form) (i : ℕ) (x : Form) → first_of (slice_get (visits f) i) ≡ Some x
     → list_all test (outer_from f i)
-    ≡ (test x && (list_all test (option_to_list (second_of (slice_get (turns f) i))) && list_all test (outer_from f (i + 1))))
-all_at_turn test f i x h =
-    ap (list_all test) (outer_turn f i x h)
-    ∙ ap (λ b. test x && b) (list_all-append test (option_to_list (second_of (slice_get (turns f) i))) (outer_from f (i + 1)))
+    ≡ (test x && (list_all test (option_to_list (second_of (slice_get (visits f) i))) && list_all test (outer_from f (i + 1))))
+all_at_visit test f i x h =
+    ap (list_all test) (outer_visit f i x h)
+    ∙ ap (λ b. test x && b) (list_all-append test (option_to_list (second_of (slice_get (visits f) i))) (outer_from f (i + 1)))
 
-pub all_at_last : (test : Form → Bool) (f : Form) (i : ℕ) → length (turns f) ≤ i → list_all test (outer_from f i) ≡ true
+pub all_at_last : (test : Form → Bool) (f : Form) (i : ℕ) → length (visits f) ≤ i → list_all test (outer_from f i) ≡ true
 all_at_last test f i h = ap (list_all test) (outer_at_last f i h)
 
 pub all_at_inner : (test : Form → Bool) (f : Form) (i : ℕ) (x : Form) → slice_get (inner f) i ≡ Some x
@@ -86,14 +86,14 @@ all_at_inner test f i x h = ap (list_all test) (rest_at (inner f) i x h)
 pub all_past_inner : (test : Form → Bool) (f : Form) (i : ℕ) → length (inner f) ≤ i → list_all test (drop i (inner f)) ≡ true
 all_past_inner test f i h = ap (list_all test) (drop_all i (inner f) h)
 
-pub one_at_turn : (test : Form → Bool) (f : Form) (i : ℕ) (x : Form) → first_of (slice_get (turns f) i) ≡ Some x
+pub one_at_visit : (test : Form → Bool) (f : Form) (i : ℕ) (x : Form) → first_of (slice_get (visits f) i) ≡ Some x
     → list_any test (outer_from f i)
-    ≡ (test x || (list_any test (option_to_list (second_of (slice_get (turns f) i))) || list_any test (outer_from f (i + 1))))
-one_at_turn test f i x h =
-    ap (list_any test) (outer_turn f i x h)
-    ∙ ap (λ b. test x || b) (list_any-append test (option_to_list (second_of (slice_get (turns f) i))) (outer_from f (i + 1)))
+    ≡ (test x || (list_any test (option_to_list (second_of (slice_get (visits f) i))) || list_any test (outer_from f (i + 1))))
+one_at_visit test f i x h =
+    ap (list_any test) (outer_visit f i x h)
+    ∙ ap (λ b. test x || b) (list_any-append test (option_to_list (second_of (slice_get (visits f) i))) (outer_from f (i + 1)))
 
-pub one_at_last : (test : Form → Bool) (f : Form) (i : ℕ) → length (turns f) ≤ i → list_any test (outer_from f i) ≡ false
+pub one_at_last : (test : Form → Bool) (f : Form) (i : ℕ) → length (visits f) ≤ i → list_any test (outer_from f i) ≡ false
 one_at_last test f i h = ap (list_any test) (outer_at_last f i h)
 
 pub one_at_inner : (test : Form → Bool) (f : Form) (i : ℕ) (x : Form) → slice_get (inner f) i ≡ Some x

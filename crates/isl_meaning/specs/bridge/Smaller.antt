@@ -6,9 +6,9 @@ use Rattle.isl_meaning.specs.Form.{Forms, no_form, form_and, ClauseForms, no_cla
 use Rattle.isl_meaning.specs.Form.{BindingForms, no_binding, binding_and, DynamicForms, no_dynamic, dynamic_and}
 use Rattle.isl_meaning.specs.Form.{form_size, forms_size, clauses_size, maybe_size, bindings_size, dynamics_size}
 use Rattle.isl_meaning.specs.Subforms.{forms_list, clause_list, value_list, dynamic_value_list, Each, outer, inner}
-use Rattle.isl_meaning.specs.bridge.Turns.{Turn, single, clause_turns, turns, first_of, second_of}
+use Rattle.isl_meaning.specs.bridge.Visits.{Visit, single, clause_visits, visits, first_of, second_of}
 
--- the forms of a turn, and a form, are below a size
+-- the forms of a visit, and a form, are below a size
 abbrev pub IsBelow : ℕ → Form → Type 0
 IsBelow n f = form_size f < n
 
@@ -16,60 +16,60 @@ abbrev pub IsSecondBelow : ℕ → Option Form → Type 0
 IsSecondBelow n None = ⊤
 IsSecondBelow n (Some f) = form_size f < n
 
-pub record IsTurnBelow (n : ℕ) (t : Turn) : Type 0 where
+pub record IsVisitBelow (n : ℕ) (t : Visit) : Type 0 where
   pub first : form_size t.first < n
   pub second : IsSecondBelow n t.second
 
-forms_below : (n : ℕ) (fs : Forms) → forms_size fs ≤ n → Each (IsTurnBelow n) (map single (forms_list fs))
+forms_below : (n : ℕ) (fs : Forms) → forms_size fs ≤ n → Each (IsVisitBelow n) (map single (forms_list fs))
 forms_below n no_form h = tt
 forms_below n (form_and f fs) h = (record { first = omega (arith, h); second = tt }, forms_below n fs (omega (arith, h)))
 
-clauses_below : (n : ℕ) (cs : ClauseForms) → clauses_size cs ≤ n → Each (IsTurnBelow n) (clause_turns cs)
+clauses_below : (n : ℕ) (cs : ClauseForms) → clauses_size cs ≤ n → Each (IsVisitBelow n) (clause_visits cs)
 clauses_below n no_clause h = tt
 clauses_below n (clause_and test no_body cs) h = (record { first = omega (arith, h); second = tt }, clauses_below n cs (omega (arith, h)))
 clauses_below n (clause_and test (with_body f) cs) h = (record { first = omega (arith, h); second = omega (arith, h) }, clauses_below n cs (omega (arith, h)))
 
-values_below : (n : ℕ) (bs : BindingForms) → bindings_size bs ≤ n → Each (IsTurnBelow n) (map single (value_list bs))
+values_below : (n : ℕ) (bs : BindingForms) → bindings_size bs ≤ n → Each (IsVisitBelow n) (map single (value_list bs))
 values_below n no_binding h = tt
 values_below n (binding_and v f bs) h = (record { first = omega (arith, h); second = tt }, values_below n bs (omega (arith, h)))
 
-dynamics_below : (n : ℕ) (ds : DynamicForms) → dynamics_size ds ≤ n → Each (IsTurnBelow n) (map single (dynamic_value_list ds))
+dynamics_below : (n : ℕ) (ds : DynamicForms) → dynamics_size ds ≤ n → Each (IsVisitBelow n) (map single (dynamic_value_list ds))
 dynamics_below n no_dynamic h = tt
 dynamics_below n (dynamic_and v f ds) h = (record { first = omega (arith, h); second = tt }, dynamics_below n ds (omega (arith, h)))
 
-turns_below : (f : Form) → Each (IsTurnBelow (form_size f)) (turns f)
-turns_below (literal i) = tt
-turns_below (local v) = tt
-turns_below (set_local v f) = (record { first = omega arith; second = tt }, tt)
-turns_below (global n) = tt
-turns_below (set_global n f) = (record { first = omega arith; second = tt }, tt)
-turns_below (def_global n f) = (record { first = omega arith; second = tt }, tt)
-turns_below (clauses cs) = clauses_below (form_size (clauses cs)) cs (omega arith)
-turns_below (sequence fs) = forms_below (form_size (sequence fs)) fs (omega arith)
-turns_below (let_form bs body) = values_below (form_size (let_form bs body)) bs (omega arith)
-turns_below (lambda required rest body parts) = tt
-turns_below (call n fs) = forms_below (form_size (call n fs)) fs (omega arith)
-turns_below (call_value fs) = forms_below (form_size (call_value fs)) fs (omega arith)
-turns_below (apply function list) = (record { first = omega arith; second = omega arith }, tt)
-turns_below (prim which fs) = forms_below (form_size (prim which fs)) fs (omega arith)
-turns_below (while_form test body) = (record { first = omega arith; second = omega arith }, tt)
-turns_below (block x body) = tt
-turns_below (return_from x f) = (record { first = omega arith; second = tt }, tt)
-turns_below (tagbody x segments) = tt
-turns_below (go x segment) = tt
-turns_below (catch_form tag body) = (record { first = omega arith; second = omega arith }, tt)
-turns_below (throw tag f) = (record { first = omega arith; second = omega arith }, tt)
-turns_below (unwind f cleanup) = (record { first = omega arith; second = omega arith }, tt)
-turns_below (dynamic_let ds body) = dynamics_below (form_size (dynamic_let ds body)) ds (omega arith)
-turns_below (dynamic n) = tt
-turns_below (set_dynamic n f) = (record { first = omega arith; second = tt }, tt)
-turns_below (def_dynamic n f) = (record { first = omega arith; second = tt }, tt)
-turns_below (with_handler handler body) = (record { first = omega arith; second = omega arith }, tt)
-turns_below (signal_form condition mark) = (record { first = omega arith; second = omega arith }, tt)
-turns_below (continue_form condition f) = (record { first = omega arith; second = omega arith }, tt)
-turns_below next_method = tt
-turns_below has_next = tt
-turns_below (sited site f) = (record { first = omega arith; second = tt }, tt)
+visits_below : (f : Form) → Each (IsVisitBelow (form_size f)) (visits f)
+visits_below (literal i) = tt
+visits_below (local v) = tt
+visits_below (set_local v f) = (record { first = omega arith; second = tt }, tt)
+visits_below (global n) = tt
+visits_below (set_global n f) = (record { first = omega arith; second = tt }, tt)
+visits_below (def_global n f) = (record { first = omega arith; second = tt }, tt)
+visits_below (clauses cs) = clauses_below (form_size (clauses cs)) cs (omega arith)
+visits_below (sequence fs) = forms_below (form_size (sequence fs)) fs (omega arith)
+visits_below (let_form bs body) = values_below (form_size (let_form bs body)) bs (omega arith)
+visits_below (lambda required rest body parts) = tt
+visits_below (call n fs) = forms_below (form_size (call n fs)) fs (omega arith)
+visits_below (call_value fs) = forms_below (form_size (call_value fs)) fs (omega arith)
+visits_below (apply function list) = (record { first = omega arith; second = omega arith }, tt)
+visits_below (prim which fs) = forms_below (form_size (prim which fs)) fs (omega arith)
+visits_below (while_form test body) = (record { first = omega arith; second = omega arith }, tt)
+visits_below (block x body) = tt
+visits_below (return_from x f) = (record { first = omega arith; second = tt }, tt)
+visits_below (tagbody x segments) = tt
+visits_below (go x segment) = tt
+visits_below (catch_form tag body) = (record { first = omega arith; second = omega arith }, tt)
+visits_below (throw tag f) = (record { first = omega arith; second = omega arith }, tt)
+visits_below (unwind f cleanup) = (record { first = omega arith; second = omega arith }, tt)
+visits_below (dynamic_let ds body) = dynamics_below (form_size (dynamic_let ds body)) ds (omega arith)
+visits_below (dynamic n) = tt
+visits_below (set_dynamic n f) = (record { first = omega arith; second = tt }, tt)
+visits_below (def_dynamic n f) = (record { first = omega arith; second = tt }, tt)
+visits_below (with_handler handler body) = (record { first = omega arith; second = omega arith }, tt)
+visits_below (signal_form condition mark) = (record { first = omega arith; second = omega arith }, tt)
+visits_below (continue_form condition f) = (record { first = omega arith; second = omega arith }, tt)
+visits_below next_method = tt
+visits_below has_next = tt
+visits_below (sited site f) = (record { first = omega arith; second = tt }, tt)
 
 segments_below : (n : ℕ) (fs : Forms) → forms_size fs ≤ n → Each (IsBelow n) (forms_list fs)
 segments_below n no_form h = tt
@@ -109,12 +109,12 @@ inner_below next_method = tt
 inner_below has_next = tt
 inner_below (sited site f) = tt
 
-first_below : (n : ℕ) (ts : List Turn) (i : ℕ) (x : Form) → Each (IsTurnBelow n) ts → first_of (slice_get ts i) ≡ Some x → form_size x < n
+first_below : (n : ℕ) (ts : List Visit) (i : ℕ) (x : Form) → Each (IsVisitBelow n) ts → first_of (slice_get ts i) ≡ Some x → form_size x < n
 first_below n [] i x e h = absurd (cc h)
 first_below n (t ∷ ts) zero x e h = let same : t.first ≡ x = cc h in subst (IsBelow n) same e.0.first
 first_below n (t ∷ ts) (suc i) x e h = first_below n ts i x e.1 h
 
-second_below : (n : ℕ) (ts : List Turn) (i : ℕ) (x : Form) → Each (IsTurnBelow n) ts → second_of (slice_get ts i) ≡ Some x → form_size x < n
+second_below : (n : ℕ) (ts : List Visit) (i : ℕ) (x : Form) → Each (IsVisitBelow n) ts → second_of (slice_get ts i) ≡ Some x → form_size x < n
 second_below n [] i x e h = absurd (cc h)
 second_below n (t ∷ ts) zero x e h = subst (IsSecondBelow n) h e.0.second
 second_below n (t ∷ ts) (suc i) x e h = second_below n ts i x e.1 h
@@ -124,11 +124,11 @@ one_below n [] i x e h = absurd (cc h)
 one_below n (y ∷ ys) zero x e h = let same : y ≡ x = cc h in subst (IsBelow n) same e.0
 one_below n (y ∷ ys) (suc i) x e h = one_below n ys i x e.1 h
 
-pub first_is_smaller : (f : Form) (i : ℕ) (x : Form) → first_of (slice_get (turns f) i) ≡ Some x → form_size x < form_size f
-first_is_smaller f i x h = first_below (form_size f) (turns f) i x (turns_below f) h
+pub first_is_smaller : (f : Form) (i : ℕ) (x : Form) → first_of (slice_get (visits f) i) ≡ Some x → form_size x < form_size f
+first_is_smaller f i x h = first_below (form_size f) (visits f) i x (visits_below f) h
 
-pub second_is_smaller : (f : Form) (i : ℕ) (x : Form) → second_of (slice_get (turns f) i) ≡ Some x → form_size x < form_size f
-second_is_smaller f i x h = second_below (form_size f) (turns f) i x (turns_below f) h
+pub second_is_smaller : (f : Form) (i : ℕ) (x : Form) → second_of (slice_get (visits f) i) ≡ Some x → form_size x < form_size f
+second_is_smaller f i x h = second_below (form_size f) (visits f) i x (visits_below f) h
 
 pub inner_is_smaller : (f : Form) (i : ℕ) (x : Form) → slice_get (inner f) i ≡ Some x → form_size x < form_size f
 inner_is_smaller f i x h = one_below (form_size f) (inner f) i x (inner_below f) h

@@ -3,7 +3,7 @@
 ghost use Rattle.std.specs.Prelude.{◌≡◌, min, map, option_to_list, slice_get};
 ghost use Rattle.std.specs.List.{sum};
 ghost use Rattle.isl_meaning.specs.Subforms.{outer, inner};
-ghost use Rattle.isl_meaning.specs.bridge.Turns.{turns, second_of};
+ghost use Rattle.isl_meaning.specs.bridge.Visits.{visits, second_of};
 ghost use Rattle.isl_meaning.specs.Counts.{own_nodes, is_function, of_inner, nodes_with};
 
 use crate::core_form::{Core, CoreForm};
@@ -28,7 +28,7 @@ impl Core {
         ensures { result ≡ min (sum (map (nodes_with bodies) (outer self.now))) 18446744073709551615 }
     {
         let mut total: u64 = 0;
-        for at in 0..self.outer_turns() {
+        for at in 0..self.outer_visits() {
             let Some(first) = self.outer_first(at) else {
                 unreachable!()
             };
@@ -42,7 +42,7 @@ impl Core {
     #[cycle(nodes)]
     #[tactic(auto, using(crate::specs::bridge::Smaller::second_is_smaller, crate::proofs::Counting::sum_of_second, crate::proofs::Counting::sum_of_none))]
     fn second_nodes(&self, at: usize, bodies: Bodies) -> u64
-        ensures { result ≡ min (sum (map (nodes_with bodies) (option_to_list (second_of (slice_get (turns self.now) at))))) 18446744073709551615 }
+        ensures { result ≡ min (sum (map (nodes_with bodies) (option_to_list (second_of (slice_get (visits self.now) at))))) 18446744073709551615 }
     {
         match self.outer_second(at) {
             None => 0,

@@ -2,7 +2,7 @@
 
 ghost use Rattle.std.specs.Prelude.{◌≡◌, min, map, option_to_list, slice_get, if◌then◌else◌};
 ghost use Rattle.isl_meaning.specs.Subforms.{outer, inner};
-ghost use Rattle.isl_meaning.specs.bridge.Turns.{turns, second_of};
+ghost use Rattle.isl_meaning.specs.bridge.Visits.{visits, second_of};
 ghost use Rattle.isl_meaning.specs.Counts.{is_function, greatest, own_depth, depth};
 
 use crate::core_form::{Core, CoreForm};
@@ -27,7 +27,7 @@ impl Core {
         ensures { result ≡ min (greatest (map depth (outer self.now))) 4294967295 }
     {
         let mut deepest: u32 = 0;
-        for at in 0..self.outer_turns() {
+        for at in 0..self.outer_visits() {
             let Some(first) = self.outer_first(at) else {
                 unreachable!()
             };
@@ -39,7 +39,7 @@ impl Core {
     #[cycle(depth)]
     #[tactic(auto, using(crate::specs::bridge::Smaller::second_is_smaller, crate::proofs::Counting::greatest_of_second, crate::proofs::Counting::greatest_of_none))]
     fn second_depth(&self, at: usize) -> u32
-        ensures { result ≡ min (greatest (map depth (option_to_list (second_of (slice_get (turns self.now) at))))) 4294967295 }
+        ensures { result ≡ min (greatest (map depth (option_to_list (second_of (slice_get (visits self.now) at))))) 4294967295 }
     {
         match self.outer_second(at) {
             None => 0,

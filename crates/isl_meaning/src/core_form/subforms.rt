@@ -1,19 +1,19 @@
-// The forms right inside a form, as code goes over them: the outer ones turn by turn, then the inner ones. A test of a
-// clause and its body, or the two forms of a form that has two, are one turn.
+// The forms right inside a form, as code goes over them: the outer ones visit by visit, then the inner ones. A test of a
+// clause and its body, or the two forms of a form that has two, are one visit.
 
 ghost use Rattle.std.specs.Prelude.{◌≡◌, ◌≤◌, [], ◌∷◌, map, length, slice_get, Some, None, MatchOption};
 ghost use Rattle.isl_meaning.specs.Subforms.{forms_list, value_list, dynamic_value_list, inner};
-ghost use Rattle.isl_meaning.specs.bridge.Turns.{Turn, single, clause_turns, turns, first_of, second_of};
+ghost use Rattle.isl_meaning.specs.bridge.Visits.{Visit, single, clause_visits, visits, first_of, second_of};
 ghost use Rattle.isl_meaning.specs.model.View.{forms, clauses_of, bindings_of, dynamics_of};
 
 use crate::core_form::{BindingList, ClauseList, Core, CoreForm, CoreList, DynBindings};
 
 impl Core {
-    /// How many turns there are over the forms right inside that stand where this form stands. Takes no
+    /// How many visits there are over the forms right inside that stand where this form stands. Takes no
     /// memory.
-    #[tactic(auto, using(crate::specs::bridge::Turns::forms_have_turns, crate::specs::bridge::Turns::clauses_have_turns, crate::specs::bridge::Turns::values_have_turns, crate::specs::bridge::Turns::dynamics_have_turns))]
-    pub fn outer_turns(&self) -> usize
-        ensures { result ≡ length (turns self.now) }
+    #[tactic(auto, using(crate::specs::bridge::Visits::forms_have_visits, crate::specs::bridge::Visits::clauses_have_visits, crate::specs::bridge::Visits::values_have_visits, crate::specs::bridge::Visits::dynamics_have_visits))]
+    pub fn outer_visits(&self) -> usize
+        ensures { result ≡ length (visits self.now) }
     {
         match &self.form {
             CoreForm::Literal(_)
@@ -51,11 +51,11 @@ impl Core {
         }
     }
 
-    /// The first form of a turn; None exactly where there is no such turn. Takes no memory.
-    #[tactic(auto, using(crate::specs::bridge::Turns::first_alone))]
+    /// The first form of a visit; None exactly where there is no such visit. Takes no memory.
+    #[tactic(auto, using(crate::specs::bridge::Visits::first_alone))]
     pub fn outer_first(&self, at: usize) -> Option<&Core>
-        ensures { MatchOption result (length (turns self.now) ≤ at)
-            (λ form. first_of (slice_get (turns self.now) at) ≡ Some form.now) }
+        ensures { MatchOption result (length (visits self.now) ≤ at)
+            (λ form. first_of (slice_get (visits self.now) at) ≡ Some form.now) }
     {
         match &self.form {
             CoreForm::Literal(_)
@@ -93,12 +93,12 @@ impl Core {
         }
     }
 
-    /// The second form of a turn; None exactly where there is no such turn or it has just one. Takes no
+    /// The second form of a visit; None exactly where there is no such visit or it has just one. Takes no
     /// memory.
-    #[tactic(auto, using(crate::specs::bridge::Turns::no_second, crate::specs::bridge::Turns::no_second_alone, crate::specs::bridge::Turns::second_alone, crate::specs::bridge::Turns::no_second_there))]
+    #[tactic(auto, using(crate::specs::bridge::Visits::no_second, crate::specs::bridge::Visits::no_second_alone, crate::specs::bridge::Visits::second_alone, crate::specs::bridge::Visits::no_second_there))]
     pub fn outer_second(&self, at: usize) -> Option<&Core>
-        ensures { MatchOption result (second_of (slice_get (turns self.now) at) ≡ None)
-            (λ form. second_of (slice_get (turns self.now) at) ≡ Some form.now) }
+        ensures { MatchOption result (second_of (slice_get (visits self.now) at) ≡ None)
+            (λ form. second_of (slice_get (visits self.now) at) ≡ Some form.now) }
     {
         match &self.form {
             CoreForm::Literal(_)
@@ -137,7 +137,7 @@ impl Core {
     }
 
     /// How many forms right inside stand where what this form binds is bound. Takes no memory.
-    #[tactic(auto, using(crate::specs::bridge::Turns::segments_counted))]
+    #[tactic(auto, using(crate::specs::bridge::Visits::segments_counted))]
     pub fn inner_count(&self) -> usize
         ensures { result ≡ length (inner self.now) }
     {
@@ -178,7 +178,7 @@ impl Core {
     }
 
     /// Such a form; None exactly where there are no more than `at`. Takes no memory.
-    #[tactic(auto, using(crate::specs::bridge::Turns::segment_there, crate::specs::bridge::Turns::no_segment_there))]
+    #[tactic(auto, using(crate::specs::bridge::Visits::segment_there, crate::specs::bridge::Visits::no_segment_there))]
     pub fn inner_at(&self, at: usize) -> Option<&Core>
         ensures { MatchOption result (length (inner self.now) ≤ at)
             (λ form. slice_get (inner self.now) at ≡ Some form.now) }
@@ -220,7 +220,7 @@ impl Core {
     }
 }
 
-// The one form of a turn.
+// The one form of a visit.
 fn only(form: &Core, at: usize) -> Option<&Core>
     ensures { MatchOption result (1 ≤ at)
         (λ only. slice_get (form.now ∷ []) at ≡ Some only.now) }
@@ -228,7 +228,7 @@ fn only(form: &Core, at: usize) -> Option<&Core>
     if at == 0 { Some(form) } else { None }
 }
 
-#[tactic(auto, using(crate::specs::bridge::Turns::form_there, crate::specs::bridge::Turns::no_form_there))]
+#[tactic(auto, using(crate::specs::bridge::Visits::form_there, crate::specs::bridge::Visits::no_form_there))]
 fn form_at(list: &CoreList, at: usize) -> Option<&Core>
     ensures { MatchOption result (length (map single (forms_list (forms list.now))) ≤ at)
         (λ form. first_of (slice_get (map single (forms_list (forms list.now))) at) ≡ Some form.now) }
@@ -236,10 +236,10 @@ fn form_at(list: &CoreList, at: usize) -> Option<&Core>
     list.get(at)
 }
 
-#[tactic(auto, using(crate::specs::bridge::Turns::test_there, crate::specs::bridge::Turns::no_test_there))]
+#[tactic(auto, using(crate::specs::bridge::Visits::test_there, crate::specs::bridge::Visits::no_test_there))]
 fn test_at(list: &ClauseList, at: usize) -> Option<&Core>
-    ensures { MatchOption result (length (clause_turns (clauses_of list.now)) ≤ at)
-        (λ form. first_of (slice_get (clause_turns (clauses_of list.now)) at) ≡ Some form.now) }
+    ensures { MatchOption result (length (clause_visits (clauses_of list.now)) ≤ at)
+        (λ form. first_of (slice_get (clause_visits (clauses_of list.now)) at) ≡ Some form.now) }
 {
     match list.get(at) {
         None => None,
@@ -247,10 +247,10 @@ fn test_at(list: &ClauseList, at: usize) -> Option<&Core>
     }
 }
 
-#[tactic(auto, using(crate::specs::bridge::Turns::body_there, crate::specs::bridge::Turns::no_body_there))]
+#[tactic(auto, using(crate::specs::bridge::Visits::body_there, crate::specs::bridge::Visits::no_body_there))]
 fn body_at(list: &ClauseList, at: usize) -> Option<&Core>
-    ensures { MatchOption result (second_of (slice_get (clause_turns (clauses_of list.now)) at) ≡ None)
-        (λ form. second_of (slice_get (clause_turns (clauses_of list.now)) at) ≡ Some form.now) }
+    ensures { MatchOption result (second_of (slice_get (clause_visits (clauses_of list.now)) at) ≡ None)
+        (λ form. second_of (slice_get (clause_visits (clauses_of list.now)) at) ≡ Some form.now) }
 {
     match list.get(at) {
         None => None,
@@ -258,7 +258,7 @@ fn body_at(list: &ClauseList, at: usize) -> Option<&Core>
     }
 }
 
-#[tactic(auto, using(crate::specs::bridge::Turns::value_there, crate::specs::bridge::Turns::no_value_there))]
+#[tactic(auto, using(crate::specs::bridge::Visits::value_there, crate::specs::bridge::Visits::no_value_there))]
 fn value_at(list: &BindingList, at: usize) -> Option<&Core>
     ensures { MatchOption result (length (map single (value_list (bindings_of list.now))) ≤ at)
         (λ form. first_of (slice_get (map single (value_list (bindings_of list.now))) at) ≡ Some form.now) }
@@ -269,7 +269,7 @@ fn value_at(list: &BindingList, at: usize) -> Option<&Core>
     }
 }
 
-#[tactic(auto, using(crate::specs::bridge::Turns::dynamic_there, crate::specs::bridge::Turns::no_dynamic_there))]
+#[tactic(auto, using(crate::specs::bridge::Visits::dynamic_there, crate::specs::bridge::Visits::no_dynamic_there))]
 fn dynamic_value_at(list: &DynBindings, at: usize) -> Option<&Core>
     ensures { MatchOption result (length (map single (dynamic_value_list (dynamics_of list.now))) ≤ at)
         (λ form. first_of (slice_get (map single (dynamic_value_list (dynamics_of list.now))) at) ≡ Some form.now) }

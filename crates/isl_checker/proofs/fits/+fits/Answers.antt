@@ -1,11 +1,11 @@
--- A loop goes on as long as what stands at each turn fits.
+-- A loop goes on as long as what stands at each visit fits.
 use Rattle.std.proofs.Common.{◌≡◌, ◌∙◌, true, false, option_to_list, slice_get}
 use Rattle.std.specs.List.{list_all}
 use Rattle.isl_meaning.specs.Fits.{fits_itself, fits}
 use Rattle.isl_meaning.specs.Subforms.{outer, inner}
-use Rattle.isl_meaning.specs.bridge.Turns.{turns, second_of}
+use Rattle.isl_meaning.specs.bridge.Visits.{visits, second_of}
 use Rattle.isl_meaning.specs.bridge.Judged.{fits_folded}
-use Rattle.isl_checker.proofs.Walks.{turn_passes, first_fails, second_fails, inner_passes, inner_fails, all_at_start, past_two, first_of_three, second_of_three}
+use Rattle.isl_checker.proofs.Walks.{visit_passes, first_fails, second_fails, inner_passes, inner_fails, all_at_start, past_two, first_of_three, second_of_three}
 use Rattle.isl_checker.proofs.fits.+fits.Goals as goal
 use Rattle.isl_checker.proofs.fits.+fits.Goals.{fits-then-fits_itself, fits-else-fits_itself, outer_fit-then-not-fits-via-then-not-fits, outer_fit-then-not-fits-via-else-not-fits+then-not-second_fits}
 
@@ -43,15 +43,15 @@ outer_fit-returns-then-not-fits t c =
           (let failed : fits c.args.rows.now c.in-Some.first.now ≡ false = cc in
           first_fails (fits c.args.rows.now) c.args.form.now c.loop-at.at c.in-Some.first.now _ c.in-Some.ensures failed c.loop-at.invariant)
       | outer_fit-then-not-fits-via-else-not-fits+then-not-second_fits w ↦
-          (let failed : list_all (fits c.args.rows.now) (option_to_list (second_of (slice_get (turns c.args.form.now) c.loop-at.at))) ≡ false = cc in
+          (let failed : list_all (fits c.args.rows.now) (option_to_list (second_of (slice_get (visits c.args.form.now) c.loop-at.at))) ≡ false = cc in
           second_fails (fits c.args.rows.now) c.args.form.now c.loop-at.at c.in-Some.first.now _ c.in-Some.ensures failed c.loop-at.invariant)
     ]
 
 pub outer_fit-loop-at-preserved : goal.outer_fit-loop-at-preserved
 outer_fit-loop-at-preserved t c =
     let first : fits c.args.rows.now c.in-Some.first.now ≡ true = cc in
-    let second : list_all (fits c.args.rows.now) (option_to_list (second_of (slice_get (turns c.args.form.now) c.loop-at.at))) ≡ true = cc in
-    turn_passes (fits c.args.rows.now) c.args.form.now c.loop-at.at c.in-Some.first.now _ c.in-Some.ensures first second c.loop-at.invariant
+    let second : list_all (fits c.args.rows.now) (option_to_list (second_of (slice_get (visits c.args.form.now) c.loop-at.at))) ≡ true = cc in
+    visit_passes (fits c.args.rows.now) c.args.form.now c.loop-at.at c.in-Some.first.now _ c.in-Some.ensures first second c.loop-at.invariant
 
 pub inner_fit-returns-then-not-fits : goal.inner_fit-returns-then-not-fits
 inner_fit-returns-then-not-fits t c =

@@ -4,7 +4,7 @@ use Rattle.std.specs.List.{list_all}
 use Rattle.isl_meaning.specs.Form.{form_size}
 use Rattle.isl_meaning.specs.Subforms.{outer, inner}
 use Rattle.isl_meaning.specs.Fits.{fits}
-use Rattle.isl_meaning.specs.bridge.Turns.{outer_from}
+use Rattle.isl_meaning.specs.bridge.Visits.{outer_from}
 use Rattle.isl_checker.proofs.fits.+fits.Given as goal
 
 abbrev pub decreases-fits : goal.decreases-fits

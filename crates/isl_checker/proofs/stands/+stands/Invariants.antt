@@ -4,7 +4,7 @@ use Rattle.std.specs.List.{list_all}
 use Rattle.isl_meaning.specs.Form.{form_size}
 use Rattle.isl_meaning.specs.Subforms.{outer, inner}
 use Rattle.isl_meaning.specs.Standing.{stands}
-use Rattle.isl_meaning.specs.bridge.Turns.{outer_from}
+use Rattle.isl_meaning.specs.bridge.Visits.{outer_from}
 use Rattle.isl_checker.proofs.stands.+stands.Given as goal
 
 abbrev pub decreases-stands : goal.decreases-stands

@@ -1,7 +1,7 @@
--- A loop sees the depth of what stands at each turn.
+-- A loop sees the depth of what stands at each visit.
 use Rattle.std.proofs.Common.{◌≡◌, arith, ap, map}
 use Rattle.isl_meaning.specs.Counts.{greatest, depth}
-use Rattle.isl_meaning.specs.bridge.Turns.{outer_at_first}
+use Rattle.isl_meaning.specs.bridge.Visits.{outer_at_first}
 use Rattle.isl_meaning.proofs.Counting.{outer_greatest, inner_greatest, one_seen, two_seen}
 use Rattle.isl_meaning.proofs.core_form.Core.+depth.Goals as goal
 

@@ -3,7 +3,7 @@ use Rattle.std.proofs.Common.{◌≡◌, ◌≤◌, ◌+◌, ◌*◌, min, max, 
 use Rattle.isl_meaning.specs.Form.{form_size}
 use Rattle.isl_meaning.specs.Subforms.{outer, inner}
 use Rattle.isl_meaning.specs.Counts.{greatest, depth}
-use Rattle.isl_meaning.specs.bridge.Turns.{outer_from}
+use Rattle.isl_meaning.specs.bridge.Visits.{outer_from}
 use Rattle.isl_meaning.proofs.core_form.Core.+depth.Given as goal
 
 abbrev pub decreases-depth : goal.decreases-depth

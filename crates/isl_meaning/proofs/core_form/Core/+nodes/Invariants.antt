@@ -4,7 +4,7 @@ use Rattle.std.proofs.Common.{◌≡◌, ◌≤◌, ◌+◌, ◌*◌, min, map, 
 use Rattle.isl_meaning.specs.Form.{form_size}
 use Rattle.isl_meaning.specs.Subforms.{outer, inner}
 use Rattle.isl_meaning.specs.Counts.{nodes_with}
-use Rattle.isl_meaning.specs.bridge.Turns.{outer_from}
+use Rattle.isl_meaning.specs.bridge.Visits.{outer_from}
 use Rattle.isl_meaning.proofs.core_form.Core.+nodes.Given as goal
 
 abbrev pub decreases-nodes : goal.decreases-nodes
