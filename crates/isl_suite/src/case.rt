@@ -1,10 +1,8 @@
 // A case of the table, made line by line.
 
-use crate::answer::Answer;
 use crate::given::Given;
-use crate::problem::Problem;
 use crate::text::append;
-use isl_base::{Bytes, CallList};
+use isl_base::Bytes;
 use std::alloc::Global;
 
 /// A case: its title, what the call is given, and what it must answer.
@@ -12,58 +10,57 @@ use std::alloc::Global;
 pub struct Case {
     pub title: String,
     pub given: Given,
-    pub wanted: Answer,
+    pub status: u8,
+    pub printed: Bytes,
+    pub line: Bytes,
 }
 
 impl Case {
-    /// A case without a title, that is given nothing and wants silence.
+    /// A case without a title, that is given nothing and wants status 0 and nothing written.
     pub fn new(alloc: Global) -> Case {
         Case {
             title: String::new(alloc),
             given: Given::nothing(alloc),
-            wanted: Answer::silence(alloc),
+            status: 0,
+            printed: Bytes::new(alloc),
+            line: Bytes::new(alloc),
         }
     }
 
-    /// Takes a line of the case.
-    pub fn take(&mut self, key: &str, value: &str) -> Result<(), Problem> {
+    /// Takes a line of the case; none where it can't be read, or where memory was wanting.
+    pub fn take(&mut self, key: &str, value: &str) -> Option<()> {
         match key {
-            "case" => self.title.push_str(value)?,
-            "status" => self.wanted.status = value.parse()?,
-            "printed" => append(&mut self.wanted.printed, value)?,
-            "line" => append(&mut self.wanted.line, value)?,
-            _ => take_given(&mut self.given, key, value)?,
+            "case" => self.title.push_str(value).ok(),
+            "status" => {
+                self.status = value.parse().ok()?;
+                Some(())
+            }
+            "printed" => append(&mut self.printed, value),
+            "line" => append(&mut self.line, value),
+            _ => take_given(&mut self.given, key, value),
         }
-        Ok(())
     }
 }
 
 // Takes a line of what the call is given.
-fn take_given(given: &mut Given, key: &str, value: &str) -> Result<(), Problem> {
+fn take_given(given: &mut Given, key: &str, value: &str) -> Option<()> {
     match key {
-        "word" => given.words.push(value)?,
-        "text" => append(&mut given.text, value)?,
-        "times" => append_times(&mut given.text, value)?,
-        "input" => append(&mut given.input, value)?,
-        "shelf_fails" => add_call(&mut given.shelf_fails, value)?,
-        "out_fails" => add_call(&mut given.out_fails, value)?,
-        "err_fails" => add_call(&mut given.err_fails, value)?,
-        _ => return Err(Problem::Key),
+        "word" => given.words.push(value).ok(),
+        "text" => append(&mut given.text, value),
+        "times" => append_times(&mut given.text, value),
+        "input" => append(&mut given.input, value),
+        "shelf_fails" => given.shelf_fails.push(value.parse().ok()?).ok(),
+        "out_fails" => given.out_fails.push(value.parse().ok()?).ok(),
+        "err_fails" => given.err_fails.push(value.parse().ok()?).ok(),
+        _ => None,
     }
-    Ok(())
 }
 
 // Appends a text so many times, as `64 (`.
-fn append_times(bytes: &mut Bytes, value: &str) -> Result<(), Problem> {
-    let (count, text) = value.split_once(' ').ok_or(Problem::Key)?;
-    for _ in 0..count.parse::<u32>()? {
+fn append_times(bytes: &mut Bytes, value: &str) -> Option<()> {
+    let (count, text) = value.split_once(' ')?;
+    for _ in 0..count.parse::<u32>().ok()? {
         append(bytes, text)?;
     }
-    Ok(())
-}
-
-// One more number of a call.
-fn add_call(calls: &mut CallList, value: &str) -> Result<(), Problem> {
-    calls.push(value.parse()?)?;
-    Ok(())
+    Some(())
 }

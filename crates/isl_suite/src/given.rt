@@ -1,6 +1,5 @@
 // What a call is given.
 
-use crate::answer::Answer;
 use isl_base::{Bytes, CallList, MemShelf, MemSink, MemSource, NoMemory, Words};
 use isl_top::{Kept, isl_main};
 use std::alloc::Global;
@@ -36,8 +35,8 @@ impl Given {
         }
     }
 
-    /// What the main call answers to it.
-    pub fn put(self, alloc: Global) -> Result<Answer, NoMemory> {
+    /// The call that is given this.
+    pub fn call(self, alloc: Global) -> Result<Call, NoMemory> {
         let Given {
             words,
             text,
@@ -46,63 +45,39 @@ impl Given {
             out_fails,
             err_fails,
         } = self;
-        let mut shelf = shelf(alloc, text, shelf_fails)?;
-        let mut outputs = Outputs::new(alloc, out_fails, err_fails)?;
-        let mut input = MemSource::new(input, CallList::new(alloc));
-        let status = outputs.call(alloc, &words, &mut shelf, &mut input);
-        outputs.answer(alloc, status)
+        let name = Bytes::from_slice(alloc, NAME.as_bytes())?;
+        Ok(Call {
+            words,
+            shelf: MemShelf::new(name, text, shelf_fails),
+            input: MemSource::new(input, CallList::new(alloc)),
+            out: MemSink::new(alloc, ROOM, out_fails)?,
+            err: MemSink::new(alloc, ROOM, err_fails)?,
+        })
     }
 }
 
-// The shelf that holds the one file.
-fn shelf(alloc: Global, text: Bytes, fails: CallList) -> Result<MemShelf, NoMemory> {
-    let name = Bytes::from_slice(alloc, NAME.as_bytes())?;
-    Ok(MemShelf::new(name, text, fails))
-}
-
-// The output and the error output.
+/// The words of a call, and its outside.
 #[derive(Drop)]
-struct Outputs {
-    out: MemSink,
-    err: MemSink,
+pub struct Call {
+    words: Words,
+    shelf: MemShelf,
+    input: MemSource,
+    pub out: MemSink,
+    pub err: MemSink,
 }
 
-impl Outputs {
-    // Outputs to which nothing was written.
-    fn new(alloc: Global, out_fails: CallList, err_fails: CallList) -> Result<Outputs, NoMemory> {
-        let out = MemSink::new(alloc, ROOM, out_fails)?;
-        let err = MemSink::new(alloc, ROOM, err_fails)?;
-        Ok(Outputs { out, err })
-    }
-
-    // The exit status of the main call, whose image is not kept.
-    fn call(
-        &mut self,
-        alloc: Global,
-        words: &Words,
-        shelf: &mut MemShelf,
-        input: &mut MemSource,
-    ) -> u8 {
+impl Call {
+    /// The exit status of the main call, whose image is not kept.
+    pub fn make(&mut self, alloc: Global) -> u8 {
         let status = isl_main(
             alloc,
-            words,
-            shelf,
-            input,
+            &self.words,
+            &mut self.shelf,
+            &mut self.input,
             &mut self.out,
             &mut self.err,
             &mut Kept::new(),
         );
         status.number()
-    }
-
-    // The answer of a call with that status.
-    fn answer(&self, alloc: Global, status: u8) -> Result<Answer, NoMemory> {
-        let printed = Bytes::from_slice(alloc, self.out.bytes())?;
-        let line = Bytes::from_slice(alloc, self.err.bytes())?;
-        Ok(Answer {
-            status,
-            printed,
-            line,
-        })
     }
 }

@@ -1,30 +1,31 @@
 // The table: one case after another, each ended by a line `end`.
 
+use crate::answer::Answer;
 use crate::case::Case;
-use crate::problem::Problem;
-use std::mem;
+use std::{io, mem};
 
-/// How many cases were put, and how many of them were answered otherwise than they want.
-#[derive(Clone, Copy)]
-pub struct Tally {
-    pub cases: u32,
-    pub wrong: u32,
-}
-
-/// Puts all cases of the table, and prints a line for each.
-pub fn put_all<R: Print + AllocGlobal>(rt: &R, table: &str) -> Result<Tally, Problem> {
-    let mut tally = Tally { cases: 0, wrong: 0 };
+/// Puts all cases of the table, prints a line for each and then how many there were, and answers whether
+/// each was answered as it wants. A line that can't be read, or for which memory is wanting, ends it and
+/// counts as wrong.
+pub fn put_all<R: Print + AllocGlobal>(rt: &R, table: &str) -> io::Result<bool> {
+    let mut cases: u32 = 0;
+    let mut wrong: u32 = 0;
     let mut case = Case::new(rt.alloc());
     for line in table.lines() {
         let (key, value) = line.split_once(' ').unwrap_or((line, ""));
         if key == "end" {
             let whole = mem::replace(&mut case, Case::new(rt.alloc()));
-            tally = counted(tally, put(rt, whole)?);
-        } else if !is_skipped(line) {
-            case.take(key, value)?;
+            let is_right = put(rt, whole)?;
+            cases = cases.saturating_add(1);
+            wrong = wrong.saturating_add(u32::from(!is_right));
+        } else if !is_skipped(line) && case.take(key, value).is_none() {
+            println!(rt; "not read: {line}")?;
+            wrong = wrong.saturating_add(1);
+            break;
         }
     }
-    Ok(tally)
+    println!(rt; "{cases} cases, {wrong} wrong")?;
+    Ok(wrong == 0)
 }
 
 // A line that is empty, or a comment.
@@ -32,22 +33,29 @@ fn is_skipped(line: &str) -> bool {
     line.is_empty() || line.starts_with('#')
 }
 
-// The tally with one case more.
-fn counted(tally: Tally, is_right: bool) -> Tally {
-    Tally {
-        cases: tally.cases.saturating_add(1),
-        wrong: tally.wrong.saturating_add(u32::from(!is_right)),
-    }
-}
-
 // Puts the case, prints its line, and answers whether its answer is the one that it wants.
-fn put<R: Print + AllocGlobal>(rt: &R, case: Case) -> Result<bool, Problem> {
+fn put<R: Print + AllocGlobal>(rt: &R, case: Case) -> io::Result<bool> {
     let Case {
         title,
         given,
-        wanted,
+        status,
+        printed,
+        line,
     } = case;
-    let answer = given.put(rt.alloc())?;
+    let Ok(mut call) = given.call(rt.alloc()) else {
+        println!(rt; "wrong {title}: no memory")?;
+        return Ok(false);
+    };
+    let wanted = Answer {
+        status,
+        printed: printed.as_slice(),
+        line: line.as_slice(),
+    };
+    let answer = Answer {
+        status: call.make(rt.alloc()),
+        printed: call.out.bytes(),
+        line: call.err.bytes(),
+    };
     let is_right = answer.is(&wanted);
     if is_right {
         println!(rt; "ok {title}")?;

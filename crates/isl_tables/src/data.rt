@@ -1,35 +1,24 @@
 // What is computed of a datum.
 
-use crate::placed::push_placed;
-use crate::problem::Problem;
-use crate::read::{DEPTH, read_data};
-use crate::row::Table;
+use crate::answer::Answer;
+use crate::read::DEPTH;
+use crate::shown::{Style, show};
 use isl_base::{Datum, Names};
-use std::alloc::Global;
 
 /// Data. The answer for each is its size, its depth, whether it is in form, and a copy of it.
-#[derive(Clone, Copy)]
-pub struct DataTable;
-
-impl Table for DataTable {
-    fn put(&self, alloc: Global, input: &[u8], got: &mut String) -> Result<(), Problem> {
-        let mut names = Names::new(alloc);
-        for datum in read_data(alloc, &mut names, input)?.as_slice() {
-            put_datum(alloc, &names, datum, got)?;
-        }
-        Ok(())
+pub fn put(got: &mut Answer, names: &Names, data: &[Datum]) -> Option<()> {
+    for datum in data {
+        got.put("size ");
+        got.put(datum.size());
+        got.put(" depth ");
+        got.put(datum.depth());
+        got.put(if datum.is_formed() {
+            " in form "
+        } else {
+            " not in form "
+        });
+        let copy = got.kept(datum.copy(got.alloc))?;
+        show(got, names, &copy, Style::Placed, DEPTH)?;
     }
-}
-
-// Appends what is computed of a datum.
-fn put_datum(alloc: Global, names: &Names, datum: &Datum, got: &mut String) -> Result<(), Problem> {
-    let (size, depth) = (datum.size(), datum.depth());
-    write!(got, "size {size} depth {depth} ")?;
-    got.push_str(if datum.is_formed() {
-        "in form "
-    } else {
-        "not in form "
-    })?;
-    let copy = datum.copy(alloc)?;
-    push_placed(got, names, &copy, DEPTH)
+    Some(())
 }

@@ -1,47 +1,25 @@
 // Bytes as the tables write them.
 
-use crate::problem::Problem;
+use crate::answer::Answer;
 use isl_base::Bytes;
-use std::alloc::Global;
 
 /// The bytes that a text stands for: `\n` is byte 10, `\t` byte 9, `\s` a blank, `\\` a backslash,
 /// `\#` a number sign, `\xHH` the byte of that hexadecimal number, and `\{N TEXT\}` what TEXT stands
 /// for, N times.
-pub fn unescaped(alloc: Global, text: &str) -> Result<Bytes, Problem> {
+pub fn unescaped(got: &mut Answer, text: &str) -> Option<Bytes> {
     let mut reading = Reading {
-        bytes: Bytes::new(alloc),
+        bytes: Bytes::new(got.alloc),
         state: State::Plain,
         times: 1,
         start: 0,
     };
     for byte in text.as_bytes() {
-        reading.take(alloc, *byte)?;
+        reading.state = reading.take(got, *byte)?;
     }
     match reading.state {
-        State::Plain => Ok(reading.bytes),
-        _ => Err(Problem::Row),
+        State::Plain => Some(reading.bytes),
+        _ => None,
     }
-}
-
-/// Appends bytes as `unescaped` reads them: a byte that is neither a blank nor a letter, digit or
-/// mark of ASCII is written by its escape.
-pub fn push_bytes(got: &mut String, bytes: &[u8]) -> Result<(), Problem> {
-    for byte in bytes {
-        push_byte(got, *byte)?;
-    }
-    Ok(())
-}
-
-/// Appends one byte so.
-pub fn push_byte(got: &mut String, byte: u8) -> Result<(), Problem> {
-    match byte {
-        b'\n' => got.push_str("\\n")?,
-        b'\t' => got.push_str("\\t")?,
-        b'\\' => got.push_str("\\\\")?,
-        b' '..=b'~' => got.push(char::from(byte))?,
-        _ => write!(got, "\\x{byte:02x}")?,
-    }
-    Ok(())
 }
 
 // What the next byte is part of.
@@ -54,9 +32,9 @@ enum State {
     // A hexadecimal number, whose first digit it is.
     HighDigit,
     // A hexadecimal number behind this first digit.
-    LowDigit(u8),
-    // How often a repetition is.
-    Times,
+    LowDigit(u32),
+    // How often a repetition is, behind these digits.
+    Times(u32),
 }
 
 // The bytes read so far; `start` is where the repetition begins that stands `times` times.
@@ -69,82 +47,53 @@ struct Reading {
 }
 
 impl Reading {
-    // Takes the next byte.
-    fn take(&mut self, alloc: Global, byte: u8) -> Result<(), Problem> {
-        self.state = match self.state {
-            State::Plain => self.plain(byte)?,
-            State::Escape => self.escape(alloc, byte)?,
-            State::HighDigit => State::LowDigit(hex_digit(byte)?),
-            State::LowDigit(high) => {
-                let low = hex_digit(byte)?;
-                self.bytes.push(high.wrapping_mul(16).wrapping_add(low))?;
-                State::Plain
+    // Takes the next byte, and says what the one behind it is part of.
+    fn take(&mut self, got: &mut Answer, byte: u8) -> Option<State> {
+        match (self.state, byte) {
+            (State::Plain, b'\\') => return Some(State::Escape),
+            (State::Plain, _) => got.kept(self.bytes.push(byte))?,
+            (State::Escape, b'x') => return Some(State::HighDigit),
+            (State::Escape, b'{') => return Some(State::Times(0)),
+            (State::Escape, b'}') => self.repeat(got)?,
+            (State::Escape, _) => got.kept(self.bytes.push(escaped(byte)?))?,
+            (State::HighDigit, _) => return Some(State::LowDigit(char::from(byte).to_digit(16)?)),
+            (State::LowDigit(high), _) => {
+                let low = char::from(byte).to_digit(16)?;
+                let number = u8::try_from(high.saturating_mul(16).saturating_add(low)).ok()?;
+                got.kept(self.bytes.push(number))?;
             }
-            State::Times => self.count(byte)?,
-        };
-        Ok(())
-    }
-
-    // A byte outside any escape.
-    fn plain(&mut self, byte: u8) -> Result<State, Problem> {
-        if byte == b'\\' {
-            return Ok(State::Escape);
-        }
-        self.bytes.push(byte)?;
-        Ok(State::Plain)
-    }
-
-    // The byte behind a backslash.
-    fn escape(&mut self, alloc: Global, byte: u8) -> Result<State, Problem> {
-        match byte {
-            b'n' => self.bytes.push(b'\n')?,
-            b't' => self.bytes.push(b'\t')?,
-            b's' => self.bytes.push(b' ')?,
-            b'\\' | b'#' => self.bytes.push(byte)?,
-            b'}' => self.repeat(alloc)?,
-            b'x' => return Ok(State::HighDigit),
-            b'{' => {
-                self.times = 0;
-                return Ok(State::Times);
-            }
-            _ => return Err(Problem::Row),
-        }
-        Ok(State::Plain)
-    }
-
-    // A digit of how often a repetition is, or the blank that ends them.
-    fn count(&mut self, byte: u8) -> Result<State, Problem> {
-        match byte {
-            b'0'..=b'9' => {
-                let digit = u32::from(byte - b'0');
-                self.times = self.times.saturating_mul(10).saturating_add(digit);
-                Ok(State::Times)
-            }
-            b' ' => {
+            (State::Times(times), b' ') => {
+                self.times = times;
                 self.start = self.bytes.len();
-                Ok(State::Plain)
             }
-            _ => Err(Problem::Row),
+            (State::Times(times), _) => {
+                let more = times
+                    .saturating_mul(10)
+                    .saturating_add(char::from(byte).to_digit(10)?);
+                return Some(State::Times(more));
+            }
         }
+        Some(State::Plain)
     }
 
     // The end of a repetition, whose part stands there once already.
-    fn repeat(&mut self, alloc: Global) -> Result<(), Problem> {
-        let all = self.bytes.as_slice();
-        let part = all.get(self.start..).ok_or(Problem::Row)?;
-        let part = Bytes::from_slice(alloc, part)?;
+    fn repeat(&mut self, got: &mut Answer) -> Option<()> {
+        let part = self.bytes.as_slice().get(self.start..)?;
+        let part = got.kept(Bytes::from_slice(got.alloc, part))?;
         for _ in 1..self.times {
-            self.bytes.append(part.as_slice())?;
+            got.kept(self.bytes.append(part.as_slice()))?;
         }
-        Ok(())
+        Some(())
     }
 }
 
-// The number of a hexadecimal digit.
-fn hex_digit(byte: u8) -> Result<u8, Problem> {
+// The byte that stands for itself or another one behind a backslash.
+fn escaped(byte: u8) -> Option<u8> {
     match byte {
-        b'0'..=b'9' => Ok(byte - b'0'),
-        b'a'..=b'f' => Ok(byte - b'a' + 10),
-        _ => Err(Problem::Row),
+        b'n' => Some(b'\n'),
+        b't' => Some(b'\t'),
+        b's' => Some(b' '),
+        b'\\' | b'#' => Some(byte),
+        _ => None,
     }
 }

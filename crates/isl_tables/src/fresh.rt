@@ -1,88 +1,84 @@
 // Data with symbols that no text has: one that is written `|#7|` stands for the new symbol of serial 7,
 // and `|#long|` for one whose name is longer than a text can have.
 
-use crate::problem::Problem;
-use isl_base::{Datum, DatumList, FreshList, Kind, Name, Names, NoMemory, Symbol};
-use std::alloc::Global;
+use crate::answer::Answer;
+use isl_base::{Datum, DatumList, FreshList, Kind, Name, Names, Symbol};
 
 // A name of one byte more than a text can have.
 const LONG: [u8; 257] = [b'x'; 257];
 
 /// The first new symbols, so many.
-pub fn fresh_symbols(alloc: Global, count: u64) -> Result<FreshList, NoMemory> {
-    let mut fresh = FreshList::new(alloc);
+pub fn fresh_symbols(got: &mut Answer, count: u64) -> Option<FreshList> {
+    let mut fresh = FreshList::new(got.alloc);
     for serial in 0..count {
-        fresh.push(new_symbol(serial))?;
+        got.kept(fresh.push(new_symbol(serial)))?;
     }
-    Ok(fresh)
+    Some(fresh)
 }
 
-/// The datum with those symbols where they are written.
+/// The datum with those symbols where they are written; none of one whose parts are deeper inside one
+/// another than said.
 #[cycle(freshened)]
-pub fn freshened(
-    alloc: Global,
-    names: &mut Names,
-    datum: &Datum,
-    depth: u32,
-) -> Result<Datum, Problem> {
+pub fn freshened(got: &mut Answer, names: &mut Names, datum: &Datum, depth: u32) -> Option<Datum> {
     if depth == 0 {
-        return Err(Problem::Row);
+        return None;
     }
     let kind = match &datum.kind {
-        Kind::Sym(Symbol::Named(name)) => Kind::Sym(symbol_of(names, *name)?),
-        Kind::Vector(items) => Kind::Vector(all_freshened(alloc, names, items, depth - 1)?),
+        Kind::Sym(Symbol::Named(name)) => Kind::Sym(symbol_of(got, names, *name)?),
+        Kind::Vector(items) => Kind::Vector(all_freshened(got, names, items, depth - 1)?),
         Kind::List { items, tail } => {
-            let items = all_freshened(alloc, names, items, depth - 1)?;
-            let tail = tail_freshened(alloc, names, tail, depth - 1)?;
+            let items = all_freshened(got, names, items, depth - 1)?;
+            let tail = tail_freshened(got, names, tail, depth - 1)?;
             Kind::List { items, tail }
         }
-        _ => return Ok(datum.copy(alloc)?),
+        _ => return got.kept(datum.copy(got.alloc)),
     };
-    Ok(Datum::new(datum.place, kind))
+    Some(Datum::new(datum.place, kind))
 }
 
 #[cycle(freshened)]
 fn all_freshened(
-    alloc: Global,
+    got: &mut Answer,
     names: &mut Names,
     items: &DatumList,
     depth: u32,
-) -> Result<DatumList, Problem> {
+) -> Option<DatumList> {
     if depth == 0 {
-        return Err(Problem::Row);
+        return None;
     }
-    let mut all = DatumList::new(alloc);
+    let mut all = DatumList::new(got.alloc);
     for item in items.as_slice() {
-        all.push(freshened(alloc, names, item, depth - 1)?)?;
+        let item = freshened(got, names, item, depth - 1)?;
+        got.kept(all.push(item))?;
     }
-    Ok(all)
+    Some(all)
 }
 
 #[cycle(freshened)]
 fn tail_freshened(
-    alloc: Global,
+    got: &mut Answer,
     names: &mut Names,
     tail: &Option<Box<Datum>>,
     depth: u32,
-) -> Result<Option<Box<Datum>>, Problem> {
+) -> Option<Option<Box<Datum>>> {
     if depth == 0 {
-        return Err(Problem::Row);
+        return None;
     }
     match tail {
-        None => Ok(None),
+        None => Some(None),
         Some(datum) => {
-            let datum = freshened(alloc, names, datum, depth - 1)?;
-            Ok(Some(Box::new(alloc, datum).map_err(|_| Problem::Memory)?))
+            let datum = freshened(got, names, datum, depth - 1)?;
+            Some(Some(got.kept(Box::new(got.alloc, datum))?))
         }
     }
 }
 
 // The symbol that a name stands for.
-fn symbol_of(names: &mut Names, name: Name) -> Result<Symbol, NoMemory> {
+fn symbol_of(got: &mut Answer, names: &mut Names, name: Name) -> Option<Symbol> {
     match names.text(name) {
-        Some([b'#', digit @ b'0'..=b'9']) => Ok(new_symbol(u64::from(*digit - b'0'))),
-        Some(b"#long") => Ok(Symbol::Named(names.intern(&LONG)?)),
-        _ => Ok(Symbol::Named(name)),
+        Some([b'#', digit @ b'0'..=b'9']) => Some(new_symbol(u64::from(*digit - b'0'))),
+        Some(b"#long") => Some(Symbol::Named(got.kept(names.intern(&LONG))?)),
+        _ => Some(Symbol::Named(name)),
     }
 }
 

@@ -1,13 +1,10 @@
 // The images of programs, taken from the main call and run.
 
-use crate::problem::Problem;
-use crate::row::Table;
-use crate::running::Running;
+use crate::answer::Answer;
+use crate::machine::Running;
 use isl_base::{Bytes, CallList, MemShelf, MemSink, MemSource, Words};
 use isl_top::{Kept, isl_main};
-use rv_machine::{Image, Machine};
-use std::alloc::Global;
-use std::str;
+use rv_machine::Machine;
 
 // The name of the file with the program.
 const NAME: &str = "f";
@@ -16,58 +13,44 @@ const NAME: &str = "f";
 const ROOM: usize = 64;
 
 /// The text of a program, whose image is kept by the main call and loaded into an arena of its own
-/// length, ` : `, and what is done with the machine then (`Running::act_all`). A text that is no
-/// program is no row.
-#[derive(Clone, Copy)]
-pub struct ImagesTable;
-
-impl Table for ImagesTable {
-    fn put(&self, alloc: Global, input: &[u8], got: &mut String) -> Result<(), Problem> {
-        let Ok(row) = str::from_utf8(input) else {
-            return Err(Problem::Row);
-        };
-        let (text, actions) = row.split_once(" : ").ok_or(Problem::Row)?;
-        let mut kept = Kept::new();
-        build(alloc, text, &mut kept)?;
-        let image = kept.image.ok_or(Problem::Row)?;
-        loaded(alloc, &image)?.act_all(actions, got)
-    }
+/// length, ` : `, and what is done with the machine then (`Running::act_all`); none for a text that is
+/// no program.
+pub fn put(got: &mut Answer, line: &str) -> Option<()> {
+    let (text, actions) = line.split_once(" : ")?;
+    let mut kept = Kept::new();
+    build(got, text, &mut kept)?;
+    let image = kept.image?;
+    let mut machine = got.kept(Machine::new(got.alloc, image.words()))?;
+    machine.load(&image).ok()?;
+    let mut running = Running {
+        machine,
+        source: no_input(got),
+        sink: output(got)?,
+    };
+    running.act_all(got, actions)
 }
 
 // The main call with that text in its file.
-fn build(alloc: Global, text: &str, kept: &mut Kept) -> Result<(), Problem> {
-    let mut words = Words::new(alloc);
-    words.push("run")?;
-    words.push(NAME)?;
-    let name = Bytes::from_slice(alloc, NAME.as_bytes())?;
-    let text = Bytes::from_slice(alloc, text.as_bytes())?;
-    let mut shelf = MemShelf::new(name, text, CallList::new(alloc));
-    let mut input = no_input(alloc);
-    let mut out = output(alloc)?;
-    let mut err = output(alloc)?;
+fn build(got: &mut Answer, text: &str, kept: &mut Kept) -> Option<()> {
+    let mut words = Words::new(got.alloc);
+    got.kept(words.push("run"))?;
+    got.kept(words.push(NAME))?;
+    let name = got.kept(Bytes::from_slice(got.alloc, NAME.as_bytes()))?;
+    let text = got.kept(Bytes::from_slice(got.alloc, text.as_bytes()))?;
+    let mut shelf = MemShelf::new(name, text, CallList::new(got.alloc));
+    let mut input = no_input(got);
+    let mut out = output(got)?;
+    let mut err = output(got)?;
     let _ = isl_main(
-        alloc, &words, &mut shelf, &mut input, &mut out, &mut err, kept,
+        got.alloc, &words, &mut shelf, &mut input, &mut out, &mut err, kept,
     );
-    Ok(())
+    Some(())
 }
 
-// A machine with that image, whose arena is as long as the image.
-fn loaded(alloc: Global, image: &Image) -> Result<Running, Problem> {
-    let mut machine = Machine::new(alloc, image.words())?;
-    if machine.load(image).is_err() {
-        return Err(Problem::Row);
-    }
-    Ok(Running {
-        machine,
-        source: no_input(alloc),
-        sink: output(alloc)?,
-    })
+fn no_input(got: &Answer) -> MemSource {
+    MemSource::new(Bytes::new(got.alloc), CallList::new(got.alloc))
 }
 
-fn no_input(alloc: Global) -> MemSource {
-    MemSource::new(Bytes::new(alloc), CallList::new(alloc))
-}
-
-fn output(alloc: Global) -> Result<MemSink, Problem> {
-    Ok(MemSink::new(alloc, ROOM, CallList::new(alloc))?)
+fn output(got: &mut Answer) -> Option<MemSink> {
+    got.kept(MemSink::new(got.alloc, ROOM, CallList::new(got.alloc)))
 }

@@ -1,74 +1,72 @@
-// The data of an input, taken apart.
+// The data of an input, taken apart: each of these is none where the datum is another one.
 
-use crate::problem::Problem;
+use crate::answer::Answer;
 use isl_base::{Datum, ItemList, Kind, Name, Names, Symbol};
-use std::alloc::Global;
 use std::str;
 
 /// The items of a proper list.
-pub fn items(datum: &Datum) -> Result<&[Datum], Problem> {
+pub fn items(datum: &Datum) -> Option<&[Datum]> {
     match &datum.kind {
-        Kind::Nil => Ok(&[]),
-        Kind::List { items, tail: None } => Ok(items.as_slice()),
-        _ => Err(Problem::Row),
+        Kind::Nil => Some(&[]),
+        Kind::List { items, tail: None } => Some(items.as_slice()),
+        _ => None,
     }
 }
 
 /// The word that a proper list begins with, and the items behind it.
-pub fn command<'a>(names: &'a Names, datum: &'a Datum) -> Result<(&'a str, &'a [Datum]), Problem> {
+pub fn command<'a>(names: &'a Names, datum: &'a Datum) -> Option<(&'a str, &'a [Datum])> {
     match items(datum)? {
-        [head, rest @ ..] => Ok((word(names, head)?, rest)),
-        [] => Err(Problem::Row),
+        [head, rest @ ..] => Some((word(names, head)?, rest)),
+        [] => None,
     }
 }
 
 /// The name of a symbol.
-pub fn name(datum: &Datum) -> Result<Name, Problem> {
+pub fn name(datum: &Datum) -> Option<Name> {
     match &datum.kind {
-        Kind::Sym(Symbol::Named(name)) => Ok(*name),
-        _ => Err(Problem::Row),
+        Kind::Sym(Symbol::Named(name)) => Some(*name),
+        _ => None,
     }
 }
 
 /// The text of a symbol.
-pub fn word<'a>(names: &'a Names, datum: &Datum) -> Result<&'a str, Problem> {
+pub fn word<'a>(names: &'a Names, datum: &Datum) -> Option<&'a str> {
     text(names, name(datum)?)
 }
 
 /// The text of a name.
-pub fn text(names: &Names, name: Name) -> Result<&str, Problem> {
-    let bytes = names.text(name).ok_or(Problem::Row)?;
-    str::from_utf8(bytes).map_err(|_| Problem::Row)
+pub fn text(names: &Names, name: Name) -> Option<&str> {
+    str::from_utf8(names.text(name)?).ok()
 }
 
 /// An integer from 0 on.
-pub fn number(datum: &Datum) -> Result<u32, Problem> {
+pub fn number(datum: &Datum) -> Option<u32> {
     match &datum.kind {
-        Kind::Int(number) => u32::try_from(*number).map_err(|_| Problem::Row),
-        _ => Err(Problem::Row),
+        Kind::Int(number) => u32::try_from(*number).ok(),
+        _ => None,
     }
 }
 
 /// The same as a row's number.
-pub fn id(datum: &Datum) -> Result<usize, Problem> {
-    Ok(number(datum)? as usize)
+pub fn id(datum: &Datum) -> Option<usize> {
+    Some(number(datum)? as usize)
 }
 
 /// The rows' numbers that stand in these places.
-pub fn ids(alloc: Global, data: &[Datum]) -> Result<ItemList<usize>, Problem> {
-    let mut list = ItemList::new(alloc);
+pub fn ids(got: &mut Answer, data: &[Datum]) -> Option<ItemList<usize>> {
+    let mut list = ItemList::new(got.alloc);
     for datum in data {
-        list.push(id(datum)?)?;
+        got.kept(list.push(id(datum)?))?;
     }
-    Ok(list)
+    Some(list)
 }
 
 /// What stands beside this word in a table.
-pub fn found<T: Copy>(table: &[(&'static str, T)], word: &str) -> Result<T, Problem> {
+pub fn found<T: Copy>(table: &[(&'static str, T)], word: &str) -> Option<T> {
     for (text, item) in table {
         if *text == word {
-            return Ok(*item);
+            return Some(*item);
         }
     }
-    Err(Problem::Row)
+    None
 }

@@ -1,102 +1,83 @@
 // Lists of bytes, of command words and of fresh symbols: what goes in and what stands there.
 
-use crate::escape::{push_byte, push_bytes};
-use crate::problem::Problem;
-use crate::row::Table;
-use isl_base::{Bytes, FreshList, Symbol, Words};
-use std::alloc::Global;
-use std::str;
+use crate::answer::Answer;
+use crate::fresh::fresh_symbols;
+use isl_base::{Bytes, Words};
 
 /// `bytes` with calls of a list of bytes, `words` with the words of a list, or `fresh` with how many
 /// fresh symbols are pushed and how many of them stay in the cut; the parts stand with `|` between them.
 /// The answer is what the calls answer, and then the length and what stands there.
-#[derive(Clone, Copy)]
-pub struct ListsTable;
-
-impl Table for ListsTable {
-    fn put(&self, alloc: Global, input: &[u8], got: &mut String) -> Result<(), Problem> {
-        let row = str::from_utf8(input).map_err(|_| Problem::Row)?;
-        let (kind, parts) = row.split_once(' ').ok_or(Problem::Row)?;
-        match kind {
-            "bytes" => put_bytes(alloc, parts, got),
-            "words" => put_words(alloc, parts, got),
-            "fresh" => put_fresh(alloc, parts, got),
-            _ => Err(Problem::Row),
-        }
+pub fn put(got: &mut Answer, line: &str) -> Option<()> {
+    let (kind, parts) = line.split_once(' ')?;
+    match kind {
+        "bytes" => put_bytes(got, parts),
+        "words" => put_words(got, parts),
+        "fresh" => put_fresh(got, parts),
+        _ => None,
     }
 }
 
 // A list of bytes through its calls.
-fn put_bytes(alloc: Global, calls: &str, got: &mut String) -> Result<(), Problem> {
-    let mut bytes = Bytes::new(alloc);
+fn put_bytes(got: &mut Answer, calls: &str) -> Option<()> {
+    let mut bytes = Bytes::new(got.alloc);
     for call in calls.split('|') {
-        let (name, argument) = call.split_once(' ').ok_or(Problem::Row)?;
-        match name {
-            "append" => bytes.append(argument.as_bytes())?,
-            "push" => bytes.push(argument.parse()?)?,
-            "cut" => put_cut(&mut bytes, argument.parse()?)?,
-            "get" => push_found(got, bytes.get(argument.parse()?))?,
-            _ => return Err(Problem::Row),
+        let (name, argument) = call.split_once(' ')?;
+        if name == "append" {
+            got.kept(bytes.append(argument.as_bytes()))?;
+        } else {
+            put_call(got, &mut bytes, name, argument.parse().ok()?)?;
         }
     }
-    let length = bytes.len();
-    write!(got, "{length}:")?;
-    push_bytes(got, bytes.as_slice())
+    got.put(bytes.len());
+    got.put(":");
+    got.put_bytes(bytes.as_slice());
+    Some(())
 }
 
-// Cuts the list.
-fn put_cut(bytes: &mut Bytes, length: usize) -> Result<(), Problem> {
-    if length > bytes.len() {
-        return Err(Problem::Row);
+// A call with a number.
+fn put_call(got: &mut Answer, bytes: &mut Bytes, name: &str, number: usize) -> Option<()> {
+    match name {
+        "push" => got.kept(bytes.push(u8::try_from(number).ok()?))?,
+        "cut" if number <= bytes.len() => bytes.cut(number),
+        "get" => {
+            match bytes.get(number) {
+                Some(byte) => got.put_byte(*byte),
+                None => got.put("none"),
+            }
+            got.put("|");
+        }
+        _ => return None,
     }
-    bytes.cut(length);
-    Ok(())
-}
-
-// Appends what stands at a place.
-fn push_found(got: &mut String, found: Option<&u8>) -> Result<(), Problem> {
-    match found {
-        Some(byte) => push_byte(got, *byte)?,
-        None => got.push_str("none")?,
-    }
-    got.push('|')?;
-    Ok(())
+    Some(())
 }
 
 // A list of words, and what stands behind its end.
-fn put_words(alloc: Global, parts: &str, got: &mut String) -> Result<(), Problem> {
-    let mut words = Words::new(alloc);
+fn put_words(got: &mut Answer, parts: &str) -> Option<()> {
+    let mut words = Words::new(got.alloc);
     for word in parts.split('|') {
-        words.push(word)?;
+        got.kept(words.push(word))?;
     }
-    let length = words.len();
-    write!(got, "{length}")?;
-    for at in 0..=length {
-        let word = words.get(at).unwrap_or("none");
-        write!(got, " {word}")?;
+    got.put(words.len());
+    for at in 0..=words.len() {
+        got.put(" ");
+        got.put(words.get(at).unwrap_or("none"));
     }
-    Ok(())
+    Some(())
 }
 
 // A list of fresh symbols that is cut.
-fn put_fresh(alloc: Global, parts: &str, got: &mut String) -> Result<(), Problem> {
-    let (pushed, kept) = parts.split_once('|').ok_or(Problem::Row)?;
-    let mut fresh = FreshList::new(alloc);
-    for serial in 0..pushed.parse::<u64>()? {
-        fresh.push(Symbol::Fresh {
-            expansion: 0,
-            serial,
-        })?;
-    }
-    let kept: usize = kept.parse()?;
+fn put_fresh(got: &mut Answer, parts: &str) -> Option<()> {
+    let (pushed, kept) = parts.split_once('|')?;
+    let mut fresh = fresh_symbols(got, pushed.parse().ok()?)?;
+    let kept: usize = kept.parse().ok()?;
     if kept > fresh.len() {
-        return Err(Problem::Row);
+        return None;
     }
     fresh.cut(kept);
-    let length = fresh.len();
-    write!(got, "{length}")?;
+    got.put(fresh.len());
     for symbol in fresh.as_slice() {
-        write!(got, " {symbol:?}")?;
+        got.put(" ");
+        got.put_debug(symbol);
     }
-    Ok(())
+    Some(())
 }

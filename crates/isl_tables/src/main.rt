@@ -2,7 +2,6 @@
 #![tactic(auto)]
 
 mod answer;
-mod assembler;
 mod classes;
 mod data;
 mod escape;
@@ -11,95 +10,61 @@ mod fresh;
 mod images;
 mod inputs;
 mod lists;
+mod machine;
 mod method;
 mod methods;
 mod named;
 mod names;
 mod outside;
-mod placed;
 mod printed;
-mod problem;
 mod programs;
 mod read;
 mod reasons;
-mod row;
-mod running;
+mod rows;
 mod runs;
+mod serials;
 mod shown;
 mod slots;
 mod steps;
+mod table;
 mod texts;
 mod words;
 
-use classes::ClassesTable;
-use data::DataTable;
-use fields::FieldsTable;
-use images::ImagesTable;
 use isl_base::Origin;
-use lists::ListsTable;
-use methods::MethodsTable;
-use names::NamesTable;
-use outside::OutsideTable;
-use printed::PrintedTable;
-use problem::Problem;
-use programs::ProgramsTable;
-use reasons::ReasonsTable;
-use row::put_table;
-use runs::RunsTable;
-use std::rt::Files;
-use steps::{SerialsTable, StepsTable};
-use texts::TextsTable;
-use words::WordsTable;
+use rows::put_table;
+use std::io;
+use table::{Data, Lines, Table};
 
-fn main(rt: HostRuntime) -> Result<(), Problem> {
-    put_base(&rt)?;
-    put_reader(&rt)?;
-    put_derived(&rt)?;
-    put_meaning(&rt)?;
-    put_instructions(&rt)?;
-    put_machine(&rt)
-}
+// The file of each table.
+const TABLES: &[(&str, Table)] = &[
+    // The base: reasons, lists, the outside, names and data.
+    ("reasons.txt", Table::Lines(Lines::Reasons)),
+    ("lists.txt", Table::Lines(Lines::Lists)),
+    ("outside.txt", Table::Lines(Lines::Outside)),
+    ("names.txt", Table::Lines(Lines::Names)),
+    ("data.txt", Table::Data(Data::Data)),
+    // The reader: texts, with their data or their stop, and data that are printed.
+    ("texts.txt", Table::Texts(Origin::File)),
+    ("prelude.txt", Table::Texts(Origin::Prelude)),
+    ("printed.txt", Table::Data(Data::Printed)),
+    // Derived forms.
+    ("steps.txt", Table::Data(Data::Steps)),
+    ("places.txt", Table::Data(Data::Places)),
+    ("serials.txt", Table::Data(Data::Serials)),
+    // Classes, generic functions and programs.
+    ("classes.txt", Table::Data(Data::Classes)),
+    ("methods.txt", Table::Data(Data::Methods)),
+    ("programs.txt", Table::Data(Data::Programs)),
+    // Instructions, their fields, the machine, and images of programs.
+    ("words.txt", Table::Lines(Lines::Words)),
+    ("fields.txt", Table::Lines(Lines::Fields)),
+    ("runs.txt", Table::Lines(Lines::Runs)),
+    ("images.txt", Table::Lines(Lines::Images)),
+];
 
-// Reasons, lists, the outside, names and data.
-fn put_base<R: Files + Print + AllocGlobal>(rt: &R) -> Result<(), Problem> {
-    put_table(rt, "reasons.txt", &ReasonsTable)?;
-    put_table(rt, "lists.txt", &ListsTable)?;
-    put_table(rt, "outside.txt", &OutsideTable)?;
-    put_table(rt, "names.txt", &NamesTable)?;
-    put_table(rt, "data.txt", &DataTable)
-}
-
-// Texts, with their data or their stop, and data that are printed.
-fn put_reader<R: Files + Print + AllocGlobal>(rt: &R) -> Result<(), Problem> {
-    let file = Origin::File;
-    let prelude = Origin::Prelude;
-    put_table(rt, "texts.txt", &TextsTable { origin: file })?;
-    put_table(rt, "prelude.txt", &TextsTable { origin: prelude })?;
-    put_table(rt, "printed.txt", &PrintedTable)
-}
-
-// Derived forms.
-fn put_derived<R: Files + Print + AllocGlobal>(rt: &R) -> Result<(), Problem> {
-    put_table(rt, "steps.txt", &StepsTable::Unplaced)?;
-    put_table(rt, "places.txt", &StepsTable::Placed)?;
-    put_table(rt, "serials.txt", &SerialsTable)
-}
-
-// Classes, generic functions and programs.
-fn put_meaning<R: Files + Print + AllocGlobal>(rt: &R) -> Result<(), Problem> {
-    put_table(rt, "classes.txt", &ClassesTable)?;
-    put_table(rt, "methods.txt", &MethodsTable)?;
-    put_table(rt, "programs.txt", &ProgramsTable)
-}
-
-// Words of the machine, and the fields of instructions.
-fn put_instructions<R: Files + Print + AllocGlobal>(rt: &R) -> Result<(), Problem> {
-    put_table(rt, "words.txt", &WordsTable)?;
-    put_table(rt, "fields.txt", &FieldsTable)
-}
-
-// Programs of the machine, and images of programs.
-fn put_machine<R: Files + Print + AllocGlobal>(rt: &R) -> Result<(), Problem> {
-    put_table(rt, "runs.txt", &RunsTable)?;
-    put_table(rt, "images.txt", &ImagesTable)
+fn main(rt: HostRuntime) -> io::Result<()> {
+    for (name, table) in TABLES {
+        put_table(&rt, name, table)?;
+    }
+    Ok(())
 }

@@ -1,10 +1,9 @@
 // Methods as data.
 
+use crate::answer::Answer;
 use crate::inputs::{found, id, ids, items, word};
-use crate::problem::Problem;
 use isl_base::{Datum, Names};
 use isl_meaning::{MethodRow, Qualifier};
-use std::alloc::Global;
 
 const QUALIFIERS: &[(&str, Qualifier)] = &[
     ("primary", Qualifier::Primary),
@@ -14,13 +13,13 @@ const QUALIFIERS: &[(&str, Qualifier)] = &[
 ];
 
 /// The method of a qualifier, classes and a procedure.
-pub fn method(alloc: Global, names: &Names, parts: &[Datum]) -> Result<MethodRow, Problem> {
+pub fn method(got: &mut Answer, names: &Names, parts: &[Datum]) -> Option<MethodRow> {
     let [kind, classes, procedure] = parts else {
-        return Err(Problem::Row);
+        return None;
     };
-    Ok(MethodRow {
+    Some(MethodRow {
         qualifier: found(QUALIFIERS, word(names, kind)?)?,
-        classes: ids(alloc, items(classes)?)?,
+        classes: ids(got, items(classes)?)?,
         procedure: id(procedure)?,
     })
 }

@@ -3,34 +3,24 @@
 mod questions;
 mod setting;
 
+use crate::answer::Answer;
 use crate::inputs::command;
-use crate::problem::Problem;
-use crate::read::read_data;
-use crate::row::Table;
-use isl_base::Names;
+use isl_base::{Datum, Names};
 use questions::ask;
 use setting::Setting;
-use std::alloc::Global;
 
 /// Classes, generic functions, methods and questions, in order. A method that is refused answers so.
-#[derive(Clone, Copy)]
-pub struct MethodsTable;
-
-impl Table for MethodsTable {
-    fn put(&self, alloc: Global, input: &[u8], got: &mut String) -> Result<(), Problem> {
-        let mut names = Names::new(alloc);
-        let mut setting = Setting::nothing(alloc);
-        let data = read_data(alloc, &mut names, input)?;
-        for datum in data.as_slice() {
-            let (head, parts) = command(&names, datum)?;
-            match head {
-                "classes" => setting.take_classes(alloc, parts)?,
-                "flat" => setting.take_flat(alloc, parts)?,
-                "generic" => setting.define(&names, parts)?,
-                "add" => setting.add(alloc, &names, parts, got)?,
-                _ => ask(alloc, &setting, head, parts, got)?,
-            }
+pub fn put(got: &mut Answer, names: &Names, data: &[Datum]) -> Option<()> {
+    let mut setting = Setting::nothing(got.alloc);
+    for datum in data {
+        let (head, parts) = command(names, datum)?;
+        match head {
+            "classes" => setting.take_classes(got, parts)?,
+            "flat" => setting.take_flat(got, parts)?,
+            "generic" => setting.define(got, names, parts)?,
+            "add" => setting.add(got, names, parts)?,
+            _ => ask(got, &setting, head, parts)?,
         }
-        Ok(())
     }
+    Some(())
 }

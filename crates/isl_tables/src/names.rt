@@ -1,39 +1,25 @@
 // The table of names: a list of texts is put into one, and each text answers its number.
 
-use crate::escape::push_bytes;
-use crate::problem::Problem;
-use crate::row::Table;
+use crate::answer::Answer;
 use isl_base::{Name, Names};
-use std::alloc::Global;
 
 /// Texts with commas between them. The answer is the number of each, and then the texts that the
-/// table of names has.
-#[derive(Clone, Copy)]
-pub struct NamesTable;
-
-impl Table for NamesTable {
-    fn put(&self, alloc: Global, input: &[u8], got: &mut String) -> Result<(), Problem> {
-        let mut names = Names::new(alloc);
-        for text in input.split(|byte| *byte == b',') {
-            put_text(&mut names, text, got)?;
+/// table of names has; none where a text is too long to be a name.
+pub fn put(got: &mut Answer, texts: &str) -> Option<()> {
+    let mut names = Names::new(got.alloc);
+    for text in texts.split(',') {
+        if text.len() > 263 {
+            return None;
         }
-        got.push_str("of ")?;
-        for number in 0..names.len() {
-            if number > 0 {
-                got.push(',')?;
-            }
-            push_bytes(got, names.text(Name(number)).ok_or(Problem::Row)?)?;
-        }
-        Ok(())
+        let Name(number) = got.kept(names.intern(text.as_bytes()))?;
+        got.put(number);
+        got.put(" ");
     }
-}
-
-// The number of the text; none where the text is too long to be a name.
-fn put_text(names: &mut Names, text: &[u8], got: &mut String) -> Result<(), Problem> {
-    if text.len() > 263 {
-        return Err(Problem::Row);
+    let mut before = "of ";
+    for number in 0..names.len() {
+        got.put(before);
+        got.put_bytes(names.text(Name(number))?);
+        before = ",";
     }
-    let Name(number) = names.intern(text)?;
-    write!(got, "{number} ")?;
-    Ok(())
+    Some(())
 }

@@ -1,150 +1,112 @@
 // Sources, sinks and shelves in memory: those whose listed calls fail, and those that never fail.
 
-use crate::escape::push_bytes;
-use crate::problem::Problem;
-use crate::row::Table;
+use crate::answer::Answer;
 use isl_base::{
-    Bytes, CallList, Failed, MemShelf, MemSink, MemSource, NoMemory, Shelf, Sink, Source,
-    SureShelf, SureSink, SureSource,
+    Bytes, CallList, Failed, MemShelf, MemSink, MemSource, Shelf, Sink, Source, SureShelf,
+    SureSink, SureSource,
 };
-use std::alloc::Global;
-use std::str;
 
 // The bytes that a read can ask for.
 const ROOM: usize = 8;
 
-// The name of the one file of a shelf.
-const NAME: &str = "f";
-
 /// What is made, which of its calls fail, what it holds or how much it has room for, and its calls with
 /// `|` between them, as in `source 0,2 abc: 2|2`. A read of N bytes answers how many there were and then
 /// the N bytes of the buffer, which has dots in it at first.
-#[derive(Clone, Copy)]
-pub struct OutsideTable;
-
-impl Table for OutsideTable {
-    fn put(&self, alloc: Global, input: &[u8], got: &mut String) -> Result<(), Problem> {
-        let row = str::from_utf8(input).map_err(|_| Problem::Row)?;
-        let (made, calls) = row.split_once(": ").ok_or(Problem::Row)?;
-        let (kind, made) = made.split_once(' ').ok_or(Problem::Row)?;
-        let (fails, held) = made.split_once(' ').ok_or(Problem::Row)?;
-        let fails = calls_of(alloc, fails)?;
-        match kind {
-            "source" => put_source(bytes_of(alloc, held)?, fails, calls, got),
-            "sure-source" => put_sure_source(bytes_of(alloc, held)?, calls, got),
-            "sink" => put_sink(alloc, held, fails, calls, got),
-            "sure-sink" => put_sure_sink(alloc, held, calls, got),
-            "shelf" => put_named_shelf(alloc, bytes_of(alloc, held)?, fails, calls, got),
-            "sure-shelf" => put_sure_shelf(bytes_of(alloc, held)?, calls, got),
-            _ => Err(Problem::Row),
+pub fn put(got: &mut Answer, line: &str) -> Option<()> {
+    let (made, calls) = line.split_once(": ")?;
+    let (kind, made) = made.split_once(' ')?;
+    let (fails, held) = made.split_once(' ')?;
+    if kind == "sink" || kind == "sure-sink" {
+        return put_sink(got, kind, fails, held.parse().ok()?, calls);
+    }
+    let held = bytes(got, held)?;
+    let fails = call_list(got, fails)?;
+    match kind {
+        "source" => reads(got, &mut MemSource::new(held, fails), calls),
+        "sure-source" => reads(got, &mut SureSource::new(held), calls),
+        "shelf" => {
+            let name = bytes(got, "f")?;
+            reads_at(got, &mut MemShelf::new(name, held, fails), calls)
         }
+        "sure-shelf" => reads_at(got, &mut SureShelf::new(held), calls),
+        _ => None,
     }
 }
 
-fn bytes_of(alloc: Global, text: &str) -> Result<Bytes, NoMemory> {
-    Bytes::from_slice(alloc, text.as_bytes())
+// A sink with room for so many bytes.
+fn put_sink(got: &mut Answer, kind: &str, fails: &str, room: usize, calls: &str) -> Option<()> {
+    if kind == "sink" {
+        let fails = call_list(got, fails)?;
+        let mut sink = got.kept(MemSink::new(got.alloc, room, fails))?;
+        writes(got, &mut sink, calls);
+        got.put_bytes(sink.bytes());
+    } else {
+        let mut sink = got.kept(SureSink::new(got.alloc, room))?;
+        writes(got, &mut sink, calls);
+        got.put_bytes(sink.bytes());
+    }
+    Some(())
+}
+
+fn bytes(got: &mut Answer, text: &str) -> Option<Bytes> {
+    got.kept(Bytes::from_slice(got.alloc, text.as_bytes()))
 }
 
 // Numbers of calls with commas between them; `-` is none.
-fn calls_of(alloc: Global, text: &str) -> Result<CallList, Problem> {
-    let mut calls = CallList::new(alloc);
+fn call_list(got: &mut Answer, text: &str) -> Option<CallList> {
+    let mut calls = CallList::new(got.alloc);
     if text != "-" {
         for number in text.split(',') {
-            calls.push(number.parse()?)?;
+            got.kept(calls.push(number.parse().ok()?))?;
         }
     }
-    Ok(calls)
+    Some(calls)
 }
 
 // Reads, each of so many bytes.
-fn put_reads<S: Source>(source: &mut S, calls: &str, got: &mut String) -> Result<(), Problem> {
+fn reads<S: Source>(got: &mut Answer, source: &mut S, calls: &str) -> Option<()> {
     let mut buffer = [b'.'; ROOM];
     for call in calls.split('|') {
-        let part = buffer.get_mut(..call.parse()?).ok_or(Problem::Row)?;
+        let part = buffer.get_mut(..call.parse().ok()?)?;
         let answer = source.read(part);
-        push_answer(got, answer)?;
-        got.push(' ')?;
-        push_bytes(got, part)?;
-        got.push('|')?;
+        put_read(got, answer, part);
     }
-    Ok(())
+    Some(())
 }
 
 // Reads of a shelf, each of a name, from a place on, of so many bytes.
-fn put_shelf<S: Shelf>(shelf: &mut S, calls: &str, got: &mut String) -> Result<(), Problem> {
+fn reads_at<S: Shelf>(got: &mut Answer, shelf: &mut S, calls: &str) -> Option<()> {
     let mut buffer = [b'.'; ROOM];
     for call in calls.split('|') {
-        let (name, call) = call.split_once(' ').ok_or(Problem::Row)?;
-        let (at, count) = call.split_once(' ').ok_or(Problem::Row)?;
-        let part = buffer.get_mut(..count.parse()?).ok_or(Problem::Row)?;
-        let answer = shelf.read(name, at.parse()?, part);
-        push_answer(got, answer)?;
-        got.push(' ')?;
-        push_bytes(got, part)?;
-        got.push('|')?;
+        let (name, call) = call.split_once(' ')?;
+        let (at, count) = call.split_once(' ')?;
+        let part = buffer.get_mut(..count.parse().ok()?)?;
+        let answer = shelf.read(name, at.parse().ok()?, part);
+        put_read(got, answer, part);
     }
-    Ok(())
+    Some(())
+}
+
+// What a read answers, and the bytes that it asked for.
+fn put_read(got: &mut Answer, answer: Result<usize, Failed>, part: &[u8]) {
+    put_count(got, answer);
+    got.put(" ");
+    got.put_bytes(part);
+    got.put("|");
 }
 
 // Writes, each of one piece.
-fn put_writes<S: Sink>(sink: &mut S, calls: &str, got: &mut String) -> Result<(), Problem> {
+fn writes<S: Sink>(got: &mut Answer, sink: &mut S, calls: &str) {
     for call in calls.split('|') {
-        let answer = sink.write(call.as_bytes());
-        push_answer(got, answer)?;
-        got.push('|')?;
+        put_count(got, sink.write(call.as_bytes()));
+        got.put("|");
     }
-    Ok(())
-}
-
-fn put_source(held: Bytes, fails: CallList, calls: &str, got: &mut String) -> Result<(), Problem> {
-    let mut source = MemSource::new(held, fails);
-    put_reads(&mut source, calls, got)
-}
-
-fn put_sure_source(held: Bytes, calls: &str, got: &mut String) -> Result<(), Problem> {
-    let mut source = SureSource::new(held);
-    put_reads(&mut source, calls, got)
-}
-
-fn put_named_shelf(
-    alloc: Global,
-    held: Bytes,
-    fails: CallList,
-    calls: &str,
-    got: &mut String,
-) -> Result<(), Problem> {
-    let mut shelf = MemShelf::new(bytes_of(alloc, NAME)?, held, fails);
-    put_shelf(&mut shelf, calls, got)
-}
-
-fn put_sure_shelf(held: Bytes, calls: &str, got: &mut String) -> Result<(), Problem> {
-    let mut shelf = SureShelf::new(held);
-    put_shelf(&mut shelf, calls, got)
-}
-
-fn put_sink(
-    alloc: Global,
-    room: &str,
-    fails: CallList,
-    calls: &str,
-    got: &mut String,
-) -> Result<(), Problem> {
-    let mut sink = MemSink::new(alloc, room.parse()?, fails)?;
-    put_writes(&mut sink, calls, got)?;
-    push_bytes(got, sink.bytes())
-}
-
-fn put_sure_sink(alloc: Global, room: &str, calls: &str, got: &mut String) -> Result<(), Problem> {
-    let mut sink = SureSink::new(alloc, room.parse()?)?;
-    put_writes(&mut sink, calls, got)?;
-    push_bytes(got, sink.bytes())
 }
 
 // How many bytes were read or written.
-fn push_answer(got: &mut String, answer: Result<usize, Failed>) -> Result<(), Problem> {
+fn put_count(got: &mut Answer, answer: Result<usize, Failed>) {
     match answer {
-        Ok(count) => write!(got, "{count}")?,
-        Err(Failed) => got.push_str("failed")?,
+        Ok(count) => got.put(count),
+        Err(Failed) => got.put("failed"),
     }
-    Ok(())
 }

@@ -7,31 +7,24 @@ mod primitives;
 mod questions;
 mod rows;
 
+use crate::answer::Answer;
 use crate::inputs::command;
-use crate::problem::Problem;
-use crate::read::read_data;
-use crate::row::Table;
 use built_in::no_rows;
-use isl_base::Names;
+use isl_base::{Datum, Names};
 use questions::ask;
 use rows::take;
-use std::alloc::Global;
 
 /// Rows of a program behind those of the built-in classes, and questions, in order.
-#[derive(Clone, Copy)]
-pub struct ProgramsTable;
-
-impl Table for ProgramsTable {
-    fn put(&self, alloc: Global, input: &[u8], got: &mut String) -> Result<(), Problem> {
-        let mut names = Names::new(alloc);
-        let mut rows = no_rows(alloc, &mut names)?;
-        let data = read_data(alloc, &mut names, input)?;
-        for datum in data.as_slice() {
-            let (head, parts) = command(&names, datum)?;
-            if !ask(alloc, &names, &rows, head, parts, got)? {
-                take(alloc, &names, &mut rows, head, parts)?;
+pub fn put(got: &mut Answer, names: &mut Names, data: &[Datum]) -> Option<()> {
+    let mut rows = no_rows(got, names)?;
+    for datum in data {
+        let (head, parts) = command(names, datum)?;
+        match head {
+            "whole" | "nodes" | "frame" | "depth" | "arity" => {
+                ask(got, names, &rows, head, parts)?;
             }
+            _ => take(got, names, &mut rows, head, parts)?,
         }
-        Ok(())
     }
+    Some(())
 }

@@ -1,9 +1,8 @@
 // The data of an input, read by the reader.
 
-use crate::problem::Problem;
-use isl_base::{DatumList, Names, Origin, Stop};
+use crate::answer::Answer;
+use isl_base::{DatumList, Names, Origin};
 use isl_reader::Reader;
-use std::alloc::Global;
 
 /// The bytes that a file may have.
 pub const LONGEST: usize = 1_048_576;
@@ -11,20 +10,18 @@ pub const LONGEST: usize = 1_048_576;
 /// How deep walks over the data of an input go at most, item by item.
 pub const DEPTH: u32 = 2000;
 
-/// All data of a text of a file. A text that is refused is `Problem::Row`.
-pub fn read_data(alloc: Global, names: &mut Names, text: &[u8]) -> Result<DatumList, Problem> {
+/// All data of a text of a file; none where the text is refused.
+pub fn read_data(got: &mut Answer, names: &mut Names, text: &[u8]) -> Option<DatumList> {
     if text.len() > LONGEST {
-        return Err(Problem::Row);
+        return None;
     }
     let mut reader = Reader::new(text, Origin::File);
-    let mut data = DatumList::new(alloc);
+    let mut data = DatumList::new(got.alloc);
     for _ in 0..text.len() {
-        match reader.next(alloc, names) {
-            Ok(Some(datum)) => data.push(datum)?,
-            Ok(None) => break,
-            Err(Stop::Refused(_)) => return Err(Problem::Row),
-            Err(Stop::NoMemory) => return Err(Problem::Memory),
+        match reader.next(got.alloc, names).ok()? {
+            Some(datum) => got.kept(data.push(datum))?,
+            None => break,
         }
     }
-    Ok(data)
+    Some(data)
 }

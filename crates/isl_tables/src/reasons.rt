@@ -1,10 +1,7 @@
 // The reasons of refusals, by their numbers.
 
-use crate::problem::Problem;
-use crate::row::Table;
+use crate::answer::Answer;
 use isl_base::Reason;
-use std::alloc::Global;
-use std::str;
 
 // All reasons.
 const REASONS: [Reason; 39] = [
@@ -50,18 +47,12 @@ const REASONS: [Reason; 39] = [
 ];
 
 /// A number. The answer is the names of the reasons that have it.
-#[derive(Clone, Copy)]
-pub struct ReasonsTable;
-
-impl Table for ReasonsTable {
-    fn put(&self, _alloc: Global, input: &[u8], got: &mut String) -> Result<(), Problem> {
-        let digits = str::from_utf8(input).map_err(|_| Problem::Row)?;
-        let number: u8 = digits.parse()?;
-        for reason in REASONS {
-            if reason.number() == number {
-                got.push_str(reason.text())?;
-            }
+pub fn put(got: &mut Answer, line: &str) -> Option<()> {
+    let number: u8 = line.parse().ok()?;
+    for reason in &REASONS {
+        if reason.number() == number {
+            got.put(reason.text());
         }
-        Ok(())
     }
+    Some(())
 }

@@ -1,114 +1,128 @@
-// Data as a step of a derived form gives them: `#0` is the new symbol of serial 0, and what does not
-// stand at the place of the form has its own place behind it, as `a@1:5`.
+// Data as the tables write them.
 
-use crate::escape::push_bytes;
-use crate::placed::push_place;
-use crate::problem::Problem;
-use isl_base::{Datum, DatumList, Kind, Names, Place, Symbol};
+use crate::answer::Answer;
+use isl_base::{Datum, Kind, Names, Place, Symbol};
 
-/// Whether places are shown: those of a part whose place is not this one.
+/// How a datum is written.
 #[derive(Clone, Copy)]
-pub enum Places {
-    Hidden,
+pub enum Style {
+    /// With all places: `1:1i5` is the integer 5 at 1:1, `c` a character by its number, `s` a symbol,
+    /// `t<..>` a string, `n` the empty list, `l(..)` a list, `v(..)` a vector.
+    Placed,
+    /// With no place: `5`, `a`, `nil`, `(a . b)`, `#(a)`; `#0` is the new symbol of serial 0.
+    Plain,
+    /// The same, where a part that does not stand at this place has its own behind it, as `a@1:5`.
     Besides(Place),
 }
 
-/// Appends a datum whose parts are inside one another at most so deep.
+/// Appends a datum whose parts are inside one another at most so deep; none of a deeper one.
 #[cycle(shown)]
-pub fn push_shown(
-    got: &mut String,
+pub fn show(
+    got: &mut Answer,
     names: &Names,
     datum: &Datum,
-    places: Places,
+    style: Style,
     depth: u32,
-) -> Result<(), Problem> {
+) -> Option<()> {
     if depth == 0 {
-        return Err(Problem::Row);
+        return None;
     }
+    let is_placed = begin(got, datum.place, style);
     match &datum.kind {
-        Kind::Int(number) => write!(got, "{number}")?,
-        Kind::Sym(symbol) => push_symbol(got, names, *symbol)?,
-        Kind::Nil => got.push_str("nil")?,
+        Kind::Int(number) => {
+            got.put(if is_placed { "i" } else { "" });
+            got.put(*number);
+        }
+        Kind::Char(byte) => {
+            got.put("c");
+            got.put(*byte);
+        }
+        Kind::Sym(symbol) => {
+            got.put(if is_placed { "s" } else { "" });
+            show_symbol(got, names, *symbol)?;
+        }
+        Kind::Str(bytes) => {
+            got.put("t<");
+            got.put_bytes(bytes.as_slice());
+            got.put(">");
+        }
+        Kind::Nil => got.put(if is_placed { "n" } else { "nil" }),
         Kind::Vector(items) => {
-            got.push_str("#(")?;
-            push_all(got, names, items, places, depth - 1)?;
-            got.push(')')?;
+            got.put(if is_placed { "v(" } else { "#(" });
+            show_all(got, names, items.as_slice(), style, depth - 1)?;
+            got.put(")");
         }
         Kind::List { items, tail } => {
-            got.push('(')?;
-            push_all(got, names, items, places, depth - 1)?;
-            push_tail(got, names, tail, places, depth - 1)?;
-            got.push(')')?;
+            got.put(if is_placed { "l(" } else { "(" });
+            show_all(got, names, items.as_slice(), style, depth - 1)?;
+            if let Some(datum) = tail {
+                got.put(" . ");
+                show(got, names, datum, style, depth - 1)?;
+            }
+            got.put(")");
         }
-        Kind::Char(_) | Kind::Str(_) => return Err(Problem::Row),
     }
-    push_besides(got, datum.place, places)
+    end(got, datum.place, style);
+    Some(())
 }
 
 // Appends data with a blank between them.
 #[cycle(shown)]
-fn push_all(
-    got: &mut String,
+fn show_all(
+    got: &mut Answer,
     names: &Names,
-    items: &DatumList,
-    places: Places,
+    items: &[Datum],
+    style: Style,
     depth: u32,
-) -> Result<(), Problem> {
+) -> Option<()> {
     if depth == 0 {
-        return Err(Problem::Row);
+        return None;
     }
     let mut is_first = true;
-    for item in items.as_slice() {
+    for item in items {
         if !is_first {
-            got.push(' ')?;
+            got.put(" ");
         }
+        show(got, names, item, style, depth - 1)?;
         is_first = false;
-        push_shown(got, names, item, places, depth - 1)?;
     }
-    Ok(())
+    Some(())
 }
 
-// Appends the dot and the datum behind it, where there is one.
-#[cycle(shown)]
-fn push_tail(
-    got: &mut String,
-    names: &Names,
-    tail: &Option<Box<Datum>>,
-    places: Places,
-    depth: u32,
-) -> Result<(), Problem> {
-    if depth == 0 {
-        return Err(Problem::Row);
-    }
-    if let Some(datum) = tail {
-        got.push_str(" . ")?;
-        push_shown(got, names, datum, places, depth - 1)?;
-    }
-    Ok(())
-}
-
-// Appends a place that is to be shown.
-fn push_besides(got: &mut String, place: Place, places: Places) -> Result<(), Problem> {
-    match places {
-        Places::Besides(usual) if place != usual => {
-            got.push('@')?;
-            push_place(got, place)
+// Appends a place that stands in front, and says whether it does.
+fn begin(got: &mut Answer, place: Place, style: Style) -> bool {
+    match style {
+        Style::Placed => {
+            got.put_place(place);
+            true
         }
-        _ => Ok(()),
+        _ => false,
+    }
+}
+
+// Appends a place that stands behind.
+fn end(got: &mut Answer, place: Place, style: Style) {
+    match style {
+        Style::Besides(usual) if place != usual => {
+            got.put("@");
+            got.put_place(place);
+        }
+        _ => {}
     }
 }
 
 /// Appends a symbol: its name, or `#` and its serial.
-pub fn push_symbol(got: &mut String, names: &Names, symbol: Symbol) -> Result<(), Problem> {
+pub fn show_symbol(got: &mut Answer, names: &Names, symbol: Symbol) -> Option<()> {
     match symbol {
-        Symbol::Named(name) => push_bytes(got, names.text(name).ok_or(Problem::Row)?),
+        Symbol::Named(name) => got.put_bytes(names.text(name)?),
         Symbol::Fresh {
             expansion: 0,
             serial,
         } => {
-            write!(got, "#{serial}")?;
-            Ok(())
+            got.put("#");
+            got.put(serial);
         }
-        Symbol::Fresh { .. } => Err(Problem::Row),
+        Symbol::Fresh { .. } => return None,
     }
+    Some(())
 }

@@ -1,41 +1,40 @@
 // Slots as data: a name, or a name with its options.
 
+use crate::answer::Answer;
 use crate::inputs::{id, items, name, word};
-use crate::problem::Problem;
 use isl_base::{Datum, NameList, Names};
-use isl_meaning::SlotRow;
-use std::alloc::Global;
+use isl_meaning::{SlotRow, SlotRows};
 
-/// The slot that a datum describes.
-pub fn slot_row(alloc: Global, names: &Names, datum: &Datum) -> Result<SlotRow, Problem> {
-    match items(datum) {
-        Ok([own, options @ ..]) => {
-            let mut slot = plain_slot(alloc, own)?;
-            take_options(names, &mut slot, options)?;
-            Ok(slot)
-        }
-        _ => plain_slot(alloc, datum),
+/// The slots that these data describe.
+pub fn slot_rows(got: &mut Answer, names: &Names, data: &[Datum]) -> Option<SlotRows> {
+    let mut rows = SlotRows::new(got.alloc);
+    for datum in data {
+        let slot = slot_row(got, names, datum)?;
+        got.kept(rows.push(slot))?;
     }
+    Some(rows)
 }
 
-fn plain_slot(alloc: Global, own: &Datum) -> Result<SlotRow, Problem> {
-    Ok(SlotRow {
+/// The slot that a datum describes: `:initarg NAME` and `:initform PROCEDURE` are options.
+pub fn slot_row(got: &mut Answer, names: &Names, datum: &Datum) -> Option<SlotRow> {
+    let (own, options) = match items(datum) {
+        Some([own, options @ ..]) => (own, options),
+        _ => (datum, [].as_slice()),
+    };
+    let mut slot = SlotRow {
         name: name(own)?,
-        initargs: NameList::new(alloc),
+        initargs: NameList::new(got.alloc),
         initform: None,
-    })
-}
-
-// The options of a slot: `:initarg NAME` and `:initform PROCEDURE`.
-fn take_options(names: &Names, slot: &mut SlotRow, options: &[Datum]) -> Result<(), Problem> {
-    let mut left = options;
-    while let [key, value, rest @ ..] = left {
+    };
+    for option in options.chunks(2) {
+        let [key, value] = option else {
+            return None;
+        };
         match word(names, key)? {
-            ":initarg" => slot.initargs.push(name(value)?)?,
+            ":initarg" => got.kept(slot.initargs.push(name(value)?))?,
             ":initform" => slot.initform = Some(id(value)?),
-            _ => return Err(Problem::Row),
+            _ => return None,
         }
-        left = rest;
     }
-    Ok(())
+    Some(slot)
 }

@@ -1,154 +1,135 @@
 // What is asked of classes and generic functions.
 
-use crate::answer::{
-    begin, push_found, push_list, push_number, push_numbers, push_word, push_yes_no,
-};
-use crate::inputs::{id, ids, items, name};
+use crate::answer::Answer;
+use crate::inputs::{id, ids, items};
 use crate::methods::setting::Setting;
-use crate::problem::Problem;
 use isl_base::{Datum, ItemList};
 use isl_dispatch::{
     Chain, applies, argument_groups, chain_length, generic_cells, is_below, tables, tuple_at,
     tuple_count,
 };
 use isl_meaning::{ClassIds, GenericRow};
-use std::alloc::Global;
 
 /// Puts a question.
-pub fn ask(
-    alloc: Global,
-    setting: &Setting,
-    question: &str,
-    parts: &[Datum],
-    got: &mut String,
-) -> Result<(), Problem> {
+pub fn ask(got: &mut Answer, setting: &Setting, question: &str, parts: &[Datum]) -> Option<()> {
     match (question, parts) {
-        ("cells", []) => push_number(got, setting.generics.cells(alloc, &setting.classes)?),
-        ("below", [class, above]) => {
-            push_yes_no(got, is_below(&setting.classes, id(class)?, id(above)?))
+        ("cells", []) => {
+            let cells = got.kept(setting.generics.cells(got.alloc, &setting.classes))?;
+            got.push(cells);
         }
-        ("applies", [tuple, method]) => push_applies(alloc, setting, tuple, method, got),
-        ("tuples", lists) => push_tuples(alloc, lists, got),
-        (_, [function, parts @ ..]) => ask_generic(alloc, setting, question, function, parts, got),
-        _ => Err(Problem::Row),
+        ("below", [class, above]) => {
+            got.push_yes_no(is_below(&setting.classes, id(class)?, id(above)?));
+        }
+        ("applies", [tuple, method]) => {
+            let tuple = ids(got, items(tuple)?)?;
+            let method = ids(got, items(method)?)?;
+            got.push_yes_no(applies(&setting.classes, &tuple, &method));
+        }
+        ("tuples", lists) => push_tuples(got, lists)?,
+        ("find", [function]) => got.push_found(setting.generic(function)),
+        (_, [function, numbers @ ..]) => ask_generic(got, setting, question, function, numbers)?,
+        _ => return None,
     }
-}
-
-// Whether methods of these classes apply to arguments of those.
-fn push_applies(
-    alloc: Global,
-    setting: &Setting,
-    tuple: &Datum,
-    method: &Datum,
-    got: &mut String,
-) -> Result<(), Problem> {
-    let tuple = ids(alloc, items(tuple)?)?;
-    let method = ids(alloc, items(method)?)?;
-    push_yes_no(got, applies(&setting.classes, &tuple, &method))
+    Some(())
 }
 
 // How many tuples these lists have, and each tuple.
-fn push_tuples(alloc: Global, parts: &[Datum], got: &mut String) -> Result<(), Problem> {
-    let mut lists = ItemList::new(alloc);
+fn push_tuples(got: &mut Answer, parts: &[Datum]) -> Option<()> {
+    let mut lists = ItemList::new(got.alloc);
     for part in parts {
-        lists.push(ids(alloc, items(part)?)?)?;
+        let list = ids(got, items(part)?)?;
+        got.kept(lists.push(list))?;
     }
     let count = tuple_count(&lists);
-    push_number(got, count as u64)?;
+    got.push(count);
     if count > 1000 {
-        return Ok(());
+        return Some(());
     }
     for index in 0..count {
-        let tuple = tuple_at(alloc, &lists, count, index)?;
-        push_numbers(got, tuple.as_slice())?;
+        let tuple = got.kept(tuple_at(got.alloc, &lists, count, index))?;
+        push_list(got, tuple.as_slice());
     }
-    Ok(())
+    Some(())
 }
 
-// A question on the generic function of a name.
+// A question on the generic function of a name, with numbers behind it.
 fn ask_generic(
-    alloc: Global,
+    got: &mut Answer,
     setting: &Setting,
     question: &str,
     function: &Datum,
-    parts: &[Datum],
-    got: &mut String,
-) -> Result<(), Problem> {
-    if question == "find" {
-        return push_found(got, setting.generics.find(name(function)?));
-    }
+    numbers: &[Datum],
+) -> Option<()> {
     let generic = setting.generic(function)?;
-    let row = setting.generics.rows().get(generic).ok_or(Problem::Row)?;
+    let row = setting.generics.rows().get(generic)?;
+    let numbers: ClassIds = ids(got, numbers)?;
     match question {
-        "count" => push_number(got, row.methods.len() as u64),
-        "cells-of" => push_number(got, generic_cells(alloc, row, &setting.classes)?),
-        "groups" => push_groups(alloc, setting, row, parts, got),
-        "length" => push_length(alloc, setting, row, parts, got),
-        "chain" => push_chain(alloc, setting, generic, parts, got),
-        _ => Err(Problem::Row),
+        "count" => got.push(row.methods.len()),
+        "cells-of" => {
+            let cells = got.kept(generic_cells(got.alloc, row, &setting.classes))?;
+            got.push(cells);
+        }
+        "groups" => push_groups(got, setting, generic, numbers.as_slice())?,
+        "length" => got.push(chain_length(row, &setting.classes, &numbers)),
+        "chain" => push_chain(got, setting, generic, numbers.as_slice())?,
+        _ => return None,
     }
-}
-
-// How many methods the chain of a call has.
-fn push_length(
-    alloc: Global,
-    setting: &Setting,
-    row: &GenericRow,
-    parts: &[Datum],
-    got: &mut String,
-) -> Result<(), Problem> {
-    let tuple: ClassIds = ids(alloc, parts)?;
-    push_number(got, chain_length(row, &setting.classes, &tuple) as u64)
+    Some(())
 }
 
 // The first class of each group at an argument, the group of each class, and whether the argument
 // is specialised.
 fn push_groups(
-    alloc: Global,
+    got: &mut Answer,
     setting: &Setting,
-    row: &GenericRow,
-    parts: &[Datum],
-    got: &mut String,
-) -> Result<(), Problem> {
-    let [argument] = parts else {
-        return Err(Problem::Row);
+    generic: usize,
+    numbers: &[usize],
+) -> Option<()> {
+    let [argument] = numbers else {
+        return None;
     };
-    let groups = argument_groups(alloc, row, id(argument)?, &setting.classes)?;
-    push_numbers(got, groups.firsts.as_slice())?;
-    push_numbers(got, groups.numbers.as_slice())?;
-    push_yes_no(got, groups.specialised)
+    let row = setting.generics.rows().get(generic)?;
+    let groups = got.kept(argument_groups(got.alloc, row, *argument, &setting.classes))?;
+    push_list(got, groups.firsts.as_slice());
+    push_list(got, groups.numbers.as_slice());
+    got.push_yes_no(groups.specialised);
+    Some(())
 }
 
 // The chain of a call, by the tables of all generic functions.
 fn push_chain(
-    alloc: Global,
+    got: &mut Answer,
     setting: &Setting,
     generic: usize,
-    parts: &[Datum],
-    got: &mut String,
-) -> Result<(), Problem> {
-    if setting.generics.cells(alloc, &setting.classes)? > 262_144 {
-        return Err(Problem::Row);
+    classes: &[usize],
+) -> Option<()> {
+    let cells = got.kept(setting.generics.cells(got.alloc, &setting.classes))?;
+    if cells > 262_144 {
+        return None;
     }
-    let tables = tables(alloc, setting.generics.rows(), &setting.classes)?;
-    let classes = ids(alloc, parts)?;
-    match tables.chain(generic, classes.as_slice()) {
+    let tables = got.kept(tables(got.alloc, setting.generics.rows(), &setting.classes))?;
+    match tables.chain(generic, classes) {
         Some(chain) => push_methods(got, chain),
-        None => push_word(got, "none"),
+        None => got.push("none"),
     }
+    Some(())
 }
 
 // The around, before, primary and after methods.
-fn push_methods(got: &mut String, chain: &Chain) -> Result<(), Problem> {
-    begin(got)?;
-    got.push('(')?;
-    push_list(got, chain.around.as_slice())?;
-    got.push(' ')?;
-    push_list(got, chain.before.as_slice())?;
-    got.push(' ')?;
-    push_list(got, chain.primary.as_slice())?;
-    got.push(' ')?;
-    push_list(got, chain.after.as_slice())?;
-    got.push(')')?;
-    Ok(())
+fn push_methods(got: &mut Answer, chain: &Chain) {
+    got.push("(");
+    got.put_list(chain.around.as_slice());
+    got.put(" ");
+    got.put_list(chain.before.as_slice());
+    got.put(" ");
+    got.put_list(chain.primary.as_slice());
+    got.put(" ");
+    got.put_list(chain.after.as_slice());
+    got.put(")");
+}
+
+// A list of numbers more.
+fn push_list(got: &mut Answer, numbers: &[usize]) {
+    got.begin();
+    got.put_list(numbers);
 }

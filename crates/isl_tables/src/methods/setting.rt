@@ -1,9 +1,8 @@
 // The classes and the generic functions that a row has.
 
-use crate::answer::push_stop;
+use crate::answer::Answer;
 use crate::inputs::{id, ids, items, name, number, word};
 use crate::method::method;
-use crate::problem::Problem;
 use isl_base::{Datum, Name, Names};
 use isl_dispatch::Generics;
 use isl_meaning::{ClassIds, ClassRow, ClassRows, GenericId, SlotRows};
@@ -26,108 +25,98 @@ impl Setting {
     }
 
     /// One class for each precedence list.
-    pub fn take_classes(&mut self, alloc: Global, lists: &[Datum]) -> Result<(), Problem> {
+    pub fn take_classes(&mut self, got: &mut Answer, lists: &[Datum]) -> Option<()> {
         for list in lists {
-            self.push_class(alloc, ids(alloc, items(list)?)?)?;
+            let precedence = ids(got, items(list)?)?;
+            self.push_class(got, precedence)?;
         }
-        Ok(())
+        Some(())
     }
 
     /// `<object>`, and so many classes right below it that they are as many as is said.
-    pub fn take_flat(&mut self, alloc: Global, parts: &[Datum]) -> Result<(), Problem> {
+    pub fn take_flat(&mut self, got: &mut Answer, parts: &[Datum]) -> Option<()> {
         let [count] = parts else {
-            return Err(Problem::Row);
+            return None;
         };
         for class in 0..id(count)? {
-            let mut list = ClassIds::new(alloc);
+            let mut precedence = ClassIds::new(got.alloc);
             if class != 0 {
-                list.push(class)?;
+                got.kept(precedence.push(class))?;
             }
-            list.push(0)?;
-            self.push_class(alloc, list)?;
+            got.kept(precedence.push(0))?;
+            self.push_class(got, precedence)?;
         }
-        Ok(())
+        Some(())
     }
 
-    fn push_class(&mut self, alloc: Global, precedence: ClassIds) -> Result<(), Problem> {
-        self.classes.push(ClassRow {
+    fn push_class(&mut self, got: &mut Answer, precedence: ClassIds) -> Option<()> {
+        let row = ClassRow {
             name: Name(self.classes.len()),
             precedence,
-            slots: SlotRows::new(alloc),
+            slots: SlotRows::new(got.alloc),
             abstract_class: false,
-        })?;
-        Ok(())
+        };
+        got.kept(self.classes.push(row))
     }
 
     /// A new generic function: a name, its required arguments, and `rest` where it takes more.
-    pub fn define(&mut self, names: &Names, parts: &[Datum]) -> Result<(), Problem> {
+    pub fn define(&mut self, got: &mut Answer, names: &Names, parts: &[Datum]) -> Option<()> {
         let (parts, rest) = without_rest(names, parts);
         let [function, required] = parts else {
-            return Err(Problem::Row);
+            return None;
         };
-        self.define_one(name(function)?, number(required)?, rest)
-    }
-
-    fn define_one(&mut self, function: Name, required: u32, rest: bool) -> Result<(), Problem> {
+        let function = name(function)?;
+        let required = number(required)?;
         if self.generics.find(function).is_some() {
-            return Err(Problem::Row);
+            return None;
         }
-        self.generics.define(function, required, rest)?;
-        Ok(())
+        got.kept(self.generics.define(function, required, rest))?;
+        Some(())
     }
 
     /// Adds methods to the generic function of a name.
-    pub fn add(
-        &mut self,
-        alloc: Global,
-        names: &Names,
-        parts: &[Datum],
-        got: &mut String,
-    ) -> Result<(), Problem> {
+    pub fn add(&mut self, got: &mut Answer, names: &Names, parts: &[Datum]) -> Option<()> {
         let [function, methods @ ..] = parts else {
-            return Err(Problem::Row);
+            return None;
         };
         let generic = self.generic(function)?;
         for method in methods {
-            self.add_one(alloc, names, generic, method, got)?;
+            self.add_one(got, names, generic, method)?;
         }
-        Ok(())
+        Some(())
     }
 
     fn add_one(
         &mut self,
-        alloc: Global,
+        got: &mut Answer,
         names: &Names,
         generic: GenericId,
         datum: &Datum,
-        got: &mut String,
-    ) -> Result<(), Problem> {
+    ) -> Option<()> {
         let (parts, rest) = without_rest(names, items(datum)?);
-        let row = method(alloc, names, parts)?;
+        let row = method(got, names, parts)?;
         if generic >= self.generics.rows().len() {
-            return Err(Problem::Row);
+            return None;
         }
         match self.generics.add_method(generic, datum.place, rest, row) {
-            Ok(()) => Ok(()),
-            Err(stop) => push_stop(got, stop),
+            Ok(()) => Some(()),
+            Err(stop) => {
+                got.begin();
+                got.put_stop(stop)
+            }
         }
     }
 
     /// The number of the generic function of a name.
-    pub fn generic(&self, function: &Datum) -> Result<GenericId, Problem> {
-        self.generics.find(name(function)?).ok_or(Problem::Row)
+    pub fn generic(&self, function: &Datum) -> Option<GenericId> {
+        self.generics.find(name(function)?)
     }
 }
 
 // The items without the word `rest` at their end, and whether it stands there.
 fn without_rest<'a>(names: &Names, data: &'a [Datum]) -> (&'a [Datum], bool) {
     match data {
-        [front @ .., last] if is_rest(names, last) => (front, true),
+        [front @ .., last] if word(names, last) == Some("rest") => (front, true),
         _ => (data, false),
     }
-}
-
-// Whether it is the word `rest`.
-fn is_rest(names: &Names, datum: &Datum) -> bool {
-    matches!(word(names, datum), Ok("rest"))
 }

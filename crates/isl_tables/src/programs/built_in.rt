@@ -1,20 +1,21 @@
 // A program that has the built-in classes and nothing else.
 
-use crate::problem::Problem;
-use isl_base::{Name, NameList, Names, PlaceList};
+use crate::answer::Answer;
+use isl_base::{ItemList, Names, PlaceList};
 use isl_classes::Classes;
 use isl_meaning::{
-    ClassId, ClassIds, ClassRow, ClassRows, CoreList, FunctionRows, GenericRows, LiteralRows,
-    ProcedureList, ProgramRows, SlotRow, SlotRows,
+    ClassRow, ClassRows, CoreList, FunctionRows, GenericRows, LiteralRows, ProcedureList,
+    ProgramRows, SlotRow, SlotRows,
 };
-use std::alloc::Global;
 
 /// The rows of that program, with the names of its classes put into the table of names.
-pub fn no_rows(alloc: Global, names: &mut Names) -> Result<ProgramRows, Problem> {
-    Ok(ProgramRows {
+pub fn no_rows(got: &mut Answer, names: &mut Names) -> Option<ProgramRows> {
+    let alloc = got.alloc;
+    let classes = built_in(got, names)?;
+    Some(ProgramRows {
         literals: LiteralRows::new(alloc),
         procedures: ProcedureList::new(alloc),
-        classes: built_in(alloc, names)?,
+        classes,
         generics: GenericRows::new(alloc),
         functions: FunctionRows::new(alloc),
         main: CoreList::new(alloc),
@@ -22,44 +23,38 @@ pub fn no_rows(alloc: Global, names: &mut Names) -> Result<ProgramRows, Problem>
     })
 }
 
-fn built_in(alloc: Global, names: &mut Names) -> Result<ClassRows, Problem> {
-    let classes = Classes::builtin(alloc, names)?;
-    let mut rows = ClassRows::new(alloc);
+fn built_in(got: &mut Answer, names: &mut Names) -> Option<ClassRows> {
+    let classes = got.kept(Classes::builtin(got.alloc, names))?;
+    let mut rows = ClassRows::new(got.alloc);
     for row in classes.rows().as_slice() {
-        rows.push(ClassRow {
+        let copy = ClassRow {
             name: row.name,
-            precedence: class_ids(alloc, row.precedence.as_slice())?,
-            slots: slot_rows(alloc, row.slots.as_slice())?,
+            precedence: copied(got, row.precedence.as_slice())?,
+            slots: slot_rows(got, row.slots.as_slice())?,
             abstract_class: row.abstract_class,
-        })?;
+        };
+        got.kept(rows.push(copy))?;
     }
-    Ok(rows)
+    Some(rows)
 }
 
-fn class_ids(alloc: Global, ids: &[ClassId]) -> Result<ClassIds, Problem> {
-    let mut copies = ClassIds::new(alloc);
-    for id in ids {
-        copies.push(*id)?;
-    }
-    Ok(copies)
-}
-
-fn slot_rows(alloc: Global, slots: &[SlotRow]) -> Result<SlotRows, Problem> {
-    let mut copies = SlotRows::new(alloc);
+fn slot_rows(got: &mut Answer, slots: &[SlotRow]) -> Option<SlotRows> {
+    let mut rows = SlotRows::new(got.alloc);
     for slot in slots {
-        copies.push(SlotRow {
+        let copy = SlotRow {
             name: slot.name,
-            initargs: name_list(alloc, slot.initargs.as_slice())?,
+            initargs: copied(got, slot.initargs.as_slice())?,
             initform: slot.initform,
-        })?;
+        };
+        got.kept(rows.push(copy))?;
     }
-    Ok(copies)
+    Some(rows)
 }
 
-fn name_list(alloc: Global, names: &[Name]) -> Result<NameList, Problem> {
-    let mut copies = NameList::new(alloc);
-    for name in names {
-        copies.push(*name)?;
+fn copied<T: Copy + Drop>(got: &mut Answer, items: &[T]) -> Option<ItemList<T>> {
+    let mut copies = ItemList::new(got.alloc);
+    for item in items {
+        got.kept(copies.push(*item))?;
     }
-    Ok(copies)
+    Some(copies)
 }

@@ -1,219 +1,234 @@
 // Core forms as data: the word of a form, and its parts in order.
 
+use crate::answer::Answer;
 use crate::inputs::{command, id, ids, items, name, number};
-use crate::problem::Problem;
 use crate::programs::lambda::{captured, rest_or_nil};
 use crate::programs::primitives::primitive;
 use isl_base::{Datum, Kind, Names};
 use isl_meaning::{
     Binding, BindingList, Clause, ClauseList, Core, CoreForm, CoreList, DynBinding, DynBindings,
 };
-use std::alloc::Global;
 
-/// What the forms of a row are read with.
-#[derive(Clone, Copy)]
-pub struct Forms<'a> {
-    pub alloc: Global,
-    pub names: &'a Names,
+/// The form of a datum, with fewer than `depth` forms inside one another.
+#[cycle(forms)]
+pub fn form(got: &mut Answer, names: &Names, datum: &Datum, depth: u32) -> Option<Core> {
+    if depth == 0 {
+        return None;
+    }
+    let (head, parts) = command(names, datum)?;
+    match (head, parts) {
+        ("nest", [count, inner]) => {
+            let inner = form(got, names, inner, depth - 1)?;
+            nested(got, number(count)?, inner)
+        }
+        _ => Some(Core::new(kind(got, names, head, parts, depth - 1)?)),
+    }
 }
 
-impl Forms<'_> {
-    /// The form of a datum, with fewer than `depth` forms inside one another.
-    #[cycle(forms)]
-    pub fn form(self, datum: &Datum, depth: u32) -> Result<Core, Problem> {
-        if depth == 0 {
-            return Err(Problem::Row);
+// The form of that word and these parts.
+#[cycle(forms)]
+fn kind(
+    got: &mut Answer,
+    names: &Names,
+    head: &str,
+    parts: &[Datum],
+    depth: u32,
+) -> Option<CoreForm> {
+    match (head, parts) {
+        ("clauses", all) => Some(CoreForm::Clauses(clauses(got, names, all, depth)?)),
+        ("let", [all, body]) => {
+            let all = bindings(got, names, items(all)?, depth)?;
+            Some(CoreForm::Let(all, boxed(got, names, body, depth)?))
         }
-        let (head, parts) = command(self.names, datum)?;
-        match (head, parts) {
-            ("nest", [count, form]) => {
-                nested(self.alloc, number(count)?, self.form(form, depth - 1)?)
-            }
-            _ => Ok(Core::new(self.kind(head, parts, depth - 1)?)),
+        ("dynamic-let", [all, body]) => {
+            let all = dynamic_bindings(got, names, items(all)?, depth)?;
+            Some(CoreForm::DynamicLet(all, boxed(got, names, body, depth)?))
         }
+        ("sequence" | "call-value" | "call" | "prim" | "tagbody", _) => {
+            list(got, names, head, parts, depth)
+        }
+        ("lambda", [variables, rest, body, parts @ ..]) => {
+            let required = ids(got, items(variables)?)?;
+            let parts = captured(got, names, parts)?;
+            let body = boxed(got, names, body, depth)?;
+            Some(CoreForm::Lambda(required, rest_or_nil(rest)?, body, parts))
+        }
+        ("go", [exit, segment]) => Some(CoreForm::Go(id(exit)?, number(segment)?)),
+        (_, [first, second]) => two(got, names, head, first, second, depth),
+        _ => leaf(head, parts),
     }
+}
 
-    // The form of that word and these parts.
-    #[cycle(forms)]
-    fn kind(self, head: &str, parts: &[Datum], depth: u32) -> Result<CoreForm, Problem> {
-        match (head, parts) {
-            ("clauses", clauses) => Ok(CoreForm::Clauses(self.clauses(clauses, depth)?)),
-            ("let", [bindings, body]) => {
-                let bindings = self.bindings(items(bindings)?, depth)?;
-                Ok(CoreForm::Let(bindings, self.boxed(body, depth)?))
-            }
-            ("dynamic-let", [bindings, body]) => {
-                let bindings = self.dynamic_bindings(items(bindings)?, depth)?;
-                Ok(CoreForm::DynamicLet(bindings, self.boxed(body, depth)?))
-            }
-            ("sequence" | "call-value" | "call" | "prim" | "tagbody", _) => {
-                self.list(head, parts, depth)
-            }
-            ("lambda", [variables, rest, body, parts @ ..]) => {
-                let required = ids(self.alloc, items(variables)?)?;
-                let parts = captured(self.alloc, self.names, parts)?;
-                let body = self.boxed(body, depth)?;
-                Ok(CoreForm::Lambda(required, rest_or_nil(rest)?, body, parts))
-            }
-            ("go", [exit, segment]) => Ok(CoreForm::Go(id(exit)?, number(segment)?)),
-            (_, [first, second]) => self.two(head, first, second, depth),
-            _ => leaf(head, parts),
+// Forms in a row, behind what stands in front of them.
+#[cycle(forms)]
+fn list(
+    got: &mut Answer,
+    names: &Names,
+    head: &str,
+    parts: &[Datum],
+    depth: u32,
+) -> Option<CoreForm> {
+    match (head, parts) {
+        ("sequence", all) => Some(CoreForm::Sequence(forms(got, names, all, depth)?)),
+        ("call-value", all) => Some(CoreForm::CallValue(forms(got, names, all, depth)?)),
+        ("call", [function, all @ ..]) => {
+            let function = name(function)?;
+            Some(CoreForm::Call(function, forms(got, names, all, depth)?))
         }
+        ("prim", [which, all @ ..]) => {
+            let which = primitive(names, which)?;
+            Some(CoreForm::Prim(which, forms(got, names, all, depth)?))
+        }
+        ("tagbody", [exit, all @ ..]) => {
+            let exit = id(exit)?;
+            Some(CoreForm::Tagbody(exit, forms(got, names, all, depth)?))
+        }
+        _ => None,
     }
+}
 
-    // Forms in a row, behind what stands in front of them.
-    #[cycle(forms)]
-    fn list(self, head: &str, parts: &[Datum], depth: u32) -> Result<CoreForm, Problem> {
-        match (head, parts) {
-            ("sequence", forms) => Ok(CoreForm::Sequence(self.forms(forms, depth)?)),
-            ("call-value", forms) => Ok(CoreForm::CallValue(self.forms(forms, depth)?)),
-            ("call", [function, forms @ ..]) => {
-                Ok(CoreForm::Call(name(function)?, self.forms(forms, depth)?))
+// A number, a name or a form, and then a form.
+#[cycle(forms)]
+fn two(
+    got: &mut Answer,
+    names: &Names,
+    head: &str,
+    first: &Datum,
+    second: &Datum,
+    depth: u32,
+) -> Option<CoreForm> {
+    let second = boxed(got, names, second, depth)?;
+    match &first.kind {
+        Kind::Int(_) => with_number(head, id(first)?, second),
+        Kind::Sym(_) => with_name(head, first, second),
+        _ => with_form(head, boxed(got, names, first, depth)?, second),
+    }
+}
+
+#[cycle(forms)]
+fn boxed(got: &mut Answer, names: &Names, datum: &Datum, depth: u32) -> Option<Box<Core>> {
+    let core = form(got, names, datum, depth)?;
+    got.kept(Box::new(got.alloc, core))
+}
+
+#[cycle(forms)]
+fn forms(got: &mut Answer, names: &Names, data: &[Datum], depth: u32) -> Option<CoreList> {
+    let mut list = CoreList::new(got.alloc);
+    for datum in data {
+        let core = form(got, names, datum, depth)?;
+        got.kept(list.push(core))?;
+    }
+    Some(list)
+}
+
+// `(TEST BODY)`, or `(TEST)` alone.
+#[cycle(forms)]
+fn clauses(got: &mut Answer, names: &Names, data: &[Datum], depth: u32) -> Option<ClauseList> {
+    let mut list = ClauseList::new(got.alloc);
+    for datum in data {
+        let (test, body) = match items(datum)? {
+            [test] => (form(got, names, test, depth)?, None),
+            [test, body] => {
+                let test = form(got, names, test, depth)?;
+                (test, Some(form(got, names, body, depth)?))
             }
-            ("prim", [which, forms @ ..]) => {
-                let which = primitive(self.names, which)?;
-                Ok(CoreForm::Prim(which, self.forms(forms, depth)?))
-            }
-            ("tagbody", [exit, segments @ ..]) => {
-                Ok(CoreForm::Tagbody(id(exit)?, self.forms(segments, depth)?))
-            }
-            _ => Err(Problem::Row),
-        }
+            _ => return None,
+        };
+        got.kept(list.push(Clause { test, body }))?;
     }
+    Some(list)
+}
 
-    // A number, a name or a form, and then a form.
-    #[cycle(forms)]
-    fn two(
-        self,
-        head: &str,
-        first: &Datum,
-        second: &Datum,
-        depth: u32,
-    ) -> Result<CoreForm, Problem> {
-        let second = self.boxed(second, depth)?;
-        match &first.kind {
-            Kind::Int(_) => with_number(head, id(first)?, second),
-            Kind::Sym(_) => with_name(head, first, second),
-            _ => with_form(head, self.boxed(first, depth)?, second),
-        }
+// `(VARIABLE VALUE)` each.
+#[cycle(forms)]
+fn bindings(got: &mut Answer, names: &Names, data: &[Datum], depth: u32) -> Option<BindingList> {
+    let mut list = BindingList::new(got.alloc);
+    for datum in data {
+        let [var, value] = items(datum)? else {
+            return None;
+        };
+        let var = id(var)?;
+        let value = form(got, names, value, depth)?;
+        got.kept(list.push(Binding { var, value }))?;
     }
+    Some(list)
+}
 
-    #[cycle(forms)]
-    fn boxed(self, datum: &Datum, depth: u32) -> Result<Box<Core>, Problem> {
-        let core = self.form(datum, depth)?;
-        Box::new(self.alloc, core).map_err(|_| Problem::Memory)
+// `(NAME VALUE)` each.
+#[cycle(forms)]
+fn dynamic_bindings(
+    got: &mut Answer,
+    names: &Names,
+    data: &[Datum],
+    depth: u32,
+) -> Option<DynBindings> {
+    let mut list = DynBindings::new(got.alloc);
+    for datum in data {
+        let [variable, value] = items(datum)? else {
+            return None;
+        };
+        let name = name(variable)?;
+        let value = form(got, names, value, depth)?;
+        got.kept(list.push(DynBinding { name, value }))?;
     }
-
-    #[cycle(forms)]
-    fn forms(self, data: &[Datum], depth: u32) -> Result<CoreList, Problem> {
-        let mut list = CoreList::new(self.alloc);
-        for datum in data {
-            list.push(self.form(datum, depth)?)?;
-        }
-        Ok(list)
-    }
-
-    // `(TEST BODY)`, or `(TEST)` alone.
-    #[cycle(forms)]
-    fn clauses(self, data: &[Datum], depth: u32) -> Result<ClauseList, Problem> {
-        let mut list = ClauseList::new(self.alloc);
-        for datum in data {
-            let (test, body) = match items(datum)? {
-                [test] => (self.form(test, depth)?, None),
-                [test, body] => (self.form(test, depth)?, Some(self.form(body, depth)?)),
-                _ => return Err(Problem::Row),
-            };
-            list.push(Clause { test, body })?;
-        }
-        Ok(list)
-    }
-
-    // `(VARIABLE VALUE)` each.
-    #[cycle(forms)]
-    fn bindings(self, data: &[Datum], depth: u32) -> Result<BindingList, Problem> {
-        let mut list = BindingList::new(self.alloc);
-        for datum in data {
-            let [var, value] = items(datum)? else {
-                return Err(Problem::Row);
-            };
-            let var = id(var)?;
-            let value = self.form(value, depth)?;
-            list.push(Binding { var, value })?;
-        }
-        Ok(list)
-    }
-
-    // `(NAME VALUE)` each.
-    #[cycle(forms)]
-    fn dynamic_bindings(self, data: &[Datum], depth: u32) -> Result<DynBindings, Problem> {
-        let mut list = DynBindings::new(self.alloc);
-        for datum in data {
-            let [variable, value] = items(datum)? else {
-                return Err(Problem::Row);
-            };
-            let name = name(variable)?;
-            let value = self.form(value, depth)?;
-            list.push(DynBinding { name, value })?;
-        }
-        Ok(list)
-    }
+    Some(list)
 }
 
 // The form inside so many sequences of one form each.
-fn nested(alloc: Global, count: u32, form: Core) -> Result<Core, Problem> {
-    let mut outer = form;
+fn nested(got: &mut Answer, count: u32, inner: Core) -> Option<Core> {
+    let mut outer = inner;
     for _ in 0..count {
-        let mut list = CoreList::new(alloc);
-        list.push(outer)?;
+        let mut list = CoreList::new(got.alloc);
+        got.kept(list.push(outer))?;
         outer = Core::sequence(list);
     }
-    Ok(outer)
+    Some(outer)
 }
 
 // Forms with no form inside.
-fn leaf(head: &str, parts: &[Datum]) -> Result<CoreForm, Problem> {
+fn leaf(head: &str, parts: &[Datum]) -> Option<CoreForm> {
     match (head, parts) {
-        ("literal", [row]) => Ok(CoreForm::Literal(id(row)?)),
-        ("local", [variable]) => Ok(CoreForm::Local(id(variable)?)),
-        ("global", [variable]) => Ok(CoreForm::Global(name(variable)?)),
-        ("dynamic", [variable]) => Ok(CoreForm::Dynamic(name(variable)?)),
-        ("next-method", []) => Ok(CoreForm::NextMethod),
-        ("has-next", []) => Ok(CoreForm::HasNext),
-        _ => Err(Problem::Row),
+        ("literal", [row]) => Some(CoreForm::Literal(id(row)?)),
+        ("local", [variable]) => Some(CoreForm::Local(id(variable)?)),
+        ("global", [variable]) => Some(CoreForm::Global(name(variable)?)),
+        ("dynamic", [variable]) => Some(CoreForm::Dynamic(name(variable)?)),
+        ("next-method", []) => Some(CoreForm::NextMethod),
+        ("has-next", []) => Some(CoreForm::HasNext),
+        _ => None,
     }
 }
 
-fn with_number(head: &str, number: usize, form: Box<Core>) -> Result<CoreForm, Problem> {
+fn with_number(head: &str, number: usize, form: Box<Core>) -> Option<CoreForm> {
     match head {
-        "set-local" => Ok(CoreForm::SetLocal(number, form)),
-        "block" => Ok(CoreForm::Block(number, form)),
-        "return" => Ok(CoreForm::Return(number, form)),
-        "sited" => Ok(CoreForm::Sited(number, form)),
-        _ => Err(Problem::Row),
+        "set-local" => Some(CoreForm::SetLocal(number, form)),
+        "block" => Some(CoreForm::Block(number, form)),
+        "return" => Some(CoreForm::Return(number, form)),
+        "sited" => Some(CoreForm::Sited(number, form)),
+        _ => None,
     }
 }
 
-fn with_name(head: &str, variable: &Datum, form: Box<Core>) -> Result<CoreForm, Problem> {
+fn with_name(head: &str, variable: &Datum, form: Box<Core>) -> Option<CoreForm> {
     let variable = name(variable)?;
     match head {
-        "set-global" => Ok(CoreForm::SetGlobal(variable, form)),
-        "def-global" => Ok(CoreForm::DefGlobal(variable, form)),
-        "set-dynamic" => Ok(CoreForm::SetDynamic(variable, form)),
-        "def-dynamic" => Ok(CoreForm::DefDynamic(variable, form)),
-        _ => Err(Problem::Row),
+        "set-global" => Some(CoreForm::SetGlobal(variable, form)),
+        "def-global" => Some(CoreForm::DefGlobal(variable, form)),
+        "set-dynamic" => Some(CoreForm::SetDynamic(variable, form)),
+        "def-dynamic" => Some(CoreForm::DefDynamic(variable, form)),
+        _ => None,
     }
 }
 
-fn with_form(head: &str, first: Box<Core>, second: Box<Core>) -> Result<CoreForm, Problem> {
+fn with_form(head: &str, first: Box<Core>, second: Box<Core>) -> Option<CoreForm> {
     match head {
-        "apply" => Ok(CoreForm::Apply(first, second)),
-        "while" => Ok(CoreForm::While(first, second)),
-        "catch" => Ok(CoreForm::Catch(first, second)),
-        "throw" => Ok(CoreForm::Throw(first, second)),
-        "unwind" => Ok(CoreForm::Unwind(first, second)),
-        "with-handler" => Ok(CoreForm::WithHandler(first, second)),
-        "signal" => Ok(CoreForm::Signal(first, second)),
-        "continue" => Ok(CoreForm::Continue(first, second)),
-        _ => Err(Problem::Row),
+        "apply" => Some(CoreForm::Apply(first, second)),
+        "while" => Some(CoreForm::While(first, second)),
+        "catch" => Some(CoreForm::Catch(first, second)),
+        "throw" => Some(CoreForm::Throw(first, second)),
+        "unwind" => Some(CoreForm::Unwind(first, second)),
+        "with-handler" => Some(CoreForm::WithHandler(first, second)),
+        "signal" => Some(CoreForm::Signal(first, second)),
+        "continue" => Some(CoreForm::Continue(first, second)),
+        _ => None,
     }
 }

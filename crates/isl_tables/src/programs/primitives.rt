@@ -1,7 +1,6 @@
 // Primitives by their names.
 
 use crate::inputs::{found, word};
-use crate::problem::Problem;
 use isl_base::{Datum, Names};
 use isl_meaning::Primitive;
 
@@ -67,6 +66,6 @@ const PRIMITIVES: &[(&str, Primitive)] = &[
 ];
 
 /// The primitive of a name.
-pub fn primitive(names: &Names, datum: &Datum) -> Result<Primitive, Problem> {
+pub fn primitive(names: &Names, datum: &Datum) -> Option<Primitive> {
     found(PRIMITIVES, word(names, datum)?)
 }

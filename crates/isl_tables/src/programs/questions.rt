@@ -1,35 +1,35 @@
 // What is asked of a program.
 
-use crate::answer::{push_number, push_yes_no};
+use crate::answer::Answer;
 use crate::inputs::id;
-use crate::problem::Problem;
 use crate::programs::primitives::primitive;
 use isl_base::{Datum, Names};
 use isl_checker::is_whole;
 use isl_meaning::{Procedure, ProgramRows, frame_words};
-use std::alloc::Global;
 
-/// Puts a question, and says whether it is one.
+/// Puts a question.
 pub fn ask(
-    alloc: Global,
+    got: &mut Answer,
     names: &Names,
     rows: &ProgramRows,
     question: &str,
     parts: &[Datum],
-    got: &mut String,
-) -> Result<bool, Problem> {
+) -> Option<()> {
     match (question, parts) {
-        ("whole", []) => push_yes_no(got, is_whole(alloc, rows)?)?,
-        ("nodes", []) => push_number(got, rows.nodes())?,
-        ("frame", [id]) => push_number(got, frame_words(procedure(rows, id)?))?,
-        ("depth", [id]) => push_number(got, u64::from(procedure(rows, id)?.body.depth()))?,
-        ("arity", [which]) => push_number(got, u64::from(primitive(names, which)?.arity()))?,
-        _ => return Ok(false),
+        ("whole", []) => {
+            let is_whole = got.kept(is_whole(got.alloc, rows))?;
+            got.push_yes_no(is_whole);
+        }
+        ("nodes", []) => got.push(rows.nodes()),
+        ("frame", [id]) => got.push(frame_words(procedure(rows, id)?)),
+        ("depth", [id]) => got.push(procedure(rows, id)?.body.depth()),
+        ("arity", [which]) => got.push(primitive(names, which)?.arity()),
+        _ => return None,
     }
-    Ok(true)
+    Some(())
 }
 
 // The procedure of a number.
-fn procedure<'a>(rows: &'a ProgramRows, number: &Datum) -> Result<&'a Procedure, Problem> {
-    rows.procedures.get(id(number)?).ok_or(Problem::Row)
+fn procedure<'a>(rows: &'a ProgramRows, number: &Datum) -> Option<&'a Procedure> {
+    rows.procedures.get(id(number)?)
 }

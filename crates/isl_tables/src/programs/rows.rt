@@ -1,236 +1,202 @@
 // Rows of a program as data.
 
+use crate::answer::Answer;
 use crate::inputs::{command, id, ids, items, name, number, word};
 use crate::method::method;
-use crate::problem::Problem;
-use crate::programs::forms::Forms;
-use crate::slots::slot_row;
-use isl_base::{Datum, Kind, Name, Names, Place};
+use crate::programs::forms::form;
+use crate::slots::slot_rows;
+use isl_base::{Datum, Kind, Names, Place};
 use isl_meaning::{
     Callee, ClassRow, CoreList, FunctionRow, GenericRow, LiteralRow, MethodRows, Procedure,
-    ProgramRows, SlotRows, Var, VarList,
+    ProgramRows,
 };
-use std::alloc::Global;
+use std::str;
 
 // How many forms may stand inside one another in a row: the reader reads no more.
 const DEPTH: u32 = 300;
 
 /// Takes rows of one kind into the program, behind those that it has.
 pub fn take(
-    alloc: Global,
+    got: &mut Answer,
     names: &Names,
     rows: &mut ProgramRows,
     head: &str,
     parts: &[Datum],
-) -> Result<(), Problem> {
-    match head {
-        "cut-classes" => return cut_classes(rows, parts),
-        "sites" => return take_sites(rows, parts),
-        "copy" => return copy_main(alloc, rows, parts),
-        _ => {}
+) -> Option<()> {
+    match (head, parts) {
+        ("cut-classes", [count]) => {
+            let count = id(count)?;
+            if count > rows.classes.len() {
+                return None;
+            }
+            rows.classes.cut(count);
+        }
+        ("sites", [count]) => take_sites(got, rows, number(count)?)?,
+        ("copy", []) => copy_main(got, rows)?,
+        _ => {
+            for part in parts {
+                take_row(got, names, rows, head, part)?;
+            }
+        }
     }
-    for part in parts {
-        take_row(alloc, names, rows, head, part)?;
-    }
-    Ok(())
+    Some(())
 }
 
 // Takes one row of that kind.
 fn take_row(
-    alloc: Global,
+    got: &mut Answer,
     names: &Names,
     rows: &mut ProgramRows,
     kind: &str,
     part: &Datum,
-) -> Result<(), Problem> {
+) -> Option<()> {
     match kind {
-        "literals" => rows.literals.push(literal(alloc, names, part)?)?,
-        "procedures" => rows
-            .procedures
-            .push(procedure(alloc, names, items(part)?)?)?,
-        "classes" => rows.classes.push(class(alloc, names, items(part)?)?)?,
-        "generics" => rows.generics.push(generic(alloc, names, items(part)?)?)?,
-        "functions" => rows.functions.push(function(names, items(part)?)?)?,
-        "main" => rows.main.push(Forms { alloc, names }.form(part, DEPTH)?)?,
-        _ => return Err(Problem::Row),
+        "literals" => {
+            let row = literal(got, names, part)?;
+            got.kept(rows.literals.push(row))
+        }
+        "procedures" => {
+            let row = procedure(got, names, items(part)?)?;
+            got.kept(rows.procedures.push(row))
+        }
+        "classes" => {
+            let row = class(got, names, items(part)?)?;
+            got.kept(rows.classes.push(row))
+        }
+        "generics" => {
+            let row = generic(got, names, items(part)?)?;
+            got.kept(rows.generics.push(row))
+        }
+        "functions" => {
+            let row = function(names, items(part)?)?;
+            got.kept(rows.functions.push(row))
+        }
+        "main" => {
+            let row = form(got, names, part, DEPTH)?;
+            got.kept(rows.main.push(row))
+        }
+        _ => None,
     }
-    Ok(())
-}
-
-// Only the first classes stay.
-fn cut_classes(rows: &mut ProgramRows, parts: &[Datum]) -> Result<(), Problem> {
-    let [count] = parts else {
-        return Err(Problem::Row);
-    };
-    let count = id(count)?;
-    if count > rows.classes.len() {
-        return Err(Problem::Row);
-    }
-    rows.classes.cut(count);
-    Ok(())
 }
 
 // A copy of each main form takes its place.
-fn copy_main(alloc: Global, rows: &mut ProgramRows, parts: &[Datum]) -> Result<(), Problem> {
-    let [] = parts else {
-        return Err(Problem::Row);
-    };
-    let mut copies = CoreList::new(alloc);
+fn copy_main(got: &mut Answer, rows: &mut ProgramRows) -> Option<()> {
+    let mut copies = CoreList::new(got.alloc);
     for form in rows.main.as_slice() {
-        copies.push(form.copy(alloc)?)?;
+        let copy = got.kept(form.copy(got.alloc))?;
+        got.kept(copies.push(copy))?;
     }
     rows.main = copies;
-    Ok(())
+    Some(())
 }
 
 // So many sites, in the first line.
-fn take_sites(rows: &mut ProgramRows, parts: &[Datum]) -> Result<(), Problem> {
-    let [count] = parts else {
-        return Err(Problem::Row);
-    };
-    for site in 0..number(count)? {
-        rows.sites.push(Place {
+fn take_sites(got: &mut Answer, rows: &mut ProgramRows, count: u32) -> Option<()> {
+    for site in 0..count {
+        let place = Place {
             line: 1,
             column: site + 1,
-        })?;
+        };
+        got.kept(rows.sites.push(place))?;
     }
-    Ok(())
+    Some(())
 }
 
 // `(datum X)`, `(integer "536870912")` for an integer that no text spells, `(class 33)` or
 // `(function f)`.
-fn literal(alloc: Global, names: &Names, datum: &Datum) -> Result<LiteralRow, Problem> {
+fn literal(got: &mut Answer, names: &Names, datum: &Datum) -> Option<LiteralRow> {
     match command(names, datum)? {
-        ("datum", [datum]) => Ok(LiteralRow::Datum(datum.copy(alloc)?)),
-        ("integer", [digits]) => Ok(LiteralRow::Datum(wide_integer(digits)?)),
-        ("class", [class]) => Ok(LiteralRow::Class(id(class)?)),
-        ("function", [function]) => Ok(LiteralRow::Function(name(function)?)),
-        _ => Err(Problem::Row),
+        ("datum", [datum]) => Some(LiteralRow::Datum(got.kept(datum.copy(got.alloc))?)),
+        ("integer", [digits]) => Some(LiteralRow::Datum(wide_integer(digits)?)),
+        ("class", [class]) => Some(LiteralRow::Class(id(class)?)),
+        ("function", [function]) => Some(LiteralRow::Function(name(function)?)),
+        _ => None,
     }
 }
 
-fn wide_integer(datum: &Datum) -> Result<Datum, Problem> {
+fn wide_integer(datum: &Datum) -> Option<Datum> {
     let Kind::Str(bytes) = &datum.kind else {
-        return Err(Problem::Row);
+        return None;
     };
-    let digits = std::str::from_utf8(bytes.as_slice()).map_err(|_| Problem::Row)?;
-    Ok(Datum::new(datum.place, Kind::Int(digits.parse::<i32>()?)))
+    let digits = str::from_utf8(bytes.as_slice()).ok()?;
+    Some(Datum::new(datum.place, Kind::Int(digits.parse().ok()?)))
 }
 
 // A name or nil, variables, and a body: `(f (0 1 :rest 2) BODY)`.
-fn procedure(alloc: Global, names: &Names, parts: &[Datum]) -> Result<Procedure, Problem> {
+fn procedure(got: &mut Answer, names: &Names, parts: &[Datum]) -> Option<Procedure> {
     let [own, variables, body] = parts else {
-        return Err(Problem::Row);
+        return None;
     };
-    let variables = items(variables)?;
-    Ok(Procedure {
-        name: name_or_nil(own)?,
-        required: required_variables(alloc, variables)?,
-        rest: rest_variable(names, variables)?,
-        body: Forms { alloc, names }.form(body, DEPTH)?,
+    let name = match &own.kind {
+        Kind::Nil => None,
+        _ => Some(name(own)?),
+    };
+    let (required, rest) = match items(variables)? {
+        [required @ .., key, rest] if word(names, key) == Some(":rest") => {
+            (required, Some(id(rest)?))
+        }
+        required => (required, None),
+    };
+    Some(Procedure {
+        name,
+        required: ids(got, required)?,
+        rest,
+        body: form(got, names, body, DEPTH)?,
     })
 }
 
-fn name_or_nil(datum: &Datum) -> Result<Option<Name>, Problem> {
-    match &datum.kind {
-        Kind::Nil => Ok(None),
-        _ => Ok(Some(name(datum)?)),
-    }
-}
-
-// The numbers in front of `:rest`, or all.
-fn required_variables(alloc: Global, data: &[Datum]) -> Result<VarList, Problem> {
-    let mut list = VarList::new(alloc);
-    for datum in data {
-        match &datum.kind {
-            Kind::Int(_) => list.push(id(datum)?)?,
-            _ => return Ok(list),
-        }
-    }
-    Ok(list)
-}
-
-// The number behind `:rest`.
-fn rest_variable(names: &Names, data: &[Datum]) -> Result<Option<Var>, Problem> {
-    let mut left = data;
-    while let [first, behind @ ..] = left {
-        if let Kind::Sym(_) = &first.kind {
-            return match (word(names, first)?, behind) {
-                (":rest", [variable]) => Ok(Some(id(variable)?)),
-                _ => Err(Problem::Row),
-            };
-        }
-        left = behind;
-    }
-    Ok(None)
-}
-
 // A name, a precedence list, slots, and `abstract` for an abstract class.
-fn class(alloc: Global, names: &Names, parts: &[Datum]) -> Result<ClassRow, Problem> {
-    match parts {
-        [own, line, slots] => class_row(alloc, names, own, line, slots, false),
-        [own, line, slots, kind] => {
-            if word(names, kind)? != "abstract" {
-                return Err(Problem::Row);
-            }
-            class_row(alloc, names, own, line, slots, true)
+fn class(got: &mut Answer, names: &Names, parts: &[Datum]) -> Option<ClassRow> {
+    let (own, line, slots, abstract_class) = match parts {
+        [own, line, slots] => (own, line, slots, false),
+        [own, line, slots, kind] if word(names, kind) == Some("abstract") => {
+            (own, line, slots, true)
         }
-        _ => Err(Problem::Row),
-    }
-}
-
-fn class_row(
-    alloc: Global,
-    names: &Names,
-    own: &Datum,
-    line: &Datum,
-    slots: &Datum,
-    abstract_class: bool,
-) -> Result<ClassRow, Problem> {
-    let mut rows = SlotRows::new(alloc);
-    for slot in items(slots)? {
-        rows.push(slot_row(alloc, names, slot)?)?;
-    }
-    Ok(ClassRow {
+        _ => return None,
+    };
+    Some(ClassRow {
         name: name(own)?,
-        precedence: ids(alloc, items(line)?)?,
-        slots: rows,
+        precedence: ids(got, items(line)?)?,
+        slots: slot_rows(got, names, items(slots)?)?,
         abstract_class,
     })
 }
 
 // A name, the number of required arguments, `rest` where it takes more, and methods.
-fn generic(alloc: Global, names: &Names, parts: &[Datum]) -> Result<GenericRow, Problem> {
+fn generic(got: &mut Answer, names: &Names, parts: &[Datum]) -> Option<GenericRow> {
     let [own, required, methods @ ..] = parts else {
-        return Err(Problem::Row);
+        return None;
     };
     let mut row = GenericRow {
         name: name(own)?,
         required: number(required)?,
         rest: false,
-        methods: MethodRows::new(alloc),
+        methods: MethodRows::new(got.alloc),
     };
     for datum in methods {
         match &datum.kind {
             Kind::Sym(_) => row.rest = true,
-            _ => row.methods.push(method(alloc, names, items(datum)?)?)?,
+            _ => {
+                let method = method(got, names, items(datum)?)?;
+                got.kept(row.methods.push(method))?;
+            }
         }
     }
-    Ok(row)
+    Some(row)
 }
 
 // A name, and `procedure` or `generic` with its number.
-fn function(names: &Names, parts: &[Datum]) -> Result<FunctionRow, Problem> {
+fn function(names: &Names, parts: &[Datum]) -> Option<FunctionRow> {
     let [own, kind, callee] = parts else {
-        return Err(Problem::Row);
+        return None;
     };
     let callee = id(callee)?;
-    Ok(FunctionRow {
+    Some(FunctionRow {
         name: name(own)?,
         callee: match word(names, kind)? {
             "procedure" => Callee::Procedure(callee),
             "generic" => Callee::Generic(callee),
-            _ => return Err(Problem::Row),
+            _ => return None,
         },
     })
 }

@@ -1,6 +1,6 @@
 -- A form's parts stand less deep than the form.
 use Rattle.std.proofs.Common.{◌+◌, ◌*◌}
-use Rattle.isl_tables.proofs.programs.forms.Forms.+forms.Given as goal
+use Rattle.isl_tables.proofs.programs.forms.+forms.Given as goal
 
 abbrev pub decreases-form : goal.decreases-form
 decreases-form l = 4 * l.depth
