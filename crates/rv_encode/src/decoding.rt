@@ -2,7 +2,7 @@
 
 ghost use Rattle.std.specs.Prelude.{◌≡◌, MatchOption};
 ghost use Rattle.rv_encode.specs.Encodes.{Encodes};
-ghost use Rattle.rv_encode.specs.Decode.{decode_of, branch as branch_of, load as load_of, store as store_of, right_shift as right_shift_of, immediate as immediate_of, base_operation as base_operation_of, other_operation as other_operation_of, multiplication as multiplication_of, immediate_operation as immediate_operation_of, operation as operation_of, jump_to_register as jump_to_register_of, fence as fence_of, system as system_of, rd as rd_of, funct3 as funct3_of, rs1 as rs1_of, rs2 as rs2_of, funct7 as funct7_of, mode as mode_of, predecessor as predecessor_of, successor as successor_of, immediate_i as immediate_i_of, immediate_s as immediate_s_of, immediate_b as immediate_b_of};
+ghost use Rattle.rv_encode.specs.Decode.{decode_of, row_of, branch as branch_of, load as load_of, store as store_of, right_shift as right_shift_of, immediate as immediate_of, base_operation as base_operation_of, other_operation as other_operation_of, multiplication as multiplication_of, immediate_operation as immediate_operation_of, operation as operation_of, jump_to_register as jump_to_register_of, fence as fence_of, system as system_of, rd as rd_of, funct3 as funct3_of, rs1 as rs1_of, rs2 as rs2_of, funct7 as funct7_of, mode as mode_of, predecessor as predecessor_of, successor as successor_of, immediate_i as immediate_i_of, immediate_s as immediate_s_of, immediate_b as immediate_b_of};
 ghost use Rattle.rv_encode.specs.declared.instruction.Instr.{Instr as AnyInstr};
 
 use crate::instruction::Instr;
@@ -54,8 +54,8 @@ fn by_opcode(word: u32) -> Option<Instr>
 // JALR, of one funct3.
 #[tactic(auto, unfolding(crate::specs::Decode::jump_to_register))]
 fn jump_to_register(word: u32) -> Option<Instr>
-    ensures { result ≡ jump_to_register_of (funct3_of word) (rd_of word) (rs1_of word)
-        (immediate_i_of word) }
+    ensures { result ≡ row_of (funct3_of word) (jump_to_register_of (rd_of word) (rs1_of word)
+        (immediate_i_of word)) }
 {
     let rd = parts::rd(word);
     let rs1 = parts::rs1(word);
@@ -69,7 +69,7 @@ fn jump_to_register(word: u32) -> Option<Instr>
 // BRANCH, by funct3.
 #[tactic(auto, unfolding(crate::specs::Decode::branch))]
 fn branch(word: u32) -> Option<Instr>
-    ensures { result ≡ branch_of (funct3_of word) (rs1_of word) (rs2_of word) (immediate_b_of word) }
+    ensures { result ≡ row_of (funct3_of word) (branch_of (rs1_of word) (rs2_of word) (immediate_b_of word)) }
 {
     let rs1 = parts::rs1(word);
     let rs2 = parts::rs2(word);
@@ -88,7 +88,7 @@ fn branch(word: u32) -> Option<Instr>
 // LOAD, by funct3.
 #[tactic(auto, unfolding(crate::specs::Decode::load))]
 fn load(word: u32) -> Option<Instr>
-    ensures { result ≡ load_of (funct3_of word) (rd_of word) (rs1_of word) (immediate_i_of word) }
+    ensures { result ≡ row_of (funct3_of word) (load_of (rd_of word) (rs1_of word) (immediate_i_of word)) }
 {
     let rd = parts::rd(word);
     let rs1 = parts::rs1(word);
@@ -106,7 +106,7 @@ fn load(word: u32) -> Option<Instr>
 // STORE, by funct3.
 #[tactic(auto, unfolding(crate::specs::Decode::store))]
 fn store(word: u32) -> Option<Instr>
-    ensures { result ≡ store_of (funct3_of word) (rs2_of word) (rs1_of word) (immediate_s_of word) }
+    ensures { result ≡ row_of (funct3_of word) (store_of (rs2_of word) (rs1_of word) (immediate_s_of word)) }
 {
     let rs2 = parts::rs2(word);
     let rs1 = parts::rs1(word);
@@ -120,7 +120,7 @@ fn store(word: u32) -> Option<Instr>
 }
 
 // OP-IMM: the shifts have a funct7 in the place of the immediate.
-#[tactic(auto, unfolding(crate::specs::Decode::immediate_operation))]
+#[tactic(auto, unfolding(crate::specs::Decode::immediate_operation, crate::specs::Decode::left_shift))]
 fn immediate_operation(word: u32) -> Option<Instr>
     ensures { result ≡ immediate_operation_of (funct7_of word) (funct3_of word) (rd_of word)
         (rs1_of word) (rs2_of word) (immediate_i_of word) }
@@ -140,7 +140,7 @@ fn immediate_operation(word: u32) -> Option<Instr>
 // OP-IMM with funct3 101, by funct7.
 #[tactic(auto, unfolding(crate::specs::Decode::right_shift))]
 fn right_shift(word: u32) -> Option<Instr>
-    ensures { result ≡ right_shift_of (funct7_of word) (rd_of word) (rs1_of word) (rs2_of word) }
+    ensures { result ≡ row_of (funct7_of word) (right_shift_of (rd_of word) (rs1_of word) (rs2_of word)) }
 {
     let rd = parts::rd(word);
     let rs1 = parts::rs1(word);
@@ -155,8 +155,8 @@ fn right_shift(word: u32) -> Option<Instr>
 // OP-IMM with an immediate, by funct3.
 #[tactic(auto, unfolding(crate::specs::Decode::immediate))]
 fn immediate(word: u32) -> Option<Instr>
-    ensures { result ≡ immediate_of (funct3_of word) (rd_of word) (rs1_of word)
-        (immediate_i_of word) }
+    ensures { result ≡ row_of (funct3_of word) (immediate_of (rd_of word) (rs1_of word)
+        (immediate_i_of word)) }
 {
     let rd = parts::rd(word);
     let rs1 = parts::rs1(word);
@@ -189,7 +189,7 @@ fn operation(word: u32) -> Option<Instr>
 // OP with funct7 0000000, by funct3.
 #[tactic(auto, unfolding(crate::specs::Decode::base_operation))]
 fn base_operation(word: u32) -> Option<Instr>
-    ensures { result ≡ base_operation_of (funct3_of word) (rd_of word) (rs1_of word) (rs2_of word) }
+    ensures { result ≡ row_of (funct3_of word) (base_operation_of (rd_of word) (rs1_of word) (rs2_of word)) }
 {
     let rd = parts::rd(word);
     let rs1 = parts::rs1(word);
@@ -210,7 +210,7 @@ fn base_operation(word: u32) -> Option<Instr>
 // OP with funct7 0100000, by funct3.
 #[tactic(auto, unfolding(crate::specs::Decode::other_operation))]
 fn other_operation(word: u32) -> Option<Instr>
-    ensures { result ≡ other_operation_of (funct3_of word) (rd_of word) (rs1_of word) (rs2_of word) }
+    ensures { result ≡ row_of (funct3_of word) (other_operation_of (rd_of word) (rs1_of word) (rs2_of word)) }
 {
     let rd = parts::rd(word);
     let rs1 = parts::rs1(word);
@@ -225,7 +225,7 @@ fn other_operation(word: u32) -> Option<Instr>
 // OP with funct7 0000001, the M extension, by funct3.
 #[tactic(auto, unfolding(crate::specs::Decode::multiplication))]
 fn multiplication(word: u32) -> Option<Instr>
-    ensures { result ≡ multiplication_of (funct3_of word) (rd_of word) (rs1_of word) (rs2_of word) }
+    ensures { result ≡ row_of (funct3_of word) (multiplication_of (rd_of word) (rs1_of word) (rs2_of word)) }
 {
     let rd = parts::rd(word);
     let rs1 = parts::rs1(word);
@@ -246,8 +246,8 @@ fn multiplication(word: u32) -> Option<Instr>
 // MISC-MEM: FENCE alone.
 #[tactic(auto, unfolding(crate::specs::Decode::fence))]
 fn fence(word: u32) -> Option<Instr>
-    ensures { result ≡ fence_of (funct3_of word) (rd_of word) (rs1_of word) (mode_of word)
-        (predecessor_of word) (successor_of word) }
+    ensures { result ≡ row_of (funct3_of word) (fence_of (rd_of word) (rs1_of word) (mode_of word)
+        (predecessor_of word) (successor_of word)) }
 {
     match parts::funct3(word) {
         0 => Some(Instr::Fence {
@@ -264,7 +264,7 @@ fn fence(word: u32) -> Option<Instr>
 // SYSTEM: two words alone.
 #[tactic(auto, unfolding(crate::specs::Decode::system))]
 fn system(word: u32) -> Option<Instr>
-    ensures { result ≡ system_of word }
+    ensures { result ≡ row_of word system_of }
 {
     match word {
         ECALL => Some(Instr::Ecall),

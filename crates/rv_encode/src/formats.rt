@@ -75,8 +75,7 @@ pub fn shift_word(
     ensures rs1 { IsRegister rs1 }
     ensures rd { IsRegister rd }
 {
-    let sources = funct7 * 0x0200_0000 + shift.value() * 0x0010_0000 + rs1.value() * 0x8000;
-    sources + funct3 * 0x1000 + rd.value() * 0x80 + opcode
+    r_word(funct7, Register::of(shift.value()), rs1, funct3, rd, opcode)
 }
 
 // I: imm[11:0] rs1 funct3 rd opcode.
