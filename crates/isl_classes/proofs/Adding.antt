@@ -78,7 +78,7 @@ module _ (h : Hierarchy) (row : ClassRow) (own : List SlotRow) (a : AreClasses h
           named-behind h.rows row r.name absent ∙ ap (λ b. if b then Some (length h.rows) else None) same ∙ ap Some (sym e)
 
 -- the key of a name is found by that name
-key_found : (a b : ℕ) → is_at (nat_cmp a) b ≡ (b == a)
+pub key_found : (a b : ℕ) → is_at (nat_cmp a) b ≡ (b == a)
 key_found a b =
     ⊎_elim
     (λ l. let less : nat_lt a b ≡ true = lt-ltb a b l in let other : (b == a) ≡ false = ne_eqb b a (λ e. omega arith) in rw (less, other) refl)
@@ -90,7 +90,7 @@ key_found a b =
     (cases_lt a b)
 
 -- a search among the rows and one more
-named-more : (rows : List ClassRow) (row : ClassRow) (n : Name) → class_named rows row.name ≡ None
+pub named-more : (rows : List ClassRow) (row : ClassRow) (n : Name) → class_named rows row.name ≡ None
     → class_named (rows ++ row ∷ []) n ≡ (if same_name n row.name then Some (length rows) else class_named rows n)
 named-more rows row n new =
     ⊎_elim

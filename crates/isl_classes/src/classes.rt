@@ -1,8 +1,9 @@
 // The classes of a program.
 
-ghost use Rattle.std.specs.Prelude.{◌≡◌, ◌<◌, None, All, length, slice_get, OnOk, OnErr, IfOk, MatchResult};
+ghost use Rattle.std.specs.Prelude.{◌≡◌, ◌<◌, ◌≤◌, None, All, length, slice_get, take, OnOk, OnErr, IfOk, MatchResult};
 ghost use Rattle.isl_meaning.specs.Classes.{precedence_of, slots_of};
 ghost use Rattle.isl_meaning.specs.Lookup.{is_in};
+ghost use Rattle.isl_meaning.specs.Objects.{built_in_classes};
 ghost use Rattle.isl_classes.specs.InheritedPrecedence.{supers_fit};
 ghost use Rattle.isl_classes.specs.InheritedClasses.{IsHierarchy, class_named, place_of_slot, refusal, with_class};
 ghost use Rattle.isl_base.specs.Names.{Extends};
@@ -143,6 +144,17 @@ impl Classes {
             },
             Err(stop) => Err(stop),
         }
+    }
+
+    /// Its first `len` classes stay, the built-in ones among them; the names of the others are free again. Condition: it has
+    /// at least so many. Takes no memory.
+    pub fn cut(&mut self, len: usize)
+        requires built_in { built_in_classes ≤ len }
+        requires enough { len ≤ length self.old.rows }
+        ensures cut { self.new ≡ record { rows = take len self.old.rows; own = take len self.old.own } }
+        ensures hierarchy { IsHierarchy self.new }
+    {
+        self.table.cut(len);
     }
 
     /// Whether these may be the direct superclasses of one class: each is `<standard-object>`,

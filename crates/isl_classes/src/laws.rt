@@ -1,8 +1,8 @@
 // Laws of precedence lists and slots, for all hierarchies of classes.
 
-ghost use Rattle.std.specs.Prelude.{◌≡◌, ◌<◌, ◌==◌, ℕ, true, length};
+ghost use Rattle.std.specs.Prelude.{◌≡◌, ◌<◌, ◌≤◌, ◌==◌, ℕ, Bool, true, List, length, take};
 ghost use Rattle.isl_meaning.specs.Lookup.{all_differ, is_in};
-ghost use Rattle.isl_classes.specs.InheritedClasses.{Hierarchy, IsHierarchy};
+ghost use Rattle.isl_classes.specs.InheritedClasses.{Hierarchy, IsHierarchy, GivenSlot, with_class};
 ghost use Rattle.isl_base.specs.declared.datum.Name.{Name};
 ghost use Rattle.isl_classes.specs.InheritedSlots.{has_name, same_name};
 ghost use Rattle.isl_classes.specs.Lines.{line, slots_named};
@@ -25,4 +25,12 @@ pub fn law_slots()
     ensures once { (h : Hierarchy) (c : ℕ) → IsHierarchy h → all_differ same_name (slots_named h c) ≡ true }
     ensures inherited { (h : Hierarchy) (c d : ℕ) (n : Name) → IsHierarchy h → is_in d (line h c) ≡ true →
         has_name n (slots_named h d) ≡ true → has_name n (slots_named h c) ≡ true }
+{}
+
+/// A class that was added behind the ones that stay is gone after a cut.
+pub fn law_cut()
+    ensures rows { (h : Hierarchy) (n : Name) (supers : List ℕ) (slots : List GivenSlot) (a : Bool) (len : ℕ) →
+        len ≤ length h.rows → take len (with_class h n supers slots a).rows ≡ take len h.rows }
+    ensures own { (h : Hierarchy) (n : Name) (supers : List ℕ) (slots : List GivenSlot) (a : Bool) (len : ℕ) →
+        len ≤ length h.own → take len (with_class h n supers slots a).own ≡ take len h.own }
 {}

@@ -7,6 +7,7 @@ mod definition;
 mod judged;
 pub mod laws;
 mod line;
+mod numbers;
 mod place;
 mod row;
 mod slot_spec;

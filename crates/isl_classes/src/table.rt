@@ -1,8 +1,9 @@
 // Classes by their numbers, found by their names too.
 
-ghost use Rattle.std.specs.Prelude.{◌≡◌, ◌++◌, [], ◌∷◌, None, length, OnOk, OnErr, IfOk};
+ghost use Rattle.std.specs.Prelude.{◌≡◌, ◌≤◌, ◌++◌, [], ◌∷◌, None, length, take, OnOk, OnErr, IfOk};
 ghost use Rattle.isl_classes.specs.InheritedClasses.{IsRow, AreClasses, class_named};
 
+use crate::numbers::forget;
 use crate::slots::OwnSlots;
 use isl_base::{Name, NoMemory};
 use isl_meaning::{ClassId, ClassRow, ClassRows, SlotRows};
@@ -88,5 +89,14 @@ impl ClassTable {
                 Err(NoMemory)
             }
         }
+    }
+    /// Its first `len` classes stay; takes no memory.
+    pub fn cut(&mut self, len: usize)
+        requires { len ≤ length self.old.rows }
+        ensures { self.new ≡ record { rows = take len self.old.rows; own = take len self.old.own } }
+    {
+        forget(&mut self.numbers, &self.rows, len);
+        self.rows.cut(len);
+        self.own.cut(len);
     }
 }

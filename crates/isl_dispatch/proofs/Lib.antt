@@ -2,6 +2,7 @@ pub mod Alike
 pub mod Texts
 pub mod Naming
 pub mod Taking
+pub mod Cutting
 pub mod Picking
 pub mod Placing
 pub mod Making

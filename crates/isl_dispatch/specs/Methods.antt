@@ -1,5 +1,5 @@
 -- Generic functions and the methods that they take (ISO/IEC 13816:2007, 15.3).
-use Rattle.std.specs.Prelude.{◌≡◌, ℕ, zero, suc, ◌==◌, Bool, true, false, not, ◌&&◌, List, [], ◌∷◌, ◌++◌, length, map, Option, Some, None, slice_get}
+use Rattle.std.specs.Prelude.{◌≡◌, ℕ, zero, suc, ◌==◌, Bool, true, false, not, ◌&&◌, List, [], ◌∷◌, ◌++◌, length, map, take, Option, Some, None, slice_get}
 use Rattle.isl_base.specs.declared.datum.Name.{Name}
 use Rattle.isl_base.specs.declared.place.Place.{Place}
 use Rattle.isl_base.specs.declared.reason.Reason.TheVariants.{BadMethod}
@@ -52,6 +52,20 @@ abbrev pub with_method : List GenericRow → ℕ → MethodRow → List GenericR
 with_method [] i m = []
 with_method (g ∷ gs) zero m = record g { methods = g.methods ++ m ∷ [] } ∷ gs
 with_method (g ∷ gs) (suc i) m = g ∷ with_method gs i m
+
+-- the methods of a generic function, by its number
+abbrev pub methods_in : Option GenericRow → List MethodRow
+methods_in (Some g) = g.methods
+methods_in None = []
+
+abbrev pub methods_at : List GenericRow → ℕ → List MethodRow
+methods_at rows i = methods_in (slice_get rows i)
+
+-- the rows where that generic function has its first methods alone, so many
+abbrev pub with_first_methods : List GenericRow → ℕ → ℕ → List GenericRow
+with_first_methods [] i n = []
+with_first_methods (g ∷ gs) zero n = record g { methods = take n g.methods } ∷ gs
+with_first_methods (g ∷ gs) (suc i) n = g ∷ with_first_methods gs i n
 
 -- each method has one class for each required argument, and no two have the same qualifier and classes
 abbrev pub row_is_whole : GenericRow → Bool

@@ -1,15 +1,16 @@
 // Generic functions, found by their names.
 
-ghost use Rattle.std.specs.Prelude.{◌≡◌, ◌++◌, ◌∷◌, [], ◌<◌, true, false, List, length, slice_get, Some, OnOk, OnErr, IfOk, IfErr, MatchOption, min};
+ghost use Rattle.std.specs.Prelude.{◌≡◌, ◌++◌, ◌∷◌, [], ◌<◌, ◌≤◌, true, false, List, length, slice_get, Some, OnOk, OnErr, IfOk, IfErr, MatchOption, min, take};
 ghost use Rattle.isl_meaning.specs.Lookup.{all_of};
 ghost use Rattle.isl_meaning.specs.Lookup.{is_in};
 ghost use Rattle.isl_meaning.specs.ProgramCounts.{total};
 ghost use Rattle.isl_meaning.specs.Cells.{generic_cells};
 ghost use Rattle.isl_dispatch.specs.OfClasses.{with_classes};
-ghost use Rattle.isl_dispatch.specs.Methods.{names_of, new_row, with_method, takes_at, row_is_whole, HaveOwnNames, IsRefusal};
+ghost use Rattle.isl_dispatch.specs.Methods.{names_of, new_row, with_method, methods_at, with_first_methods, takes_at, row_is_whole, HaveOwnNames, IsRefusal};
 
 use crate::cells::cells;
-use crate::methods::{push_method, takes};
+use crate::methods::{cut_methods, push_method, takes};
+use crate::numbers::forget;
 use isl_base::{ItemList, Name, NoMemory, Place, Reason, Refusal, Stop};
 use isl_meaning::{ClassRows, GenericId, GenericRow, GenericRows, MethodRow};
 use std::alloc::Global;
@@ -117,6 +118,26 @@ impl Generics {
             Ok(()) => Ok(()),
             Err(_) => Err(Stop::NoMemory),
         }
+    }
+
+    /// Its first `len` generic functions stay, with their methods; the names of the others are free again. Condition: it
+    /// has at least so many. Takes no memory.
+    pub fn cut(&mut self, len: usize)
+        requires { len ≤ length self.old }
+        ensures { self.new ≡ take len self.old }
+    {
+        forget(&mut self.numbers, &self.rows, len);
+        self.rows.cut(len);
+    }
+
+    /// The generic function keeps its first `len` methods. Condition: the number is that of a generic function, which has
+    /// at least so many. Takes no memory.
+    pub fn cut_methods(&mut self, generic: GenericId, len: usize)
+        requires there { generic < length self.old }
+        requires enough { len ≤ length (methods_at self.old generic) }
+        ensures { self.new ≡ with_first_methods self.old generic len }
+    {
+        cut_methods(self.alloc, &mut self.rows, generic, len);
     }
 
     /// The rows, in the order of their numbers. Takes no memory.

@@ -10,6 +10,7 @@ pub mod generics;
 pub mod groups;
 pub mod laws;
 mod methods;
+mod numbers;
 mod order;
 mod passing;
 mod table;

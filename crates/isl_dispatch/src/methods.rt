@@ -1,12 +1,12 @@
 // Which methods a generic function takes.
 
-ghost use Rattle.std.specs.Prelude.{◌≡◌, ◌<◌, ◌++◌, ◌∷◌, [], length, OnOk, OnErr};
+ghost use Rattle.std.specs.Prelude.{◌≡◌, ◌<◌, ◌≤◌, ◌++◌, ◌∷◌, [], length, OnOk, OnErr};
 ghost use Rattle.isl_meaning.specs.Values.{same_text};
 ghost use Rattle.isl_meaning.specs.Lookup.{some_of};
 ghost use Rattle.isl_meaning.specs.Classes.{is_qualifier};
-ghost use Rattle.isl_dispatch.specs.Methods.{takes, is_same, with_method};
+ghost use Rattle.isl_dispatch.specs.Methods.{takes, is_same, with_method, methods_at, with_first_methods};
 
-use isl_base::{ItemList, NoMemory};
+use isl_base::{ItemList, Name, NoMemory};
 use isl_meaning::{ClassIds, GenericId, GenericRow, GenericRows, MethodRow, MethodRows, Qualifier};
 use std::alloc::Global;
 
@@ -75,14 +75,34 @@ pub fn push_method(
     let Some(row) = rows.get(generic) else {
         unreachable!()
     };
-    let empty = GenericRow {
-        name: row.name,
-        required: 0,
-        rest: false,
-        methods: ItemList::new(alloc),
-    };
+    let empty = empty_row(alloc, row.name);
     let mut row = rows.replace(generic, empty);
     let outcome = row.methods.push(method);
     rows.replace(generic, row);
     outcome
+}
+
+/// The generic function keeps its first `len` methods; takes no memory.
+pub fn cut_methods(alloc: Global, rows: &mut GenericRows, generic: GenericId, len: usize)
+    requires there { generic < length rows.old }
+    requires enough { len ≤ length (methods_at rows.old generic) }
+    ensures { rows.new ≡ with_first_methods rows.old generic len }
+{
+    let Some(row) = rows.get(generic) else {
+        unreachable!()
+    };
+    let empty = empty_row(alloc, row.name);
+    let mut row = rows.replace(generic, empty);
+    row.methods.cut(len);
+    rows.replace(generic, row);
+}
+
+// What stands in a row's place while the row is changed.
+fn empty_row(alloc: Global, name: Name) -> GenericRow {
+    GenericRow {
+        name,
+        required: 0,
+        rest: false,
+        methods: ItemList::new(alloc),
+    }
 }
