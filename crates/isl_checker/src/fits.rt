@@ -73,32 +73,7 @@ fn fits_itself(form: &Core, rows: &ProgramRows) -> bool
         CoreForm::CallValue(list) | CoreForm::Tagbody(_, list) => 1 <= list.len(),
         CoreForm::Prim(which, list) => list.len() == which.arity() as usize,
         CoreForm::Sited(site, _) => 1 <= *site && *site <= rows.sites.len(),
-        CoreForm::Local(_)
-        | CoreForm::SetLocal(_, _)
-        | CoreForm::Global(_)
-        | CoreForm::SetGlobal(_, _)
-        | CoreForm::DefGlobal(_, _)
-        | CoreForm::Clauses(_)
-        | CoreForm::Sequence(_)
-        | CoreForm::Let(_, _)
-        | CoreForm::Call(_, _)
-        | CoreForm::Apply(_, _)
-        | CoreForm::While(_, _)
-        | CoreForm::Block(_, _)
-        | CoreForm::Return(_, _)
-        | CoreForm::Go(_, _)
-        | CoreForm::Catch(_, _)
-        | CoreForm::Throw(_, _)
-        | CoreForm::Unwind(_, _)
-        | CoreForm::DynamicLet(_, _)
-        | CoreForm::Dynamic(_)
-        | CoreForm::SetDynamic(_, _)
-        | CoreForm::DefDynamic(_, _)
-        | CoreForm::WithHandler(_, _)
-        | CoreForm::Signal(_, _)
-        | CoreForm::Continue(_, _)
-        | CoreForm::NextMethod
-        | CoreForm::HasNext => true,
+        _ => true,
     }
 }
 

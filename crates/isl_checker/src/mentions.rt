@@ -74,32 +74,7 @@ fn names_part(form: &Core, part: Part) -> bool
         CoreForm::Local(var) | CoreForm::SetLocal(var, _) => same_part(part, Part::Variable(*var)),
         CoreForm::Return(exit, _) | CoreForm::Go(exit, _) => same_part(part, Part::Exit(*exit)),
         CoreForm::NextMethod | CoreForm::HasNext => same_part(part, Part::Method),
-        CoreForm::Literal(_)
-        | CoreForm::Global(_)
-        | CoreForm::SetGlobal(_, _)
-        | CoreForm::DefGlobal(_, _)
-        | CoreForm::Clauses(_)
-        | CoreForm::Sequence(_)
-        | CoreForm::Let(_, _)
-        | CoreForm::Lambda(_, _, _, _)
-        | CoreForm::Call(_, _)
-        | CoreForm::CallValue(_)
-        | CoreForm::Apply(_, _)
-        | CoreForm::Prim(_, _)
-        | CoreForm::While(_, _)
-        | CoreForm::Block(_, _)
-        | CoreForm::Tagbody(_, _)
-        | CoreForm::Catch(_, _)
-        | CoreForm::Throw(_, _)
-        | CoreForm::Unwind(_, _)
-        | CoreForm::DynamicLet(_, _)
-        | CoreForm::Dynamic(_)
-        | CoreForm::SetDynamic(_, _)
-        | CoreForm::DefDynamic(_, _)
-        | CoreForm::WithHandler(_, _)
-        | CoreForm::Signal(_, _)
-        | CoreForm::Continue(_, _)
-        | CoreForm::Sited(_, _) => false,
+        _ => false,
     }
 }
 
@@ -113,34 +88,7 @@ fn binds(form: &Core, part: Part) -> bool
         CoreForm::Block(exit, _) | CoreForm::Tagbody(exit, _) => {
             same_part(part, Part::Exit(*exit))
         }
-        CoreForm::Literal(_)
-        | CoreForm::Local(_)
-        | CoreForm::SetLocal(_, _)
-        | CoreForm::Global(_)
-        | CoreForm::SetGlobal(_, _)
-        | CoreForm::DefGlobal(_, _)
-        | CoreForm::Clauses(_)
-        | CoreForm::Sequence(_)
-        | CoreForm::Call(_, _)
-        | CoreForm::CallValue(_)
-        | CoreForm::Apply(_, _)
-        | CoreForm::Prim(_, _)
-        | CoreForm::While(_, _)
-        | CoreForm::Return(_, _)
-        | CoreForm::Go(_, _)
-        | CoreForm::Catch(_, _)
-        | CoreForm::Throw(_, _)
-        | CoreForm::Unwind(_, _)
-        | CoreForm::DynamicLet(_, _)
-        | CoreForm::Dynamic(_)
-        | CoreForm::SetDynamic(_, _)
-        | CoreForm::DefDynamic(_, _)
-        | CoreForm::WithHandler(_, _)
-        | CoreForm::Signal(_, _)
-        | CoreForm::Continue(_, _)
-        | CoreForm::NextMethod
-        | CoreForm::HasNext
-        | CoreForm::Sited(_, _) => false,
+        _ => false,
     }
 }
 

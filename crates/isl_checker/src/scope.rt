@@ -11,7 +11,7 @@ ghost use Rattle.isl_meaning.specs.model.View.{bindings_of};
 use crate::parts::has_part;
 use isl_base::NoMemory;
 use isl_meaning::{
-    Around, BindingList, ExitAround, ExitVar, ExitsAround, Part, LexicalScope, Var, VarList,
+    Around, BindingList, ExitAround, ExitVar, ExitsAround, LexicalScope, Part, Var, VarList,
 };
 use std::alloc::Global;
 
@@ -27,7 +27,11 @@ pub fn alone(alloc: Global, variables: VarList, in_method: bool) -> LexicalScope
 }
 
 // With these variables bound besides.
-pub fn with_variables(alloc: Global, scope: &LexicalScope, variables: VarList) -> Result<LexicalScope, NoMemory>
+pub fn with_variables(
+    alloc: Global,
+    scope: &LexicalScope,
+    variables: VarList,
+) -> Result<LexicalScope, NoMemory>
     ensures { IfOk result (λ inside. inside ≡ with_bound variables scope.now) }
 {
     let mut variables = variables;

@@ -14,7 +14,7 @@ use crate::scope::{
     with_variables,
 };
 use isl_base::NoMemory;
-use isl_meaning::{Around, Core, CoreForm, Part, PartList, LexicalScope, Var, VarList};
+use isl_meaning::{Around, Core, CoreForm, LexicalScope, Part, PartList, Var, VarList};
 use std::alloc::Global;
 
 // Whether all names in a form are bound.
@@ -53,7 +53,12 @@ fn outer_stand(form: &Core, alloc: Global, scope: &LexicalScope) -> Result<bool,
 
 #[cycle(stands)]
 #[tactic(auto, using(isl_meaning::specs::bridge::Smaller::second_is_smaller, crate::proofs::Walks::all_of_second, crate::proofs::Walks::all_of_none))]
-fn second_stands(form: &Core, at: usize, alloc: Global, scope: &LexicalScope) -> Result<bool, NoMemory>
+fn second_stands(
+    form: &Core,
+    at: usize,
+    alloc: Global,
+    scope: &LexicalScope,
+) -> Result<bool, NoMemory>
     ensures { IfOk result (λ yes. yes ≡ list_all (stands scope.now) (option_to_list (second_of (slice_get (visits form.now) at)))) }
 {
     match form.outer_second(at) {
@@ -92,7 +97,11 @@ fn all_inner_stand(form: &Core, alloc: Global, scope: &LexicalScope) -> Result<b
 
 // Where the inner forms of a form stand; None where it binds nothing.
 #[tactic(auto, using(isl_meaning::specs::bridge::Lengths::forms_counted))]
-fn around_inner(form: &Core, alloc: Global, scope: &LexicalScope) -> Result<Option<LexicalScope>, NoMemory>
+fn around_inner(
+    form: &Core,
+    alloc: Global,
+    scope: &LexicalScope,
+) -> Result<Option<LexicalScope>, NoMemory>
     ensures { IfOk result (λ inside. unwrap_or inside scope.now ≡ around_inner form.now scope.now) }
 {
     match &form.form {
@@ -110,34 +119,7 @@ fn around_inner(form: &Core, alloc: Global, scope: &LexicalScope) -> Result<Opti
             let around = Around::Tagbody(list.len());
             Ok(Some(with_around(alloc, scope, *exit, around)?))
         }
-        CoreForm::Literal(_)
-        | CoreForm::Local(_)
-        | CoreForm::SetLocal(_, _)
-        | CoreForm::Global(_)
-        | CoreForm::SetGlobal(_, _)
-        | CoreForm::DefGlobal(_, _)
-        | CoreForm::Clauses(_)
-        | CoreForm::Sequence(_)
-        | CoreForm::Call(_, _)
-        | CoreForm::CallValue(_)
-        | CoreForm::Apply(_, _)
-        | CoreForm::Prim(_, _)
-        | CoreForm::While(_, _)
-        | CoreForm::Return(_, _)
-        | CoreForm::Go(_, _)
-        | CoreForm::Catch(_, _)
-        | CoreForm::Throw(_, _)
-        | CoreForm::Unwind(_, _)
-        | CoreForm::DynamicLet(_, _)
-        | CoreForm::Dynamic(_)
-        | CoreForm::SetDynamic(_, _)
-        | CoreForm::DefDynamic(_, _)
-        | CoreForm::WithHandler(_, _)
-        | CoreForm::Signal(_, _)
-        | CoreForm::Continue(_, _)
-        | CoreForm::NextMethod
-        | CoreForm::HasNext
-        | CoreForm::Sited(_, _) => Ok(None),
+        _ => Ok(None),
     }
 }
 
@@ -154,31 +136,7 @@ fn stands_itself(form: &Core, alloc: Global, scope: &LexicalScope) -> Result<boo
         CoreForm::Return(exit, _) => Ok(has_block(scope, *exit)),
         CoreForm::Go(exit, segment) => Ok(has_segment(scope, *exit, *segment)),
         CoreForm::NextMethod | CoreForm::HasNext => Ok(scope.in_method),
-        CoreForm::Literal(_)
-        | CoreForm::Global(_)
-        | CoreForm::SetGlobal(_, _)
-        | CoreForm::DefGlobal(_, _)
-        | CoreForm::Clauses(_)
-        | CoreForm::Sequence(_)
-        | CoreForm::Let(_, _)
-        | CoreForm::Call(_, _)
-        | CoreForm::CallValue(_)
-        | CoreForm::Apply(_, _)
-        | CoreForm::Prim(_, _)
-        | CoreForm::While(_, _)
-        | CoreForm::Block(_, _)
-        | CoreForm::Tagbody(_, _)
-        | CoreForm::Catch(_, _)
-        | CoreForm::Throw(_, _)
-        | CoreForm::Unwind(_, _)
-        | CoreForm::DynamicLet(_, _)
-        | CoreForm::Dynamic(_)
-        | CoreForm::SetDynamic(_, _)
-        | CoreForm::DefDynamic(_, _)
-        | CoreForm::WithHandler(_, _)
-        | CoreForm::Signal(_, _)
-        | CoreForm::Continue(_, _)
-        | CoreForm::Sited(_, _) => Ok(true),
+        _ => Ok(true),
     }
 }
 

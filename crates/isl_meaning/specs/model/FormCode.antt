@@ -149,7 +149,6 @@ primitive_back IsFreshLine = refl
 primitive_back GetByte = refl
 primitive_back PeekByte = refl
 
-
 -- captured parts, and a rest variable
 abbrev part_tree : Part → Tree
 part_tree (Variable v) = above_one 0 (leaf v)

@@ -86,23 +86,6 @@ impl Core {
         ensures { result ≡ min (own_nodes self.now) 18446744073709551615 }
     {
         match &self.form {
-            CoreForm::Literal(_)
-            | CoreForm::Local(_)
-            | CoreForm::SetLocal(_, _)
-            | CoreForm::Sequence(_)
-            | CoreForm::Apply(_, _)
-            | CoreForm::While(_, _)
-            | CoreForm::Block(_, _)
-            | CoreForm::Return(_, _)
-            | CoreForm::Go(_, _)
-            | CoreForm::Catch(_, _)
-            | CoreForm::Throw(_, _)
-            | CoreForm::Unwind(_, _)
-            | CoreForm::WithHandler(_, _)
-            | CoreForm::Signal(_, _)
-            | CoreForm::Continue(_, _)
-            | CoreForm::NextMethod
-            | CoreForm::HasNext => 1,
             CoreForm::Global(_)
             | CoreForm::SetGlobal(_, _)
             | CoreForm::DefGlobal(_, _)
@@ -119,6 +102,7 @@ impl Core {
                 (list.len().saturating_sub(1) as u64).saturating_add(1)
             }
             CoreForm::Sited(_, _) => 0,
+            _ => 1,
         }
     }
 
@@ -128,37 +112,7 @@ impl Core {
     {
         match &self.form {
             CoreForm::Lambda(_, _, _, _) => true,
-            CoreForm::Literal(_)
-            | CoreForm::Local(_)
-            | CoreForm::SetLocal(_, _)
-            | CoreForm::Global(_)
-            | CoreForm::SetGlobal(_, _)
-            | CoreForm::DefGlobal(_, _)
-            | CoreForm::Clauses(_)
-            | CoreForm::Sequence(_)
-            | CoreForm::Let(_, _)
-            | CoreForm::Call(_, _)
-            | CoreForm::CallValue(_)
-            | CoreForm::Apply(_, _)
-            | CoreForm::Prim(_, _)
-            | CoreForm::While(_, _)
-            | CoreForm::Block(_, _)
-            | CoreForm::Return(_, _)
-            | CoreForm::Tagbody(_, _)
-            | CoreForm::Go(_, _)
-            | CoreForm::Catch(_, _)
-            | CoreForm::Throw(_, _)
-            | CoreForm::Unwind(_, _)
-            | CoreForm::DynamicLet(_, _)
-            | CoreForm::Dynamic(_)
-            | CoreForm::SetDynamic(_, _)
-            | CoreForm::DefDynamic(_, _)
-            | CoreForm::WithHandler(_, _)
-            | CoreForm::Signal(_, _)
-            | CoreForm::Continue(_, _)
-            | CoreForm::NextMethod
-            | CoreForm::HasNext
-            | CoreForm::Sited(_, _) => false,
+            _ => false,
         }
     }
 }

@@ -16,16 +16,6 @@ impl Core {
         ensures { result ≡ length (visits self.now) }
     {
         match &self.form {
-            CoreForm::Literal(_)
-            | CoreForm::Local(_)
-            | CoreForm::Global(_)
-            | CoreForm::Lambda(_, _, _, _)
-            | CoreForm::Block(_, _)
-            | CoreForm::Tagbody(_, _)
-            | CoreForm::Go(_, _)
-            | CoreForm::Dynamic(_)
-            | CoreForm::NextMethod
-            | CoreForm::HasNext => 0,
             CoreForm::SetLocal(_, _)
             | CoreForm::SetGlobal(_, _)
             | CoreForm::DefGlobal(_, _)
@@ -48,6 +38,7 @@ impl Core {
             CoreForm::Clauses(list) => list.len(),
             CoreForm::Let(list, _) => list.len(),
             CoreForm::DynamicLet(list, _) => list.len(),
+            _ => 0,
         }
     }
 
@@ -58,16 +49,6 @@ impl Core {
             (λ form. first_of (slice_get (visits self.now) at) ≡ Some form.now) }
     {
         match &self.form {
-            CoreForm::Literal(_)
-            | CoreForm::Local(_)
-            | CoreForm::Global(_)
-            | CoreForm::Lambda(_, _, _, _)
-            | CoreForm::Block(_, _)
-            | CoreForm::Tagbody(_, _)
-            | CoreForm::Go(_, _)
-            | CoreForm::Dynamic(_)
-            | CoreForm::NextMethod
-            | CoreForm::HasNext => None,
             CoreForm::SetLocal(_, form)
             | CoreForm::SetGlobal(_, form)
             | CoreForm::DefGlobal(_, form)
@@ -90,6 +71,7 @@ impl Core {
             CoreForm::Clauses(list) => test_at(list, at),
             CoreForm::Let(list, _) => value_at(list, at),
             CoreForm::DynamicLet(list, _) => dynamic_value_at(list, at),
+            _ => None,
         }
     }
 
@@ -101,16 +83,6 @@ impl Core {
             (λ form. second_of (slice_get (visits self.now) at) ≡ Some form.now) }
     {
         match &self.form {
-            CoreForm::Literal(_)
-            | CoreForm::Local(_)
-            | CoreForm::Global(_)
-            | CoreForm::Lambda(_, _, _, _)
-            | CoreForm::Block(_, _)
-            | CoreForm::Tagbody(_, _)
-            | CoreForm::Go(_, _)
-            | CoreForm::Dynamic(_)
-            | CoreForm::NextMethod
-            | CoreForm::HasNext => None,
             CoreForm::SetLocal(_, _)
             | CoreForm::SetGlobal(_, _)
             | CoreForm::DefGlobal(_, _)
@@ -133,6 +105,7 @@ impl Core {
             | CoreForm::Signal(_, form)
             | CoreForm::Continue(_, form) => only(form, at),
             CoreForm::Clauses(list) => body_at(list, at),
+            _ => None,
         }
     }
 
@@ -147,33 +120,7 @@ impl Core {
             | CoreForm::Block(_, _)
             | CoreForm::DynamicLet(_, _) => 1,
             CoreForm::Tagbody(_, list) => list.len(),
-            CoreForm::Literal(_)
-            | CoreForm::Local(_)
-            | CoreForm::SetLocal(_, _)
-            | CoreForm::Global(_)
-            | CoreForm::SetGlobal(_, _)
-            | CoreForm::DefGlobal(_, _)
-            | CoreForm::Clauses(_)
-            | CoreForm::Sequence(_)
-            | CoreForm::Call(_, _)
-            | CoreForm::CallValue(_)
-            | CoreForm::Apply(_, _)
-            | CoreForm::Prim(_, _)
-            | CoreForm::While(_, _)
-            | CoreForm::Return(_, _)
-            | CoreForm::Go(_, _)
-            | CoreForm::Catch(_, _)
-            | CoreForm::Throw(_, _)
-            | CoreForm::Unwind(_, _)
-            | CoreForm::Dynamic(_)
-            | CoreForm::SetDynamic(_, _)
-            | CoreForm::DefDynamic(_, _)
-            | CoreForm::WithHandler(_, _)
-            | CoreForm::Signal(_, _)
-            | CoreForm::Continue(_, _)
-            | CoreForm::NextMethod
-            | CoreForm::HasNext
-            | CoreForm::Sited(_, _) => 0,
+            _ => 0,
         }
     }
 
@@ -189,33 +136,7 @@ impl Core {
             | CoreForm::Block(_, form)
             | CoreForm::DynamicLet(_, form) => only(form, at),
             CoreForm::Tagbody(_, list) => list.get(at),
-            CoreForm::Literal(_)
-            | CoreForm::Local(_)
-            | CoreForm::SetLocal(_, _)
-            | CoreForm::Global(_)
-            | CoreForm::SetGlobal(_, _)
-            | CoreForm::DefGlobal(_, _)
-            | CoreForm::Clauses(_)
-            | CoreForm::Sequence(_)
-            | CoreForm::Call(_, _)
-            | CoreForm::CallValue(_)
-            | CoreForm::Apply(_, _)
-            | CoreForm::Prim(_, _)
-            | CoreForm::While(_, _)
-            | CoreForm::Return(_, _)
-            | CoreForm::Go(_, _)
-            | CoreForm::Catch(_, _)
-            | CoreForm::Throw(_, _)
-            | CoreForm::Unwind(_, _)
-            | CoreForm::Dynamic(_)
-            | CoreForm::SetDynamic(_, _)
-            | CoreForm::DefDynamic(_, _)
-            | CoreForm::WithHandler(_, _)
-            | CoreForm::Signal(_, _)
-            | CoreForm::Continue(_, _)
-            | CoreForm::NextMethod
-            | CoreForm::HasNext
-            | CoreForm::Sited(_, _) => None,
+            _ => None,
         }
     }
 }
