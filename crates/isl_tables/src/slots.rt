@@ -15,12 +15,21 @@ pub fn slot_rows(got: &mut Answer, names: &Names, data: &[Datum]) -> Option<Slot
     Some(rows)
 }
 
-/// The slot that a datum describes: `:initarg NAME` and `:initform PROCEDURE` are options.
+/// The slot that a datum describes.
 pub fn slot_row(got: &mut Answer, names: &Names, datum: &Datum) -> Option<SlotRow> {
-    let (own, options) = match items(datum) {
-        Some([own, options @ ..]) => (own, options),
-        _ => (datum, [].as_slice()),
-    };
+    match items(datum) {
+        Some([own, options @ ..]) => with_options(got, names, own, options),
+        _ => with_options(got, names, datum, &[]),
+    }
+}
+
+// A slot with its options: `:initarg NAME` and `:initform PROCEDURE`.
+fn with_options(
+    got: &mut Answer,
+    names: &Names,
+    own: &Datum,
+    options: &[Datum],
+) -> Option<SlotRow> {
     let mut slot = SlotRow {
         name: name(own)?,
         initargs: NameList::new(got.alloc),

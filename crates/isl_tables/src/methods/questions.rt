@@ -103,8 +103,7 @@ fn push_chain(
     generic: usize,
     classes: &[usize],
 ) -> Option<()> {
-    let cells = got.kept(setting.generics.cells(got.alloc, &setting.classes))?;
-    if cells > 262_144 {
+    if setting.generics.cells(got.alloc, &setting.classes).ok()? > 262_144 {
         return None;
     }
     let tables = got.kept(tables(got.alloc, setting.generics.rows(), &setting.classes))?;
