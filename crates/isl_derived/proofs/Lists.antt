@@ -1,13 +1,27 @@
--- Lists of data, as contracts see them and as a datum holds them.
-use Rattle.std.specs.Prelude.{◌≡◌, ℕ, ◌<◌, List, [], ◌∷◌, length}
-use Rattle.std.proofs.Common.{arith}
+-- Lists of data, as contracts see them and as a datum holds them; lists of parts, with one more.
+use Rattle.std.specs.Prelude.{◌≡◌, ℕ, ◌<◌, List, [], ◌∷◌, ◌++◌, length, Result, Ok, Err, IfOk, OnOk, IsOkAnd}
+use Rattle.std.proofs.Common.{arith, ap, ◌∙◌}
 use Rattle.isl_base.specs.declared.place.Place.{Place}
 use Rattle.isl_base.specs.Data.{Item, item, list, Tail, items_of, items_list}
 use Rattle.isl_base.specs.DataMeasures.{Formed, AllFormed, FormedTail, NamesBelow, AllNamesBelow, NamesBelowTail}
+use Rattle.isl_base.specs.declared.faults.NoMemory.{NoMemory}
 use Rattle.isl_base.specs.model.DataView.{items_list-items_of}
+use Rattle.isl_derived.specs.Pieces.{Piece}
 
 pub shown_items : (ds : List Item) → items_list (items_of ds) ≡ ds
 shown_items ds = items_list-items_of ds
+
+-- a part that was made, and appended
+pub pushed : {T : Type 0} (old new : List Piece) (x : Piece) (made : Result Piece NoMemory) (out : Result T NoMemory) → IfOk made (λ y. y ≡ x)
+    → OnOk out (IsOkAnd made (λ y. new ≡ old ++ y ∷ [])) → OnOk out (new ≡ old ++ x ∷ [])
+pushed old new x (Ok y) (Ok z) h g = g ∙ ap (λ (w : Piece). old ++ w ∷ []) h
+pushed old new x (Err stop) (Ok z) h g = absurd g
+pushed old new x made (Err stop) h g = tt
+
+pub pushed_ok : (old new : List Piece) (x : Piece) (made : Result Piece NoMemory) → IfOk made (λ y. y ≡ x)
+    → IsOkAnd made (λ y. new ≡ old ++ y ∷ []) → new ≡ old ++ x ∷ []
+pushed_ok old new x (Ok y) h g = g ∙ ap (λ (w : Piece). old ++ w ∷ []) h
+pushed_ok old new x (Err stop) h g = absurd g
 
 -- a list with an item is in form where its items and its tail are
 pub list_formed : (n : ℕ) (p : Place) (d : Item) (ds es : List Item) (t : Tail) → d ≡ item p (list (items_of ds) t) → es ≡ ds → 0 < length ds

@@ -1,5 +1,5 @@
 -- Steps and stops stay under every later table of names; there is one step; what a step gives has a smaller rank.
-use Rattle.std.specs.Prelude.{◌≡◌, ℕ, ◌+◌, List, ◌++◌, length, Result, Ok, Err, IfOk, IfErr, refl}
+use Rattle.std.specs.Prelude.{◌≡◌, ℕ, ◌+◌, ◌<◌, List, ◌++◌, length, refl}
 use Rattle.std.proofs.Common.{arith, ap, ◌∙◌, sym}
 use Rattle.isl_base.specs.declared.datum.Symbol.{Symbol}
 use Rattle.isl_base.specs.declared.reason.Stop.{Stop}
@@ -12,7 +12,7 @@ use Rattle.isl_derived.specs.Derived.{plain, becomes, new_symbols}
 use Rattle.isl_derived.specs.declared.one_step.Step.{Step}
 use Rattle.isl_derived.specs.declared.one_step.Step.TheVariants.{Derived, Plain}
 use Rattle.isl_derived.specs.Ranks.{rank}
-use Rattle.isl_derived.specs.Steps.{IsStep, IsStop, StepStays, StopStays, RankFalls}
+use Rattle.isl_derived.specs.Steps.{IsStep, IsStop, StepStays, StopStays}
 use Rattle.isl_derived.proofs.Kept.{derivation_later}
 use Rattle.isl_derived.proofs.OneStep.{one_step, step_stays}
 use Rattle.isl_derived.proofs.Ranks.{rank_falls, rank_stays}
@@ -41,25 +41,17 @@ same_step names d fresh (Derived e) (Derived e2) after after2 t g h =
 
 -- the clauses of a call
 
-pub call_stays : (old names : List (List ℕ)) (d : Item) (fresh after : List Symbol) (r : Result Step Stop) → Extends old names
-    → NamesBelow (length old) d → IfOk r (λ step. IsStep names d fresh step after) → IfOk r (λ step. StepStays names d fresh step after)
-call_stays old names d fresh after (Ok step) later below h =
+pub step_here : (old names : List (List ℕ)) (d : Item) (fresh : List Symbol) (step : Step) (after : List Symbol) → Extends old names
+    → NamesBelow (length old) d → IsStep names d fresh step after → StepStays names d fresh step after
+step_here old names d fresh step after later below h =
     record { under = λ more e. later_step names more d fresh step after e (names_stay old names d later below) h }
-call_stays old names d fresh after (Err stop) later below h = tt
 
-pub call_stop_stays : (old names : List (List ℕ)) (d : Item) (s : ℕ) (r : Result Step Stop) → Extends old names
-    → NamesBelow (length old) d → IfErr r (λ stop. IsStop names d s stop) → IfErr r (λ stop. StopStays names d s stop)
-call_stop_stays old names d s (Ok step) later below h = tt
-call_stop_stays old names d s (Err stop) later below h =
+pub stop_here : (old names : List (List ℕ)) (d : Item) (s : ℕ) (stop : Stop) → Extends old names
+    → NamesBelow (length old) d → IsStop names d s stop → StopStays names d s stop
+stop_here old names d s stop later below h =
     record { under = λ more e. later_stop names more d s stop e (names_stay old names d later below) h }
 
-step_falls : (old names : List (List ℕ)) (d : Item) (fresh : List Symbol) (step : Step) (after : List Symbol) → Extends old names
-    → NamesBelow (length old) d → IsStep names d fresh step after → RankFalls names (rank old d) step
-step_falls old names d fresh Plain after later below h = tt
-step_falls old names d fresh (Derived e) after later below h =
+pub derived_falls : (old names : List (List ℕ)) (d : Item) (fresh : List Symbol) (e : Item) (after : List Symbol) → Extends old names
+    → NamesBelow (length old) d → IsStep names d fresh (Derived e) after → rank names e < rank old d
+derived_falls old names d fresh e after later below h =
     omega (arith, rank_falls names d (length fresh) e (length fresh + h.0) h.1.0, rank_stays old names d later below)
-
-pub call_falls : (old names : List (List ℕ)) (d : Item) (fresh after : List Symbol) (r : Result Step Stop) → Extends old names
-    → NamesBelow (length old) d → IfOk r (λ step. IsStep names d fresh step after) → IfOk r (RankFalls names (rank old d))
-call_falls old names d fresh after (Ok step) later below h = step_falls old names d fresh step after later below h
-call_falls old names d fresh after (Err stop) later below h = tt

@@ -92,13 +92,13 @@ fn first_right<'a>(
     let Some((row, others)) = rows.split_first() else {
         return Ok(None);
     };
-    if row.name == name {
-        let right = row_right(start, row, arguments)?;
-        if right.is_some() {
-            return Ok(right);
-        }
+    if row.name != name {
+        return first_right(start, others, name, arguments);
     }
-    first_right(start, others, name, arguments)
+    match row_right(start, row, arguments)? {
+        Some(right) => Ok(Some(right)),
+        None => first_right(start, others, name, arguments),
+    }
 }
 
 // The same, of groups of rows.
@@ -113,11 +113,10 @@ fn table_right<'a>(
     let Some((rows, others)) = groups.split_first() else {
         return Ok(None);
     };
-    let right = first_right(start, rows, name, arguments)?;
-    if right.is_some() {
-        return Ok(right);
+    match first_right(start, rows, name, arguments)? {
+        Some(right) => Ok(Some(right)),
+        None => table_right(start, others, name, arguments),
     }
-    table_right(start, others, name, arguments)
 }
 
 // The data behind that name, with that tail.
@@ -222,37 +221,6 @@ fn bad_shape(place: Place) -> Stop
     })
 }
 
-// The step, under the names that there are afterwards.
-fn step_of(
-    alloc: Global,
-    datum: &Datum,
-    names: &mut Names,
-    fresh: &mut FreshList,
-) -> Result<Step, Stop>
-    requires formed { Formed datum.now }
-    requires named { NamesBelow (length names.old) datum.now }
-    ensures step { IfOk result (λ step. IsStep names.new datum.now fresh.old step fresh.new) }
-    ensures stop { IfErr result (λ stop. IsStop names.new datum.now (length fresh.old) stop) }
-    ensures whole { IfOk result (IsWhole (length names.new)) }
-    ensures fresh { OnErr result (fresh.new ≡ fresh.old) }
-    ensures names { Extends names.old names.new }
-{
-    let serial = fresh.len() as u64;
-    let start = Start {
-        alloc,
-        names,
-        serial,
-    };
-    match derivation_of(start, datum)? {
-        Derivation::Plain => Ok(Step::Plain),
-        Derivation::Unfit => Err(bad_shape(datum.place)),
-        Derivation::Becomes(right) => {
-            let derived = taken_step(alloc, datum.place, &right, names, fresh)?;
-            Ok(Step::Derived(derived))
-        }
-    }
-}
-
 /// One step of a derived form, by the table of derived forms. `Plain` comes exactly where the datum
 /// is no list under a derived name. It is refused, by `BadShape` at its place, exactly where it is
 /// one and fits no row, or would need a name `(setf s)` that there is not. Else it becomes the right
@@ -278,5 +246,18 @@ pub fn derive(
     ensures fresh { OnErr result (fresh.new ≡ fresh.old) }
     ensures names { Extends names.old names.new }
 {
-    step_of(alloc, datum, names, fresh)
+    let serial = fresh.len() as u64;
+    let start = Start {
+        alloc,
+        names,
+        serial,
+    };
+    match derivation_of(start, datum)? {
+        Derivation::Plain => Ok(Step::Plain),
+        Derivation::Unfit => Err(bad_shape(datum.place)),
+        Derivation::Becomes(right) => {
+            let derived = taken_step(alloc, datum.place, &right, names, fresh)?;
+            Ok(Step::Derived(derived))
+        }
+    }
 }

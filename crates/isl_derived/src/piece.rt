@@ -1,9 +1,10 @@
 // Parts of right sides: what a step writes, makes and takes over.
 
-ghost use Rattle.std.specs.Prelude.{◌≡◌, ◌≤◌, ◌++◌, ◌∷◌, [], length, IfOk};
+ghost use Rattle.std.specs.Prelude.{◌≡◌, ◌≤◌, ◌+◌, ◌++◌, ◌∷◌, [], length, IfOk, OnOk, IsOkAnd};
 ghost use Rattle.isl_derived.specs.Pieces.{word, made, taken, listed, form, all_taken};
 ghost use Rattle.isl_derived.specs.model.PieceView.{view_piece};
 
+use crate::right::later;
 use isl_base::{Bytes, Datum, ItemList, NoMemory};
 use std::alloc::Global;
 use std::marker::Model;
@@ -97,6 +98,13 @@ pub(crate) fn made<'a>(serial: u64) -> Piece<'a>
     }
 }
 
+/// The new symbol of a serial so many later.
+pub(crate) fn made_later<'a>(serial: u64, by: u64) -> Result<Piece<'a>, NoMemory>
+    ensures { IfOk result (λ piece. piece ≡ made (serial + by)) }
+{
+    Ok(made(later(serial, by)?))
+}
+
 /// A part of the form.
 pub(crate) fn taken<'a>(datum: &'a Datum) -> Piece<'a>
     ensures { result ≡ taken datum.now }
@@ -122,6 +130,16 @@ pub(crate) fn nil<'a>(alloc: Global) -> Piece<'a>
     parens(PieceList::new(alloc))
 }
 
+/// Appends a part, where it was made.
+pub(crate) fn push_made<'a>(
+    list: &mut PieceList<'a>,
+    made: Result<Piece<'a>, NoMemory>,
+) -> Result<(), NoMemory>
+    ensures { OnOk result (IsOkAnd made.entry (λ piece. list.new ≡ list.old ++ piece ∷ [])) }
+{
+    list.push(made?)
+}
+
 /// One part.
 pub(crate) fn one<'a>(alloc: Global, first: Piece<'a>) -> Result<PieceList<'a>, NoMemory>
     ensures { IfOk result (λ list. list ≡ first.entry ∷ []) }
@@ -140,9 +158,7 @@ pub(crate) fn form_one<'a>(
     requires { length name.now ≤ 263 }
     ensures { IfOk result (λ piece. piece ≡ form name.now (first.entry ∷ [])) }
 {
-    let mut list = one(alloc, word(name))?;
-    list.push(first)?;
-    Ok(parens(list))
+    form_front(alloc, name, first, PieceList::new(alloc))
 }
 
 /// A form with a part, and those behind it.

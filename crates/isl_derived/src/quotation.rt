@@ -8,7 +8,9 @@ ghost use Rattle.isl_base.specs.model.DataView.{tail_of};
 ghost use Rattle.isl_derived.specs.Pieces.{form, taken, pieces_of};
 ghost use Rattle.isl_derived.specs.Quotation.{kept_prefix, quoted_word, appended, template, tail_part, template_list, unquoted, spliced, part, parts};
 
-use crate::piece::{Piece, PieceList, form_front, form_one, form_two, nil, one, taken, word};
+use crate::piece::{
+    Piece, PieceList, form_front, form_one, form_two, nil, one, push_made, taken, word,
+};
 use crate::right::later;
 use crate::shape::{is_word, list_items};
 use isl_base::{Datum, Kind, Names, NoMemory};
@@ -251,10 +253,10 @@ fn parts<'a>(
     let mut rest = items;
     while let Some((item, others)) = rest.split_first() {
         if let Some(last) = unquote_left(names, item, others, &behind) {
-            list.push(unquoted(alloc, names, level, last)?)?;
+            push_made(&mut list, unquoted(alloc, names, level, last))?;
             return Ok(list);
         }
-        list.push(part(alloc, names, level, item)?)?;
+        push_made(&mut list, part(alloc, names, level, item))?;
         rest = others;
     }
     list.append_list(behind)?;

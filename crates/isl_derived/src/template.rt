@@ -9,7 +9,9 @@ ghost use Rattle.isl_derived.specs.model.TemplateView.{view_template, view_templ
 ghost use Rattle.isl_derived.specs.Pieces.{taken};
 
 use crate::pattern::{Parts, Pattern, fit_all};
-use crate::piece::{Piece, PieceList, all_taken, made, nil, parens, short_word, taken, word};
+use crate::piece::{
+    Piece, PieceList, all_taken, made, made_later, nil, parens, push_made, short_word, taken, word,
+};
 use crate::quotation::template;
 use crate::right::later;
 use crate::setf::setter;
@@ -85,7 +87,7 @@ fn setter_piece<'a>(alloc: Global, names: &Names, items: &[Datum]) -> Result<Pie
 
 // Appends what a step writes by a template.
 #[cycle(write)]
-#[tactic(auto, unfolding(crate::specs::RightSides::write))]
+#[tactic(auto, using(crate::proofs::Lists::pushed), unfolding(crate::specs::RightSides::write))]
 fn write<'a>(
     start: Start,
     template: &Template,
@@ -99,16 +101,22 @@ fn write<'a>(
         Template::One(at) => list.push(first_taken(start.alloc, part_of(parts, *at))),
         Template::All(at) => list.append_list(all_taken(start.alloc, part_of(parts, *at))?),
         Template::Setter(at) => {
-            list.push(setter_piece(start.alloc, start.names, part_of(parts, *at))?)
+            push_made(
+                list,
+                setter_piece(start.alloc, start.names, part_of(parts, *at)),
+            )
         }
         Template::Quotation(at) => {
-            list.push(first_quoted(start.alloc, start.names, part_of(parts, *at))?)
+            push_made(
+                list,
+                first_quoted(start.alloc, start.names, part_of(parts, *at)),
+            )
         }
-        Template::Word(text) => list.push(short_word(text)?),
-        Template::New(number) => list.push(made(later(start.serial, *number as u64)?)),
+        Template::Word(text) => push_made(list, short_word(text)),
+        Template::New(number) => push_made(list, made_later(start.serial, *number as u64)),
         Template::NewBehind(at) => {
             let before = part_of(parts, *at).len();
-            list.push(made(later(start.serial, before as u64)?))
+            push_made(list, made_later(start.serial, before as u64))
         }
         Template::Own => list.push(made(own)),
         Template::Group(templates) => {

@@ -5,22 +5,26 @@ use Rattle.isl_base.specs.Data.{Item}
 use Rattle.isl_base.specs.model.DataCode.{item_code}
 use Rattle.isl_derived.specs.Patterns.{Pattern, a_datum, a_symbol, the_word, an_operator, inside, others, one_at_most, each_fits, Patterns, no_pattern, pattern_and, Parts}
 use Rattle.isl_derived.specs.Fronts.{before}
-use Rattle.isl_derived.specs.declared.pattern.Pattern.{Pattern as Written, Datum, Symbol, Name, Operator, Others, OneAtMost, Inside', Each', Row_of-Pattern, end_of-Pattern, more_of-Pattern}
+use Rattle.isl_derived.specs.declared.pattern.Pattern.{Pattern as Written, fold-Pattern}
+use Rattle.isl_derived.specs.declared.pattern.Pattern.TheOpen.{Pattern-F}
 
-abbrev mutual
-  pub view_pattern : Written → Pattern
-  view_pattern Datum = a_datum
-  view_pattern Symbol = a_symbol
-  view_pattern (Name text) = the_word text.now
-  view_pattern Operator = an_operator
-  view_pattern Others = others
-  view_pattern OneAtMost = one_at_most
-  view_pattern (Inside' p n xs) = inside (view_row xs)
-  view_pattern (Each' p n xs) = each_fits (view_row xs)
+abbrev pub patterns_of : List Pattern → Patterns
+patterns_of [] = no_pattern
+patterns_of (x ∷ xs) = pattern_and x (patterns_of xs)
 
-  pub view_row : {n : _} → Row_of-Pattern n → Patterns
-  view_row end_of-Pattern = no_pattern
-  view_row (more_of-Pattern x xs) = pattern_and (view_pattern x) (view_row xs)
+-- one level, with each pattern inside already seen as the table has it
+abbrev pub view_level : Pattern-F Pattern → Pattern
+view_level Pattern-F.Datum = a_datum
+view_level Pattern-F.Symbol = a_symbol
+view_level (Pattern-F.Name text) = the_word text.now
+view_level Pattern-F.Operator = an_operator
+view_level Pattern-F.Others = others
+view_level Pattern-F.OneAtMost = one_at_most
+view_level (Pattern-F.Inside xs) = inside (patterns_of xs.now)
+view_level (Pattern-F.Each xs) = each_fits (patterns_of xs.now)
+
+abbrev pub view_pattern : Written → Pattern
+view_pattern = fold-Pattern Pattern view_level
 
 abbrev pub view_patterns : List Written → Patterns
 view_patterns [] = no_pattern

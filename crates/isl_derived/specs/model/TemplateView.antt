@@ -2,24 +2,28 @@
 use Rattle.std.specs.Prelude.{List, [], ◌∷◌}
 use Rattle.isl_derived.specs.model.PatternView.{view_patterns}
 use Rattle.isl_derived.specs.RightSides.{Template, datum, all_of, the_setter, the_quotation, the_symbol, new_symbol, new_behind, own_symbol, group, for_each, Templates, no_template, template_and}
-use Rattle.isl_derived.specs.declared.template.Template.{Template as Written, One, All, Setter, Quotation, Word, New, NewBehind, Own, Group', ForEach', Row_of-Template, end_of-Template, more_of-Template}
+use Rattle.isl_derived.specs.declared.template.Template.{Template as Written, fold-Template}
+use Rattle.isl_derived.specs.declared.template.Template.TheOpen.{Template-F}
 
-abbrev mutual
-  pub view_template : Written → Template
-  view_template (One i) = datum i
-  view_template (All i) = all_of i
-  view_template (Setter i) = the_setter i
-  view_template (Quotation i) = the_quotation i
-  view_template (Word text) = the_symbol text.now
-  view_template (New n) = new_symbol n
-  view_template (NewBehind i) = new_behind i
-  view_template Own = own_symbol
-  view_template (Group' p n xs) = group (view_row xs)
-  view_template (ForEach' i ps p n xs) = for_each i (view_patterns ps.now) (view_row xs)
+abbrev pub templates_of : List Template → Templates
+templates_of [] = no_template
+templates_of (x ∷ xs) = template_and x (templates_of xs)
 
-  pub view_row : {n : _} → Row_of-Template n → Templates
-  view_row end_of-Template = no_template
-  view_row (more_of-Template x xs) = template_and (view_template x) (view_row xs)
+-- one level, with each template inside already seen as the table has it
+abbrev pub view_level : Template-F Template → Template
+view_level (Template-F.One i) = datum i
+view_level (Template-F.All i) = all_of i
+view_level (Template-F.Setter i) = the_setter i
+view_level (Template-F.Quotation i) = the_quotation i
+view_level (Template-F.Word text) = the_symbol text.now
+view_level (Template-F.New n) = new_symbol n
+view_level (Template-F.NewBehind i) = new_behind i
+view_level Template-F.Own = own_symbol
+view_level (Template-F.Group xs) = group (templates_of xs.now)
+view_level (Template-F.ForEach i ps xs) = for_each i (view_patterns ps.now) (templates_of xs.now)
+
+abbrev pub view_template : Written → Template
+view_template = fold-Template Template view_level
 
 abbrev pub view_templates : List Written → Templates
 view_templates [] = no_template

@@ -33,8 +33,8 @@ decreases-parts l = 2 * items_size (items_of l.items.now)
 
 abbrev pub invariant-parts-loop-item : goal.invariant-parts-loop-item
 invariant-parts-loop-item l = record {
-  before : pieces_before l.list (parts l.names l.level (items_of l.rest) (pieces_of l.behind))
-      ≡ parts l.names l.level (items_of l.items) (pieces_of l.behind);
+  before : pieces_before l.list (parts l.names l.level (items_of l.rest) (pieces_of l.fn.behind))
+      ≡ parts l.names l.level (items_of l.items) (pieces_of l.fn.behind);
   smaller : items_size (items_of l.rest) ≤ items_size (items_of l.items);
 }
 

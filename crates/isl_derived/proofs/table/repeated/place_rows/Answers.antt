@@ -1,7 +1,7 @@
-use Rattle.std.proofs.Common.{refl}
 use Rattle.isl_derived.specs.Table.{place_rows}
+use Rattle.isl_derived.proofs.Views.{pattern_views, template_views}
 use Rattle.isl_derived.proofs.table.repeated.place_rows.Goals as goal
 
 pub returns : goal.returns
-unfolding place_rows Rattle.isl_derived.specs.declared.pattern.Pattern.TheBlock.hidden-the_row-Pattern-0 Rattle.isl_derived.specs.declared.template.Template.TheBlock.hidden-the_row-Template-0 denote.Hole.Carrier.hidden
-returns c = refl
+unfolding place_rows
+returns c = simp (pattern_views, template_views)
