@@ -15,24 +15,16 @@ item_smaller [] i x h e = absurd (omega (arith, h))
 item_smaller (y ∷ ys) zero x h e = rw e (omega (arith, items_size_above ys))
 item_smaller (y ∷ ys) (suc i) x h e = omega (arith, item_smaller ys i x (omega arith) e)
 
--- too few parts behind the first word or too many, and three
+-- too few parts after the first word or too many, and three
 if_form_three : (texts : Seq (Seq ℕ)) (p : Place) (x a b : Item) (ts : Seq Item) (t : Tables) → length ts ≡ 4 → x ≡ get_or ts 1 x → a ≡ get_or ts 2 a → b ≡ get_or ts 3 b → if_form texts p (items_of (drop 1 ts)) t ≡ and_then (test_of texts x (with_site p t)) (λ f u. and_then (form_of texts a u) (λ g v. as_form (λ h. choice (next_site t) (next_literal v) f g h) (form_of texts b (with_truth p v))))
 unfolding if_form
-if_form_three texts p x a b [] t h d e f = absurd (omega (arith, h))
-if_form_three texts p x a b (y ∷ []) t h d e f = absurd (omega (arith, h))
-if_form_three texts p x a b (y ∷ z ∷ []) t h d e f = absurd (omega (arith, h))
-if_form_three texts p x a b (y ∷ z ∷ u ∷ []) t h d e f = absurd (omega (arith, h))
 if_form_three texts p x a b (y ∷ z ∷ u ∷ v ∷ []) t h d e f = rw (← d, ← e, ← f) refl
-if_form_three texts p x a b (y ∷ z ∷ u ∷ v ∷ w ∷ ts) t h d e f = absurd (omega (arith, h))
+if_form_three texts p x a b ts t h d e f = absurd (omega (arith, h))
 
 pub if_form_other : (texts : Seq (Seq ℕ)) (p : Place) (ts : Seq Item) (t : Tables) → length ts ≢ 4 → if_form texts p (items_of (drop 1 ts)) t ≡ None
 unfolding if_form
-if_form_other texts p [] t h = refl
-if_form_other texts p (y ∷ []) t h = refl
-if_form_other texts p (y ∷ x ∷ []) t h = refl
-if_form_other texts p (y ∷ x ∷ a ∷ []) t h = refl
 if_form_other texts p (y ∷ x ∷ a ∷ b ∷ []) t h = absurd (h refl)
-if_form_other texts p (y ∷ x ∷ a ∷ b ∷ c ∷ ts) t h = refl
+if_form_other texts p ts t h = refl
 
 -- a list of four items, the last three of which are these
 pub record HasParts (ts : Seq Item) (x a b : Item) : Type 0 where

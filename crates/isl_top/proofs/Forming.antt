@@ -2,7 +2,7 @@
 -- a list one after another.
 use Rattle.std.proofs.Common.{◌≡◌, ℕ, ◌+◌, ◌≤◌, List as Seq, [], ◌∷◌, ◌++◌, length, slice_get, drop, Some, None, refl, ap}
 use Rattle.std.proofs.lemmas.List.{drop_all}
-use Rattle.isl_base.specs.Data.{Item, item, integer, character, symbol, string, vector, nil, list, Items, no_item, item_and, items_of, items_list, no_tail, dotted, place_of}
+use Rattle.isl_base.specs.Data.{Item, item, list, Items, item_and, items_of, items_list, no_tail, place_of}
 use Rattle.isl_base.specs.model.DataView.{items_of-items_list}
 use Rattle.isl_base.specs.model.DataRest.{items_at}
 use Rattle.isl_meaning.specs.Form.{Form, Forms, no_form, form_and}
@@ -13,29 +13,15 @@ use Rattle.isl_top.specs.Heads.{list_in, list_form}
 -- a form: a list by its first item, and any other datum as a number
 pub form_of_list : (texts : Seq (Seq ℕ)) (d : Item) (ds : Seq Item) (t : Tables) → list_in d ≡ Some ds → form_of texts d t ≡ list_form texts (place_of d) ds t
 unfolding form_of
-form_of_list texts (item p (integer n)) ds t e = absurd (cc)
-form_of_list texts (item p (character c)) ds t e = absurd (cc)
-form_of_list texts (item p (symbol s)) ds t e = absurd (cc)
-form_of_list texts (item p (string b)) ds t e = absurd (cc)
-form_of_list texts (item p (vector is)) ds t e = absurd (cc)
-form_of_list texts (item p nil) ds t e = absurd (cc)
-form_of_list texts (item p (list no_item s)) ds t e = absurd (cc)
 form_of_list texts (item p (list (item_and h is) no_tail)) ds t e =
     let same : ds ≡ h ∷ items_list is = cc in
     rw (same, items_of-items_list is) refl
-form_of_list texts (item p (list (item_and h is) (dotted s))) ds t e = absurd (cc)
+form_of_list texts (item p c) ds t e = absurd (cc)
 
 pub form_of_other : (texts : Seq (Seq ℕ)) (d : Item) (t : Tables) → list_in d ≡ None → form_of texts d t ≡ integer_form (number_of d) t
 unfolding form_of
-form_of_other texts (item p (integer n)) t e = refl
-form_of_other texts (item p (character c)) t e = refl
-form_of_other texts (item p (symbol s)) t e = refl
-form_of_other texts (item p (string b)) t e = refl
-form_of_other texts (item p (vector is)) t e = refl
-form_of_other texts (item p nil) t e = refl
-form_of_other texts (item p (list no_item s)) t e = refl
 form_of_other texts (item p (list (item_and h is) no_tail)) t e = absurd (cc)
-form_of_other texts (item p (list (item_and h is) (dotted s))) t e = refl
+form_of_other texts (item p c) t e = refl
 
 pub ruleset one_datum = (form_of_list, form_of_other)
 

@@ -13,7 +13,7 @@ use Rattle.isl_top.proofs.Integers.{Within, small_within}
 use Rattle.isl_meaning.specs.Form.{Form, literal, prim, sited}
 use Rattle.isl_meaning.specs.Form.{no_form, form_and}
 use Rattle.isl_base.specs.Data.{Item, item, integer, character, symbol, string, vector, nil, list, Items, no_item, item_and, no_tail, dotted}
-use Rattle.isl_top.specs.Shapes.{Tables, with_literal, with_site, next_literal, next_site, Found, and_then, as_form, Head, progn_head, format_char_head, if_head, plus_head, minus_head, equal_head, less_head, other_head, head_of, is_small, number_of, letter_of, stream_of, put_form, format_char_form, by_head, by_sum, by_test, integer_form, sum_of, sum_form, operand_of, comparison_form, test_of}
+use Rattle.isl_top.specs.Shapes.{Tables, with_literal, with_site, next_literal, next_site, Found, and_then, as_form, Head, progn_head, format_char_head, if_head, plus_head, minus_head, equal_head, less_head, head_of, is_small, number_of, letter_of, stream_of, put_form, format_char_form, by_head, by_sum, by_test, integer_form, sum_of, sum_form, operand_of, comparison_form, test_of}
 
 -- an item stands behind those before it
 pub at_seam : {A : Type 0} (before more : List A) (x : A) → slice_get (before ++ x ∷ more) (length before) ≡ Some x
@@ -68,29 +68,17 @@ was_headed format_char_head a b c d e f t h = was_format_char h
 was_headed if_head a b c d e f t h = was_if h
 was_headed plus_head a b c d e f t h = was_plus h
 was_headed minus_head a b c d e f t h = was_minus h
-was_headed equal_head a b c d e f t h = absurd (cc)
-was_headed less_head a b c d e f t h = absurd (cc)
-was_headed other_head a b c d e f t h = absurd (cc)
+was_headed head a b c d e f t h = absurd (cc)
 
 pub was_summed : (h : Head) (a b : Found Form) (f : Form) (t : Tables) → by_sum h a b ≡ Some (f, t) → (a ≡ Some (f, t)) ⊎ (b ≡ Some (f, t))
 was_summed plus_head a b f t h = inl h
 was_summed minus_head a b f t h = inr h
-was_summed progn_head a b f t h = absurd (cc)
-was_summed format_char_head a b f t h = absurd (cc)
-was_summed if_head a b f t h = absurd (cc)
-was_summed equal_head a b f t h = absurd (cc)
-was_summed less_head a b f t h = absurd (cc)
-was_summed other_head a b f t h = absurd (cc)
+was_summed head a b f t h = absurd (cc)
 
 was_tested : (h : Head) (a b : Found Form) (f : Form) (t : Tables) → by_test h a b ≡ Some (f, t) → (a ≡ Some (f, t)) ⊎ (b ≡ Some (f, t))
 was_tested equal_head a b f t h = inl h
 was_tested less_head a b f t h = inr h
-was_tested progn_head a b f t h = absurd (cc)
-was_tested format_char_head a b f t h = absurd (cc)
-was_tested if_head a b f t h = absurd (cc)
-was_tested plus_head a b f t h = absurd (cc)
-was_tested minus_head a b f t h = absurd (cc)
-was_tested other_head a b f t h = absurd (cc)
+was_tested head a b f t h = absurd (cc)
 
 -- a number that is a form
 pub record WasInteger (t : Tables) (f : Form) (t' : Tables) : Type 0 where
@@ -172,9 +160,7 @@ was_comparison texts which p (item_and x (item_and y no_item)) t f t' e =
     let a = was_and (operand_of texts x (with_site p t)) (λ g after. as_form (λ h. sited (next_site t) (prim which (form_and g (form_and h no_form)))) (operand_of texts y after)) f t' e in
     let m = was_made (λ h. sited (next_site t) (prim which (form_and a.part (form_and h no_form)))) (operand_of texts y a.tables) f t' a.second in
     record { p = p; first = a.part; second = m.part; middle = a.tables; one = was_operand texts x (with_site p t) a.part a.tables a.first; two = was_operand texts y a.tables m.part t' m.found; form = sym m.made }
-was_comparison texts which p no_item t f t' e = absurd (cc)
-was_comparison texts which p (item_and x no_item) t f t' e = absurd (cc)
-was_comparison texts which p (item_and x (item_and y (item_and z zs))) t f t' e = absurd (cc)
+was_comparison texts which p ds t f t' e = absurd (cc)
 
 pub was_test : (texts : List (List ℕ)) (d : Item) (t : Tables) (f : Form) (t' : Tables) → test_of texts d t ≡ Some (f, t') → WasComparison NumberEqual t f t' ⊎ WasComparison NumberLess t f t'
 was_test texts (item p (list (item_and h ds) no_tail)) t f t' e =

@@ -1,7 +1,7 @@
 -- Lists of data by their first items, as the definitions and as the code see them.
 use Rattle.std.proofs.Common.{◌≡◌, ℕ, ◌<◌, ◌≤◌, List as Seq, [], ◌∷◌, length, slice_get, Some, None, refl, ap, ◌∙◌, arith}
 use Rattle.isl_base.specs.declared.place.Place.{Place}
-use Rattle.isl_base.specs.Data.{Item, item, integer, character, symbol, string, vector, nil, list, Items, no_item, item_and, items_of, items_list, no_tail, dotted, place_of, item_size, items_size}
+use Rattle.isl_base.specs.Data.{Item, item, list, Items, item_and, items_of, items_list, no_tail, dotted, place_of, item_size, items_size}
 use Rattle.isl_base.specs.model.DataView.{items_list-items_of, items_of-items_list}
 use Rattle.isl_top.specs.Shapes.{other_head, head_of}
 use Rattle.isl_top.specs.Heads.{head_in, list_in}
@@ -40,15 +40,8 @@ pub record IsList (d : Item) (ds : Seq Item) : Type 0 where
   pub whole : d ≡ item (place_of d) (list (item_and first others) no_tail)
 
 pub is_list : (d : Item) (ds : Seq Item) → list_in d ≡ Some ds → IsList d ds
-is_list (item p (integer n)) ds e = absurd (cc)
-is_list (item p (character c)) ds e = absurd (cc)
-is_list (item p (symbol s)) ds e = absurd (cc)
-is_list (item p (string b)) ds e = absurd (cc)
-is_list (item p (vector is)) ds e = absurd (cc)
-is_list (item p nil) ds e = absurd (cc)
-is_list (item p (list no_item t)) ds e = absurd (cc)
 is_list (item p (list (item_and h is) no_tail)) ds e = record { first = h; others = is; items = cc; whole = refl }
-is_list (item p (list (item_and h is) (dotted t))) ds e = absurd (cc)
+is_list (item p c) ds e = absurd (cc)
 
 -- its items are smaller than the datum
 pub items_smaller : (d : Item) (ds : Seq Item) → list_in d ≡ Some ds → items_size (items_of ds) < item_size d

@@ -437,13 +437,10 @@ mutual
   form_grew texts (item p c) t f t' e = integer_grew t f t' (was_integer (item p c) t f t' e)
 
   if_grew : (texts : List (List ℕ)) (p : Place) (ts : Items) (t : Tables) (f : Form) (t' : Tables) → if_form texts p ts t ≡ Some (f, t') → Grew t.literals t'.literals
-  if_grew texts p no_item t f t' e = absurd (cc)
-  if_grew texts p (item_and x no_item) t f t' e = absurd (cc)
-  if_grew texts p (item_and x (item_and a no_item)) t f t' e = absurd (cc)
   if_grew texts p (item_and x (item_and a (item_and b no_item))) t f t' e =
       let w = was_if_form texts p x a b t f t' e in
       grew_both (test_grew texts x (with_site p t) w.test w.u w.tested) (grew_both (form_grew texts a w.u w.one w.v w.first) (grew_both (grew_one w.v.literals (row.Datum (datum.item p (datum.symbol (Named (record { 0 = 0 })))))) (form_grew texts b (with_truth p w.v) w.two t' w.second)))
-  if_grew texts p (item_and x (item_and a (item_and b (item_and c cs)))) t f t' e = absurd (cc)
+  if_grew texts p ts t f t' e = absurd (cc)
 
   forms_grew : (texts : List (List ℕ)) (xs : Items) (t : Tables) (fs : Forms) (t' : Tables) → forms_of texts xs t ≡ Some (fs, t') → Grew t.literals t'.literals
   forms_grew texts no_item t fs t' e = let h : ◌≡◌ {A = Forms × Tables} (no_form, t) (fs, t') = cc in subst (λ x. Grew t.literals x.literals) (ap (λ x. x.1) h) (grew_none t.literals)
@@ -472,9 +469,6 @@ mutual
   form_simulated texts program (item p c) t f t' e g = operand_simulated program f (found_integer_simulated program t f t' (was_integer (item p c) t f t' e) g)
 
   if_simulated : (texts : List (List ℕ)) (program : ProgramRows) (p : Place) (ts : Items) (t : Tables) (f : Form) (t' : Tables) → if_form texts p ts t ≡ Some (f, t') → Grew t'.literals program.literals → Simulates program f
-  if_simulated texts program p no_item t f t' e g = absurd (cc)
-  if_simulated texts program p (item_and x no_item) t f t' e g = absurd (cc)
-  if_simulated texts program p (item_and x (item_and a no_item)) t f t' e g = absurd (cc)
   if_simulated texts program p (item_and x (item_and a (item_and b no_item))) t f t' e g =
       let w = was_if_form texts p x a b t f t' e in
       let r : LiteralRow = row.Datum (datum.item p (datum.symbol (Named (record { 0 = 0 })))) in
@@ -485,7 +479,7 @@ mutual
       let one = form_simulated texts program a w.u w.one w.v w.first g1 in
       let two = form_simulated texts program b (with_truth p w.v) w.two t' w.second g in
       subst (Simulates program) w.made (sited_simulated program (next_site t) _ (choice_simulated program (next_literal w.v) p w.test (sequence (form_and w.one no_form)) (sequence (form_and w.two no_form)) (row_there w.v.literals program.literals r g2) test test.so refl (single_simulated program w.one one) (single_simulated program w.two two)))
-  if_simulated texts program p (item_and x (item_and a (item_and b (item_and c cs)))) t f t' e g = absurd (cc)
+  if_simulated texts program p ts t f t' e g = absurd (cc)
 
   pub forms_simulated : (texts : List (List ℕ)) (program : ProgramRows) (xs : Items) (t : Tables) (fs : Forms) (t' : Tables) (last : Value) → forms_of texts xs t ≡ Some (fs, t') → Grew t'.literals program.literals → SimulatesAll program last fs
   forms_simulated texts program no_item t fs t' last e g = let h : ◌≡◌ {A = Forms × Tables} (no_form, t) (fs, t') = cc in subst (SimulatesAll program last) (ap (λ x. x.0) h) (none_simulated program last)

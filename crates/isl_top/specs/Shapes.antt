@@ -57,7 +57,7 @@ next_literal t = length t.literals
 abbrev pub next_site : Tables → ℕ
 next_site t = length t.sites + 1
 
--- a form with the tables behind it, where there is one
+-- a form with the tables after it, where there is one
 abbrev pub Found : Type 0 → Type 0
 Found A = Option (A × Tables)
 
@@ -133,7 +133,7 @@ put_form p (Some q) (Some l) t =
       with_literal l.place (character l.byte) (with_site q (with_site p t)),
     )
 
--- (format-char (standard-output) c) behind its head
+-- (format-char (standard-output) c) after its head
 abbrev pub format_char_form : List (List ℕ) → Place → Items → Tables → Found Form
 format_char_form texts p (item_and x (item_and y no_item)) t = put_form p (stream_of texts x) (letter_of y) t
 format_char_form texts p _ t = None
@@ -161,12 +161,7 @@ sum_form which p _ t = None
 abbrev pub by_sum : Head → Found Form → Found Form → Found Form
 by_sum plus_head plus minus = plus
 by_sum minus_head plus minus = minus
-by_sum progn_head plus minus = None
-by_sum format_char_head plus minus = None
-by_sum if_head plus minus = None
-by_sum equal_head plus minus = None
-by_sum less_head plus minus = None
-by_sum other_head plus minus = None
+by_sum head plus minus = None
 
 -- Z: a number, a sum or a difference
 abbrev pub operand_of : List (List ℕ) → Item → Tables → Found Form
@@ -187,12 +182,7 @@ comparison_form texts which p _ t = None
 abbrev pub by_test : Head → Found Form → Found Form → Found Form
 by_test equal_head equal less = equal
 by_test less_head equal less = less
-by_test progn_head equal less = None
-by_test format_char_head equal less = None
-by_test if_head equal less = None
-by_test plus_head equal less = None
-by_test minus_head equal less = None
-by_test other_head equal less = None
+by_test head equal less = None
 
 -- T: a comparison
 abbrev pub test_of : List (List ℕ) → Item → Tables → Found Form
@@ -216,9 +206,7 @@ by_head format_char_head progn format_char if_form plus minus = format_char
 by_head if_head progn format_char if_form plus minus = if_form
 by_head plus_head progn format_char if_form plus minus = plus
 by_head minus_head progn format_char if_form plus minus = minus
-by_head equal_head progn format_char if_form plus minus = None
-by_head less_head progn format_char if_form plus minus = None
-by_head other_head progn format_char if_form plus minus = None
+by_head head progn format_char if_form plus minus = None
 
 abbrev pub progn_form : Tables → Found Forms → Found Form
 progn_form t = as_form (λ fs. sited (next_site t) (sequence fs))
@@ -231,14 +219,11 @@ unfoldable mutual
   form_of texts (item p c) t = integer_form (number_of (item p c)) t
 
   pub if_form : List (List ℕ) → Place → Items → Tables → Found Form
-  if_form texts p no_item t = None
-  if_form texts p (item_and x no_item) t = None
-  if_form texts p (item_and x (item_and a no_item)) t = None
   if_form texts p (item_and x (item_and a (item_and b no_item))) t =
       and_then (test_of texts x (with_site p t)) (λ f u.
       and_then (form_of texts a u) (λ g v.
       as_form (λ h. choice (next_site t) (next_literal v) f g h) (form_of texts b (with_truth p v))))
-  if_form texts p (item_and x (item_and a (item_and b (item_and c cs)))) t = None
+  if_form texts p ts t = None
 
   pub forms_of : List (List ℕ) → Items → Tables → Found Forms
   forms_of texts no_item t = Some (no_form, t)

@@ -6,7 +6,7 @@ ghost use Rattle.isl_top.specs.Command.{asked as asked_of, asked_run as asked_ru
 use isl_base::Words;
 
 /// What a command asks for: a file, and how many instructions its run may execute.
-#[derive(Clone, Copy, Debug)]
+#[derive(Clone, Copy)]
 pub struct Command<'a> {
     pub steps: u32,
     pub file: &'a str,

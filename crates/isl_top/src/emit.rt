@@ -2,7 +2,7 @@
 
 ghost use Rattle.std.specs.Prelude.{◌≡◌, ◌++◌, IfOk, OnOk};
 ghost use Rattle.isl_meaning.specs.model.View.{forms, clauses_of, maybe_form};
-ghost use Rattle.isl_top.specs.Code.{constant, nil_word, form_code, forms_code, clauses_code, body_code, primitive_code, byte_of, literal_number};
+ghost use Rattle.isl_top.specs.Code.{form_code, forms_code, clauses_code, body_code, primitive_code, byte_of, literal_number};
 
 pub(crate) mod instructions;
 mod literal;
@@ -15,7 +15,8 @@ use isl_base::{NoMemory, WordList};
 use isl_meaning::{ClauseList, Core, CoreForm, CoreList, LiteralRows, Primitive};
 use std::alloc::Global;
 
-// The code of a form: its value comes into x10.
+// The code of a form: its value comes into x10. No program of the first path has a form of another kind
+// than the first five, and its code is that of nil.
 #[cycle(emit)]
 #[tactic(auto, unfolding(crate::specs::Code::form_code))]
 fn form_code(alloc: Global, literals: &LiteralRows, core: &Core) -> Result<WordList, NoMemory>
@@ -31,41 +32,34 @@ fn form_code(alloc: Global, literals: &LiteralRows, core: &Core) -> Result<WordL
         }
         CoreForm::Prim(which, list) => primitive_code(alloc, literals, *which, list),
         CoreForm::Sited(_, inner) => form_code(alloc, literals, inner),
-        CoreForm::Local(_) => nil_code(alloc),
-        CoreForm::SetLocal(_, _) => nil_code(alloc),
-        CoreForm::Global(_) => nil_code(alloc),
-        CoreForm::SetGlobal(_, _) => nil_code(alloc),
-        CoreForm::DefGlobal(_, _) => nil_code(alloc),
-        CoreForm::Let(_, _) => nil_code(alloc),
-        CoreForm::Lambda(_, _, _, _) => nil_code(alloc),
-        CoreForm::Call(_, _) => nil_code(alloc),
-        CoreForm::CallValue(_) => nil_code(alloc),
-        CoreForm::Apply(_, _) => nil_code(alloc),
-        CoreForm::While(_, _) => nil_code(alloc),
-        CoreForm::Block(_, _) => nil_code(alloc),
-        CoreForm::Return(_, _) => nil_code(alloc),
-        CoreForm::Tagbody(_, _) => nil_code(alloc),
-        CoreForm::Go(_, _) => nil_code(alloc),
-        CoreForm::Catch(_, _) => nil_code(alloc),
-        CoreForm::Throw(_, _) => nil_code(alloc),
-        CoreForm::Unwind(_, _) => nil_code(alloc),
-        CoreForm::DynamicLet(_, _) => nil_code(alloc),
-        CoreForm::Dynamic(_) => nil_code(alloc),
-        CoreForm::SetDynamic(_, _) => nil_code(alloc),
-        CoreForm::DefDynamic(_, _) => nil_code(alloc),
-        CoreForm::WithHandler(_, _) => nil_code(alloc),
-        CoreForm::Signal(_, _) => nil_code(alloc),
-        CoreForm::Continue(_, _) => nil_code(alloc),
-        CoreForm::NextMethod => nil_code(alloc),
-        CoreForm::HasNext => nil_code(alloc),
+        CoreForm::Local(_)
+        | CoreForm::SetLocal(_, _)
+        | CoreForm::Global(_)
+        | CoreForm::SetGlobal(_, _)
+        | CoreForm::DefGlobal(_, _)
+        | CoreForm::Let(_, _)
+        | CoreForm::Lambda(_, _, _, _)
+        | CoreForm::Call(_, _)
+        | CoreForm::CallValue(_)
+        | CoreForm::Apply(_, _)
+        | CoreForm::While(_, _)
+        | CoreForm::Block(_, _)
+        | CoreForm::Return(_, _)
+        | CoreForm::Tagbody(_, _)
+        | CoreForm::Go(_, _)
+        | CoreForm::Catch(_, _)
+        | CoreForm::Throw(_, _)
+        | CoreForm::Unwind(_, _)
+        | CoreForm::DynamicLet(_, _)
+        | CoreForm::Dynamic(_)
+        | CoreForm::SetDynamic(_, _)
+        | CoreForm::DefDynamic(_, _)
+        | CoreForm::WithHandler(_, _)
+        | CoreForm::Signal(_, _)
+        | CoreForm::Continue(_, _)
+        | CoreForm::NextMethod
+        | CoreForm::HasNext => list_of(alloc, &constant(NIL_WORD)),
     }
-}
-
-// The code of nil: no program of the first path has a form of another kind.
-fn nil_code(alloc: Global) -> Result<WordList, NoMemory>
-    ensures { IfOk result (λ code. code ≡ constant nil_word) }
-{
-    list_of(alloc, &constant(NIL_WORD))
 }
 
 // Appends the code of the forms, in order.

@@ -9,7 +9,7 @@ use isl_base::{Bytes, Failed, Shelf};
 use std::alloc::Global;
 
 /// Why a file was not taken.
-#[derive(Clone, Copy, Debug, PartialEq, Eq)]
+#[derive(Clone, Copy)]
 pub enum LoadStop {
     Failed,
     NoMemory,

@@ -3,7 +3,7 @@
 ghost use Rattle.std.specs.Prelude.{◌≡◌, ◌-◌, drop, Some, IfOk};
 ghost use Rattle.isl_base.specs.Data.{items_of};
 ghost use Rattle.isl_top.specs.Finds.{Finds};
-ghost use Rattle.isl_top.specs.Shapes.{number_of as number_of_item, integer_form, sum_of, sum_form, operand_of};
+ghost use Rattle.isl_top.specs.Shapes.{is_small, number_of as number_of_item, integer_form, sum_of, sum_form, operand_of};
 
 use crate::heads::{Head, list_in};
 use crate::tables::Tables;
@@ -26,7 +26,7 @@ pub(crate) fn number_of(datum: &Datum) -> Option<Number>
     ensures { result ≡ number_of_item datum.now }
 {
     match &datum.kind {
-        Kind::Int(value) if -MOST <= *value && *value <= MOST => Some(Number {
+        Kind::Int(value) if is_small(*value) => Some(Number {
             place: datum.place,
             value: *value,
         }),
@@ -38,6 +38,13 @@ pub(crate) fn number_of(datum: &Datum) -> Option<Number>
         | Kind::Nil
         | Kind::List { .. } => None,
     }
+}
+
+// Whether a form may name that number.
+fn is_small(value: i32) -> bool
+    ensures { result ≡ is_small value }
+{
+    -MOST <= value && value <= MOST
 }
 
 /// The form of a number, if there is one.

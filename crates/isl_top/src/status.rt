@@ -6,7 +6,7 @@ ghost use Rattle.isl_top.specs.Lines.{number_of, status_of};
 use isl_base::Refusal;
 
 /// How a call of the program ended.
-#[derive(Clone, Copy, Debug, PartialEq, Eq)]
+#[derive(Clone, Copy)]
 pub enum Status {
     /// The program halted, and all that it printed was written.
     Done,
@@ -43,7 +43,7 @@ impl Status {
 
 /// A status with what its line tells: why and where the file is refused, or how many instructions
 /// were executed.
-#[derive(Clone, Copy, Debug, PartialEq, Eq)]
+#[derive(Clone, Copy)]
 pub enum Answer {
     Done,
     Usage,

@@ -1,11 +1,13 @@
 -- A loop appends a form's code at each turn, and a primitive takes its operands by their number.
-use Rattle.std.proofs.Common.{◌≡◌, ℕ, ◌+◌, ◌≤◌, List, [], ◌∷◌, ◌++◌, Some, length, drop, slice_get, sym, ap, ◌∙◌, append_assoc, arith}
+use Rattle.std.proofs.Common.{◌≡◌, ℕ, ◌+◌, ◌≤◌, List, [], ◌∷◌, ◌++◌, Some, length, drop, slice_get, refl, sym, ap, subst, ◌∙◌, inl, inr, append_assoc, arith}
+use Rattle.std.specs.Prelude.{IfOk}
 use Rattle.isl_meaning.specs.Form.{Form}
-use Rattle.isl_meaning.specs.model.View.{forms}
+use Rattle.isl_meaning.specs.model.View.{forms, view_form}
+use Rattle.isl_meaning.specs.declared.core_form.CoreForm.{CoreForm}
 use Rattle.isl_meaning.specs.model.Rest.{forms_at}
 use Rattle.isl_meaning.specs.declared.primitive.Primitive.{Primitive}
 use Rattle.isl_meaning.specs.declared.program.LiteralRow.{LiteralRow}
-use Rattle.isl_top.specs.Code.{form_code, forms_code, primitive_code, operation_code, byte_of, literal_number}
+use Rattle.isl_top.specs.Code.{constant, nil_word, form_code, forms_code, primitive_code, operation_code, byte_of, literal_number}
 use Rattle.isl_top.proofs.emit.+emit.Goals as goal
 
 forms_code_at : (rows : List LiteralRow) (fs : List Form) (i : ℕ) (f : Form) → slice_get fs i ≡ Some f
@@ -55,3 +57,112 @@ primitive_code-returns t c =
     let rows = c.args.literals.now in
     let is = two_operands rows c.args.which c.args.list.now c.in-Some.first.now second (c.in-Some.ensures) (c.in-Some-get.ensures) in
     rw (is, ← c.in_ok-code.ensures, ← c.in_ok-more.ensures, ← c.literal_byte-byte.ensures) c.operation_code.ensures
+
+-- a form of another kind: the code of nil
+pub form_code-returns-in-Local : goal.form_code-returns-in-Local
+unfolding form_code
+form_code-returns-in-Local t c =
+    let rows = c.args.literals.now in
+    let of_nil = λ (f : CoreForm) (is : c.core.inside.form ≡ f) (nil : constant nil_word ≡ form_code rows (view_form f)).
+    subst (λ word. IfOk c.list_of-in-Local.result (λ code. code ≡ word)) (c.constant-in-Local.ensures ∙ nil ∙ ap (λ g. form_code rows (view_form g)) (sym is) ∙ ap (form_code rows) c.core.view_is) c.list_of-in-Local.ensures in
+    elim c.in-Local.is [
+      | inl x ↦ of_nil _ x.1 refl
+      | inr h ↦
+          elim h [
+            | inl x ↦ of_nil _ x.2 refl
+            | inr h ↦
+                elim h [
+                  | inl x ↦ of_nil _ x.1 refl
+                  | inr h ↦
+                      elim h [
+                        | inl x ↦ of_nil _ x.2 refl
+                        | inr h ↦
+                            elim h [
+                              | inl x ↦ of_nil _ x.2 refl
+                              | inr h ↦
+                                  elim h [
+                                    | inl x ↦ of_nil _ x.2 refl
+                                    | inr h ↦
+                                        elim h [
+                                          | inl x ↦ of_nil _ x.4 refl
+                                          | inr h ↦
+                                              elim h [
+                                                | inl x ↦ of_nil _ x.2 refl
+                                                | inr h ↦
+                                                    elim h [
+                                                      | inl x ↦ of_nil _ x.1 refl
+                                                      | inr h ↦
+                                                          elim h [
+                                                            | inl x ↦ of_nil _ x.2 refl
+                                                            | inr h ↦
+                                                                elim h [
+                                                                  | inl x ↦ of_nil _ x.2 refl
+                                                                  | inr h ↦
+                                                                      elim h [
+                                                                        | inl x ↦ of_nil _ x.2 refl
+                                                                        | inr h ↦
+                                                                            elim h [
+                                                                              | inl x ↦ of_nil _ x.2 refl
+                                                                              | inr h ↦
+                                                                                  elim h [
+                                                                                    | inl x ↦ of_nil _ x.2 refl
+                                                                                    | inr h ↦
+                                                                                        elim h [
+                                                                                          | inl x ↦ of_nil _ x.2 refl
+                                                                                          | inr h ↦
+                                                                                              elim h [
+                                                                                                | inl x ↦ of_nil _ x.2 refl
+                                                                                                | inr h ↦
+                                                                                                    elim h [
+                                                                                                      | inl x ↦ of_nil _ x.2 refl
+                                                                                                      | inr h ↦
+                                                                                                          elim h [
+                                                                                                            | inl x ↦ of_nil _ x.2 refl
+                                                                                                            | inr h ↦
+                                                                                                                elim h [
+                                                                                                                  | inl x ↦ of_nil _ x.2 refl
+                                                                                                                  | inr h ↦
+                                                                                                                      elim h [
+                                                                                                                        | inl x ↦ of_nil _ x.1 refl
+                                                                                                                        | inr h ↦
+                                                                                                                            elim h [
+                                                                                                                              | inl x ↦ of_nil _ x.2 refl
+                                                                                                                              | inr h ↦
+                                                                                                                                  elim h [
+                                                                                                                                    | inl x ↦ of_nil _ x.2 refl
+                                                                                                                                    | inr h ↦
+                                                                                                                                        elim h [
+                                                                                                                                          | inl x ↦ of_nil _ x.2 refl
+                                                                                                                                          | inr h ↦
+                                                                                                                                              elim h [
+                                                                                                                                                | inl x ↦ of_nil _ x.2 refl
+                                                                                                                                                | inr h ↦
+                                                                                                                                                    elim h [
+                                                                                                                                                      | inl x ↦ of_nil _ x.2 refl
+                                                                                                                                                      | inr h ↦
+                                                                                                                                                          elim h [ inl x ↦ of_nil _ x refl | inr x ↦ of_nil _ x refl ]
+                                                                                                                                                    ]
+                                                                                                                                              ]
+                                                                                                                                        ]
+                                                                                                                                  ]
+                                                                                                                            ]
+                                                                                                                      ]
+                                                                                                                ]
+                                                                                                          ]
+                                                                                                    ]
+                                                                                              ]
+                                                                                        ]
+                                                                                  ]
+                                                                            ]
+                                                                      ]
+                                                                ]
+                                                          ]
+                                                    ]
+                                              ]
+                                        ]
+                                  ]
+                            ]
+                      ]
+                ]
+          ]
+    ]
