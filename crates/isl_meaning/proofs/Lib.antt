@@ -6,3 +6,4 @@ pub mod Forms
 pub mod Levels
 pub mod NamesBound
 pub mod Bounds
+pub mod BuiltInRows
