@@ -1,6 +1,6 @@
 // What the rows of a program have to be.
 
-ghost use Rattle.std.specs.Prelude.{◌≡◌, ◌==◌, ◌&&◌, false, nat_lt, nat_le, slice_get, slice_index_or, [], ◌∷◌, length, Some, ◌<◌, IfOk};
+ghost use Rattle.std.specs.Prelude.{◌≡◌, ◌==◌, ◌&&◌, false, nat_lt, slice_get, slice_index_or, [], ◌∷◌, length, Some, ◌<◌, IfOk};
 ghost use Rattle.std.specs.List.{list_all, list_any};
 ghost use Rattle.isl_meaning.specs.BuiltIn.{built_in_precedence, built_in_slots};
 ghost use Rattle.isl_meaning.specs.Classes.{is_qualifier};

@@ -1,9 +1,8 @@
 -- Each of the built-in classes of the code is the one of its number.
-use Rattle.std.proofs.Common.{◌≡◌, ◌∙◌, ℕ, zero, suc, ◌+◌, ◌<◌, List, [], ◌∷◌, Some, length, map, slice_get, slice_index_or, refl, sym, ap, arith}
+use Rattle.std.proofs.Common.{◌≡◌, ◌∙◌, ℕ, zero, suc, ◌+◌, ◌<◌, List, [], ◌∷◌, Some, length, slice_get, slice_index_or, refl, sym, ap, arith}
 use Rattle.std.proofs.lemmas.List.{length-map}
 use Rattle.std.proofs.lemmas.Option.{slice_get-map, slice_get-get_or}
 use Rattle.isl_meaning.specs.declared.classes.BuiltInClass.{BuiltInClass}
-use Rattle.isl_meaning.specs.BuiltIn.{class_texts}
 use Rattle.isl_meaning.specs.BuiltInRows.{IsBuiltIn, AreBuiltIn, lists_from}
 
 list_at : (i : ℕ) (cs : List BuiltInClass) (k : ℕ) (c : BuiltInClass) → slice_get cs k ≡ Some c
