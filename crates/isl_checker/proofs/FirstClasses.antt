@@ -1,5 +1,5 @@
 -- The built-in classes are looked at one by one.
-use Rattle.std.proofs.Common.{◌≡◌, ◌∙◌, ℕ, ◌+◌, ◌<◌, ◌≤◌, Bool, false, ◌&&◌, List, [], ◌∷◌, length, drop, slice_index_or, arith, ap, sym}
+use Rattle.std.proofs.Common.{◌≡◌, ◌∙◌, ℕ, zero, suc, Some, slice_get, ◌+◌, ◌<◌, ◌≤◌, Bool, false, ◌&&◌, List, [], ◌∷◌, length, drop, slice_index_or, arith, ap, sym}
 use Rattle.std.proofs.lemmas.List.{drop_all}
 use Rattle.std.proofs.lemmas.Option.{slice_get-get_or}
 use Rattle.isl_meaning.specs.declared.program.ClassRow.{ClassRow}
@@ -44,3 +44,9 @@ pub no_class_left : (cs : List ClassRow) (i : ℕ) → i < 34 → length cs ≤ 
 no_class_left cs i h l =
     three (drop i cs) [] (drop i built_in_precedence) _ (drop i built_in_slots) _
     (drop_all i cs l) (precedence_from i h) (slots_from i h)
+
+-- an item that is there
+pub item_at : {X : Type 0} (xs : List X) (i : ℕ) (x d : X) → slice_get xs i ≡ Some x → slice_index_or xs i d ≡ x
+item_at [] i x d h = absurd (cc)
+item_at (y ∷ ys) zero x d h = cc
+item_at (y ∷ ys) (suc i) x d h = item_at ys i x d h

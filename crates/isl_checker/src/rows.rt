@@ -1,6 +1,6 @@
 // What the rows of a program have to be.
 
-ghost use Rattle.std.specs.Prelude.{◌≡◌, ◌==◌, ◌&&◌, false, nat_lt, nat_le, slice_get, slice_index_or, [], length, Some, ◌<◌, IfOk};
+ghost use Rattle.std.specs.Prelude.{◌≡◌, ◌==◌, ◌&&◌, false, nat_lt, slice_get, slice_index_or, [], ◌∷◌, length, Some, ◌<◌, IfOk};
 ghost use Rattle.std.specs.List.{list_all, list_any};
 ghost use Rattle.isl_meaning.specs.BuiltIn.{built_in_precedence, built_in_slots};
 ghost use Rattle.isl_meaning.specs.Classes.{is_qualifier};
@@ -15,7 +15,7 @@ use crate::stands::stands;
 use isl_base::{Name, NoMemory};
 use isl_meaning::{
     Callee, ClassRow, Core, FunctionRow, GenericRow, LiteralRow, MethodRow, Procedure, ProcedureId,
-    ProgramRows, Qualifier, SlotRow, VarList,
+    ProgramRows, Qualifier, SlotRow, VarList, built_in_class,
 };
 use std::alloc::Global;
 
@@ -374,13 +374,23 @@ pub fn begins_with_built_in(classes: &[ClassRow]) -> bool
     true
 }
 
-fn is_class(class: &ClassRow, precedence: &[usize], slots: usize) -> bool
-    ensures { result ≡ is_row class.now precedence.now slots }
+// Whether it has that precedence list, the number and then those above it, and so many slots.
+fn is_class(class: &ClassRow, number: usize, above: &[usize], slots: usize) -> bool
+    ensures { result ≡ is_row class.now (number ∷ above.now) slots }
 {
-    same_numbers(class.precedence.as_slice(), precedence)
+    is_line(class.precedence.as_slice(), number, above)
         && class.slots.len() == slots
         && are_plain(class.slots.as_slice())
         && !class.abstract_class
+}
+
+fn is_line(list: &[usize], first: usize, others: &[usize]) -> bool
+    ensures { result ≡ same_text list.now (first ∷ others.now) }
+{
+    match list {
+        [] => false,
+        [own, above @ ..] => *own == first && same_numbers(above, others),
+    }
 }
 
 fn are_plain(slots: &[SlotRow]) -> bool
@@ -411,40 +421,8 @@ fn is_built_in(class: &ClassRow, number: usize) -> bool
     ensures { result ≡ is_row class.now (slice_index_or built_in_precedence number [])
         (slice_index_or built_in_slots number 0) }
 {
-    match number {
-        0 => is_class(class, &[0], 0),
-        1 => is_class(class, &[1, 0], 0),
-        2 => is_class(class, &[2, 1, 0], 0),
-        3 => is_class(class, &[3, 2, 1, 0], 0),
-        4 => is_class(class, &[4, 2, 1, 0], 0),
-        5 => is_class(class, &[5, 0], 0),
-        6 => is_class(class, &[6, 0], 0),
-        7 => is_class(class, &[7, 6, 0], 0),
-        8 => is_class(class, &[8, 0], 0),
-        9 => is_class(class, &[9, 8, 0], 0),
-        10 => is_class(class, &[10, 0], 0),
-        11 => is_class(class, &[11, 10, 8, 0], 0),
-        12 => is_class(class, &[12, 0], 0),
-        13 => is_class(class, &[13, 12, 0], 0),
-        14 => is_class(class, &[14, 0], 0),
-        15 => is_class(class, &[15, 0], 0),
-        16 => is_class(class, &[16, 0], 0),
-        17 => is_class(class, &[17, 0], 0),
-        18 => is_class(class, &[18, 0], 0),
-        19 => is_class(class, &[19, 18, 0], 0),
-        20 => is_class(class, &[20, 18, 0], 0),
-        21 => is_class(class, &[21, 19, 18, 0], 0),
-        22 => is_class(class, &[22, 19, 18, 0], 0),
-        23 => is_class(class, &[23, 19, 18, 0], 0),
-        24 => is_class(class, &[24, 19, 18, 0], 0),
-        25 => is_class(class, &[25, 19, 18, 0], 2),
-        26 => is_class(class, &[26, 19, 18, 0], 0),
-        27 => is_class(class, &[27, 21, 19, 18, 0], 0),
-        28 => is_class(class, &[28, 21, 19, 18, 0], 0),
-        29 => is_class(class, &[29, 24, 19, 18, 0], 2),
-        30 => is_class(class, &[30, 24, 19, 18, 0], 1),
-        31 => is_class(class, &[31, 30, 24, 19, 18, 0], 1),
-        32 => is_class(class, &[32, 30, 24, 19, 18, 0], 1),
-        _ => is_class(class, &[33, 26, 19, 18, 0], 0),
-    }
+    let Some(built_in) = built_in_class(number) else {
+        unreachable!()
+    };
+    is_class(class, number, built_in.above, built_in.slots)
 }

@@ -10,7 +10,7 @@ use crate::row::row_of;
 use crate::slots::said_by;
 use crate::table::ClassTable;
 use isl_base::{Name, NameList, Names, NoMemory};
-use isl_meaning::{ClassId, ClassRow, SlotRow, SlotRows, class_text};
+use isl_meaning::{ClassId, ClassRow, SlotRow, SlotRows, built_in_class, class_text};
 use std::alloc::Global;
 
 /// How many classes are built in.
@@ -131,42 +131,10 @@ fn built_in_above(class: u32) -> &'static [ClassId]
     requires { class < 34 }
     ensures { slice_get built_in_precedence class ≡ Some (class ∷ result.now) }
 {
-    match class {
-        1 => &[0],
-        2 => &[1, 0],
-        3 => &[2, 1, 0],
-        4 => &[2, 1, 0],
-        5 => &[0],
-        6 => &[0],
-        7 => &[6, 0],
-        8 => &[0],
-        9 => &[8, 0],
-        10 => &[0],
-        11 => &[10, 8, 0],
-        12 => &[0],
-        13 => &[12, 0],
-        14 => &[0],
-        15 => &[0],
-        16 => &[0],
-        17 => &[0],
-        18 => &[0],
-        19 => &[18, 0],
-        20 => &[18, 0],
-        21 => &[19, 18, 0],
-        22 => &[19, 18, 0],
-        23 => &[19, 18, 0],
-        24 => &[19, 18, 0],
-        25 => &[19, 18, 0],
-        26 => &[19, 18, 0],
-        27 => &[21, 19, 18, 0],
-        28 => &[21, 19, 18, 0],
-        29 => &[24, 19, 18, 0],
-        30 => &[24, 19, 18, 0],
-        31 => &[30, 24, 19, 18, 0],
-        32 => &[30, 24, 19, 18, 0],
-        33 => &[26, 19, 18, 0],
-        _ => &[],
-    }
+    let Some(built_in) = built_in_class(class as usize) else {
+        unreachable!()
+    };
+    built_in.above
 }
 
 // The row of a built-in class.

@@ -6,7 +6,6 @@ pub mod Cutting
 pub mod Picking
 pub mod Placing
 pub mod Making
-pub mod ListTurns
 pub mod GroupTurns
 pub mod TuplePlaces
 pub mod Decoding

@@ -1,6 +1,7 @@
 -- What the turns make: maps of arguments, tables, and lists of them.
-use Rattle.std.proofs.Common.{◌≡◌, ℕ, zero, suc, ◌≤◌, List, [], ◌∷◌, ◌++◌, length, map, Some, slice_get, refl, ap, subst, ◌∙◌, ⊎_elim, arith}
+use Rattle.std.proofs.Common.{◌≡◌, ℕ, zero, suc, ◌+◌, ◌≤◌, List, [], ◌∷◌, ◌++◌, length, map, drop, Some, slice_get, refl, ap, subst, ◌∙◌, ⊎_elim, arith, append_assoc}
 use Rattle.isl_base.specs.Names.{slice_get-push}
+use Rattle.isl_meaning.specs.model.Rest.{rest_at}
 use Rattle.isl_meaning.specs.declared.program.ProgramRows.{ProgramRows}
 use Rattle.isl_meaning.specs.declared.program.GenericRow.{GenericRow}
 use Rattle.isl_dispatch.specs.declared.groups.ArgumentGroups.{ArgumentGroups}
@@ -56,3 +57,8 @@ one_of_total f (y ∷ ys) (suc i) x h = omega (arith, one_of_total f ys i x h)
 pub map-more : {X Y : Type 0} (f : X → Y) (xs : List X) (x : X) → map f (xs ++ x ∷ []) ≡ map f xs ++ f x ∷ []
 map-more f [] x = refl
 map-more f (y ∷ ys) x = ap (λ l. f y ∷ l) (map-more f ys x)
+
+-- one more image
+pub map_turn : {X Y : Type 0} (f : X → Y) (done : List Y) (xs : List X) (i : ℕ) (x : X) → slice_get xs i ≡ Some x
+    → (done ++ f x ∷ []) ++ map f (drop (i + 1) xs) ≡ done ++ map f (drop i xs)
+map_turn f done xs i x h = rw (rest_at xs i x h) (append_assoc done (f x ∷ []) (map f (drop (i + 1) xs)))

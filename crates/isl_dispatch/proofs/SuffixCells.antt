@@ -1,12 +1,12 @@
 -- The cells of tuples are counted argument by argument.
-use Rattle.std.proofs.Common.{◌≡◌, ◌∙◌, ℕ, zero, suc, ◌+◌, Bool, true, false, ◌&&◌, List, [], ◌∷◌, ◌++◌, Some, length, nat_le, map, filter, drop, slice_get, refl, sym, ap, arith, ◌≤◌, ◌<◌, ◌-◌, get_or, take, le-leb, leb-true}
+use Rattle.std.proofs.Common.{◌≡◌, ◌∙◌, ℕ, zero, suc, ◌+◌, Bool, true, false, ◌&&◌, List, [], ◌∷◌, ◌++◌, Some, length, nat_le, map, filter, drop, slice_get, refl, sym, ap, arith, ◌≤◌, ◌<◌, ◌-◌, get_or, take}
 use Rattle.std.proofs.lemmas.Bool.Decides.{nat_tests}
 use Rattle.std.proofs.lemmas.List.{take_rest}
 use Rattle.isl_meaning.specs.declared.program.ProgramRows.{ProgramRows}
 use Rattle.isl_meaning.specs.declared.program.GenericRow.{GenericRow}
 use Rattle.isl_meaning.specs.declared.program.MethodRow.{MethodRow}
 use Rattle.isl_meaning.specs.declared.program.Qualifier.TheVariants.{Primary}
-use Rattle.isl_meaning.specs.Classes.{is_below, applies, of_kind}
+use Rattle.isl_meaning.specs.Classes.{applies, of_kind}
 use Rattle.isl_meaning.specs.Cells.{tuples, tuple_cells}
 use Rattle.isl_meaning.specs.ProgramCounts.{total}
 use Rattle.isl_meaning.specs.model.Rest.{rest_at}

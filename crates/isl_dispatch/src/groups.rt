@@ -126,10 +126,7 @@ fn common(alloc: Global, list: &ClassIds, column: &ClassIds) -> Result<ClassIds,
     ensures { IfOk result (λ both. both ≡ filter (λ d. is_in d column.now) list.now) }
 {
     let mut both = ItemList::new(alloc);
-    for at in 0..list.len() {
-        let Some(class) = list.get(at) else {
-            unreachable!()
-        };
+    for class in list.as_slice() {
         if contains(column, *class) {
             both.push(*class)?;
         }
@@ -141,10 +138,7 @@ fn common(alloc: Global, list: &ClassIds, column: &ClassIds) -> Result<ClassIds,
 pub fn contains(list: &ClassIds, class: ClassId) -> bool
     ensures { result ≡ is_in class list.now }
 {
-    for at in 0..list.len() {
-        let Some(other) = list.get(at) else {
-            unreachable!()
-        };
+    for other in list.as_slice() {
         if class == *other {
             return true;
         }
@@ -161,10 +155,7 @@ fn argument_classes(
     ensures { IfOk result (λ column. column ≡ argument_classes generic.now argument) }
 {
     let mut column = ItemList::new(alloc);
-    for at in 0..generic.methods.len() {
-        let Some(method) = generic.methods.get(at) else {
-            unreachable!()
-        };
+    for method in generic.methods.as_slice() {
         column.push(class_at(&method.classes, argument))?;
     }
     Ok(column)
@@ -184,10 +175,7 @@ fn class_at(classes: &ClassIds, argument: usize) -> ClassId
 fn is_specialised(column: &ClassIds) -> bool
     ensures { result ≡ some_of (λ c. not (c == 0)) column.now }
 {
-    for at in 0..column.len() {
-        let Some(class) = column.get(at) else {
-            unreachable!()
-        };
+    for class in column.as_slice() {
         if *class != 0 {
             return true;
         }

@@ -1,6 +1,6 @@
 // Which methods a generic function takes.
 
-ghost use Rattle.std.specs.Prelude.{◌≡◌, ◌<◌, ◌≤◌, ◌++◌, ◌∷◌, [], length, OnOk, OnErr};
+ghost use Rattle.std.specs.Prelude.{◌≡◌, ◌<◌, ◌≤◌, length, OnOk, OnErr};
 ghost use Rattle.isl_meaning.specs.Values.{same_text};
 ghost use Rattle.isl_meaning.specs.Lookup.{some_of};
 ghost use Rattle.isl_meaning.specs.Classes.{is_qualifier};
@@ -23,10 +23,7 @@ pub fn takes(row: &GenericRow, rest: bool, method: &MethodRow) -> bool
 fn is_among(methods: &MethodRows, method: &MethodRow) -> bool
     ensures { result ≡ some_of (is_same method.now) methods.now }
 {
-    for at in 0..methods.len() {
-        let Some(other) = methods.get(at) else {
-            unreachable!()
-        };
+    for other in methods.as_slice() {
         if is_same(method, other) {
             return true;
         }

@@ -20,10 +20,7 @@ pub(crate) fn passing(
     ensures { IfOk result (λ few. few ≡ filter (passes (with_classes classes.now) argument class) methods.now) }
 {
     let mut few = MethodRows::new(alloc);
-    for at in 0..methods.len() {
-        let Some(method) = methods.get(at) else {
-            unreachable!()
-        };
+    for method in methods.as_slice() {
         if passes(classes, method, argument, class) {
             few.push(copied(alloc, method)?)?;
         }

@@ -7,3 +7,4 @@ pub mod Levels
 pub mod NamesBound
 pub mod Bounds
 pub mod Counting
+pub mod BuiltInRows

@@ -18,6 +18,7 @@ pub mod Signals
 pub mod Meaning
 pub mod Laws
 pub mod BuiltIn
+pub mod BuiltInRows
 pub mod ProgramCounts
 pub mod Arity
 pub mod Cells

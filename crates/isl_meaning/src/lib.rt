@@ -11,7 +11,7 @@ pub mod program;
 pub mod scope;
 mod whole;
 
-pub use classes::class_text;
+pub use classes::{BuiltInClass, built_in_class, class_text};
 pub use core_form::{
     Binding, BindingList, Clause, ClauseList, Core, CoreForm, CoreList, DynBinding, DynBindings,
     SegmentList,

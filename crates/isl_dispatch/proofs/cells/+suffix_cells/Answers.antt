@@ -1,5 +1,5 @@
 -- Each turn counts the tuples that begin with one class; past the limit nothing is counted.
-use Rattle.std.proofs.Common.{◌≡◌, ◌+◌, ◌-◌, ℕ, List, filter, length, drop, take, min, ◌∙◌, arith}
+use Rattle.std.proofs.Common.{◌≡◌, ◌+◌, ◌-◌, ℕ, List, filter, length, drop, take, min, arith}
 use Rattle.isl_meaning.specs.ProgramCounts.{total}
 use Rattle.isl_meaning.specs.Cells.{tuples}
 use Rattle.isl_dispatch.specs.OfClasses.{with_classes}

@@ -1,5 +1,5 @@
 -- Too many tuples have too many cells; else they are counted from the first argument on.
-use Rattle.std.proofs.Common.{◌≡◌, ◌≤◌, ◌+◌, List, ℕ, arith}
+use Rattle.std.proofs.Common.{◌≤◌, List, ℕ, arith}
 use Rattle.isl_meaning.specs.Cells.{tuple_cells, tuples}
 use Rattle.isl_dispatch.specs.OfClasses.{with_classes}
 use Rattle.isl_dispatch.proofs.TuplePlaces.{total_above}

@@ -4,5 +4,5 @@ use Rattle.isl_meaning.specs.Lookup.{some_of}
 use Rattle.isl_dispatch.specs.Methods.{is_same}
 use Rattle.isl_dispatch.proofs.methods.is_among.Given as goal
 
-abbrev pub invariant-loop-at : goal.invariant-loop-at
-invariant-loop-at l = some_of (is_same l.method) (drop l.at l.methods) ≡ some_of (is_same l.method) l.methods
+abbrev pub invariant-loop-other : goal.invariant-loop-other
+invariant-loop-other l = some_of (is_same l.method) (drop l.other-index l.methods) ≡ some_of (is_same l.method) l.methods

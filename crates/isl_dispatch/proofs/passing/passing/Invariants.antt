@@ -4,7 +4,7 @@ use Rattle.isl_dispatch.specs.OfClasses.{with_classes}
 use Rattle.isl_dispatch.specs.Suffixes.{passes}
 use Rattle.isl_dispatch.proofs.passing.passing.Given as goal
 
-abbrev pub invariant-loop-at : goal.invariant-loop-at
-invariant-loop-at l =
-    l.few ++ filter (passes (with_classes l.classes) l.argument l.class) (drop l.at l.methods)
+abbrev pub invariant-loop-method : goal.invariant-loop-method
+invariant-loop-method l =
+    l.few ++ filter (passes (with_classes l.classes) l.argument l.class) (drop l.method-index l.methods)
     ≡ filter (passes (with_classes l.classes) l.argument l.class) l.methods

@@ -2,10 +2,9 @@
 use Rattle.std.proofs.Common.{◌+◌, ◌++◌, ◌∷◌, [], map, drop, ap, ◌∙◌}
 use Rattle.isl_meaning.specs.Classes.{chain}
 use Rattle.isl_meaning.specs.Cells.{tuples}
-use Rattle.isl_dispatch.proofs.ListTurns.{map_turn}
 use Rattle.isl_dispatch.specs.OfClasses.{with_classes}
 use Rattle.isl_dispatch.specs.Chains.{maybe_seen}
-use Rattle.isl_dispatch.proofs.Making.{map-more}
+use Rattle.isl_dispatch.proofs.Making.{map-more, map_turn}
 use Rattle.isl_dispatch.proofs.table.chains.Goals as goal
 
 pub loop-index-preserved : goal.loop-index-preserved
