@@ -3,7 +3,7 @@ use Rattle.std.proofs.Common.{◌≡◌, ◌≤◌, ℕ, ◌+◌, Bool, true, fa
 use Rattle.std.proofs.lemmas.List.{drop_all}
 use Rattle.isl_meaning.specs.declared.program.Procedure.{Procedure}
 use Rattle.isl_meaning.specs.declared.program.ProgramRows.{ProgramRows}
-use Rattle.isl_meaning.specs.model.Rest.{rest_at}
+use Rattle.isl_base.specs.model.DataRest.{rest_at}
 use Rattle.isl_meaning.specs.Standing.{is_alone}
 use Rattle.isl_meaning.specs.Facts.{is_of_method, procedures_stand}
 

@@ -3,7 +3,7 @@ use Rattle.std.specs.Prelude.{◌≡◌, ℕ, zero, suc, ◌+◌, ◌*◌, ◌/�
 use Rattle.std.proofs.Common.{◌∙◌, sym, ap, arith, append_assoc, append-nil, mul-le-mul_right, inl, inr, ⊎_elim}
 use Rattle.std.proofs.Math.Nat.{mul-div_cancel_left, div-lt_iff_lt-mul}
 use Rattle.std.proofs.lemmas.List.{drop_all}
-use Rattle.isl_meaning.specs.model.Rest.{rest_at}
+use Rattle.isl_base.specs.model.DataRest.{rest_at}
 use Rattle.isl_meaning.specs.Cells.{tuples}
 use Rattle.isl_dispatch.proofs.TuplePlaces.{length-tuples, tuple_at}
 

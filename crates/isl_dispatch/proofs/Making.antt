@@ -1,7 +1,7 @@
 -- What the turns make: maps of arguments, tables, and lists of them.
 use Rattle.std.proofs.Common.{◌≡◌, ℕ, zero, suc, ◌+◌, ◌≤◌, List, [], ◌∷◌, ◌++◌, length, map, drop, Some, slice_get, refl, ap, subst, ◌∙◌, ⊎_elim, arith, append_assoc}
 use Rattle.isl_base.specs.Names.{slice_get-push}
-use Rattle.isl_meaning.specs.model.Rest.{rest_at}
+use Rattle.isl_base.specs.model.DataRest.{rest_at}
 use Rattle.isl_meaning.specs.declared.program.ProgramRows.{ProgramRows}
 use Rattle.isl_meaning.specs.declared.program.GenericRow.{GenericRow}
 use Rattle.isl_dispatch.specs.declared.groups.ArgumentGroups.{ArgumentGroups}

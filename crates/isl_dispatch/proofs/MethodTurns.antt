@@ -5,7 +5,7 @@ use Rattle.isl_meaning.specs.declared.program.MethodRow.{MethodRow}
 use Rattle.isl_meaning.specs.declared.program.Qualifier.TheVariants.{Primary}
 use Rattle.isl_meaning.specs.Classes.{is_below, applies, is_qualifier}
 use Rattle.std.proofs.lemmas.List.{drop_all}
-use Rattle.isl_meaning.specs.model.Rest.{rest_at}
+use Rattle.isl_base.specs.model.DataRest.{rest_at}
 use Rattle.isl_dispatch.proofs.ChainCounts.{count_of, size_of}
 
 -- a method of another number of arguments does not apply

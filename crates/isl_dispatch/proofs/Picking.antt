@@ -4,12 +4,11 @@ use Rattle.std.proofs.lemmas.Bool.Decides.{nat_tests}
 use Rattle.std.proofs.lemmas.List.{drop_all, length-map, reverse-append}
 use Rattle.std.proofs.lemmas.Option.{slice_get-map, slice_get_past, slice_get-get_or}
 use Rattle.std.specs.Option.{option_map}
-use Rattle.isl_base.specs.model.DataRest.{take_at}
+use Rattle.isl_base.specs.model.DataRest.{rest_at, take_at}
 use Rattle.isl_meaning.specs.declared.program.ProgramRows.{ProgramRows}
 use Rattle.isl_meaning.specs.declared.program.MethodRow.{MethodRow}
 use Rattle.isl_meaning.specs.declared.program.Qualifier.{Qualifier}
 use Rattle.isl_meaning.specs.Lookup.{place_in}
-use Rattle.isl_meaning.specs.model.Rest.{rest_at}
 use Rattle.isl_meaning.specs.Classes.{precedence, more_specific, among, ordered, is_qualifier, of_kind}
 use Rattle.isl_dispatch.specs.Chains.{ArePicked}
 

@@ -8,7 +8,7 @@ use Rattle.isl_meaning.specs.declared.program.GenericRow.{GenericRow}
 use Rattle.isl_meaning.specs.Objects.{Chain, count_up}
 use Rattle.isl_meaning.specs.Classes.{chain}
 use Rattle.isl_meaning.specs.Cells.{argument_classes, group_of, groups}
-use Rattle.isl_meaning.specs.model.Rest.{rest_at}
+use Rattle.isl_base.specs.model.DataRest.{rest_at}
 use Rattle.isl_dispatch.proofs.TuplePlaces.{length-tuples, tuple_at}
 use Rattle.isl_dispatch.specs.declared.table.ArgumentMap.{ArgumentMap}
 use Rattle.isl_dispatch.specs.declared.table.ArgumentMap.TheVariants.{Whole, Mapped}

@@ -9,7 +9,7 @@ use Rattle.isl_meaning.specs.declared.program.Qualifier.TheVariants.{Primary}
 use Rattle.isl_meaning.specs.Classes.{applies, of_kind}
 use Rattle.isl_meaning.specs.Cells.{tuples, tuple_cells}
 use Rattle.isl_meaning.specs.ProgramCounts.{total}
-use Rattle.isl_meaning.specs.model.Rest.{rest_at}
+use Rattle.isl_base.specs.model.DataRest.{rest_at}
 use Rattle.isl_dispatch.specs.Suffixes.{is_below_some, passes, applies_from, chain_size, rest_cells}
 use Rattle.isl_dispatch.proofs.TuplePlaces.{fan}
 use Rattle.isl_dispatch.proofs.ChainCounts.{chain_length_is, length_of-chain, size_of}

@@ -6,7 +6,7 @@ use Rattle.std.proofs.lemmas.List.Sums.{sum_by-cons, sum_by-append}
 use Rattle.isl_meaning.specs.Form.{Form}
 use Rattle.isl_meaning.specs.Subforms.{outer, inner}
 use Rattle.isl_meaning.specs.Counts.{greatest}
-use Rattle.isl_meaning.specs.model.Rest.{rest_at}
+use Rattle.isl_base.specs.model.DataRest.{rest_at}
 use Rattle.isl_meaning.specs.bridge.Visits.{visits, first_of, second_of, outer_from, outer_visit, outer_at_last}
 
 -- sums
@@ -42,16 +42,9 @@ sum_of_second g x o h = ap (λ p. sum (map g (option_to_list p))) h ∙ omega ar
 pub sum_of_none : (g : Form → ℕ) (o : Option Form) → o ≡ None → sum (map g (option_to_list o)) ≡ 0
 sum_of_none g o h = ap (λ p. sum (map g (option_to_list p))) h
 
-pub one_counted : (total a first rest left whole next m : ℕ) → left ≡ a + rest → first ≡ min a m → next ≡ min (total + first) m
-    → min (total + left) m ≡ whole → min (next + rest) m ≡ whole
-one_counted total a first rest left whole next m h e n w = omega arith
-
 pub two_counted : (total a b first second rest left whole next last m : ℕ) → left ≡ a + b + rest → first ≡ min a m → second ≡ min b m
     → next ≡ min (total + first) m → last ≡ min (next + second) m → min (total + left) m ≡ whole → min (last + rest) m ≡ whole
 two_counted total a b first second rest left whole next last m h e d n l w = omega arith
-
-pub all_counted : (total left whole m : ℕ) → left ≡ 0 → total ≤ m → min (total + left) m ≡ whole → total ≡ whole
-all_counted total left whole m a b e = omega arith
 
 -- the greatest
 

@@ -59,6 +59,7 @@ fn class_nodes(row: &ClassRow) -> u64
     (row.precedence.len() as u64).saturating_add(slot_list_nodes(&row.slots))
 }
 
+#[tactic(auto, using(crate::specs::bridge::Totals::none_counted, crate::specs::bridge::Totals::one_more, crate::specs::bridge::Totals::all_there))]
 fn literal_nodes(list: &LiteralRows) -> u64
     ensures { result ≡ min (total row_nodes list.now) 18446744073709551615 }
 {
@@ -72,6 +73,7 @@ fn literal_nodes(list: &LiteralRows) -> u64
     total
 }
 
+#[tactic(auto, using(crate::specs::bridge::Totals::none_counted, crate::specs::bridge::Totals::one_more, crate::specs::bridge::Totals::all_there))]
 fn procedure_list_nodes(list: &ProcedureList) -> u64
     ensures { result ≡ min (total procedure_nodes list.now) 18446744073709551615 }
 {
@@ -85,6 +87,7 @@ fn procedure_list_nodes(list: &ProcedureList) -> u64
     total
 }
 
+#[tactic(auto, using(crate::specs::bridge::Totals::none_counted, crate::specs::bridge::Totals::one_more, crate::specs::bridge::Totals::all_there))]
 fn slot_list_nodes(list: &SlotRows) -> u64
     ensures { result ≡ min (total slot_nodes list.now) 18446744073709551615 }
 {
@@ -98,6 +101,7 @@ fn slot_list_nodes(list: &SlotRows) -> u64
     total
 }
 
+#[tactic(auto, using(crate::specs::bridge::Totals::none_counted, crate::specs::bridge::Totals::one_more, crate::specs::bridge::Totals::all_there))]
 fn class_list_nodes(list: &ClassRows) -> u64
     ensures { result ≡ min (total class_nodes list.now) 18446744073709551615 }
 {
@@ -111,6 +115,7 @@ fn class_list_nodes(list: &ClassRows) -> u64
     total
 }
 
+#[tactic(auto, using(crate::specs::bridge::Totals::none_counted, crate::specs::bridge::Totals::one_more, crate::specs::bridge::Totals::all_there))]
 fn main_nodes(list: &CoreList) -> u64
     ensures { result ≡ min (total all_nodes list.now) 18446744073709551615 }
 {

@@ -14,7 +14,7 @@ use Rattle.isl_meaning.specs.Inside.{inside_step, inside_form}
 use Rattle.isl_meaning.specs.Mentions.{some, names_part, binds, mentions_step, mentions}
 use Rattle.isl_meaning.specs.Fits.{fits_itself, fits}
 use Rattle.isl_meaning.specs.Standing.{all_in, around_inner, stands_itself, stands_step, stands_in, stands}
-use Rattle.isl_meaning.specs.model.Rest.{rest_at}
+use Rattle.isl_base.specs.model.DataRest.{rest_at}
 use Rattle.isl_meaning.specs.bridge.Walks.{folded}
 use Rattle.isl_meaning.specs.bridge.Visits.{visits, first_of, second_of, outer_from, outer_visit, outer_at_last}
 

@@ -1,7 +1,7 @@
 -- One list more.
 use Rattle.std.proofs.Common.{◌≡◌, ◌+◌, ◌*◌, min, length, drop, ◌∙◌, ap, arith}
 use Rattle.isl_meaning.specs.Cells.{tuples}
-use Rattle.isl_meaning.specs.model.Rest.{rest_at}
+use Rattle.isl_base.specs.model.DataRest.{rest_at}
 use Rattle.isl_dispatch.proofs.TuplePlaces.{length-tuples}
 use Rattle.isl_dispatch.proofs.Decoding.{one_multiplied}
 use Rattle.isl_dispatch.proofs.tuples.tuple_count.Goals as goal

@@ -2,7 +2,7 @@
 use Rattle.std.proofs.Common.{◌∷◌, [], ◌++◌, ap, sym, ◌∙◌}
 use Rattle.std.proofs.Common.{ℕ, Option}
 use Rattle.isl_meaning.specs.Form.{Form}
-use Rattle.isl_meaning.specs.model.Rest.{take_at}
+use Rattle.isl_base.specs.model.DataRest.{take_at}
 use Rattle.isl_meaning.specs.declared.core_form.Clause.{Clause}
 use Rattle.isl_meaning.specs.declared.core_form.Binding.{Binding}
 use Rattle.isl_meaning.specs.declared.core_form.DynBinding.{DynBinding}

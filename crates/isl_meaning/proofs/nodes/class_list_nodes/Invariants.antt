@@ -1,11 +1,7 @@
--- The list has what is counted, and the rest is still to be counted.
-use Rattle.std.proofs.Common.{◌≡◌, ◌≤◌, ◌+◌, min, drop}
-use Rattle.isl_meaning.specs.ProgramCounts.{total, class_nodes}
+-- The loop counts the list.
+use Rattle.isl_meaning.specs.ProgramCounts.{class_nodes}
+use Rattle.isl_meaning.specs.bridge.Totals.{IsCounted}
 use Rattle.isl_meaning.proofs.nodes.class_list_nodes.Given as goal
 
 abbrev pub invariant-loop-at : goal.invariant-loop-at
-invariant-loop-at l =
-    record {
-      fits : l.total ≤ 18446744073709551615;
-      counted : min (l.total + total class_nodes (drop l.at l.list)) 18446744073709551615 ≡ min (total class_nodes l.list) 18446744073709551615;
-    }
+invariant-loop-at l = IsCounted class_nodes l.list l.at l.total

@@ -1,11 +1,7 @@
--- The list has what is counted, and the rest is still to be counted.
-use Rattle.std.proofs.Common.{◌≡◌, ◌≤◌, ◌+◌, min, drop}
-use Rattle.isl_meaning.specs.ProgramCounts.{total, procedure_nodes}
+-- The loop counts the list.
+use Rattle.isl_meaning.specs.ProgramCounts.{procedure_nodes}
+use Rattle.isl_meaning.specs.bridge.Totals.{IsCounted}
 use Rattle.isl_meaning.proofs.nodes.procedure_list_nodes.Given as goal
 
 abbrev pub invariant-loop-at : goal.invariant-loop-at
-invariant-loop-at l =
-    record {
-      fits : l.total ≤ 18446744073709551615;
-      counted : min (l.total + total procedure_nodes (drop l.at l.list)) 18446744073709551615 ≡ min (total procedure_nodes l.list) 18446744073709551615;
-    }
+invariant-loop-at l = IsCounted procedure_nodes l.list l.at l.total

@@ -3,7 +3,8 @@ use Rattle.std.proofs.Common.{◌≡◌, arith, ap, map}
 use Rattle.std.specs.List.{sum}
 use Rattle.isl_meaning.specs.Counts.{nodes_with}
 use Rattle.isl_meaning.specs.bridge.Visits.{outer_at_first}
-use Rattle.isl_meaning.proofs.Counting.{outer_sum, inner_sum, one_counted, two_counted}
+use Rattle.isl_meaning.specs.bridge.Totals.{one_counted}
+use Rattle.isl_meaning.proofs.Counting.{outer_sum, inner_sum, two_counted}
 use Rattle.isl_meaning.proofs.core_form.Core.+nodes.Goals as goal
 
 pub outer_nodes-loop-at-init : goal.outer_nodes-loop-at-init
