@@ -1,5 +1,5 @@
 -- Tables of which the first classes stay.
-use Rattle.std.proofs.Common.{◌≡◌, ℕ, zero, suc, ◌+◌, ◌-◌, ◌<◌, ◌≤◌, ◌==◌, min, ⊎_elim, Bool, true, false, List, [], ◌∷◌, ◌++◌, Option, Some, None, take, drop, length, slice_get, refl, sym, ap, subst, ◌∙◌, if◌then◌else◌, arith}
+use Rattle.std.proofs.Common.{◌≡◌, ℕ, zero, suc, ◌+◌, ◌-◌, ◌<◌, ◌≤◌, min, Bool, true, false, List, [], ◌∷◌, Option, Some, None, take, length, slice_get, refl, sym, ap, subst, ◌∙◌, if◌then◌else◌, arith}
 use Rattle.std.specs.Option.{option_map}
 use Rattle.std.specs.Ordering.{nat_cmp}
 use Rattle.std.specs.BTreeMap.{BTreeMap, get, UpdatesBy}
@@ -9,8 +9,8 @@ use Rattle.isl_base.specs.declared.datum.Name.{Name}
 use Rattle.isl_meaning.specs.declared.program.ClassRow.{ClassRow}
 use Rattle.isl_meaning.specs.declared.program.SlotRow.{SlotRow}
 use Rattle.isl_meaning.specs.Objects.{built_in_classes}
-use Rattle.isl_meaning.specs.bridge.Fronts.{from_front, in_front}
-use Rattle.isl_base.specs.model.DataRest.{take_at}
+use Rattle.isl_meaning.specs.bridge.Fronts.{from_front}
+use Rattle.isl_meaning.specs.model.Rest.{take_at}
 use Rattle.isl_classes.specs.InheritedClasses.{Hierarchy, GivenSlot, IsHierarchy, IsRow, AreClasses, class_named, with_class}
 use Rattle.isl_classes.specs.InheritedSlots.{same_name}
 use Rattle.isl_classes.proofs.Adding.{key_found, named-more}

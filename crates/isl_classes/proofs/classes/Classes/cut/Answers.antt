@@ -1,6 +1,5 @@
 -- The classes that stay are a hierarchy.
-use Rattle.std.proofs.Common.{◌≡◌, ◌≤◌, length}
-use Rattle.isl_classes.specs.InheritedClasses.{IsHierarchy}
+use Rattle.std.proofs.Common.{◌≤◌, length}
 use Rattle.isl_classes.proofs.Cutting.{hierarchy_cut}
 use Rattle.isl_classes.proofs.classes.Classes.cut.Goals as goal
 

@@ -1,6 +1,4 @@
 -- The classes that stay are found by their names.
-use Rattle.std.proofs.Common.{◌≡◌, ◌∙◌, take, ap, sym}
-use Rattle.isl_classes.specs.InheritedClasses.{class_named}
 use Rattle.isl_classes.proofs.Cutting.{classes_cut}
 use Rattle.isl_classes.proofs.table.ClassTable.cut.Goals as goal
 
