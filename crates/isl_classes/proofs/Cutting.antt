@@ -10,7 +10,7 @@ use Rattle.isl_meaning.specs.declared.program.ClassRow.{ClassRow}
 use Rattle.isl_meaning.specs.declared.program.SlotRow.{SlotRow}
 use Rattle.isl_meaning.specs.Objects.{built_in_classes}
 use Rattle.isl_meaning.specs.bridge.Fronts.{from_front}
-use Rattle.isl_meaning.specs.model.Rest.{take_at}
+use Rattle.isl_base.specs.model.DataRest.{take_at}
 use Rattle.isl_classes.specs.InheritedClasses.{Hierarchy, GivenSlot, IsHierarchy, IsRow, AreClasses, class_named, with_class}
 use Rattle.isl_classes.specs.InheritedSlots.{same_name}
 use Rattle.isl_classes.proofs.Adding.{key_found, named-more}

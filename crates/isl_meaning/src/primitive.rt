@@ -4,7 +4,7 @@ ghost use Rattle.std.specs.Prelude.{◌≡◌};
 ghost use Rattle.isl_meaning.specs.Arity.{arity};
 
 /// A primitive: what it gives stands with the meaning of the language.
-#[derive(Clone, Copy, Debug, PartialEq, Eq)]
+#[derive(Clone, Copy)]
 pub enum Primitive {
     /// The sum of two integers (ISO/IEC 13816:2007, 19.2).
     Add,
