@@ -32,33 +32,7 @@ fn form_code(alloc: Global, literals: &LiteralRows, core: &Core) -> Result<WordL
         }
         CoreForm::Prim(which, list) => primitive_code(alloc, literals, *which, list),
         CoreForm::Sited(_, inner) => form_code(alloc, literals, inner),
-        CoreForm::Local(_)
-        | CoreForm::SetLocal(_, _)
-        | CoreForm::Global(_)
-        | CoreForm::SetGlobal(_, _)
-        | CoreForm::DefGlobal(_, _)
-        | CoreForm::Let(_, _)
-        | CoreForm::Lambda(_, _, _, _)
-        | CoreForm::Call(_, _)
-        | CoreForm::CallValue(_)
-        | CoreForm::Apply(_, _)
-        | CoreForm::While(_, _)
-        | CoreForm::Block(_, _)
-        | CoreForm::Return(_, _)
-        | CoreForm::Tagbody(_, _)
-        | CoreForm::Go(_, _)
-        | CoreForm::Catch(_, _)
-        | CoreForm::Throw(_, _)
-        | CoreForm::Unwind(_, _)
-        | CoreForm::DynamicLet(_, _)
-        | CoreForm::Dynamic(_)
-        | CoreForm::SetDynamic(_, _)
-        | CoreForm::DefDynamic(_, _)
-        | CoreForm::WithHandler(_, _)
-        | CoreForm::Signal(_, _)
-        | CoreForm::Continue(_, _)
-        | CoreForm::NextMethod
-        | CoreForm::HasNext => list_of(alloc, &constant(NIL_WORD)),
+        _ => list_of(alloc, &constant(NIL_WORD)),
     }
 }
 
@@ -150,36 +124,6 @@ fn literal_byte(literals: &LiteralRows, core: &Core) -> u32
 {
     match &core.form {
         CoreForm::Literal(id) => row_byte(literals, *id),
-        CoreForm::Local(_)
-        | CoreForm::SetLocal(_, _)
-        | CoreForm::Global(_)
-        | CoreForm::SetGlobal(_, _)
-        | CoreForm::DefGlobal(_, _)
-        | CoreForm::Clauses(_)
-        | CoreForm::Sequence(_)
-        | CoreForm::Let(_, _)
-        | CoreForm::Lambda(_, _, _, _)
-        | CoreForm::Call(_, _)
-        | CoreForm::CallValue(_)
-        | CoreForm::Apply(_, _)
-        | CoreForm::Prim(_, _)
-        | CoreForm::While(_, _)
-        | CoreForm::Block(_, _)
-        | CoreForm::Return(_, _)
-        | CoreForm::Tagbody(_, _)
-        | CoreForm::Go(_, _)
-        | CoreForm::Catch(_, _)
-        | CoreForm::Throw(_, _)
-        | CoreForm::Unwind(_, _)
-        | CoreForm::DynamicLet(_, _)
-        | CoreForm::Dynamic(_)
-        | CoreForm::SetDynamic(_, _)
-        | CoreForm::DefDynamic(_, _)
-        | CoreForm::WithHandler(_, _)
-        | CoreForm::Signal(_, _)
-        | CoreForm::Continue(_, _)
-        | CoreForm::NextMethod
-        | CoreForm::HasNext
-        | CoreForm::Sited(_, _) => 0,
+        _ => 0,
     }
 }

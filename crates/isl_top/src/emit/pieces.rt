@@ -107,7 +107,8 @@ fn between(
     Ok(code)
 }
 
-// A primitive of two operands, the second of which may be a literal character.
+// A primitive of two operands, the second of which may be a literal character. No program of the first path
+// has another primitive than these five.
 pub(crate) fn operation_code(
     which: Primitive,
     first: WordList,
@@ -136,59 +137,7 @@ pub(crate) fn operation_code(
             )
         }
         Primitive::PutChar => with_words(first, &put_code(byte)),
-        Primitive::Multiply
-        | Primitive::Divide
-        | Primitive::Modulo
-        | Primitive::NumberNotEqual
-        | Primitive::NumberAtMost
-        | Primitive::NumberGreater
-        | Primitive::NumberAtLeast
-        | Primitive::Same
-        | Primitive::IsNull
-        | Primitive::IsCons
-        | Primitive::IsInteger
-        | Primitive::IsSymbol
-        | Primitive::IsCharacter
-        | Primitive::IsString
-        | Primitive::IsVector
-        | Primitive::IsFunction
-        | Primitive::IsGeneric
-        | Primitive::Cons
-        | Primitive::Car
-        | Primitive::Cdr
-        | Primitive::SetCar
-        | Primitive::SetCdr
-        | Primitive::MakeString
-        | Primitive::MakeVector
-        | Primitive::StringLength
-        | Primitive::VectorLength
-        | Primitive::CharAt
-        | Primitive::VectorRef
-        | Primitive::SetCharAt
-        | Primitive::SetVectorRef
-        | Primitive::CharCode
-        | Primitive::CodeChar
-        | Primitive::SymbolName
-        | Primitive::SymbolSerial
-        | Primitive::Gensym
-        | Primitive::ClassOf
-        | Primitive::ClassName
-        | Primitive::IsSubclass
-        | Primitive::IsInstance
-        | Primitive::Allocate
-        | Primitive::SlotCount
-        | Primitive::SlotPlace
-        | Primitive::SlotRef
-        | Primitive::SlotSet
-        | Primitive::SlotBound
-        | Primitive::SlotInitargs
-        | Primitive::SlotInitform
-        | Primitive::Continuable
-        | Primitive::StandardInput
-        | Primitive::StandardOutput
-        | Primitive::IsFreshLine
-        | Primitive::GetByte
-        | Primitive::PeekByte => Ok(first),
+        _ => Ok(first),
     }
 }
 

@@ -1,9 +1,10 @@
 -- A loop appends a form's code at each turn, and a primitive takes its operands by their number.
-use Rattle.std.proofs.Common.{◌≡◌, ℕ, ◌+◌, ◌≤◌, List, [], ◌∷◌, ◌++◌, Some, length, drop, slice_get, refl, sym, ap, subst, ◌∙◌, inl, inr, append_assoc, arith}
+use Rattle.std.proofs.Common.{◌≡◌, ℕ, ◌+◌, ◌≤◌, List, [], ◌∷◌, ◌++◌, Some, length, drop, slice_get, refl, sym, ap, subst, ◌∙◌, append_assoc, arith}
 use Rattle.std.specs.Prelude.{IfOk}
 use Rattle.isl_meaning.specs.Form.{Form}
 use Rattle.isl_meaning.specs.model.View.{forms, view_form}
 use Rattle.isl_meaning.specs.declared.core_form.CoreForm.{CoreForm}
+use Rattle.isl_meaning.specs.declared.core_form.CoreForm.TheVariants.{Literal, Clauses, Sequence, Prim, Sited}
 use Rattle.isl_meaning.specs.model.Rest.{forms_at}
 use Rattle.isl_meaning.specs.declared.primitive.Primitive.{Primitive}
 use Rattle.isl_meaning.specs.declared.program.LiteralRow.{LiteralRow}
@@ -58,111 +59,21 @@ primitive_code-returns t c =
     let is = two_operands rows c.args.which c.args.list.now c.in-Some.first.now second (c.in-Some.ensures) (c.in-Some-get.ensures) in
     rw (is, ← c.in_ok-code.ensures, ← c.in_ok-more.ensures, ← c.literal_byte-byte.ensures) c.operation_code.ensures
 
--- a form of another kind: the code of nil
-pub form_code-returns-in-Local : goal.form_code-returns-in-Local
+-- a form of another kind has the code of nil
+other_code : (rows : List LiteralRow) (f : CoreForm) → ((x : _) → f ≡ Literal x → ⊥) → ((x : _) → f ≡ Clauses x → ⊥) → ((x : _) → f ≡ Sequence x → ⊥)
+    → ((x : _) (y : _) → f ≡ Prim x y → ⊥) → ((x : _) (y : _) → f ≡ Sited x y → ⊥) → constant nil_word ≡ form_code rows (view_form f)
 unfolding form_code
-form_code-returns-in-Local t c =
+other_code rows (Literal x) a b c d e = absurd (a x refl)
+other_code rows (Clauses x) a b c d e = absurd (b x refl)
+other_code rows (Sequence x) a b c d e = absurd (c x refl)
+other_code rows (Prim x y) a b c d e = absurd (d x y refl)
+other_code rows (Sited x y) a b c d e = absurd (e x y refl)
+other_code rows f a b c d e = refl
+
+pub form_code-returns-in_default : goal.form_code-returns-in_default
+form_code-returns-in_default t c =
     let rows = c.args.literals.now in
-    let of_nil = λ (f : CoreForm) (is : c.core.inside.form ≡ f) (nil : constant nil_word ≡ form_code rows (view_form f)).
-    subst (λ word. IfOk c.list_of-in-Local.result (λ code. code ≡ word)) (c.constant-in-Local.ensures ∙ nil ∙ ap (λ g. form_code rows (view_form g)) (sym is) ∙ ap (form_code rows) c.core.view_is) c.list_of-in-Local.ensures in
-    elim c.in-Local.is [
-      | inl x ↦ of_nil _ x.1 refl
-      | inr h ↦
-          elim h [
-            | inl x ↦ of_nil _ x.2 refl
-            | inr h ↦
-                elim h [
-                  | inl x ↦ of_nil _ x.1 refl
-                  | inr h ↦
-                      elim h [
-                        | inl x ↦ of_nil _ x.2 refl
-                        | inr h ↦
-                            elim h [
-                              | inl x ↦ of_nil _ x.2 refl
-                              | inr h ↦
-                                  elim h [
-                                    | inl x ↦ of_nil _ x.2 refl
-                                    | inr h ↦
-                                        elim h [
-                                          | inl x ↦ of_nil _ x.4 refl
-                                          | inr h ↦
-                                              elim h [
-                                                | inl x ↦ of_nil _ x.2 refl
-                                                | inr h ↦
-                                                    elim h [
-                                                      | inl x ↦ of_nil _ x.1 refl
-                                                      | inr h ↦
-                                                          elim h [
-                                                            | inl x ↦ of_nil _ x.2 refl
-                                                            | inr h ↦
-                                                                elim h [
-                                                                  | inl x ↦ of_nil _ x.2 refl
-                                                                  | inr h ↦
-                                                                      elim h [
-                                                                        | inl x ↦ of_nil _ x.2 refl
-                                                                        | inr h ↦
-                                                                            elim h [
-                                                                              | inl x ↦ of_nil _ x.2 refl
-                                                                              | inr h ↦
-                                                                                  elim h [
-                                                                                    | inl x ↦ of_nil _ x.2 refl
-                                                                                    | inr h ↦
-                                                                                        elim h [
-                                                                                          | inl x ↦ of_nil _ x.2 refl
-                                                                                          | inr h ↦
-                                                                                              elim h [
-                                                                                                | inl x ↦ of_nil _ x.2 refl
-                                                                                                | inr h ↦
-                                                                                                    elim h [
-                                                                                                      | inl x ↦ of_nil _ x.2 refl
-                                                                                                      | inr h ↦
-                                                                                                          elim h [
-                                                                                                            | inl x ↦ of_nil _ x.2 refl
-                                                                                                            | inr h ↦
-                                                                                                                elim h [
-                                                                                                                  | inl x ↦ of_nil _ x.2 refl
-                                                                                                                  | inr h ↦
-                                                                                                                      elim h [
-                                                                                                                        | inl x ↦ of_nil _ x.1 refl
-                                                                                                                        | inr h ↦
-                                                                                                                            elim h [
-                                                                                                                              | inl x ↦ of_nil _ x.2 refl
-                                                                                                                              | inr h ↦
-                                                                                                                                  elim h [
-                                                                                                                                    | inl x ↦ of_nil _ x.2 refl
-                                                                                                                                    | inr h ↦
-                                                                                                                                        elim h [
-                                                                                                                                          | inl x ↦ of_nil _ x.2 refl
-                                                                                                                                          | inr h ↦
-                                                                                                                                              elim h [
-                                                                                                                                                | inl x ↦ of_nil _ x.2 refl
-                                                                                                                                                | inr h ↦
-                                                                                                                                                    elim h [
-                                                                                                                                                      | inl x ↦ of_nil _ x.2 refl
-                                                                                                                                                      | inr h ↦
-                                                                                                                                                          elim h [ inl x ↦ of_nil _ x refl | inr x ↦ of_nil _ x refl ]
-                                                                                                                                                    ]
-                                                                                                                                              ]
-                                                                                                                                        ]
-                                                                                                                                  ]
-                                                                                                                            ]
-                                                                                                                      ]
-                                                                                                                ]
-                                                                                                          ]
-                                                                                                    ]
-                                                                                              ]
-                                                                                        ]
-                                                                                  ]
-                                                                            ]
-                                                                      ]
-                                                                ]
-                                                          ]
-                                                    ]
-                                              ]
-                                        ]
-                                  ]
-                            ]
-                      ]
-                ]
-          ]
-    ]
+    let kind = c.in_default in
+    let other : constant nil_word ≡ form_code rows (view_form c.core.inside.form) =
+    other_code rows c.core.inside.form kind.not-Literal kind.not-Clauses kind.not-Sequence kind.not-Prim kind.not-Sited in
+    subst (λ word. IfOk c.list_of-in_default.result (λ code. code ≡ word)) (c.constant-in_default.ensures ∙ other ∙ ap (form_code rows) c.core.view_is) c.list_of-in_default.ensures
