@@ -1,0 +1,16 @@
+pub mod Primitives
+pub mod Words
+pub mod Names
+pub mod Nodes
+pub mod Makings
+pub mod Shapes
+pub mod RowWords
+pub mod ValueRows
+pub mod BindingRows
+pub mod ExitRows
+pub mod CallRows
+pub mod DefiningRows
+pub mod Rows
+pub mod Judged
+pub mod Views
+pub mod Marks
