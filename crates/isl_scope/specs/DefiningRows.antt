@@ -6,6 +6,7 @@ use Rattle.isl_base.specs.declared.place.Place.{Place}
 use Rattle.isl_base.specs.declared.datum.Name.{Name}
 use Rattle.isl_base.specs.declared.datum.Symbol.{Symbol}
 use Rattle.isl_base.specs.declared.datum.Symbol.TheVariants.{Named}
+use Rattle.isl_base.specs.declared.reason.Reason.{Reason}
 use Rattle.isl_base.specs.declared.reason.Reason.TheVariants.{DuplicateName, NotTopLevel, ReservedName, ConstantSet, NotBuilt}
 use Rattle.isl_base.specs.Data.{Item, item, symbol}
 use Rattle.isl_meaning.specs.declared.program.FunctionRow.{FunctionRow}
@@ -53,12 +54,19 @@ abbrev pub is_set : Tables → Name → Bool
 is_set s n = list_any (is_that n) s.set
 
 -- the lowest of the reasons that all definitions share, where the name is already taken, and where it is reserved
+abbrev pub defining_offence : Bool → Bool → Bool → Option Reason
+defining_offence top taken reserved =
+    if taken then Some DuplicateName
+    else if not top then Some NotTopLevel
+    else if reserved then Some ReservedName
+    else None
+
+abbrev pub unless_offending : Place → Option Reason → Node → Node
+unless_offending p None x = x
+unless_offending p (Some r) x = offends p r
+
 abbrev pub defining : Around → Place → Bool → Bool → Node → Node
-defining a p taken reserved x =
-    if taken then offends p DuplicateName
-    else if not a.spot.top then offends p NotTopLevel
-    else if reserved then offends p ReservedName
-    else x
+defining a p taken reserved x = unless_offending p (defining_offence a.spot.top taken reserved) x
 
 -- nothing of a file is defined under the name `t`
 abbrev pub is_truth : Around → Tables → Name → Bool
@@ -106,14 +114,17 @@ with_new_procedure s = record s { procedures = s.procedures ++ None ∷ [] }
 abbrev pub function_parts : Parameters → List Item → List Part
 function_parts ps fs = each_parameter (all_symbols ps) ++ each_inner fs
 
-abbrev pub defun_with : Around → Tables → Place → Name → Item → Item → List Item → Option Parameters → Node
-defun_with a s p n d l fs None = bad_binding l
-defun_with a s p n d l fs (Some ps) =
+abbrev pub defun_of : Around → Tables → Name → Item → List Item → Parameters → Node
+defun_of a s n d fs ps =
     whole (alone false a) (alone false a) (with_new_procedure (with_name a.spot.sited d s)) (function_parts ps fs)
     (record {
       site = None;
       making = OfFunctionNamed n (length s.procedures) (length ps.required) (is_some ps.rest) a.spot.sited (named_form a.spot.sited s);
     })
+
+abbrev pub defun_with : Around → Tables → Name → Item → Item → List Item → Option Parameters → Node
+defun_with a s n d l fs None = bad_binding l
+defun_with a s n d l fs (Some ps) = defun_of a s n d fs ps
 
 -- a name is reserved where the language keeps it, where it is `t`, and where the prelude has a function of it
 abbrev pub is_reserved : Bool → Around → Tables → Name → Bool
@@ -123,7 +134,7 @@ abbrev pub defun_as : Bool → Around → Tables → Place → Item → Item →
 defun_as kept a s p d l fs None = bad_shape p
 defun_as kept a s p d l fs (Some n) =
     defining a p (is_taken a.spot.sited s n) (is_reserved kept a s n)
-    (within_depth 1 a p (defun_with a s p n d l fs (parameters_in s.words l)))
+    (within_depth 1 a p (defun_with a s n d l fs (parameters_in s.words l)))
 
 -- where the language keeps the name or not
 abbrev pub defun_row : Bool → Around → Tables → Place → List Item → Node

@@ -6,8 +6,9 @@ use Rattle.isl_base.specs.declared.reason.Reason.TheVariants.{UnknownBlock, Unkn
 use Rattle.isl_base.specs.Data.{Item}
 use Rattle.isl_meaning.specs.Form.{go}
 use Rattle.isl_scope.specs.declared.bound.Bound.TheVariants.{Block, Tags}
+use Rattle.isl_scope.specs.declared.bound.Target.{Target}
 use Rattle.isl_scope.specs.declared.tables.Tables.{Tables}
-use Rattle.isl_scope.specs.Names.{block_of, Target, tag_of}
+use Rattle.isl_scope.specs.Names.{block_of, tag_of}
 use Rattle.isl_scope.specs.declared.making.Making.TheVariants.{OfOne, OfBlock, OfSegments}
 use Rattle.isl_scope.specs.declared.making.One.TheVariants.{ReturnTo}
 use Rattle.isl_scope.specs.Nodes.{Around, Node, with_bound}

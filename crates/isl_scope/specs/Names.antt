@@ -5,6 +5,7 @@ use Rattle.isl_base.specs.declared.datum.Symbol.{Symbol}
 use Rattle.isl_base.specs.declared.datum.Symbol.TheVariants.{Named, Fresh}
 use Rattle.isl_meaning.specs.declared.part.Part.{Part}
 use Rattle.isl_meaning.specs.declared.part.Part.TheVariants as part
+use Rattle.isl_scope.specs.declared.bound.Target.{Target}
 use Rattle.isl_scope.specs.declared.bound.Bound.{Bound}
 use Rattle.isl_scope.specs.declared.bound.Bound.TheVariants.{Variable, Function, Block, Tags}
 
@@ -37,11 +38,6 @@ as_block x (Block y e) = given_by x y e
 as_block x (Variable y v) = None
 as_block x (Function y v) = None
 as_block x (Tags ys e) = None
-
--- an exit and the segment behind a tag of it
-pub record Target : Type 0 where
-  pub exit : ℕ
-  pub segment : ℕ
 
 -- the segment behind the tag, where the first tag stands in front of segment n
 abbrev pub target_among : Symbol → ℕ → ℕ → List Symbol → Option Target

@@ -25,8 +25,11 @@ abbrev pub deeper : ℕ → Around → Around
 deeper n a = record a { spot = deeper_spot n a.spot }
 
 -- the parts of a top-level `progn` stand at top level
+abbrev pub deeper_at_top_spot : Spot → Spot
+deeper_at_top_spot spot = record spot { depth = spot.depth + 1 }
+
 abbrev pub deeper_at_top : Around → Around
-deeper_at_top a = record a { spot = record a.spot { depth = a.spot.depth + 1 } }
+deeper_at_top a = record a { spot = deeper_at_top_spot a.spot }
 
 abbrev pub with_all : List Bound → Around → Around
 with_all bs a = record a { bound = a.bound ++ bs }

@@ -24,6 +24,10 @@ data_of ds = map (λ d. d.now) ds
 abbrev pub view_pair : Written → Pair
 view_pair p = record { name = p.name; datum = p.datum.now }
 
+abbrev pub maybe_pair : Option Written → Option Pair
+maybe_pair None = None
+maybe_pair (Some p) = Some (view_pair p)
+
 abbrev pub view_pairs : List Written → List Pair
 view_pairs ps = map view_pair ps
 
@@ -33,6 +37,10 @@ maybe_pairs (Some ps) = Some (view_pairs ps)
 
 abbrev pub view_clause : WrittenClause → ClauseParts
 view_clause c = record { test = c.test.now; body = c.body.now }
+
+abbrev pub maybe_clause : Option WrittenClause → Option ClauseParts
+maybe_clause None = None
+maybe_clause (Some c) = Some (view_clause c)
 
 abbrev pub view_clauses : List WrittenClause → List ClauseParts
 view_clauses cs = map view_clause cs

@@ -96,3 +96,97 @@ pub(crate) struct Bindings<'a> {
     pub(crate) parts: Parts<'a>,
     pub(crate) inner: Inner<'a>,
 }
+
+/// A core form that binds nothing but the variables among its parts.
+#[tactic(auto, using(crate::proofs::Lists::nothing_bound))]
+pub(crate) fn made_plain<'a>(
+    here: Here,
+    tables: &mut Tables,
+    inside: Spot,
+    parts: Parts<'a>,
+    inner: Inner<'a>,
+    making: Making,
+) -> Result<Plan<'a>, NoMemory>
+    requires { here.spot.depth + 1 < 4294967296 }
+    ensures plan { IfOk result (λ plan. shown here.entry.bound.now tables.new plan
+        ≡ word.made_of (at here.entry.bound.now here.entry.spot) (at here.entry.bound.now inside)
+            here.entry.place tables.old (view_parts parts.entry ++ view_inner inner.entry) making) }
+    ensures grows { Grows tables.old tables.new }
+{
+    let work = Bindings {
+        inside,
+        binds: BoundList::new(here.alloc),
+        parts,
+        inner,
+    };
+    made_of(here, tables, work, making)
+}
+
+/// A core form that has no parts.
+pub(crate) fn made_at_once<'a>(
+    here: Here,
+    tables: &mut Tables,
+    form: Core,
+) -> Result<Plan<'a>, NoMemory>
+    ensures plan { IfOk result (λ plan. shown here.entry.bound.now tables.new plan
+        ≡ word.made_at_once (at here.entry.bound.now here.entry.spot) here.entry.place tables.old form) }
+    ensures grows { Grows tables.old tables.new }
+{
+    if !fits_depth(here.spot, 1) {
+        return Ok(offence(here.place, Reason::DepthLimit));
+    }
+    let inside = deeper(here.spot, 1);
+    let parts = Parts::new(here.alloc);
+    let inner = Inner::new(here.alloc);
+    made_plain(here, tables, inside, parts, inner, Making::Ready(form))
+}
+
+/// A core form that has no parts, without a site.
+#[tactic(auto, using(crate::proofs::Lists::nothing_bound))]
+pub(crate) fn unsited<'a>(here: Here, tables: &Tables, form: Core) -> Plan<'a>
+    ensures { shown here.entry.bound.now tables.now result
+        ≡ word.unsited (at here.entry.bound.now here.entry.spot) here.entry.place tables.now form }
+{
+    if !fits_depth(here.spot, 1) {
+        return offence(here.place, Reason::DepthLimit);
+    }
+    Plan::Whole(Work {
+        outside: here.spot,
+        inside: here.spot,
+        binds: BoundList::new(here.alloc),
+        parts: Parts::new(here.alloc),
+        inner: Inner::new(here.alloc),
+        made: Made {
+            site: None,
+            making: Making::Ready(form),
+        },
+    })
+}
+
+/// Where the parts of a `progn` stand: at top level where it does.
+pub(crate) fn deeper_at_top(spot: Spot) -> Spot
+    requires { spot.depth + 1 < 4294967296 }
+    ensures { result ≡ word.deeper_at_top_spot spot }
+{
+    Spot {
+        depth: spot.depth + 1,
+        top: spot.top,
+        in_method: spot.in_method,
+        sited: spot.sited,
+    }
+}
+
+/// A literal, whose row is kept.
+pub(crate) fn literal_plan<'a>(
+    here: Here,
+    tables: &mut Tables,
+    row: LiteralRow,
+) -> Result<Plan<'a>, NoMemory>
+    ensures plan { IfOk result (λ plan. shown here.entry.bound.now tables.new plan
+        ≡ word.literal_node (at here.entry.bound.now here.entry.spot) here.entry.place tables.old row) }
+    ensures grows { Grows tables.old tables.new }
+{
+    let id = tables.literals.len();
+    tables.literals.push(row)?;
+    Ok(unsited(here, tables, Core::literal(id)))
+}

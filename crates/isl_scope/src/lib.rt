@@ -7,6 +7,7 @@ pub mod laws;
 pub mod making;
 mod plan;
 mod primitives;
+mod rows;
 pub mod shapes;
 pub mod special;
 pub mod spot;

@@ -2,6 +2,7 @@
 
 ghost use Rattle.std.specs.Prelude.{◌≡◌, ◌++◌, ◌∷◌, [], IfOk, OnOk, map};
 ghost use Rattle.isl_scope.specs.Views.{at, shown, view_part, view_parts, view_inner, view_pairs, data_of};
+ghost use Rattle.isl_scope.specs.Nodes.{form};
 ghost use Rattle.isl_scope.specs.RowWords.{bad_shape, each_form, each_below, each_inner, each_bound, each_parameter};
 
 use crate::bound::BoundList;
@@ -44,6 +45,22 @@ pub(crate) struct Work<'a> {
 pub(crate) enum Plan<'a> {
     Offends(Place, Reason),
     Whole(Work<'a>),
+}
+
+/// Appends a form that stands where the whole stands.
+pub(crate) fn push_form<'a>(parts: &mut Parts<'a>, datum: &'a Datum) -> Result<(), NoMemory>
+    ensures { OnOk result (view_parts parts.new ≡ view_parts parts.old ++ form datum.now ∷ []) }
+{
+    parts.push(Part::Form(datum))
+}
+
+/// One form that stands where the whole stands.
+pub(crate) fn one_form<'a>(alloc: Global, datum: &'a Datum) -> Result<Parts<'a>, NoMemory>
+    ensures { IfOk result (λ parts. view_parts parts ≡ form datum.now ∷ []) }
+{
+    let mut parts = Parts::new(alloc);
+    parts.push(Part::Form(datum))?;
+    Ok(parts)
 }
 
 /// Appends forms that stand where the whole stands.
