@@ -1,3 +1,4 @@
 pub mod Lists
+pub mod Growing
 pub mod Once
 pub mod Shaping

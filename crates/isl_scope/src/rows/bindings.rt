@@ -70,6 +70,28 @@ fn values_of<'a>(here: Here, pairs: &PairList<'a>) -> Result<Parts<'a>, NoMemory
     Ok(parts)
 }
 
+// Dynamic variables of these names, bound to these values round a body.
+fn dynamics<'a>(
+    here: Here,
+    tables: &mut Tables,
+    pairs: &PairList<'a>,
+    names: NameList,
+    forms: &'a [Datum],
+) -> Result<Plan<'a>, NoMemory>
+    ensures plan { IfOk result (λ plan. shown here.entry.bound.now tables.new plan
+        ≡ row.dynamics_as (at here.entry.bound.now here.entry.spot) tables.old here.entry.place forms.now (view_pairs pairs.now) (Some names)) }
+    ensures grows { Grows tables.old tables.new }
+{
+    if !fits_depth(here.spot, 2) {
+        return Ok(offence(here.place, Reason::DepthLimit));
+    }
+    let mut parts = values_of(here, pairs)?;
+    push_below(&mut parts, forms)?;
+    let inside = deeper(here.spot, 1);
+    let inner = Inner::new(here.alloc);
+    made_plain(here, tables, inside, parts, inner, Making::OfDynamics(names))
+}
+
 /// `(dynamic-let ((v x)*) f*)`: dynamic variables have names.
 pub(crate) fn dynamic_let_plan<'a>(
     here: Here,
@@ -89,17 +111,10 @@ pub(crate) fn dynamic_let_plan<'a>(
         }
         return Ok(offence(list.place, Reason::BadBinding));
     };
-    let Some(names) = names_of(here, &pairs)? else {
-        return Ok(offence(here.place, Reason::BadShape));
-    };
-    if !fits_depth(here.spot, 2) {
-        return Ok(offence(here.place, Reason::DepthLimit));
+    match names_of(here, &pairs)? {
+        Some(names) => dynamics(here, tables, &pairs, names, forms),
+        None => Ok(offence(here.place, Reason::BadShape)),
     }
-    let mut parts = values_of(here, &pairs)?;
-    push_below(&mut parts, forms)?;
-    let inside = deeper(here.spot, 1);
-    let inner = Inner::new(here.alloc);
-    made_plain(here, tables, inside, parts, inner, Making::OfDynamics(names))
 }
 
 /// The variables of a lambda list, as parts.

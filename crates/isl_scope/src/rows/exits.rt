@@ -113,6 +113,7 @@ pub(crate) fn return_from_plan<'a>(
 }
 
 /// `(tagbody part*)`: a tag stands once.
+#[tactic(auto, using(crate::proofs::Lists::shown_inner))]
 pub(crate) fn tagbody_plan<'a>(
     here: Here,
     tables: &mut Tables,

@@ -99,7 +99,16 @@ pub(crate) fn one_part<'a>(
     made_plain(here, tables, inside, parts, inner, Making::OfOne(kind))
 }
 
+// A global variable that a form sets is kept.
+fn take_set(tables: &mut Tables, name: Name) -> Result<(), NoMemory>
+    ensures ok { OnOk result (tables.new ≡ row.with_set name tables.old) }
+    ensures grows { Grows tables.old tables.new }
+{
+    tables.set.push(name)
+}
+
 // A global variable is set, unless it is a constant.
+#[tactic(auto, using(crate::proofs::Growing::grows_then))]
 fn set_free<'a>(
     here: Here,
     tables: &mut Tables,
@@ -116,7 +125,7 @@ fn set_free<'a>(
     if is_constant(tables, name) {
         return Ok(offence(here.place, Reason::ConstantSet));
     }
-    tables.set.push(name)?;
+    take_set(tables, name)?;
     one_part(here, tables, One::SetGlobal(name), datum)
 }
 
