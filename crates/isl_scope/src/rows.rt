@@ -4,4 +4,5 @@ pub(crate) mod bindings;
 pub(crate) mod calls;
 pub(crate) mod defining;
 pub(crate) mod exits;
+pub(crate) mod forms;
 pub(crate) mod values;

@@ -1,7 +1,7 @@
 // The names that no function has: those of special and of defining forms.
 
 ghost use Rattle.std.specs.Prelude.{◌≡◌};
-ghost use Rattle.std.specs.List.{find};
+ghost use Rattle.std.specs.List.{find, list_any};
 ghost use Rattle.isl_scope.specs.Words.{special_text, all_specials, has_text, special_named};
 
 /// The special forms that core forms come from, and the defining forms (ISO/IEC 13816:2007, 12 to 15
@@ -144,4 +144,21 @@ pub fn special_named(text: &[u8]) -> Option<Special>
     ensures { result ≡ special_named text.now }
 {
     first_with_text(all_specials(), text)
+}
+
+// Whether one of them has that name.
+fn some_has_text(specials: &[Special], text: &[u8]) -> bool
+    ensures { result ≡ list_any (has_text text.now) specials.now }
+{
+    let Some((first, others)) = specials.split_first() else {
+        return false;
+    };
+    first.text() == text || some_has_text(others, text)
+}
+
+/// Whether a special or a defining form has that name. Takes no memory.
+pub(crate) fn is_special_name(text: &[u8]) -> bool
+    ensures { result ≡ list_any (has_text text.now) all_specials }
+{
+    some_has_text(all_specials(), text)
 }
