@@ -20,6 +20,12 @@ impl Model for FormQueue {
 
     ghost Value = { List Form };
 
+    ghost use Rattle.std.specs.Coded.{coded_list};
+
+    ghost use Rattle.isl_meaning.specs.model.FormCode.{form_code};
+
+    ghost coded = { coded_list form_code };
+
     ghost use Rattle.std.specs.Prelude.{drop};
 
     ghost view = { λ q. drop q.taken q.forms };
@@ -48,6 +54,7 @@ impl FormQueue {
     }
 
     /// So many forms, or all where there are fewer.
+    #[tactic(auto, using(crate::proofs::MakingLists::take_goes_on, crate::proofs::MakingLists::drop_goes_on, crate::proofs::MakingLists::take_of_none, crate::proofs::MakingLists::drop_of_none))]
     pub(crate) fn take_some(&mut self, alloc: Global, count: usize) -> Result<CoreList, NoMemory>
         ensures list { IfOk result (λ list. list ≡ take count self.old) }
         ensures rest { OnOk result (self.new ≡ drop count self.old) }
@@ -65,6 +72,7 @@ impl FormQueue {
     }
 
     /// All forms.
+    #[tactic(auto, using(crate::proofs::MakingLists::all_behind))]
     pub(crate) fn rest(mut self, alloc: Global) -> Result<CoreList, NoMemory>
         ensures { IfOk result (λ list. list ≡ self) }
     {
