@@ -2,3 +2,4 @@ pub mod Lists
 pub mod Once
 pub mod MakingWalks
 pub mod MakingLists
+pub mod MakingFound

@@ -14,3 +14,4 @@ pub mod Rows
 pub mod Judged
 pub mod Views
 pub mod Marks
+pub mod Sorted
