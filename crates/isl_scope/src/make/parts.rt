@@ -41,6 +41,7 @@ pub(crate) fn split_variables(variables: VarList, required: usize, rest: bool) -
     }
 }
 
+#[tactic(auto, using(crate::proofs::MakingLists::there))]
 fn rest_variable(variables: &VarList, required: usize, rest: bool) -> Option<Var>
     ensures { result ≡ rest_found rest (drop required variables.now) }
 {
