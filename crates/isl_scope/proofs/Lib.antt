@@ -3,3 +3,4 @@ pub mod Once
 pub mod MakingWalks
 pub mod MakingLists
 pub mod MakingFound
+pub mod MakingGroups

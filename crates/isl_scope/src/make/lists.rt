@@ -31,6 +31,7 @@ fn clause_body(
     Ok(Some(Core::sequence(queue.take_some(alloc, length)?)))
 }
 
+#[tactic(auto, using(crate::proofs::MakingGroups::clauses_stop, crate::proofs::MakingGroups::clauses_end))]
 fn clause_list(
     alloc: Global,
     lengths: &BodyLengths,
@@ -61,6 +62,7 @@ pub(crate) fn make_clauses(
     Ok(Core::clauses(clause_list(alloc, lengths, forms)?))
 }
 
+#[tactic(auto, using(crate::proofs::MakingGroups::segments_end))]
 fn segment_list(alloc: Global, lengths: &Lengths, forms: CoreList) -> Result<SegmentList, NoMemory>
     ensures { IfOk result (λ list. view.forms list ≡ making.make_segments lengths.now forms) }
 {
@@ -85,6 +87,7 @@ pub(crate) fn make_segments(
     Ok(Core::new(CoreForm::Tagbody(exit, segments)))
 }
 
+#[tactic(auto, using(crate::proofs::MakingGroups::dynamics_stop, crate::proofs::MakingGroups::dynamics_end, crate::proofs::MakingGroups::behind_ends))]
 fn dynamic_list(
     alloc: Global,
     names: &NameList,
