@@ -17,7 +17,7 @@ use finish::{define_function, finish_one, procedure_found};
 use isl_base::NoMemory;
 use isl_meaning::{Core, CoreForm, SiteId};
 use lists::{make_clauses, make_dynamics, make_segments};
-use parts::{boxed, make_function};
+use parts::{make_block, make_function, make_let};
 use simple::{call_of_local, make_one, make_two, make_with_body};
 use sort::sort_found;
 use std::alloc::Global;
@@ -39,18 +39,12 @@ fn make(alloc: Global, making: Making, found: FoundList) -> Result<Core, NoMemor
         Making::CallOfLocal(var) => call_of_local(alloc, var, forms),
         Making::CallOfPrimitive(which) => Ok(Core::prim(which, forms)),
         Making::OfClauses(lengths) => make_clauses(alloc, &lengths, forms),
-        Making::OfVariables => {
-            let body = boxed(alloc, Core::sequence(forms))?;
-            Ok(Core::new(CoreForm::Let(sorted.bindings, body)))
-        }
+        Making::OfVariables => make_let(alloc, sorted.bindings, forms),
         Making::OfDynamics(names) => make_dynamics(alloc, &names, forms),
         Making::OfFunction(required, rest, around) => {
             make_function(alloc, required, rest, &around, sorted.variables, forms)
         }
-        Making::OfBlock(exit) => {
-            let body = boxed(alloc, Core::sequence(forms))?;
-            Ok(Core::new(CoreForm::Block(exit, body)))
-        }
+        Making::OfBlock(exit) => make_block(alloc, exit, forms),
         Making::OfSegments(exit, lengths) => make_segments(alloc, exit, &lengths, forms),
         Making::OfFunctionNamed(_, _, _, _, _, form) => Ok(form),
     }

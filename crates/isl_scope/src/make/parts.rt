@@ -1,11 +1,13 @@
-// What core forms are made of: boxes, the variables of a function, and functions.
+// Core forms with a body alone, or with the variables of it: blocks, `let` and functions.
 
 ghost use Rattle.std.specs.Prelude.{◌≡◌, take, drop, IfOk};
+ghost use Rattle.isl_meaning.specs.Form.{block, let_form};
+ghost use Rattle.isl_meaning.specs.model.View.{bindings_of};
 ghost use Rattle.isl_scope.specs.Makings.{body_of, rest_found, make_function};
 
 use crate::make::captured::captured;
 use isl_base::NoMemory;
-use isl_meaning::{Core, CoreForm, CoreList, PartList, Var, VarList};
+use isl_meaning::{BindingList, Core, CoreForm, CoreList, ExitVar, PartList, Var, VarList};
 use std::alloc::Global;
 
 /// The form in a box; after `NoMemory` it is dropped.
@@ -16,6 +18,26 @@ pub(crate) fn boxed(alloc: Global, form: Core) -> Result<Box<Core>, NoMemory>
         Ok(boxed) => Ok(boxed),
         Err(_) => Err(NoMemory),
     }
+}
+
+/// A body with that exit.
+pub(crate) fn make_block(alloc: Global, exit: ExitVar, forms: CoreList) -> Result<Core, NoMemory>
+    ensures { IfOk result (λ core. core ≡ block exit (body_of forms)) }
+{
+    let body = boxed(alloc, Core::sequence(forms))?;
+    Ok(Core::new(CoreForm::Block(exit, body)))
+}
+
+/// Variables with their values, round a body.
+pub(crate) fn make_let(
+    alloc: Global,
+    bindings: BindingList,
+    forms: CoreList,
+) -> Result<Core, NoMemory>
+    ensures { IfOk result (λ core. core ≡ let_form (bindings_of bindings) (body_of forms)) }
+{
+    let body = boxed(alloc, Core::sequence(forms))?;
+    Ok(Core::new(CoreForm::Let(bindings, body)))
 }
 
 /// The variables of a function.

@@ -21,7 +21,6 @@ impl Model for FormQueue {
     ghost Value = { List Form };
 
     ghost use Rattle.std.specs.Coded.{coded_list};
-
     ghost use Rattle.isl_meaning.specs.model.FormCode.{form_code};
 
     ghost coded = { coded_list form_code };
