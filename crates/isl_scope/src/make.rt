@@ -60,6 +60,18 @@ fn at_site(alloc: Global, site: Option<SiteId>, form: Core) -> Result<Core, NoMe
     }
 }
 
+// The core form at its site.
+fn made_form(
+    alloc: Global,
+    site: Option<SiteId>,
+    making: Making,
+    found: FoundList,
+) -> Result<Core, NoMemory>
+    ensures { IfOk result (λ core. core ≡ at_site site (make making found)) }
+{
+    at_site(alloc, site, make(alloc, making, found)?)
+}
+
 /// The core form, of which counts from now on what it defines. After `NoMemory` nothing counts.
 pub(crate) fn complete(
     alloc: Global,
@@ -74,8 +86,7 @@ pub(crate) fn complete(
     let site = made.site;
     match made.making {
         Making::OfOne(one) => {
-            let core = make(alloc, Making::OfOne(one), found)?;
-            let core = at_site(alloc, site, core)?;
+            let core = made_form(alloc, site, Making::OfOne(one), found)?;
             finish_one(one, tables)?;
             Ok(core)
         }
@@ -85,9 +96,6 @@ pub(crate) fn complete(
             define_function(name, id, procedure, of_file, tables)?;
             Ok(core)
         }
-        making => {
-            let core = make(alloc, making, found)?;
-            at_site(alloc, site, core)
-        }
+        making => made_form(alloc, site, making, found),
     }
 }
