@@ -4,3 +4,4 @@ pub mod MakingWalks
 pub mod MakingLists
 pub mod MakingFound
 pub mod MakingGroups
+pub mod MakingEnds
