@@ -1,5 +1,5 @@
 -- What counts once a core form is made that defines nothing, and what counts grows.
-use Rattle.std.proofs.Common.{◌≡◌, ◌≤◌, ◌<◌, ℕ, Bool, true, false, List, [], ◌∷◌, ◌++◌, Option, Some, length, take, slice_set, Result, Ok, Err, OnOk, refl, ap, sym, ◌∙◌, arith}
+use Rattle.std.proofs.Common.{◌≡◌, ◌≤◌, ℕ, Bool, true, false, List, [], ◌∷◌, ◌++◌, Some, length, slice_set, Result, Ok, Err, OnOk, refl, ap, ◌∙◌, arith}
 use Rattle.std.proofs.lemmas.List.{length-take, take-append-le, take-set-le}
 use Rattle.isl_base.specs.declared.datum.Name.{Name}
 use Rattle.isl_meaning.specs.Form.{Form}

@@ -1,5 +1,5 @@
 -- Lists that are taken from the front while others grow at their ends.
-use Rattle.std.proofs.Common.{◌≡◌, ◌<◌, ◌≤◌, ℕ, zero, suc, ◌+◌, ◌-◌, List, [], ◌∷◌, ◌++◌, Option, Some, None, length, take, drop, slice_get, slice_set, refl, ap, sym, ◌∙◌, arith, add-one, append_assoc, length-drop}
+use Rattle.std.proofs.Common.{◌≡◌, ◌<◌, ℕ, zero, suc, ◌+◌, ◌-◌, List, [], ◌∷◌, ◌++◌, Some, length, take, drop, slice_get, slice_set, refl, ap, sym, ◌∙◌, arith, add-one, append_assoc, length-drop}
 use Rattle.std.proofs.lemmas.List.{drop-set-lt, take_all}
 
 -- what stands at a place is in front of what stands behind it

@@ -22,7 +22,7 @@ use simple::{call_of_local, make_one, make_two, make_with_body};
 use sort::sort_found;
 use std::alloc::Global;
 
-/// The core form, its site aside.
+// The core form, its site aside.
 fn make(alloc: Global, making: Making, found: FoundList) -> Result<Core, NoMemory>
     ensures { IfOk result (λ core. core ≡ make making found) }
 {

@@ -43,7 +43,7 @@ fn take_out(found: &mut FoundList, at: usize) -> Found
     found.replace(at, Found::Parameter(0))
 }
 
-/// Sorts it.
+/// Forms, parameters and bindings, each in their order; after `NoMemory` all of it is dropped.
 #[tactic(auto, using(crate::proofs::MakingFound::forms_go_on, crate::proofs::MakingFound::variables_go_on, crate::proofs::MakingFound::bindings_go_on, crate::proofs::MakingFound::forms_end, crate::proofs::MakingFound::variables_end, crate::proofs::MakingFound::bindings_end))]
 pub(crate) fn sort_found(alloc: Global, found: FoundList) -> Result<Sorted, NoMemory>
     ensures forms { IfOk result (λ s. s.forms ≡ forms_found found) }
