@@ -15,3 +15,4 @@ pub mod Judged
 pub mod Views
 pub mod Marks
 pub mod Behind
+pub mod Sorted

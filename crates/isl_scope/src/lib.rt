@@ -4,6 +4,7 @@
 pub mod bound;
 mod here;
 pub mod laws;
+mod make;
 pub mod making;
 mod plan;
 mod primitives;
@@ -14,7 +15,7 @@ pub mod spot;
 pub mod tables;
 
 pub use bound::{Bound, BoundList};
-pub use making::{BodyLengths, Found, Lengths, Made, Making, One, Two, WithBody};
+pub use making::{BodyLengths, Found, FoundList, Lengths, Made, Making, One, Two, WithBody};
 pub use shapes::Parameters;
 pub use special::Special;
 pub use spot::Spot;

@@ -12,6 +12,9 @@ pub enum Found {
     Parameter(Var),
 }
 
+/// What was found of the parts of a form, in their order.
+pub type FoundList = ItemList<Found>;
+
 /// A form with one part.
 #[derive(Clone, Copy)]
 pub enum One {

@@ -13,7 +13,7 @@ use crate::plan::{Inner, Parts, Plan, push_form, push_forms};
 use crate::primitives::primitive_called;
 use crate::tables::Tables;
 use isl_base::{Datum, Name, NoMemory, Reason};
-use isl_meaning::Var;
+use isl_meaning::{Primitive, Var};
 
 // All parts stand where the form stands.
 fn all_forms<'a>(here: Here, items: &'a [Datum]) -> Result<Parts<'a>, NoMemory>
@@ -86,6 +86,16 @@ pub(crate) fn local_call_plan<'a>(
     made_plain(here, tables, inside, parts, inner, Making::CallOfLocal(variable))
 }
 
+// A call of a primitive, or of the function of a name.
+fn named_making(name: Name, primitive: Option<Primitive>) -> Making
+    ensures { result ≡ row.named_making name primitive }
+{
+    match primitive {
+        Some(primitive) => Making::CallOfPrimitive(primitive),
+        None => Making::CallOf(name),
+    }
+}
+
 // What a call of a name is, by its arguments.
 fn call_making(name: Name, text: &[u8], count: usize) -> Making
     ensures { result ≡ row.call_making name text.now count }
@@ -97,10 +107,7 @@ fn call_making(name: Name, text: &[u8], count: usize) -> Making
     } else if text == b"continue-condition".as_slice() && count == 2 {
         Making::OfTwo(Two::Continuing)
     } else {
-        match primitive_called(text, count) {
-            Some(primitive) => Making::CallOfPrimitive(primitive),
-            None => Making::CallOf(name),
-        }
+        named_making(name, primitive_called(text, count))
     }
 }
 

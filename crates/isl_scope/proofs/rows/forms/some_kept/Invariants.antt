@@ -6,4 +6,4 @@ use Rattle.isl_scope.specs.Rows.{first_kept}
 use Rattle.isl_scope.proofs.rows.forms.some_kept.Given as goal
 
 abbrev pub invariant-loop-item : goal.invariant-loop-item
-invariant-loop-item l = list_any (λ d. first_kept l.names.now (list_items d)) (drop l.item-index l.items) ≡ list_any (λ d. first_kept l.names.now (list_items d)) l.items
+invariant-loop-item l = list_any (λ d. first_kept l.names (list_items d)) (drop l.item-index l.items) ≡ list_any (λ d. first_kept l.names (list_items d)) l.items
