@@ -15,4 +15,6 @@ pub mod Judged
 pub mod Views
 pub mod Marks
 pub mod Behind
+pub mod Promises
+pub mod Sound
 pub mod Sorted

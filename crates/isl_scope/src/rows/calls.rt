@@ -1,6 +1,7 @@
 // The rows of calls: of local functions, of primitives, of function objects, and of names.
 
-ghost use Rattle.std.specs.Prelude.{◌≡◌, ◌+◌, ◌<◌, ◌++◌, ◌∷◌, [], length, IfOk, OnOk};
+ghost use Rattle.std.specs.Prelude.{◌≡◌, ◌+◌, ◌<◌, ◌++◌, ◌∷◌, [], ◌&&◌, nat_eq, nat_le, length, codes, IfOk, OnOk};
+ghost use Rattle.std.specs.Str.{bytes_eq};
 ghost use Rattle.isl_scope.specs.CallRows as row;
 ghost use Rattle.isl_scope.specs.declared.making.Making.TheVariants.{CallOfValue};
 ghost use Rattle.isl_scope.specs.Views.{at, shown, view_parts, data_of};
@@ -96,15 +97,29 @@ fn named_making(name: Name, primitive: Option<Primitive>) -> Making
     }
 }
 
+// A direct call of a function object.
+fn is_value_call(text: &[u8], count: usize) -> bool
+    ensures { result ≡ (bytes_eq text.now (codes "funcall") && nat_le 1 count) }
+{
+    text == b"funcall".as_slice() && 1 <= count
+}
+
+// A call of that name with two arguments.
+fn is_pair_call(text: &[u8], name: &[u8], count: usize) -> bool
+    ensures { result ≡ (bytes_eq text.now name.now && nat_eq count 2) }
+{
+    text == name && count == 2
+}
+
 // What a call of a name is, by its arguments.
 fn call_making(name: Name, text: &[u8], count: usize) -> Making
     ensures { result ≡ row.call_making name text.now count }
 {
-    if text == b"funcall".as_slice() && 1 <= count {
+    if is_value_call(text, count) {
         Making::CallOfValue
-    } else if text == b"signal-condition".as_slice() && count == 2 {
+    } else if is_pair_call(text, b"signal-condition", count) {
         Making::OfTwo(Two::Signalling)
-    } else if text == b"continue-condition".as_slice() && count == 2 {
+    } else if is_pair_call(text, b"continue-condition", count) {
         Making::OfTwo(Two::Continuing)
     } else {
         named_making(name, primitive_called(text, count))
