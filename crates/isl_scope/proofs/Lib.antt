@@ -2,6 +2,7 @@ pub mod Lists
 pub mod Growing
 pub mod Once
 pub mod Shaping
+pub mod Turns
 pub mod MakingWalks
 pub mod MakingLists
 pub mod MakingFound

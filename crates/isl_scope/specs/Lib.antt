@@ -17,4 +17,5 @@ pub mod Marks
 pub mod Behind
 pub mod Promises
 pub mod Sound
+pub mod Walks
 pub mod Sorted

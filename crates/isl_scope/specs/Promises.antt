@@ -1,6 +1,6 @@
 -- What a form stands for under a table of names, and stays so under every later one, since names are added while a form is
 -- judged.
-use Rattle.std.specs.Prelude.{◌≡◌, ℕ, List}
+use Rattle.std.specs.Prelude.{ℕ, List, Option, Some, None}
 use Rattle.isl_base.specs.declared.reason.Stop.{Stop}
 use Rattle.isl_base.specs.declared.reason.Stop.TheVariants.{Refused, NoMemory}
 use Rattle.isl_base.specs.Names.{Extends}
@@ -35,3 +35,8 @@ PlainStops names a s d NoMemory = Unit {0}
 -- a stop of the steps, wherever the form stands
 abbrev pub StepsStop : List (List ℕ) → Tables → Item → Stop → Type 0
 StepsStop names s d stop = (a : Around) → FormStops names a s d stop
+
+-- the datum that the steps led to, or the datum itself
+abbrev pub settled_datum : Option Item → Item → Item
+settled_datum None d = d
+settled_datum (Some e) d = e

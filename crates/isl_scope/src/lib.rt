@@ -3,12 +3,14 @@
 
 pub mod bound;
 mod here;
+mod judge;
 pub mod laws;
 mod make;
 pub mod making;
 mod plan;
 mod primitives;
 mod rows;
+mod settle;
 pub mod shapes;
 pub mod special;
 pub mod spot;
