@@ -1,8 +1,8 @@
 // Data with symbols that no text has: one that is written `|#7|` stands for the new symbol of serial 7,
 // and `|#long|` for one whose name is longer than a text can have.
 
-use crate::answer::Answer;
 use isl_base::{Datum, DatumList, FreshList, Kind, Name, Names, Symbol};
+use isl_rows::Answer;
 
 // A name of one byte more than a text can have.
 const LONG: [u8; 257] = [b'x'; 257];

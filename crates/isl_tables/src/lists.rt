@@ -1,8 +1,8 @@
 // Lists of bytes, of command words and of fresh symbols: what goes in and what stands there.
 
-use crate::answer::Answer;
 use crate::fresh::fresh_symbols;
 use isl_base::{Bytes, Words};
+use isl_rows::Answer;
 
 /// `bytes` with calls of a list of bytes, `words` with the words of a list, or `fresh` with how many
 /// fresh symbols are pushed and how many of them stay in the cut; the parts stand with `|` between them.

@@ -1,10 +1,10 @@
 // Sources, sinks and shelves in memory: those whose listed calls fail, and those that never fail.
 
-use crate::answer::Answer;
 use isl_base::{
     Bytes, CallList, Failed, MemShelf, MemSink, MemSource, Shelf, Sink, Source, SureShelf,
     SureSink, SureSource,
 };
+use isl_rows::Answer;
 
 // The bytes that a read can ask for.
 const ROOM: usize = 8;
