@@ -56,7 +56,7 @@ pub fn id(datum: &Datum) -> Option<usize> {
 pub fn ids(got: &mut Answer, data: &[Datum]) -> Option<ItemList<usize>> {
     let mut list = ItemList::new(got.alloc);
     for datum in data {
-        got.kept(list.push(id(datum)?))?;
+        got.add(&mut list, id(datum)?);
     }
     Some(list)
 }

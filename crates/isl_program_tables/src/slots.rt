@@ -10,7 +10,7 @@ pub fn slot_rows(got: &mut Answer, names: &Names, data: &[Datum]) -> Option<Slot
     let mut rows = SlotRows::new(got.alloc);
     for datum in data {
         let slot = slot_row(got, names, datum)?;
-        got.kept(rows.push(slot))?;
+        got.add(&mut rows, slot);
     }
     Some(rows)
 }
@@ -40,7 +40,7 @@ fn with_options(
             return None;
         };
         match word(names, key)? {
-            ":initarg" => got.kept(slot.initargs.push(name(value)?))?,
+            ":initarg" => got.add(&mut slot.initargs, name(value)?),
             ":initform" => slot.initform = Some(id(value)?),
             _ => return None,
         }

@@ -1,6 +1,6 @@
 // What a row answers, written piece by piece.
 
-use isl_base::{Place, Stop};
+use isl_base::{Bytes, ItemList, Place, Stop};
 use std::alloc::Global;
 use std::fmt::{Debug, Display};
 
@@ -41,6 +41,20 @@ impl Answer {
                 self.lacks_memory = true;
                 None
             }
+        }
+    }
+
+    /// Appends an item to a list.
+    pub fn add<T: Drop>(&mut self, list: &mut ItemList<T>, item: T) {
+        if list.push(item).is_err() {
+            self.lacks_memory = true;
+        }
+    }
+
+    /// Appends bytes to others.
+    pub fn add_bytes(&mut self, list: &mut Bytes, bytes: &[u8]) {
+        if list.append(bytes).is_err() {
+            self.lacks_memory = true;
         }
     }
 
@@ -94,19 +108,15 @@ impl Answer {
         self.put(place.column);
     }
 
-    /// Appends the reason of a refusal and its place; none where memory was wanting.
-    pub fn put_stop(&mut self, stop: Stop) -> Option<()> {
+    /// Appends the reason of a refusal and its place.
+    pub fn put_stop(&mut self, stop: Stop) {
         match stop {
             Stop::Refused(refusal) => {
                 self.put(refusal.reason.text());
                 self.put("@");
                 self.put_place(refusal.place);
-                Some(())
             }
-            Stop::NoMemory => {
-                self.lacks_memory = true;
-                None
-            }
+            Stop::NoMemory => self.lacks_memory = true,
         }
     }
 

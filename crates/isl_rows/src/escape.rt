@@ -51,16 +51,16 @@ impl Reading {
     fn take(&mut self, got: &mut Answer, byte: u8) -> Option<State> {
         match (self.state, byte) {
             (State::Plain, b'\\') => return Some(State::Escape),
-            (State::Plain, _) => got.kept(self.bytes.push(byte))?,
+            (State::Plain, _) => got.add(&mut self.bytes, byte),
             (State::Escape, b'x') => return Some(State::HighDigit),
             (State::Escape, b'{') => return Some(State::Times(0)),
             (State::Escape, b'}') => self.repeat(got)?,
-            (State::Escape, _) => got.kept(self.bytes.push(escaped(byte)?))?,
+            (State::Escape, _) => got.add(&mut self.bytes, escaped(byte)?),
             (State::HighDigit, _) => return Some(State::LowDigit(char::from(byte).to_digit(16)?)),
             (State::LowDigit(high), _) => {
                 let low = char::from(byte).to_digit(16)?;
                 let number = u8::try_from(high.saturating_mul(16).saturating_add(low)).ok()?;
-                got.kept(self.bytes.push(number))?;
+                got.add(&mut self.bytes, number);
             }
             (State::Times(times), b' ') => {
                 self.times = times;
@@ -81,7 +81,7 @@ impl Reading {
         let part = self.bytes.as_slice().get(self.start..)?;
         let part = got.kept(Bytes::from_slice(got.alloc, part))?;
         for _ in 1..self.times {
-            got.kept(self.bytes.append(part.as_slice()))?;
+            got.add_bytes(&mut self.bytes, part.as_slice());
         }
         Some(())
     }

@@ -16,7 +16,7 @@ pub fn read_data(got: &mut Answer, names: &mut Names, text: &[u8]) -> Option<Dat
     let mut data = DatumList::new(got.alloc);
     for _ in 0..text.len() {
         match reader.next(got.alloc, names).ok()? {
-            Some(datum) => got.kept(data.push(datum))?,
+            Some(datum) => got.add(&mut data, datum),
             None => break,
         }
     }

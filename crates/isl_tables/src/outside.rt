@@ -57,7 +57,7 @@ fn call_list(got: &mut Answer, text: &str) -> Option<CallList> {
     let mut calls = CallList::new(got.alloc);
     if text != "-" {
         for number in text.split(',') {
-            got.kept(calls.push(number.parse().ok()?))?;
+            got.add(&mut calls, number.parse().ok()?);
         }
     }
     Some(calls)

@@ -16,7 +16,7 @@ pub fn put(got: &mut Answer, names: &mut Names, data: &[Datum]) -> Option<()> {
         return None;
     };
     let before = names.len();
-    let mut fresh = fresh_symbols(got, u64::try_from(*count).ok()?)?;
+    let mut fresh = fresh_symbols(got, u64::try_from(*count).ok()?);
     for form in forms {
         put_step(got, names, &mut fresh, form, Style::Plain)?;
         got.put(" of ");

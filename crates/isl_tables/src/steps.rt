@@ -50,6 +50,9 @@ pub fn put_step(
             got.put("plain");
             Some(())
         }
-        Err(stop) => got.put_stop(stop),
+        Err(stop) => {
+            got.put_stop(stop);
+            Some(())
+        }
     }
 }

@@ -38,7 +38,7 @@ fn put_next(got: &mut Answer, names: &mut Names, reader: &mut Reader) -> Option<
         }
         Err(stop) => {
             got.put(if is_last { "last? !" } else { "!" });
-            got.put_stop(stop)?;
+            got.put_stop(stop);
             if reader.next(got.alloc, names).err() != Some(stop) {
                 got.put(" not again");
             }

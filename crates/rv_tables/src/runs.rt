@@ -47,17 +47,15 @@ impl Given {
         match word.split_once('=') {
             None => {
                 let word = u32::from_str_radix(word, 16).ok()?;
-                got.kept(self.words.push(word))
+                got.add(&mut self.words, word);
             }
-            Some(("arena", words)) => {
-                self.arena = words.parse().ok()?;
-                Some(())
-            }
-            Some(("input", text)) => got.kept(self.input.append(text.as_bytes())),
-            Some(("input_fails", call)) => got.kept(self.input_fails.push(call.parse().ok()?)),
-            Some(("output_fails", call)) => got.kept(self.output_fails.push(call.parse().ok()?)),
-            Some(_) => None,
+            Some(("arena", words)) => self.arena = words.parse().ok()?,
+            Some(("input", text)) => got.add_bytes(&mut self.input, text.as_bytes()),
+            Some(("input_fails", call)) => got.add(&mut self.input_fails, call.parse().ok()?),
+            Some(("output_fails", call)) => got.add(&mut self.output_fails, call.parse().ok()?),
+            Some(_) => return None,
         }
+        Some(())
     }
 
     // The machine with the program at address 0; that the image is too big is told.

@@ -32,7 +32,8 @@ pub fn define(
         Ok(_) => Some(()),
         Err(stop) => {
             got.begin();
-            got.put_stop(stop)
+            got.put_stop(stop);
+            Some(())
         }
     }
 }
@@ -49,7 +50,7 @@ pub fn class_list(got: &mut Answer, classes: &Classes, data: &[Datum]) -> Option
     let mut list = ClassIds::new(got.alloc);
     for datum in data {
         let class = classes.find(name(datum)?)?;
-        got.kept(list.push(class))?;
+        got.add(&mut list, class);
     }
     Some(list)
 }
@@ -65,7 +66,7 @@ fn slot_specs(got: &mut Answer, names: &Names, data: &[Datum]) -> Option<SlotSpe
             initargs: slot.initargs,
             initform: slot.initform,
         };
-        got.kept(slots.push(spec))?;
+        got.add(&mut slots, spec);
     }
     Some(slots)
 }

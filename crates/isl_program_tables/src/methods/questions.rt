@@ -38,7 +38,7 @@ fn push_tuples(got: &mut Answer, parts: &[Datum]) -> Option<()> {
     let mut lists = ItemList::new(got.alloc);
     for part in parts {
         let list = ids(got, items(part)?)?;
-        got.kept(lists.push(list))?;
+        got.add(&mut lists, list);
     }
     let count = tuple_count(&lists);
     got.push(count);

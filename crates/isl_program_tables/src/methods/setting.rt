@@ -28,7 +28,7 @@ impl Setting {
     pub fn take_classes(&mut self, got: &mut Answer, lists: &[Datum]) -> Option<()> {
         for list in lists {
             let precedence = ids(got, items(list)?)?;
-            self.push_class(got, precedence)?;
+            self.push_class(got, precedence);
         }
         Some(())
     }
@@ -41,22 +41,22 @@ impl Setting {
         for class in 0..id(count)? {
             let mut precedence = ClassIds::new(got.alloc);
             if class != 0 {
-                got.kept(precedence.push(class))?;
+                got.add(&mut precedence, class);
             }
-            got.kept(precedence.push(0))?;
-            self.push_class(got, precedence)?;
+            got.add(&mut precedence, 0);
+            self.push_class(got, precedence);
         }
         Some(())
     }
 
-    fn push_class(&mut self, got: &mut Answer, precedence: ClassIds) -> Option<()> {
+    fn push_class(&mut self, got: &mut Answer, precedence: ClassIds) {
         let row = ClassRow {
             name: Name(self.classes.len()),
             precedence,
             slots: SlotRows::new(got.alloc),
             abstract_class: false,
         };
-        got.kept(self.classes.push(row))
+        got.add(&mut self.classes, row);
     }
 
     /// A new generic function: a name, its required arguments, and `rest` where it takes more.
@@ -102,7 +102,8 @@ impl Setting {
             Ok(()) => Some(()),
             Err(stop) => {
                 got.begin();
-                got.put_stop(stop)
+                got.put_stop(stop);
+                Some(())
             }
         }
     }

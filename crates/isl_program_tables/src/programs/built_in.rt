@@ -29,32 +29,32 @@ fn built_in(got: &mut Answer, names: &mut Names) -> Option<ClassRows> {
     for row in classes.rows().as_slice() {
         let copy = ClassRow {
             name: row.name,
-            precedence: copied(got, row.precedence.as_slice())?,
-            slots: slot_rows(got, row.slots.as_slice())?,
+            precedence: copied(got, row.precedence.as_slice()),
+            slots: slot_rows(got, row.slots.as_slice()),
             abstract_class: row.abstract_class,
         };
-        got.kept(rows.push(copy))?;
+        got.add(&mut rows, copy);
     }
     Some(rows)
 }
 
-fn slot_rows(got: &mut Answer, slots: &[SlotRow]) -> Option<SlotRows> {
+fn slot_rows(got: &mut Answer, slots: &[SlotRow]) -> SlotRows {
     let mut rows = SlotRows::new(got.alloc);
     for slot in slots {
         let copy = SlotRow {
             name: slot.name,
-            initargs: copied(got, slot.initargs.as_slice())?,
+            initargs: copied(got, slot.initargs.as_slice()),
             initform: slot.initform,
         };
-        got.kept(rows.push(copy))?;
+        got.add(&mut rows, copy);
     }
-    Some(rows)
+    rows
 }
 
-fn copied<T: Copy + Drop>(got: &mut Answer, items: &[T]) -> Option<ItemList<T>> {
+fn copied<T: Copy + Drop>(got: &mut Answer, items: &[T]) -> ItemList<T> {
     let mut copies = ItemList::new(got.alloc);
     for item in items {
-        got.kept(copies.push(*item))?;
+        got.add(&mut copies, *item);
     }
-    Some(copies)
+    copies
 }

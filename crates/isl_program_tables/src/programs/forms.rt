@@ -19,7 +19,7 @@ pub fn form(got: &mut Answer, names: &Names, datum: &Datum, depth: u32) -> Optio
     match (head, parts) {
         ("nest", [count, inner]) => {
             let inner = form(got, names, inner, depth - 1)?;
-            nested(got, number(count)?, inner)
+            Some(nested(got, number(count)?, inner))
         }
         _ => Some(Core::new(kind(got, names, head, parts, depth - 1)?)),
     }
@@ -116,7 +116,7 @@ fn forms(got: &mut Answer, names: &Names, data: &[Datum], depth: u32) -> Option<
     let mut list = CoreList::new(got.alloc);
     for datum in data {
         let core = form(got, names, datum, depth)?;
-        got.kept(list.push(core))?;
+        got.add(&mut list, core);
     }
     Some(list)
 }
@@ -134,7 +134,7 @@ fn clauses(got: &mut Answer, names: &Names, data: &[Datum], depth: u32) -> Optio
             }
             _ => return None,
         };
-        got.kept(list.push(Clause { test, body }))?;
+        got.add(&mut list, Clause { test, body });
     }
     Some(list)
 }
@@ -149,7 +149,7 @@ fn bindings(got: &mut Answer, names: &Names, data: &[Datum], depth: u32) -> Opti
         };
         let var = id(var)?;
         let value = form(got, names, value, depth)?;
-        got.kept(list.push(Binding { var, value }))?;
+        got.add(&mut list, Binding { var, value });
     }
     Some(list)
 }
@@ -169,20 +169,20 @@ fn dynamic_bindings(
         };
         let name = name(variable)?;
         let value = form(got, names, value, depth)?;
-        got.kept(list.push(DynBinding { name, value }))?;
+        got.add(&mut list, DynBinding { name, value });
     }
     Some(list)
 }
 
 // The form inside so many sequences of one form each.
-fn nested(got: &mut Answer, count: u32, inner: Core) -> Option<Core> {
+fn nested(got: &mut Answer, count: u32, inner: Core) -> Core {
     let mut outer = inner;
     for _ in 0..count {
         let mut list = CoreList::new(got.alloc);
-        got.kept(list.push(outer))?;
+        got.add(&mut list, outer);
         outer = Core::sequence(list);
     }
-    Some(outer)
+    outer
 }
 
 // Forms with no form inside.

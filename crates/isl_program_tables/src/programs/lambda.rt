@@ -24,7 +24,7 @@ pub fn captured(got: &mut Answer, names: &Names, data: &[Datum]) -> Option<PartL
             ("m", []) => Part::Method,
             _ => return None,
         };
-        got.kept(list.push(part))?;
+        got.add(&mut list, part);
     }
     Some(list)
 }

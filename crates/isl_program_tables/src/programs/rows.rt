@@ -31,7 +31,7 @@ pub fn take(
             }
             rows.classes.cut(count);
         }
-        ("sites", [count]) => take_sites(got, rows, number(count)?)?,
+        ("sites", [count]) => take_sites(got, rows, number(count)?),
         ("copy", []) => copy_main(got, rows)?,
         _ => {
             for part in parts {
@@ -53,30 +53,31 @@ fn take_row(
     match kind {
         "literals" => {
             let row = literal(got, names, part)?;
-            got.kept(rows.literals.push(row))
+            got.add(&mut rows.literals, row);
         }
         "procedures" => {
             let row = procedure(got, names, items(part)?)?;
-            got.kept(rows.procedures.push(row))
+            got.add(&mut rows.procedures, row);
         }
         "classes" => {
             let row = class(got, names, items(part)?)?;
-            got.kept(rows.classes.push(row))
+            got.add(&mut rows.classes, row);
         }
         "generics" => {
             let row = generic(got, names, items(part)?)?;
-            got.kept(rows.generics.push(row))
+            got.add(&mut rows.generics, row);
         }
         "functions" => {
             let row = function(names, items(part)?)?;
-            got.kept(rows.functions.push(row))
+            got.add(&mut rows.functions, row);
         }
         "main" => {
             let row = form(got, names, part, DEPTH)?;
-            got.kept(rows.main.push(row))
+            got.add(&mut rows.main, row);
         }
-        _ => None,
+        _ => return None,
     }
+    Some(())
 }
 
 // A copy of each main form takes its place.
@@ -84,22 +85,21 @@ fn copy_main(got: &mut Answer, rows: &mut ProgramRows) -> Option<()> {
     let mut copies = CoreList::new(got.alloc);
     for form in rows.main.as_slice() {
         let copy = got.kept(form.copy(got.alloc))?;
-        got.kept(copies.push(copy))?;
+        got.add(&mut copies, copy);
     }
     rows.main = copies;
     Some(())
 }
 
 // So many sites, in the first line.
-fn take_sites(got: &mut Answer, rows: &mut ProgramRows, count: u32) -> Option<()> {
+fn take_sites(got: &mut Answer, rows: &mut ProgramRows, count: u32) {
     for site in 0..count {
         let place = Place {
             line: 1,
             column: site + 1,
         };
-        got.kept(rows.sites.push(place))?;
+        got.add(&mut rows.sites, place);
     }
-    Some(())
 }
 
 // `(datum X)`, `(integer "536870912")` for an integer that no text spells, `(class 33)` or
@@ -178,7 +178,7 @@ fn generic(got: &mut Answer, names: &Names, parts: &[Datum]) -> Option<GenericRo
             Kind::Sym(_) => row.rest = true,
             _ => {
                 let method = method(got, names, items(datum)?)?;
-                got.kept(row.methods.push(method))?;
+                got.add(&mut row.methods, method);
             }
         }
     }
