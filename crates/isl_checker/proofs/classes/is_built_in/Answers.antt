@@ -2,7 +2,7 @@
 use Rattle.std.proofs.Common.{[]}
 use Rattle.isl_meaning.specs.BuiltIn.{built_in_precedence, built_in_slots}
 use Rattle.isl_checker.proofs.FirstClasses.{item_at}
-use Rattle.isl_checker.proofs.rows.is_built_in.Goals as goal
+use Rattle.isl_checker.proofs.classes.is_built_in.Goals as goal
 
 pub returns : goal.returns
 returns c =

@@ -1,7 +1,7 @@
 -- Each turn looks at one class.
 use Rattle.std.proofs.Common.{◌≡◌, ◌∙◌, ◌+◌, true, false, ◌&&◌, ap, sym, arith}
 use Rattle.isl_checker.proofs.FirstClasses.{begins_from, is_built_in, turn, no_class_left}
-use Rattle.isl_checker.proofs.rows.begins_with_built_in.Goals as goal
+use Rattle.isl_checker.proofs.classes.begins_with_built_in.Goals as goal
 
 pub returns-in_default : goal.returns-in_default
 returns-in_default c =

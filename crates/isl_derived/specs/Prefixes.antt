@@ -12,7 +12,7 @@ abbrev pub pieces_before : List Piece → Pieces → Pieces
 pieces_before [] ys = ys
 pieces_before (x ∷ xs) ys = piece_and x (pieces_before xs ys)
 
--- the later list begins with the earlier one
-pub record Begins (earlier later : List Symbol) : Type 0 where
-  pub more : List Symbol
-  pub is : later ≡ earlier ++ more
+-- the earlier list is a prefix of the later one
+pub record IsPrefix (earlier later : List Symbol) : Type 0 where
+  pub rest : List Symbol
+  pub is : later ≡ earlier ++ rest
