@@ -13,4 +13,4 @@ mod shape;
 mod table;
 mod template;
 
-pub use one_step::{Step, derive};
+pub use one_step::{Step, derive, is_derived_name};

@@ -5,6 +5,7 @@ ghost use Rattle.isl_base.specs.model.DataView.{tail_of};
 ghost use Rattle.isl_base.specs.DataMeasures.{Formed, NamesBelow};
 ghost use Rattle.isl_base.specs.Names.{Extends};
 ghost use Rattle.isl_derived.specs.Pieces.{Builds};
+ghost use Rattle.isl_derived.specs.Table.{is_derived};
 ghost use Rattle.isl_derived.specs.Derived.{right_of, row_right, first_right, table_right, by_name, list_derivation, derivation, new_symbols};
 ghost use Rattle.isl_derived.specs.Patterns.{fit_all};
 ghost use Rattle.isl_derived.specs.model.PatternView.{view_patterns};
@@ -119,8 +120,15 @@ fn table_right<'a>(
     }
 }
 
-// The data behind that name, with that tail.
+/// Whether there are derived forms of that name. Takes no memory.
 #[tactic(auto, unfolding(crate::specs::Table::is_derived))]
+pub fn is_derived_name(name: &[u8]) -> bool
+    ensures { result ≡ is_derived name.now }
+{
+    names_some_row(&table(), name)
+}
+
+// The data behind that name, with that tail.
 fn by_name<'a>(
     start: Start,
     name: &[u8],
@@ -129,10 +137,10 @@ fn by_name<'a>(
 ) -> Result<Derivation<'a>, NoMemory>
     ensures { IfOk result (λ found. shown found ≡ by_name start.entry.names.now start.entry.serial (Some name.now) arguments.now (tail_of tail.now)) }
 {
-    let groups = table();
-    if !names_some_row(&groups, name) {
+    if !is_derived_name(name) {
         return Ok(Derivation::Plain);
     }
+    let groups = table();
     if tail.is_some() {
         return Ok(Derivation::Unfit);
     }

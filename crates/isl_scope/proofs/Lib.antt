@@ -1,0 +1,10 @@
+pub mod Lists
+pub mod Growing
+pub mod Once
+pub mod Shaping
+pub mod MakingWalks
+pub mod MakingLists
+pub mod MakingFound
+pub mod MakingGroups
+pub mod MakingEnds
+pub mod Choices
