@@ -1,62 +1,29 @@
 // What each form says of itself: rows and sites that are there, as many arguments as are taken, and functions
 // that are not too deep.
 
-ghost use Rattle.std.specs.Prelude.{◌≡◌, nat_le, option_to_list, slice_get};
+ghost use Rattle.std.specs.Prelude.{◌≡◌, nat_le};
 ghost use Rattle.std.specs.List.{list_all};
 ghost use Rattle.isl_meaning.specs.Counts.{depth};
 ghost use Rattle.isl_meaning.specs.Fits.{fits_itself, fits};
-ghost use Rattle.isl_meaning.specs.Subforms.{outer, inner};
-ghost use Rattle.isl_meaning.specs.bridge.Visits.{visits, second_of};
 
-use isl_meaning::{Core, CoreForm, ProgramRows};
+use isl_meaning::{Core, CoreForm, ProgramRows, Subforms};
 
 // Whether a form and all forms inside it have rows and sites that are there, as many arguments as are taken, and
 // functions at most 1,000 forms deep.
 #[cycle(fits)]
-#[tactic(auto, using(isl_meaning::specs::bridge::Judged::fits_folded))]
+#[tactic(auto, using(isl_meaning::specs::bridge::Smaller::outer_is_smaller, isl_meaning::specs::bridge::Smaller::inner_is_smaller))]
 pub fn fits(form: &Core, rows: &ProgramRows) -> bool
     ensures { result ≡ fits rows.now form.now }
 {
-    fits_itself(form, rows) && outer_fit(form, rows) && inner_fit(form, rows)
+    fits_itself(form, rows) && all_fit(form.outer(), rows) && all_fit(form.inner(), rows)
 }
 
 #[cycle(fits)]
-#[tactic(auto, using(isl_meaning::specs::bridge::Smaller::first_is_smaller))]
-fn outer_fit(form: &Core, rows: &ProgramRows) -> bool
-    ensures { result ≡ list_all (fits rows.now) (outer form.now) }
+fn all_fit(forms: Subforms<'_>, rows: &ProgramRows) -> bool
+    ensures { result ≡ list_all (fits rows.now) forms.entry }
 {
-    for at in 0..form.outer_visits() {
-        let Some(first) = form.outer_first(at) else {
-            unreachable!()
-        };
-        if !fits(first, rows) || !second_fits(form, at, rows) {
-            return false;
-        }
-    }
-    true
-}
-
-#[cycle(fits)]
-#[tactic(auto, using(isl_meaning::specs::bridge::Smaller::second_is_smaller, crate::proofs::Walks::all_of_second, crate::proofs::Walks::all_of_none))]
-fn second_fits(form: &Core, at: usize, rows: &ProgramRows) -> bool
-    ensures { result ≡ list_all (fits rows.now) (option_to_list (second_of (slice_get (visits form.now) at))) }
-{
-    match form.outer_second(at) {
-        None => true,
-        Some(second) => fits(second, rows),
-    }
-}
-
-#[cycle(fits)]
-#[tactic(auto, using(isl_meaning::specs::bridge::Smaller::inner_is_smaller))]
-fn inner_fit(form: &Core, rows: &ProgramRows) -> bool
-    ensures { result ≡ list_all (fits rows.now) (inner form.now) }
-{
-    for at in 0..form.inner_count() {
-        let Some(inside) = form.inner_at(at) else {
-            unreachable!()
-        };
-        if !fits(inside, rows) {
+    for form in forms {
+        if !fits(form, rows) {
             return false;
         }
     }

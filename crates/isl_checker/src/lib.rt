@@ -1,7 +1,10 @@
 // Whether rows are those of a program.
 #![tactic(auto)]
 
+mod bodies;
+mod classes;
 mod fits;
+mod generics;
 mod mentions;
 mod parts;
 mod procedures;

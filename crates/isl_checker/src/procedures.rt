@@ -5,7 +5,7 @@ ghost use Rattle.std.specs.List.{list_any};
 ghost use Rattle.isl_meaning.specs.Facts.{is_of_method, procedures_stand};
 ghost use Rattle.isl_meaning.specs.Standing.{is_alone};
 
-use crate::rows::procedure_is_alone;
+use crate::bodies::procedure_is_alone;
 use isl_base::NoMemory;
 use isl_meaning::{GenericRow, Procedure, ProcedureId, ProgramRows};
 use std::alloc::Global;

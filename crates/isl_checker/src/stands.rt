@@ -1,11 +1,9 @@
 // Whether all that a form names is bound where it stands.
 
-ghost use Rattle.std.specs.Prelude.{◌≡◌, option_to_list, slice_get, unwrap_or, IfOk};
+ghost use Rattle.std.specs.Prelude.{◌≡◌, unwrap_or, IfOk};
 ghost use Rattle.std.specs.List.{list_all};
 ghost use Rattle.isl_meaning.specs.Mentions.{is_next, in_order};
 ghost use Rattle.isl_meaning.specs.Standing.{is_bound, is_free, are_captured, around_inner, stands_itself, stands};
-ghost use Rattle.isl_meaning.specs.Subforms.{outer, inner};
-ghost use Rattle.isl_meaning.specs.bridge.Visits.{visits, second_of};
 
 use crate::mentions::{mentions, owns};
 use crate::parts::comes_before;
@@ -14,81 +12,31 @@ use crate::scope::{
     with_variables,
 };
 use isl_base::NoMemory;
-use isl_meaning::{Around, Core, CoreForm, LexicalScope, Part, PartList, Var, VarList};
+use isl_meaning::{Around, Core, CoreForm, LexicalScope, Part, PartList, Subforms, Var, VarList};
 use std::alloc::Global;
 
 // Whether all names in a form are bound.
 #[cycle(stands)]
-#[tactic(auto, using(isl_meaning::specs::bridge::Judged::stands_folded))]
+#[tactic(auto, using(isl_meaning::specs::bridge::Judged::stands_folded, isl_meaning::specs::bridge::Smaller::outer_is_smaller, isl_meaning::specs::bridge::Smaller::inner_is_smaller))]
 pub fn stands(form: &Core, alloc: Global, scope: &LexicalScope) -> Result<bool, NoMemory>
     ensures { IfOk result (λ yes. yes ≡ stands scope.now form.now) }
 {
     if !stands_itself(form, alloc, scope)? {
         return Ok(false);
     }
-    if !outer_stand(form, alloc, scope)? {
+    if !all_stand(form.outer(), alloc, scope)? {
         return Ok(false);
     }
-    inner_stand(form, alloc, scope)
-}
-
-#[cycle(stands)]
-#[tactic(auto, using(isl_meaning::specs::bridge::Smaller::first_is_smaller))]
-fn outer_stand(form: &Core, alloc: Global, scope: &LexicalScope) -> Result<bool, NoMemory>
-    ensures { IfOk result (λ yes. yes ≡ list_all (stands scope.now) (outer form.now)) }
-{
-    for at in 0..form.outer_visits() {
-        let Some(first) = form.outer_first(at) else {
-            unreachable!()
-        };
-        if !stands(first, alloc, scope)? {
-            return Ok(false);
-        }
-        if !second_stands(form, at, alloc, scope)? {
-            return Ok(false);
-        }
-    }
-    Ok(true)
-}
-
-#[cycle(stands)]
-#[tactic(auto, using(isl_meaning::specs::bridge::Smaller::second_is_smaller, crate::proofs::Walks::all_of_second, crate::proofs::Walks::all_of_none))]
-fn second_stands(
-    form: &Core,
-    at: usize,
-    alloc: Global,
-    scope: &LexicalScope,
-) -> Result<bool, NoMemory>
-    ensures { IfOk result (λ yes. yes ≡ list_all (stands scope.now) (option_to_list (second_of (slice_get (visits form.now) at)))) }
-{
-    match form.outer_second(at) {
-        None => Ok(true),
-        Some(second) => stands(second, alloc, scope),
-    }
-}
-
-// The inner forms, where what the form binds is bound.
-#[cycle(stands)]
-fn inner_stand(form: &Core, alloc: Global, scope: &LexicalScope) -> Result<bool, NoMemory>
-    ensures { IfOk result (λ yes. yes ≡ list_all (stands (around_inner form.now scope.now)) (inner form.now)) }
-{
     let inside = around_inner(form, alloc, scope)?;
-    match &inside {
-        None => all_inner_stand(form, alloc, scope),
-        Some(inside) => all_inner_stand(form, alloc, inside),
-    }
+    all_stand(form.inner(), alloc, inside.as_ref().unwrap_or(scope))
 }
 
 #[cycle(stands)]
-#[tactic(auto, using(isl_meaning::specs::bridge::Smaller::inner_is_smaller))]
-fn all_inner_stand(form: &Core, alloc: Global, scope: &LexicalScope) -> Result<bool, NoMemory>
-    ensures { IfOk result (λ yes. yes ≡ list_all (stands scope.now) (inner form.now)) }
+fn all_stand(forms: Subforms<'_>, alloc: Global, scope: &LexicalScope) -> Result<bool, NoMemory>
+    ensures { IfOk result (λ yes. yes ≡ list_all (stands scope.now) forms.entry) }
 {
-    for at in 0..form.inner_count() {
-        let Some(inside) = form.inner_at(at) else {
-            unreachable!()
-        };
-        if !stands(inside, alloc, scope)? {
+    for form in forms {
+        if !stands(form, alloc, scope)? {
             return Ok(false);
         }
     }

@@ -4,11 +4,11 @@ ghost use Rattle.std.specs.Prelude.{◌≡◌, nat_le, IfOk};
 ghost use Rattle.isl_meaning.specs.Facts.{rows_fit, bodies_stand, is_whole};
 ghost use Rattle.isl_meaning.specs.Cells.{program_cells};
 
+use crate::bodies::{bodies_fit, main_fits};
+use crate::classes::{begins_with_built_in, classes_fit};
+use crate::generics::generics_fit;
 use crate::procedures::procedures_stand;
-use crate::rows::{
-    begins_with_built_in, bodies_fit, classes_fit, functions_fit, generics_fit, literals_fit,
-    main_fits, names_differ,
-};
+use crate::rows::{functions_fit, literals_fit, names_differ};
 use isl_base::NoMemory;
 use isl_dispatch::cells::cells;
 use isl_meaning::ProgramRows;

@@ -9,7 +9,7 @@ use Rattle.isl_base.specs.declared.datum.Name.{Name}
 use Rattle.isl_meaning.specs.declared.program.ClassRow.{ClassRow}
 use Rattle.isl_meaning.specs.declared.program.SlotRow.{SlotRow}
 use Rattle.isl_meaning.specs.Objects.{built_in_classes}
-use Rattle.isl_meaning.specs.bridge.Fronts.{from_front}
+use Rattle.isl_meaning.specs.bridge.Prefixes.{of_prefix}
 use Rattle.isl_base.specs.model.DataRest.{take_at}
 use Rattle.isl_classes.specs.InheritedClasses.{Hierarchy, GivenSlot, IsHierarchy, IsRow, AreClasses, class_named, with_class}
 use Rattle.isl_classes.specs.InheritedSlots.{same_name}
@@ -72,13 +72,13 @@ pub classes_cut : (h : Hierarchy) (len : ℕ) → AreClasses h → AreClasses (r
 classes_cut h len a = record {
   paired = length-take len h.own ∙ ap (min len) a.paired ∙ sym (length-take len h.rows);
   right = λ c row k.
-      let there = from_front len h.rows c row k in
+      let there = of_prefix len h.rows c row k in
       let P : List ClassRow → List (List SlotRow) → Type 0 = λ rows own. IsRow rows own c row in
       let rows_stay : take c (take len h.rows) ≡ take c h.rows = take-take c len h.rows (omega (arith, there.0)) in
       let own_stays : take (c + 1) (take len h.own) ≡ take (c + 1) h.own = take-take (c + 1) len h.own (omega (arith, there.0)) in
       rw (rows_stay, own_stays) (a.right c row there.1);
   named = λ c row k.
-      let there = from_front len h.rows c row k in
+      let there = of_prefix len h.rows c row k in
       named-early h.rows row.name len c there.0 (a.named c row there.1);
 }
 
@@ -88,7 +88,7 @@ pub hierarchy_cut : (h : Hierarchy) (len : ℕ) → IsHierarchy h → built_in_c
 hierarchy_cut h len x enough fits = record {
   classes = classes_cut h len x.classes;
   enough = omega (arith, length-take len h.rows);
-  built_in = λ c row below k. x.built_in c row below ((from_front len h.rows c row k).1);
+  built_in = λ c row below k. x.built_in c row below ((of_prefix len h.rows c row k).1);
 }
 
 -- a class that was added behind the ones that stay is gone

@@ -10,7 +10,7 @@ use Rattle.isl_base.specs.model.DataRest.{take_at}
 use Rattle.isl_base.specs.Names.{Extends, text_stays}
 use Rattle.isl_derived.specs.Pieces.{Piece, word, made, taken, parens, Pieces, no_piece, piece_and, pieces_of, piece_size, pieces_size, in_parens, Builds, BuildsAll}
 use Rattle.isl_derived.specs.Derived.{new_symbols}
-use Rattle.isl_derived.specs.Fronts.{Begins}
+use Rattle.isl_derived.specs.Prefixes.{IsPrefix}
 
 -- under a later table
 mutual
@@ -108,15 +108,15 @@ new_end fresh all count turn h done =
     let none : count - turn ≡ 0 = omega arith in
     sym (append-nil fresh) ∙ ap (λ n. fresh ++ new_symbols (length fresh) n) (sym none) ∙ done
 
-pub begins_still : (first fresh later : List Symbol) (x : Symbol) → Begins first fresh → later ≡ fresh ++ x ∷ [] → Begins first later
-begins_still first fresh later x b l = record { more = b.more ++ x ∷ []; is = l ∙ ap (λ xs. xs ++ x ∷ []) b.is ∙ append_assoc first b.more (x ∷ []) }
+pub prefix_still : (first fresh later : List Symbol) (x : Symbol) → IsPrefix first fresh → later ≡ fresh ++ x ∷ [] → IsPrefix first later
+prefix_still first fresh later x b l = record { rest = b.rest ++ x ∷ []; is = l ∙ ap (λ xs. xs ++ x ∷ []) b.is ∙ append_assoc first b.rest (x ∷ []) }
 
-pub begins_long : (first fresh : List Symbol) → Begins first fresh → length first ≤ length fresh
-begins_long first fresh b = rw b.is (omega (arith, length-append first b.more))
+pub prefix_shorter : (first fresh : List Symbol) → IsPrefix first fresh → length first ≤ length fresh
+prefix_shorter first fresh b = rw b.is (omega (arith, length-append first b.rest))
 
 front_taken : (xs ys : List Symbol) → take (length xs) (xs ++ ys) ≡ xs
 front_taken [] ys = refl
 front_taken (x ∷ xs) ys = ap (λ zs. x ∷ zs) (front_taken xs ys)
 
-pub begins_cut : (first fresh : List Symbol) → Begins first fresh → take (length first) fresh ≡ first
-begins_cut first fresh b = rw b.is (front_taken first b.more)
+pub prefix_cut : (first fresh : List Symbol) → IsPrefix first fresh → take (length first) fresh ≡ first
+prefix_cut first fresh b = rw b.is (front_taken first b.rest)

@@ -6,7 +6,7 @@ use Rattle.isl_base.specs.declared.faults.NoMemory.{NoMemory}
 use Rattle.isl_base.specs.Data.{Item}
 use Rattle.isl_derived.specs.Patterns.{Parts, joined, taken_by, fit, fit_all}
 use Rattle.isl_derived.specs.model.PatternView.{view_pattern, view_patterns, IsFit}
-use Rattle.isl_derived.specs.Fronts.{before}
+use Rattle.isl_derived.specs.Prefixes.{before}
 use Rattle.isl_derived.specs.declared.pattern.Pattern.{Pattern}
 use Rattle.isl_derived.proofs.Views.{counted}
 

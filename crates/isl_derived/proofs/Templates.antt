@@ -6,7 +6,7 @@ use Rattle.isl_derived.specs.Pieces.{Piece, Pieces, no_piece, piece_and, pieces_
 use Rattle.isl_derived.specs.Asked.{is_word}
 use Rattle.isl_derived.specs.Quotation.{template, template_list, unquoted, spliced, part, parts, appended, one_piece}
 use Rattle.isl_derived.specs.Templates.{only_of, splicing, last_unquoted}
-use Rattle.isl_derived.specs.Fronts.{pieces_before}
+use Rattle.isl_derived.specs.Prefixes.{pieces_before}
 
 chosen : {X : Type 0} (b : Bool) (e d : X) → (if b then Some e else None) ≡ Some d → (b ≡ true) × (e ≡ d)
 chosen true e d h = (refl, cc)

@@ -4,23 +4,23 @@ use Rattle.std.specs.Borrow.{Bor}
 use Rattle.std.proofs.Common.{arith, ap, ◌∙◌, rules}
 use Rattle.isl_base.specs.Data.{Item}
 use Rattle.isl_derived.specs.Pieces.{listed}
-use Rattle.isl_derived.specs.Patterns.{Parts, a_datum, a_symbol, the_word, an_operator, inside, others, one_at_most, each_fits, pattern_and, pattern_count, pattern_size, patterns_size, part_if, all_data, is_some, of_one, fit, fit_all}
-use Rattle.isl_derived.specs.model.PatternView.{view_pattern, view_patterns, patterns_of}
-use Rattle.isl_derived.specs.RightSides.{datum, all_of, the_setter, the_quotation, the_symbol, new_symbol, new_behind, own_symbol, group, for_each, template_and, template_size, templates_size, part_of, repeated, write, write_all}
-use Rattle.isl_derived.specs.model.TemplateView.{view_template, view_templates, templates_of}
+use Rattle.isl_derived.specs.Patterns.{Parts, a_datum, a_symbol, the_word, an_operator, inside, others, one_at_most, each_fits, patterns, pattern_and, pattern_count, pattern_size, patterns_size, part_if, all_data, is_some, of_one, fit, fit_all}
+use Rattle.isl_derived.specs.model.PatternView.{view_pattern, view_patterns}
+use Rattle.isl_derived.specs.RightSides.{datum, all_of, the_setter, the_quotation, the_symbol, new_symbol, new_behind, own_symbol, group, for_each, templates, template_and, template_size, templates_size, part_of, repeated, write, write_all}
+use Rattle.isl_derived.specs.model.TemplateView.{view_template, view_templates}
 use Rattle.isl_derived.specs.declared.pattern.Pattern.{Pattern, Datum, Symbol, Name, Operator, Others, OneAtMost, Inside, Each, the_lemmas as pattern_lemmas}
 use Rattle.isl_derived.specs.declared.template.Template.{Template, One, All, Setter, Quotation, Word, New, NewBehind, Own, Group, ForEach, the_lemmas as template_lemmas}
 
 -- patterns
 
-patterns_listed : (xs : List Pattern) → patterns_of (map view_pattern xs) ≡ view_patterns xs
+patterns_listed : (xs : List Pattern) → patterns (map view_pattern xs) ≡ view_patterns xs
 patterns_listed [] = refl
 patterns_listed (x ∷ xs) = ap (pattern_and (view_pattern x)) (patterns_listed xs)
 
-inside_level : (r : Bor (List Pattern)) → view_pattern (Inside r) ≡ inside (patterns_of (map view_pattern r.now))
+inside_level : (r : Bor (List Pattern)) → view_pattern (Inside r) ≡ inside (patterns (map view_pattern r.now))
 inside_level r = search (rules, pattern_lemmas)
 
-each_level : (r : Bor (List Pattern)) → view_pattern (Each r) ≡ each_fits (patterns_of (map view_pattern r.now))
+each_level : (r : Bor (List Pattern)) → view_pattern (Each r) ≡ each_fits (patterns (map view_pattern r.now))
 each_level r = search (rules, pattern_lemmas)
 
 pub inside_viewed : (r : Bor (List Pattern)) → view_pattern (Inside r) ≡ inside (view_patterns r.now)
@@ -74,15 +74,15 @@ counted (x ∷ xs) = omega (arith, counted xs)
 
 -- templates
 
-templates_listed : (xs : List Template) → templates_of (map view_template xs) ≡ view_templates xs
+templates_listed : (xs : List Template) → templates (map view_template xs) ≡ view_templates xs
 templates_listed [] = refl
 templates_listed (x ∷ xs) = ap (template_and (view_template x)) (templates_listed xs)
 
-group_level : (r : Bor (List Template)) → view_template (Group r) ≡ group (templates_of (map view_template r.now))
+group_level : (r : Bor (List Template)) → view_template (Group r) ≡ group (templates (map view_template r.now))
 group_level r = search (rules, template_lemmas)
 
 repeated_level : (i : ℕ) (ps : Bor (List Pattern)) (r : Bor (List Template))
-    → view_template (ForEach i ps r) ≡ for_each i (view_patterns ps.now) (templates_of (map view_template r.now))
+    → view_template (ForEach i ps r) ≡ for_each i (view_patterns ps.now) (templates (map view_template r.now))
 repeated_level i ps r = search (rules, template_lemmas)
 
 pub group_viewed : (r : Bor (List Template)) → view_template (Group r) ≡ group (view_templates r.now)

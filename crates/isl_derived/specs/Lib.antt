@@ -8,7 +8,7 @@ pub mod Derived
 pub mod Ends
 pub mod FormPlaces
 pub mod model
-pub mod Fronts
+pub mod Prefixes
 pub mod Shown
 pub mod Setters
 pub mod Templates

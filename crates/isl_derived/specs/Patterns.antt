@@ -21,15 +21,15 @@ mutual
     no_pattern : Patterns
     pattern_and : Pattern → Patterns → Patterns
 
--- a list of patterns as the mirror's
-abbrev pub patterns : List Pattern → Patterns
-patterns [] = no_pattern
-patterns (x ∷ xs) = pattern_and x (patterns xs)
-
 -- how many patterns there are
 abbrev pub pattern_count : Patterns → ℕ
 pattern_count no_pattern = 0
 pattern_count (pattern_and x xs) = pattern_count xs + 1
+
+-- a list of patterns as the mirror's
+abbrev pub patterns : List Pattern → Patterns
+patterns [] = no_pattern
+patterns (x ∷ xs) = pattern_and x (patterns xs)
 
 -- sizes by which recursions over patterns end
 abbrev mutual

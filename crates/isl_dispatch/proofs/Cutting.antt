@@ -7,7 +7,7 @@ use Rattle.std.proofs.lemmas.List.{take-map, take_all, take-append-le}
 use Rattle.std.proofs.lemmas.Option.{slice_get-map}
 use Rattle.isl_meaning.specs.declared.program.GenericRow.{GenericRow}
 use Rattle.isl_meaning.specs.declared.program.MethodRow.{MethodRow}
-use Rattle.isl_meaning.specs.bridge.Fronts.{from_front, in_front}
+use Rattle.isl_meaning.specs.bridge.Prefixes.{of_prefix, in_prefix}
 use Rattle.isl_meaning.specs.Lookup.{some_of, all_of, all_differ}
 use Rattle.isl_dispatch.specs.Methods.{names_of, is_same, row_is_whole, methods_at, with_method, with_first_methods}
 use Rattle.isl_dispatch.specs.NameNumbers.{IsIndexed}
@@ -23,25 +23,25 @@ IsIndexed-less names k n old new at x updates = record {
 }
   where
     last : get nat_cmp old n ≡ Some k
-    last = x.there n k (in_front (k + 1) names k n (omega arith) at)
+    last = x.there n k (in_prefix (k + 1) names k n (omega arith) at)
 
     found : (q i : ℕ) (b : Bool) → (n == q) ≡ b → (if b then None else get nat_cmp old q) ≡ Some i → slice_get (take k names) i ≡ Some q
     found q i true e h = absurd (cc)
     found q i false e h =
-        let here = from_front (k + 1) names i q (x.found q i h) in
+        let here = of_prefix (k + 1) names i q (x.found q i h) in
         let other : (i ≡ k) → ⊥ = λ same. let a : slice_get names i ≡ Some n = ap (slice_get names) same ∙ at in let b : n ≡ q = cc in grind (arith, nat_tests) in
-        in_front k names i q (omega (arith, here.0, other)) here.1
+        in_prefix k names i q (omega (arith, here.0, other)) here.1
 
     there : (q i : ℕ) → slice_get (take k names) i ≡ Some q → (b : Bool) → (n == q) ≡ b → get nat_cmp new q ≡ Some i
     there q i h true e =
-        let here = from_front k names i q h in
+        let here = of_prefix k names i q h in
         let same : n ≡ q = grind arith in
-        let number : get nat_cmp old q ≡ Some i = x.there q i (in_front (k + 1) names i q (omega (arith, here.0)) here.1) in
+        let number : get nat_cmp old q ≡ Some i = x.there q i (in_prefix (k + 1) names i q (omega (arith, here.0)) here.1) in
         let place : i ≡ k = cc last in
         absurd (omega (arith, here.0, place))
     there q i h false e =
-        let here = from_front k names i q h in
-        let number : get nat_cmp old q ≡ Some i = x.there q i (in_front (k + 1) names i q (omega (arith, here.0)) here.1) in
+        let here = of_prefix k names i q h in
+        let number : get nat_cmp old q ≡ Some i = x.there q i (in_prefix (k + 1) names i q (omega (arith, here.0)) here.1) in
         updates q ∙ rw e number
 
 -- the last of the generic functions that are left is forgotten

@@ -2,17 +2,17 @@
 use Rattle.std.proofs.Common.{◌≡◌, ℕ, ◌+◌, Bool, true, false, T, List, [], ◌∷◌, refl, sym, ap, subst, ◌∙◌, ◌⊎◌, inl, inr, ⊎_elim, Option, Some, None}
 use Rattle.std.proofs.Math.Dec.{eqb_refl}
 use Rattle.std.specs.Prelude.{◌==◌, if◌then◌else◌, length}
-use Rattle.isl_meaning.specs.Laws.{Begins, IsExitOf, LandsIn}
+use Rattle.isl_meaning.specs.Laws.{IsPrefix, IsExitOf, LandsIn}
 use Rattle.isl_meaning.specs.Values.{Value, object}
 use Rattle.isl_meaning.specs.Objects.{Environment, Object}
 use Rattle.isl_meaning.specs.State.{State, Surroundings, Exit, ExitKind, Landing, Outcome, value, exit, full, more, Evaluated, gives, leaves, Act, go_on, go_on_from, landed, landed_from, caught, cleaned, cleaned_from, exits_from, Limit, has_room, room_left, request, with_words, charged, make, stored, with_stack, in_frame}
 use Rattle.isl_meaning.specs.Signals.{Context, Task, Evaluation, with_some}
-use Rattle.isl_meaning.proofs.Steps.{IsKept, begins_both}
+use Rattle.isl_meaning.proofs.Steps.{IsKept, prefix_of_prefix}
 
 -- the first evaluation ran out of levels, and what it printed is a beginning of what the second one did
 pub record IsCut (r s : Evaluated) : Type 0 where
   pub ran_out : r.outcome ≡ more
-  pub begins : Begins r.state.printed s.state.printed
+  pub prefix : IsPrefix r.state.printed s.state.printed
 
 other_number : (m n : ℕ) → (m == n) ≡ false → n ≡ m → ⊥
 other_number m n h e = subst T h (subst (λ i. T (m == i)) (sym e) (eqb_refl m))
@@ -108,7 +108,7 @@ module _ {R : State → State → Type 0} {k : IsKept R} where
         grows = w.grows;
         lands = w.lands;
         either = inr (subst (λ q. IsCut q (f' s.outcome s.state)) (sym e)
-            (record { ran_out = refl; begins = begins_both cut.begins (k.begins (h s.outcome s.state x.lands).grows) }));
+            (record { ran_out = refl; prefix = prefix_of_prefix cut.prefix (k.prefix (h s.outcome s.state x.lands).grows) }));
       })
       x.either
 
@@ -201,7 +201,7 @@ module _ {R : State → State → Type 0} {k : IsKept R} where
   stacked {exits} {z} {r} {s} n x = record {
     grows = k.both x.grows (k.stack n s.state);
     lands = x.lands;
-    either = ⊎_elim (λ same. inl (ap (with_stack n) same)) (λ cut. inr (record { ran_out = cut.ran_out; begins = cut.begins })) x.either;
+    either = ⊎_elim (λ same. inl (ap (with_stack n) same)) (λ cut. inr (record { ran_out = cut.ran_out; prefix = cut.prefix })) x.either;
   }
 
   pub framed : {exits : List Exit} (limit : Limit) (size : ℕ) (z : State) {body body' : State → Evaluated}

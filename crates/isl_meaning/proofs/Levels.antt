@@ -10,7 +10,7 @@ use Rattle.isl_meaning.specs.State.{State, first_state, main_surroundings, more,
 use Rattle.isl_meaning.specs.Layout.{objects_at_start}
 use Rattle.isl_meaning.specs.Signals.{Task, form, Evaluation}
 use Rattle.isl_meaning.specs.Meaning.{mean_task, none_below, context_of, meaning_at, mean_main, mean_mains, end_of, meant, meaning}
-use Rattle.isl_meaning.proofs.Steps.{IsKept, GrowsAnew, anew_kept, begins_itself}
+use Rattle.isl_meaning.proofs.Steps.{IsKept, GrowsAnew, anew_kept, prefix_of_itself}
 use Rattle.isl_meaning.proofs.Compared.{Extends, Within, itself, given, on, requests}
 use Rattle.isl_meaning.proofs.Forms.{tasks}
 
@@ -20,7 +20,7 @@ module _ {R : State → State → Type 0} {k : IsKept R} where
   none_within {low} {high} w task env around z = record {
     grows = (w task env around z).grows;
     lands = (w task env around z).lands;
-    either = inr (record { ran_out = refl; begins = k.begins (w task env around z).grows });
+    either = inr (record { ran_out = refl; prefix = k.prefix (w task env around z).grows });
   }
 
   none_within_none : Within R k none_below none_below
@@ -63,8 +63,8 @@ module _ {R : State → State → Type 0} {k : IsKept R} where
 settled : {z : State} {r s : Evaluated} → Extends GrowsAnew anew_kept main_surroundings.exits z r s → IsSettled (meant r) (meant s)
 settled {z} {r} {s} x = ⊎_elim
     (λ same. subst (λ q. IsSettled (meant q) (meant s)) (sym same)
-    (record { same = λ h. refl; prefix = begins_itself s.state.printed }))
-    (λ cut. record { same = λ h. absurd (h (ap end_of cut.ran_out)); prefix = cut.begins })
+    (record { same = λ h. refl; prefix = prefix_of_itself s.state.printed }))
+    (λ cut. record { same = λ h. absurd (h (ap end_of cut.ran_out)); prefix = cut.prefix })
     x.either
 
 pub law_of_levels : LawOfLevels

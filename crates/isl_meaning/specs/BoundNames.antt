@@ -1,6 +1,6 @@
 -- That every name is bound where it stands (ISO/IEC 13816:2007, 11 and 14.8): in the bodies of a program, and in the
 -- functions inside them.
-use Rattle.std.specs.Prelude.{◌≡◌, ⊤, ℕ, Bool, true, false, List, [], ◌∷◌, Option, Some, None, slice_get}
+use Rattle.std.specs.Prelude.{◌≡◌, ⊤, ℕ, Bool, true, false, List, [], Option, Some, None, slice_get}
 use Rattle.std.specs.List.{list_all}
 use Rattle.isl_meaning.specs.declared.part.Part.{Part}
 use Rattle.isl_meaning.specs.declared.program.Procedure.{Procedure}

@@ -8,16 +8,16 @@ use Rattle.isl_meaning.specs.Objects.{Environment}
 use Rattle.isl_meaning.specs.Signals.{Task}
 use Rattle.isl_meaning.specs.Meaning.{Meant, ended_more, meaning, meaning_at}
 
--- some bytes are the beginning of others
-pub record Begins (few many : List ℕ) : Type 0 where
+-- some bytes are a prefix of others
+pub record IsPrefix (few many : List ℕ) : Type 0 where
   pub rest : List ℕ
   pub is : few ++ rest ≡ many
 
 -- what is known at some levels of what comes at more of them: an end is the same, with the same bytes, units
--- and peak, and what is printed is a beginning
+-- and peak, and what is printed is a prefix
 pub record IsSettled (at_few at_many : Meant) : Type 0 where
   pub same : (at_few.end ≡ ended_more → ⊥) → at_many ≡ at_few
-  pub prefix : Begins at_few.printed at_many.printed
+  pub prefix : IsPrefix at_few.printed at_many.printed
 
 -- the law of levels
 abbrev pub LawOfLevels : Type 0
@@ -27,7 +27,7 @@ LawOfLevels =
 
 -- what never falls along a run, and what was printed stays
 pub record IsLater (before after : State) : Type 0 where
-  pub printed : Begins before.printed after.printed
+  pub printed : IsPrefix before.printed after.printed
   pub units : before.units ≤ after.units
   pub peak : before.peak ≤ after.peak
   pub exits : before.exits ≤ after.exits

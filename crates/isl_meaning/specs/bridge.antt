@@ -1,7 +1,7 @@
 pub mod Walks
-pub mod Visits
+pub mod Listed
 pub mod Smaller
 pub mod Judged
 pub mod Totals
 pub mod Lengths
-pub mod Fronts
+pub mod Prefixes

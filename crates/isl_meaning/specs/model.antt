@@ -1,5 +1,6 @@
 pub mod FormCode
 pub mod View
+pub mod SubformsView
 pub mod Falls
 pub mod Sizes
 pub mod Rest

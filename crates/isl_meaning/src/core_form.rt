@@ -15,6 +15,7 @@ use crate::program::{LiteralId, SiteId, VarList};
 use isl_base::{ItemList, Name, NoMemory};
 use std::alloc::Global;
 use std::marker::Model;
+pub use subforms::Subforms;
 
 /// A core form. Contracts see it as the `Form` of specs/Form.antt.
 #[derive(Drop)]
@@ -134,7 +135,7 @@ pub type BindingList = ItemList<Binding>;
 pub type DynBindings = ItemList<DynBinding>;
 
 impl Model for Core {
-    ghost use Rattle.isl_meaning.specs.Form.{Form};
+    ghost use Rattle.isl_meaning.specs.Form.{Form, form_size};
 
     ghost Value = { Form };
 
@@ -145,8 +146,6 @@ impl Model for Core {
     ghost use Rattle.isl_meaning.specs.model.View.{view_form};
 
     ghost view = { λ c. view_form c.form };
-
-    ghost use Rattle.isl_meaning.specs.Form.{form_size};
 
     ghost size = { form_size };
 

@@ -14,7 +14,7 @@ mod whole;
 pub use classes::{BuiltInClass, built_in_class, class_text};
 pub use core_form::{
     Binding, BindingList, Clause, ClauseList, Core, CoreForm, CoreList, DynBinding, DynBindings,
-    SegmentList,
+    SegmentList, Subforms,
 };
 pub use nodes::frame_words;
 pub use part::{ExitVar, Part, PartList, Var};

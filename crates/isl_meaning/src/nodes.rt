@@ -10,7 +10,7 @@ use crate::program::{
 };
 
 /// Whether the body of a `lambda` counts where the `lambda` stands.
-#[derive(Clone, Copy, Debug, PartialEq, Eq)]
+#[derive(Clone, Copy)]
 pub(crate) enum Bodies {
     Apart,
     Inside,

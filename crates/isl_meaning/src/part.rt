@@ -10,7 +10,7 @@ pub type ExitVar = usize;
 
 /// What a function mentions of what is around it: a variable, an exit, or the arguments and the
 /// other methods of the method around, as one part.
-#[derive(Clone, Copy, Debug, PartialEq, Eq)]
+#[derive(Clone, Copy)]
 pub enum Part {
     Variable(Var),
     Exit(ExitVar),

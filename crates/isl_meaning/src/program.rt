@@ -74,7 +74,7 @@ pub struct ClassRow {
 pub type ClassRows = ItemList<ClassRow>;
 
 /// When a method runs (ISO/IEC 13816:2007, 15.3).
-#[derive(Clone, Copy, Debug, PartialEq, Eq)]
+#[derive(Clone, Copy)]
 pub enum Qualifier {
     Primary,
     Around,
@@ -107,14 +107,14 @@ pub struct GenericRow {
 pub type GenericRows = ItemList<GenericRow>;
 
 /// What a name calls.
-#[derive(Clone, Copy, Debug, PartialEq, Eq)]
+#[derive(Clone, Copy)]
 pub enum Callee {
     Procedure(ProcedureId),
     Generic(GenericId),
 }
 
 /// The function of a name.
-#[derive(Clone, Copy, Debug, PartialEq, Eq)]
+#[derive(Clone, Copy)]
 pub struct FunctionRow {
     pub name: Name,
     pub callee: Callee,

@@ -5,14 +5,14 @@ use crate::program::VarList;
 use isl_base::ItemList;
 
 /// The form that makes an exit: a `block`, or a `tagbody` with so many segments.
-#[derive(Clone, Copy, Debug, PartialEq, Eq)]
+#[derive(Clone, Copy)]
 pub enum Around {
     Block,
     Tagbody(usize),
 }
 
 /// The name of an exit, and the form that makes it.
-#[derive(Clone, Copy, Debug, PartialEq, Eq)]
+#[derive(Clone, Copy)]
 pub struct ExitAround {
     pub exit: ExitVar,
     pub around: Around,

@@ -8,3 +8,4 @@ pub mod MakingLists
 pub mod MakingFound
 pub mod MakingGroups
 pub mod MakingEnds
+pub mod Choices

@@ -1,5 +1,5 @@
 -- The rows of calls: of local functions, of primitives, of function objects, and of names (ISO/IEC 13816:2007, 12.7 and 29.2).
-use Rattle.std.specs.Prelude.{ℕ, ◌&&◌, List, Option, Some, None, if◌then◌else◌, length, nat_eq, nat_le, codes}
+use Rattle.std.specs.Prelude.{ℕ, Bool, ◌&&◌, List, Option, Some, None, if◌then◌else◌, length, nat_eq, nat_le, codes}
 use Rattle.std.specs.Str.{bytes_eq}
 use Rattle.isl_base.specs.declared.place.Place.{Place}
 use Rattle.isl_base.specs.declared.datum.Name.{Name}
@@ -29,11 +29,20 @@ abbrev pub named_making : Name → Option Primitive → Making
 named_making n None = CallOf n
 named_making n (Some p) = CallOfPrimitive p
 
+-- `funcall` with an operator
+abbrev pub is_value_call : List ℕ → ℕ → Bool
+is_value_call text count = bytes_eq text (codes "funcall") && nat_le 1 count
+
+-- that name with two arguments
+abbrev pub is_pair_call : List ℕ → List ℕ → ℕ → Bool
+is_pair_call text name count = bytes_eq text name && nat_eq count 2
+
+-- the first of these that it is
 abbrev pub call_making : Name → List ℕ → ℕ → Making
 call_making n text count =
-    if bytes_eq text (codes "funcall") && nat_le 1 count then CallOfValue
-    else if bytes_eq text (codes "signal-condition") && nat_eq count 2 then OfTwo Signalling
-    else if bytes_eq text (codes "continue-condition") && nat_eq count 2 then OfTwo Continuing
+    if is_value_call text count then CallOfValue
+    else if is_pair_call text (codes "signal-condition") count then OfTwo Signalling
+    else if is_pair_call text (codes "continue-condition") count then OfTwo Continuing
     else named_making n (primitive_called text count)
 
 abbrev pub named_call : Name → List ℕ → Around → Tables → Place → List Item → Node

@@ -51,7 +51,7 @@ return_from_row a s p (x ∷ d ∷ e ∷ ds) = bad_shape p
 abbrev pub tagbody_row : Around → Tables → Place → List Item → Node
 tagbody_row a s p ds =
     if all_differ (tags_in ds) then
-        within_depth 2 a p (made_of a (with_bound (Tags (tags_in ds) s.exits) (deeper 2 a)) p (with_exit s) (each_inner (forms_in ds)) (OfSegments s.exits (lengths_in ds)))
+    within_depth 2 a p (made_of a (with_bound (Tags (tags_in ds) s.exits) (deeper 2 a)) p (with_exit s) (each_inner (forms_in ds)) (OfSegments s.exits (lengths_in ds)))
     else bad_shape p
 
 -- (go tag)

@@ -74,7 +74,7 @@ pub(crate) fn made_of<'a>(
     requires { here.spot.depth + 1 < 4294967296 }
     ensures plan { IfOk result (λ plan. shown here.entry.bound.now tables.new plan
         ≡ word.made_of (at here.entry.bound.now here.entry.spot) (at (here.entry.bound.now ++ work.entry.binds) work.entry.inside)
-            here.entry.place tables.old (view_parts work.entry.parts ++ view_inner work.entry.inner) making) }
+        here.entry.place tables.old (view_parts work.entry.parts ++ view_inner work.entry.inner) making) }
     ensures grows { Grows tables.old tables.new }
 {
     let site = take_site(here, tables)?;
@@ -110,7 +110,7 @@ pub(crate) fn made_plain<'a>(
     requires { here.spot.depth + 1 < 4294967296 }
     ensures plan { IfOk result (λ plan. shown here.entry.bound.now tables.new plan
         ≡ word.made_of (at here.entry.bound.now here.entry.spot) (at here.entry.bound.now inside)
-            here.entry.place tables.old (view_parts parts.entry ++ view_inner inner.entry) making) }
+        here.entry.place tables.old (view_parts parts.entry ++ view_inner inner.entry) making) }
     ensures grows { Grows tables.old tables.new }
 {
     let work = Bindings {

@@ -1,9 +1,9 @@
 // What is computed of a datum.
 
-use crate::answer::Answer;
-use crate::read::DEPTH;
 use crate::shown::{Style, show};
+use crate::tables::DEPTH;
 use isl_base::{Datum, Names};
+use isl_rows::Answer;
 
 /// Data. The answer for each is its size, its depth, whether it is in form, and a copy of it.
 pub fn put(got: &mut Answer, names: &Names, data: &[Datum]) -> Option<()> {

@@ -1,19 +1,19 @@
 // Data with symbols that no text has: one that is written `|#7|` stands for the new symbol of serial 7,
 // and `|#long|` for one whose name is longer than a text can have.
 
-use crate::answer::Answer;
 use isl_base::{Datum, DatumList, FreshList, Kind, Name, Names, Symbol};
+use isl_rows::Answer;
 
 // A name of one byte more than a text can have.
 const LONG: [u8; 257] = [b'x'; 257];
 
 /// The first new symbols, so many.
-pub fn fresh_symbols(got: &mut Answer, count: u64) -> Option<FreshList> {
+pub fn fresh_symbols(got: &mut Answer, count: u64) -> FreshList {
     let mut fresh = FreshList::new(got.alloc);
     for serial in 0..count {
-        got.kept(fresh.push(new_symbol(serial)))?;
+        got.add(&mut fresh, new_symbol(serial));
     }
-    Some(fresh)
+    fresh
 }
 
 /// The datum with those symbols where they are written; none of one whose parts are deeper inside one
@@ -49,7 +49,7 @@ fn all_freshened(
     let mut all = DatumList::new(got.alloc);
     for item in items.as_slice() {
         let item = freshened(got, names, item, depth - 1)?;
-        got.kept(all.push(item))?;
+        got.add(&mut all, item);
     }
     Some(all)
 }

@@ -1,8 +1,8 @@
 // Lists of bytes, of command words and of fresh symbols: what goes in and what stands there.
 
-use crate::answer::Answer;
 use crate::fresh::fresh_symbols;
 use isl_base::{Bytes, Words};
+use isl_rows::Answer;
 
 /// `bytes` with calls of a list of bytes, `words` with the words of a list, or `fresh` with how many
 /// fresh symbols are pushed and how many of them stay in the cut; the parts stand with `|` between them.
@@ -23,7 +23,7 @@ fn put_bytes(got: &mut Answer, calls: &str) -> Option<()> {
     for call in calls.split('|') {
         let (name, argument) = call.split_once(' ')?;
         if name == "append" {
-            got.kept(bytes.append(argument.as_bytes()))?;
+            got.add_bytes(&mut bytes, argument.as_bytes());
         } else {
             put_call(got, &mut bytes, name, argument.parse().ok()?)?;
         }
@@ -37,7 +37,7 @@ fn put_bytes(got: &mut Answer, calls: &str) -> Option<()> {
 // A call with a number.
 fn put_call(got: &mut Answer, bytes: &mut Bytes, name: &str, number: usize) -> Option<()> {
     match name {
-        "push" => got.kept(bytes.push(u8::try_from(number).ok()?))?,
+        "push" => got.add(bytes, u8::try_from(number).ok()?),
         "cut" if number <= bytes.len() => bytes.cut(number),
         "get" => {
             match bytes.get(number) {
@@ -68,7 +68,7 @@ fn put_words(got: &mut Answer, parts: &str) -> Option<()> {
 // A list of fresh symbols that is cut.
 fn put_fresh(got: &mut Answer, parts: &str) -> Option<()> {
     let (pushed, kept) = parts.split_once('|')?;
-    let mut fresh = fresh_symbols(got, pushed.parse().ok()?)?;
+    let mut fresh = fresh_symbols(got, pushed.parse().ok()?);
     let kept: usize = kept.parse().ok()?;
     if kept > fresh.len() {
         return None;

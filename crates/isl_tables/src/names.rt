@@ -1,7 +1,7 @@
 // The table of names: a list of texts is put into one, and each text answers its number.
 
-use crate::answer::Answer;
 use isl_base::{Name, Names};
+use isl_rows::Answer;
 
 /// Texts with commas between them. The answer is the number of each, and then the texts that the
 /// table of names has; none where a text is too long to be a name.

@@ -1,10 +1,10 @@
 // Sources, sinks and shelves in memory: those whose listed calls fail, and those that never fail.
 
-use crate::answer::Answer;
 use isl_base::{
     Bytes, CallList, Failed, MemShelf, MemSink, MemSource, Shelf, Sink, Source, SureShelf,
     SureSink, SureSource,
 };
+use isl_rows::Answer;
 
 // The bytes that a read can ask for.
 const ROOM: usize = 8;
@@ -57,7 +57,7 @@ fn call_list(got: &mut Answer, text: &str) -> Option<CallList> {
     let mut calls = CallList::new(got.alloc);
     if text != "-" {
         for number in text.split(',') {
-            got.kept(calls.push(number.parse().ok()?))?;
+            got.add(&mut calls, number.parse().ok()?);
         }
     }
     Some(calls)

@@ -2,11 +2,11 @@
 
 ghost use Rattle.std.specs.Prelude.{◌≤◌};
 
-use crate::answer::Answer;
 use crate::named::is_spelled;
-use crate::read::DEPTH;
+use crate::tables::DEPTH;
 use isl_base::{Datum, Names};
 use isl_reader::print_datum;
+use isl_rows::Answer;
 
 /// Data. The answer is each of them as it is printed, with a blank between them.
 pub fn put(got: &mut Answer, names: &Names, data: &[Datum]) -> Option<()> {

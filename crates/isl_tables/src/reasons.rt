@@ -1,7 +1,7 @@
 // The reasons of refusals, by their numbers.
 
-use crate::answer::Answer;
 use isl_base::Reason;
+use isl_rows::Answer;
 
 // All reasons.
 const REASONS: [Reason; 39] = [

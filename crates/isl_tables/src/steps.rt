@@ -2,13 +2,13 @@
 
 ghost use Rattle.std.specs.Prelude.{length};
 
-use crate::answer::Answer;
 use crate::fresh::freshened;
 use crate::named::is_below;
-use crate::read::DEPTH;
 use crate::shown::{Style, show};
+use crate::tables::DEPTH;
 use isl_base::{Datum, FreshList, Names};
 use isl_derived::{Step, derive};
+use isl_rows::Answer;
 
 /// Whether the answer has the places of the parts that do not stand at the place of the form.
 #[derive(Drop)]
@@ -50,6 +50,9 @@ pub fn put_step(
             got.put("plain");
             Some(())
         }
-        Err(stop) => got.put_stop(stop),
+        Err(stop) => {
+            got.put_stop(stop);
+            Some(())
+        }
     }
 }

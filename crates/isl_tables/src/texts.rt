@@ -1,10 +1,10 @@
 // Texts, and the data or the stop that the reader gives of them.
 
-use crate::answer::Answer;
-use crate::read::{DEPTH, LONGEST};
 use crate::shown::{Style, show};
+use crate::tables::DEPTH;
 use isl_base::{Names, Origin};
 use isl_reader::Reader;
+use isl_rows::{Answer, LONGEST};
 
 /// A text. The answer is each datum with its places and then `end`, or `!` and the stop with its
 /// place. Where `last` says otherwise, or the stop is not answered again, it is said too.
@@ -38,7 +38,7 @@ fn put_next(got: &mut Answer, names: &mut Names, reader: &mut Reader) -> Option<
         }
         Err(stop) => {
             got.put(if is_last { "last? !" } else { "!" });
-            got.put_stop(stop)?;
+            got.put_stop(stop);
             if reader.next(got.alloc, names).err() != Some(stop) {
                 got.put(" not again");
             }

@@ -21,7 +21,7 @@ use Rattle.isl_reader.specs.Stops.{StopsFirst}
 use Rattle.isl_reader.specs.Answers.{IsRead, IsEnded, IsStopped as IsStoppedReader}
 use Rattle.isl_top.specs.Finds.{IsForm, IsNoForm}
 use Rattle.isl_top.specs.Shapes.{Tables, no_tables, as_form, form_of, forms_of, program_with}
-use Rattle.isl_top.specs.Verdicts.{DataOf, no_datum, then_datum, Begins, Accepts, Refuses, text_fault, not_built, IsStopped}
+use Rattle.isl_top.specs.Verdicts.{DataOf, no_datum, then_datum, BeginsWithProgram, Accepts, Refuses, text_fault, not_built, IsStopped}
 use Rattle.isl_top.proofs.Founds.{was_and, was_made}
 use Rattle.isl_top.specs.Code.{program_code}
 use Rattle.isl_top.proofs.Sizes.{small}
@@ -124,7 +124,7 @@ judged-more names text old new d fs t f u j r deep k = record {
 
 -- the data so far begin the text
 pub judged-begins : (names : Seq (Seq ℕ)) (text : Seq ℕ) (reader : ReaderState) (fs : Seq Form) (t : Tables) (program : ProgramRows)
-    → length text ≤ 4096 → Judged names text reader fs t → program_from fs t ≡ Some program → Begins text
+    → length text ≤ 4096 → Judged names text reader fs t → program_from fs t ≡ Some program → BeginsWithProgram text
 judged-begins names text reader fs t program short j e = record {
   short = short;
   names = names;

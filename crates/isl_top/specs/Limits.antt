@@ -12,9 +12,9 @@ longest_program = 4096
 abbrev pub deepest_program : ℕ
 deepest_program = 64
 
--- the words of a run's arena, and those of the largest one
-abbrev pub arena_words : ℕ
-arena_words = 4194304
+-- the words of the arena of every run, and those of the largest one that a machine may have
+abbrev pub usual_arena_words : ℕ
+usual_arena_words = 4194304
 
 abbrev pub most_arena_words : ℕ
 most_arena_words = 16777216

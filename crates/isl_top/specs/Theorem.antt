@@ -13,7 +13,7 @@ use Rattle.isl_meaning.specs.Values.{Value}
 use Rattle.isl_meaning.specs.State.{words, unlimited}
 use Rattle.isl_meaning.specs.Meaning.{Meant, ended_value, meaning}
 use Rattle.isl_top.specs.Command.{Asked, asked}
-use Rattle.isl_top.specs.Limits.{arena_words, most_arena_words}
+use Rattle.isl_top.specs.Limits.{usual_arena_words, most_arena_words}
 use Rattle.isl_top.specs.Lines.{WasGiven, usage_line, refused_line, budget_line}
 use Rattle.isl_top.specs.Loads.{IsTaken}
 use Rattle.isl_top.specs.Represents.{Represents}
@@ -62,12 +62,12 @@ pub record Built (program : ProgramRows) (kept : Option Image) : Type 0 where
   pub image : Image
   pub is_kept : kept ≡ Some image
   pub compiled : Compiled program image.words image.entry
-  pub fits : length image.words ≤ arena_words
+  pub fits : length image.words ≤ usual_arena_words
 
 -- Its run in the arena of a call, whatever the input
 
 abbrev pub the_run : Image → ℕ → List ℕ → Ended
-the_run image steps input = run_of image.words image.entry arena_words input steps
+the_run image steps input = run_of image.words image.entry usual_arena_words input steps
 
 -- it halts with the meaning's value and prints what the meaning prints
 abbrev pub Halts : {program : ProgramRows} {kept : Option Image} → Built program kept → ℕ → Type 0

@@ -32,7 +32,7 @@ pub record AreProgram (names : List (List ℕ)) (ds : List Item) (program : Prog
   pub meant : program_of names (items_of ds) ≡ Some program
 
 -- a text that begins with the data of a program
-pub record Begins (text : List ℕ) : Type 0 where
+pub record BeginsWithProgram (text : List ℕ) : Type 0 where
   pub short : length text ≤ longest_program
   pub names : List (List ℕ)
   pub data_before : List Item
@@ -44,13 +44,13 @@ pub record Begins (text : List ℕ) : Type 0 where
 
 -- the text is the program
 pub record Accepts (text : List ℕ) (program : ProgramRows) : Type 0 where
-  pub begins : Begins text
+  pub begins : BeginsWithProgram text
   pub at_end : Gap begins.rest []
   pub same : begins.program ≡ program
 
 -- the datum that comes next is no form behind the data before it
 pub record OffendsNext (text : List ℕ) (at : Place) : Type 0 where
-  pub begins : Begins text
+  pub begins : BeginsWithProgram text
   pub offending : Item
   pub after : List ℕ
   pub reads : ReadsNext begins.names begins.rest begins.place offending after
@@ -59,7 +59,7 @@ pub record OffendsNext (text : List ℕ) (at : Place) : Type 0 where
 
 -- the text stops being one behind the data before, and before another datum is whole
 pub record StopsNext (text : List ℕ) (at : Place) (r : Reason) : Type 0 where
-  pub begins : Begins text
+  pub begins : BeginsWithProgram text
   pub stops : StopsFirst begins.place begins.rest at r
 
 -- `Refuses text at r`: the text's first offence is at that place, and has that reason

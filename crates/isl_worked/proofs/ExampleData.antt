@@ -51,10 +51,6 @@ pub counting : Counting
 unfolding meaning mean meaning_at
 counting = record { ends = refl; prints = refl }
 
-pub counting_words : CountingWords
-unfolding meaning mean meaning_at
-counting_words = refl
-
 pub set_binding : SetBinding
 unfolding meaning mean meaning_at
 set_binding = record { ends = refl; prints = refl }
@@ -82,3 +78,7 @@ set_slot = record { ends = refl; prints = refl }
 pub two_bytes : TwoBytes
 unfolding meaning mean meaning_at
 two_bytes = refl
+
+pub counting_words : CountingWords
+unfolding meaning mean meaning_at
+counting_words = refl

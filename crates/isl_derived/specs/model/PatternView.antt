@@ -3,14 +3,10 @@ use Rattle.std.specs.Prelude.{◌≡◌, Bool, true, false, List, [], ◌∷◌,
 use Rattle.std.specs.Coded.{Coded, coded_list}
 use Rattle.isl_base.specs.Data.{Item}
 use Rattle.isl_base.specs.model.DataCode.{item_code}
-use Rattle.isl_derived.specs.Patterns.{Pattern, a_datum, a_symbol, the_word, an_operator, inside, others, one_at_most, each_fits, Patterns, no_pattern, pattern_and, Parts}
-use Rattle.isl_derived.specs.Fronts.{before}
+use Rattle.isl_derived.specs.Patterns.{Pattern, a_datum, a_symbol, the_word, an_operator, inside, others, one_at_most, each_fits, Patterns, patterns, no_pattern, pattern_and, Parts}
+use Rattle.isl_derived.specs.Prefixes.{before}
 use Rattle.isl_derived.specs.declared.pattern.Pattern.{Pattern as Written, fold-Pattern}
 use Rattle.isl_derived.specs.declared.pattern.Pattern.TheOpen.{Pattern-F}
-
-abbrev pub patterns_of : List Pattern → Patterns
-patterns_of [] = no_pattern
-patterns_of (x ∷ xs) = pattern_and x (patterns_of xs)
 
 -- one level, with each pattern inside already seen as the table has it
 abbrev pub view_level : Pattern-F Pattern → Pattern
@@ -20,8 +16,8 @@ view_level (Pattern-F.Name text) = the_word text.now
 view_level Pattern-F.Operator = an_operator
 view_level Pattern-F.Others = others
 view_level Pattern-F.OneAtMost = one_at_most
-view_level (Pattern-F.Inside xs) = inside (patterns_of xs.now)
-view_level (Pattern-F.Each xs) = each_fits (patterns_of xs.now)
+view_level (Pattern-F.Inside xs) = inside (patterns xs.now)
+view_level (Pattern-F.Each xs) = each_fits (patterns xs.now)
 
 abbrev pub view_pattern : Written → Pattern
 view_pattern = fold-Pattern Pattern view_level

@@ -1,13 +1,9 @@
 -- Right sides of rows as the code has them, and as the table does.
 use Rattle.std.specs.Prelude.{List, [], ◌∷◌}
 use Rattle.isl_derived.specs.model.PatternView.{view_patterns}
-use Rattle.isl_derived.specs.RightSides.{Template, datum, all_of, the_setter, the_quotation, the_symbol, new_symbol, new_behind, own_symbol, group, for_each, Templates, no_template, template_and}
+use Rattle.isl_derived.specs.RightSides.{Template, datum, all_of, the_setter, the_quotation, the_symbol, new_symbol, new_behind, own_symbol, group, for_each, Templates, templates, no_template, template_and}
 use Rattle.isl_derived.specs.declared.template.Template.{Template as Written, fold-Template}
 use Rattle.isl_derived.specs.declared.template.Template.TheOpen.{Template-F}
-
-abbrev pub templates_of : List Template → Templates
-templates_of [] = no_template
-templates_of (x ∷ xs) = template_and x (templates_of xs)
 
 -- one level, with each template inside already seen as the table has it
 abbrev pub view_level : Template-F Template → Template
@@ -19,8 +15,8 @@ view_level (Template-F.Word text) = the_symbol text.now
 view_level (Template-F.New n) = new_symbol n
 view_level (Template-F.NewBehind i) = new_behind i
 view_level Template-F.Own = own_symbol
-view_level (Template-F.Group xs) = group (templates_of xs.now)
-view_level (Template-F.ForEach i ps xs) = for_each i (view_patterns ps.now) (templates_of xs.now)
+view_level (Template-F.Group xs) = group (templates xs.now)
+view_level (Template-F.ForEach i ps xs) = for_each i (view_patterns ps.now) (templates xs.now)
 
 abbrev pub view_template : Written → Template
 view_template = fold-Template Template view_level

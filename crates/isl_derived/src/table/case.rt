@@ -7,10 +7,32 @@ ghost use Rattle.isl_derived.specs.model.TableView.{view_rows};
 use crate::pattern::Pattern;
 use crate::pattern::Pattern::{Datum, Each, Inside, Name, Others};
 use crate::table::Row;
+use crate::template::Template;
 use crate::template::Template::{All, ForEach, Group, New, One, Word};
 
 // `((x*) f*)`
 const CLAUSE: &[Pattern] = &[Inside(&[Inside(&[Others]), Others])];
+
+// `((%memv #:k (quote (x*))) (progn f*))`
+const TESTED: &[Template] = &[Group(&[
+    Group(&[
+        Word(b"%memv"),
+        New(0),
+        Group(&[Word(b"quote"), Group(&[All(0)])]),
+    ]),
+    Group(&[Word(b"progn"), All(1)]),
+])];
+
+// `((%memp #:p #:k (quote (x*))) (progn f*))`
+const TESTED_BY: &[Template] = &[Group(&[
+    Group(&[
+        Word(b"%memp"),
+        New(0),
+        New(1),
+        Group(&[Word(b"quote"), Group(&[All(0)])]),
+    ]),
+    Group(&[Word(b"progn"), All(1)]),
+])];
 
 // `case`
 const CASE: &[Row] = &[
@@ -24,18 +46,7 @@ const CASE: &[Row] = &[
             Group(&[Group(&[New(0), One(0)])]),
             Group(&[
                 Word(b"cond"),
-                ForEach(
-                    1,
-                    CLAUSE,
-                    &[Group(&[
-                        Group(&[
-                            Word(b"%memv"),
-                            New(0),
-                            Group(&[Word(b"quote"), Group(&[All(0)])]),
-                        ]),
-                        Group(&[Word(b"progn"), All(1)]),
-                    ])],
-                ),
+                ForEach(1, CLAUSE, TESTED),
                 Group(&[Word(b"t"), Group(&[Word(b"progn"), All(2)])]),
             ]),
         ])],
@@ -48,21 +59,7 @@ const CASE: &[Row] = &[
         right: &[Group(&[
             Word(b"let"),
             Group(&[Group(&[New(0), One(0)])]),
-            Group(&[
-                Word(b"cond"),
-                ForEach(
-                    1,
-                    CLAUSE,
-                    &[Group(&[
-                        Group(&[
-                            Word(b"%memv"),
-                            New(0),
-                            Group(&[Word(b"quote"), Group(&[All(0)])]),
-                        ]),
-                        Group(&[Word(b"progn"), All(1)]),
-                    ])],
-                ),
-            ]),
+            Group(&[Word(b"cond"), ForEach(1, CLAUSE, TESTED)]),
         ])],
         new: &[New(0)],
     },
@@ -87,19 +84,7 @@ const CASE_USING: &[Row] = &[
             Group(&[Group(&[New(0), One(0)]), Group(&[New(1), One(1)])]),
             Group(&[
                 Word(b"cond"),
-                ForEach(
-                    2,
-                    CLAUSE,
-                    &[Group(&[
-                        Group(&[
-                            Word(b"%memp"),
-                            New(0),
-                            New(1),
-                            Group(&[Word(b"quote"), Group(&[All(0)])]),
-                        ]),
-                        Group(&[Word(b"progn"), All(1)]),
-                    ])],
-                ),
+                ForEach(2, CLAUSE, TESTED_BY),
                 Group(&[Word(b"t"), Group(&[Word(b"progn"), All(3)])]),
             ]),
         ])],
@@ -113,22 +98,7 @@ const CASE_USING: &[Row] = &[
         right: &[Group(&[
             Word(b"let"),
             Group(&[Group(&[New(0), One(0)]), Group(&[New(1), One(1)])]),
-            Group(&[
-                Word(b"cond"),
-                ForEach(
-                    2,
-                    CLAUSE,
-                    &[Group(&[
-                        Group(&[
-                            Word(b"%memp"),
-                            New(0),
-                            New(1),
-                            Group(&[Word(b"quote"), Group(&[All(0)])]),
-                        ]),
-                        Group(&[Word(b"progn"), All(1)]),
-                    ])],
-                ),
-            ]),
+            Group(&[Word(b"cond"), ForEach(2, CLAUSE, TESTED_BY)]),
         ])],
         new: &[New(0), New(1)],
     },

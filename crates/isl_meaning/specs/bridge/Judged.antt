@@ -1,22 +1,18 @@
 -- Tests of forms, by the forms right inside: what code and proofs use of the tests that are walks.
-use Rattle.std.specs.Prelude.{◌≡◌, Bool, true, false, not, ◌&&◌, ◌||◌, ℕ, ◌+◌, ◌≤◌, ◌==◌, List, [], ◌∷◌, ◌++◌, Option, Some, None, map, flat_map, option_to_list, length, slice_get, drop, refl}
+use Rattle.std.specs.Prelude.{◌≡◌, Bool, true, false, not, ◌&&◌, ◌||◌, List, [], ◌∷◌, ◌++◌, map, flat_map, refl}
 use Rattle.std.specs.List.{list_all, list_any}
-use Rattle.std.proofs.Common.{◌∙◌, ap, sym}
-use Rattle.std.proofs.lemmas.List.{drop_all}
-use Rattle.std.proofs.lemmas.List.Folds.{list_all-append, list_any-append, list_all-map}
+use Rattle.std.proofs.Common.{◌∙◌, ap}
+use Rattle.std.proofs.lemmas.List.Folds.{list_all-append, list_all-map}
 use Rattle.isl_meaning.specs.declared.part.Part.{Part}
-use Rattle.isl_meaning.specs.declared.part.Part.TheVariants.{Variable}
 use Rattle.isl_meaning.specs.declared.program.ProgramRows.{ProgramRows}
 use Rattle.isl_meaning.specs.declared.scope.LexicalScope.{LexicalScope}
 use Rattle.isl_meaning.specs.Form.{Form}
-use Rattle.isl_meaning.specs.Subforms.{outer, inner, fold}
+use Rattle.isl_meaning.specs.Subforms.{outer, inner}
 use Rattle.isl_meaning.specs.Inside.{inside_step, inside_form}
 use Rattle.isl_meaning.specs.Mentions.{some, names_part, binds, mentions_step, mentions}
 use Rattle.isl_meaning.specs.Fits.{fits_itself, fits}
 use Rattle.isl_meaning.specs.Standing.{all_in, around_inner, stands_itself, stands_step, stands_in, stands}
-use Rattle.isl_base.specs.model.DataRest.{rest_at}
 use Rattle.isl_meaning.specs.bridge.Walks.{folded}
-use Rattle.isl_meaning.specs.bridge.Visits.{visits, first_of, second_of, outer_from, outer_visit, outer_at_last}
 
 some_mapped : {X : Type 0} (test : X → Bool) (xs : List X) → some (map test xs) ≡ list_any test xs
 some_mapped test [] = refl
@@ -66,39 +62,3 @@ stands_folded s f =
     ap (λ (test : LexicalScope → Bool). test s) (folded stands_step f)
     ∙ ap (λ b. stands_itself s f && b && all_in (around_inner f s) (map stands_in (inner f))) (list_all-map (λ test. test s) stands_in (outer f))
     ∙ ap (λ b. stands_itself s f && list_all (stands s) (outer f) && b) (list_all-map (λ test. test (around_inner f s)) stands_in (inner f))
-
--- visits: of all, and of one of them
-
-pub all_at_visit : (test : Form → Bool) (f : Form) (i : ℕ) (x : Form) → first_of (slice_get (visits f) i) ≡ Some x
-    → list_all test (outer_from f i)
-    ≡ (test x && (list_all test (option_to_list (second_of (slice_get (visits f) i))) && list_all test (outer_from f (i + 1))))
-all_at_visit test f i x h =
-    ap (list_all test) (outer_visit f i x h)
-    ∙ ap (λ b. test x && b) (list_all-append test (option_to_list (second_of (slice_get (visits f) i))) (outer_from f (i + 1)))
-
-pub all_at_last : (test : Form → Bool) (f : Form) (i : ℕ) → length (visits f) ≤ i → list_all test (outer_from f i) ≡ true
-all_at_last test f i h = ap (list_all test) (outer_at_last f i h)
-
-pub all_at_inner : (test : Form → Bool) (f : Form) (i : ℕ) (x : Form) → slice_get (inner f) i ≡ Some x
-    → list_all test (drop i (inner f)) ≡ (test x && list_all test (drop (i + 1) (inner f)))
-all_at_inner test f i x h = ap (list_all test) (rest_at (inner f) i x h)
-
-pub all_past_inner : (test : Form → Bool) (f : Form) (i : ℕ) → length (inner f) ≤ i → list_all test (drop i (inner f)) ≡ true
-all_past_inner test f i h = ap (list_all test) (drop_all i (inner f) h)
-
-pub one_at_visit : (test : Form → Bool) (f : Form) (i : ℕ) (x : Form) → first_of (slice_get (visits f) i) ≡ Some x
-    → list_any test (outer_from f i)
-    ≡ (test x || (list_any test (option_to_list (second_of (slice_get (visits f) i))) || list_any test (outer_from f (i + 1))))
-one_at_visit test f i x h =
-    ap (list_any test) (outer_visit f i x h)
-    ∙ ap (λ b. test x || b) (list_any-append test (option_to_list (second_of (slice_get (visits f) i))) (outer_from f (i + 1)))
-
-pub one_at_last : (test : Form → Bool) (f : Form) (i : ℕ) → length (visits f) ≤ i → list_any test (outer_from f i) ≡ false
-one_at_last test f i h = ap (list_any test) (outer_at_last f i h)
-
-pub one_at_inner : (test : Form → Bool) (f : Form) (i : ℕ) (x : Form) → slice_get (inner f) i ≡ Some x
-    → list_any test (drop i (inner f)) ≡ (test x || list_any test (drop (i + 1) (inner f)))
-one_at_inner test f i x h = ap (list_any test) (rest_at (inner f) i x h)
-
-pub one_past_inner : (test : Form → Bool) (f : Form) (i : ℕ) → length (inner f) ≤ i → list_any test (drop i (inner f)) ≡ false
-one_past_inner test f i h = ap (list_any test) (drop_all i (inner f) h)

@@ -1,12 +1,11 @@
 -- The walk over forms as proofs use it: one step of it by the forms right inside, induction over them, and that they are
 -- smaller.
-use Rattle.std.specs.Prelude.{◌≡◌, ⊤, ℕ, ◌+◌, ◌<◌, ◌≤◌, List, [], ◌∷◌, ◌++◌, map, refl}
-use Rattle.std.proofs.Common.{◌∙◌, ap, arith}
+use Rattle.std.specs.Prelude.{◌≡◌, List, [], ◌∷◌, map, refl}
+use Rattle.std.proofs.Common.{ap}
 use Rattle.isl_meaning.specs.Form.{Form, literal, local, set_local, global, set_global, def_global, clauses, sequence, let_form, lambda, call, call_value, apply, prim, while_form, block, return_from, tagbody, go, catch_form, throw, unwind, dynamic_let, dynamic, set_dynamic, def_dynamic, with_handler, signal_form, continue_form, next_method, has_next, sited}
-use Rattle.isl_meaning.specs.Form.{Forms, no_form, form_and, ClauseForms, no_clause, clause_and, MaybeForm, no_body, with_body}
+use Rattle.isl_meaning.specs.Form.{Forms, no_form, form_and, ClauseForms, no_clause, clause_and, no_body, with_body}
 use Rattle.isl_meaning.specs.Form.{BindingForms, no_binding, binding_and, DynamicForms, no_dynamic, dynamic_and}
-use Rattle.isl_meaning.specs.Form.{form_size, forms_size, clauses_size, maybe_size, bindings_size, dynamics_size}
-use Rattle.isl_meaning.specs.Subforms.{forms_list, body_list, clause_list, value_list, dynamic_value_list, Each, outer, inner, fold, fold_forms, fold_clauses, fold_body, fold_values, fold_dynamics}
+use Rattle.isl_meaning.specs.Subforms.{forms_list, clause_list, value_list, dynamic_value_list, Each, outer, inner, fold, fold_forms, fold_clauses, fold_values, fold_dynamics}
 
 -- a step of the walk, over the forms right inside
 

@@ -1,11 +1,11 @@
 // Nodes of core forms, which bound a program and charge its applications.
 
-ghost use Rattle.std.specs.Prelude.{◌≡◌, min, map, option_to_list, slice_get};
+ghost use Rattle.std.specs.Prelude.{◌≡◌, min, map};
 ghost use Rattle.std.specs.List.{sum};
-ghost use Rattle.isl_meaning.specs.Subforms.{outer, inner};
-ghost use Rattle.isl_meaning.specs.bridge.Visits.{visits, second_of};
+ghost use Rattle.isl_meaning.specs.Subforms.{inner};
 ghost use Rattle.isl_meaning.specs.Counts.{own_nodes, is_function, of_inner, nodes_with};
 
+use crate::core_form::subforms::Subforms;
 use crate::core_form::{Core, CoreForm};
 use crate::nodes::Bodies;
 
@@ -13,71 +13,29 @@ impl Core {
     // Its nodes: its own and those of the forms inside, and the bodies of functions as that says; 2^64 - 1 where
     // that is more.
     #[cycle(nodes)]
-    #[tactic(auto, using(crate::specs::bridge::Walks::folded))]
+    #[tactic(auto, using(crate::specs::bridge::Smaller::outer_is_smaller))]
     pub(crate) fn nodes(&self, bodies: Bodies) -> u64
         ensures { result ≡ min (nodes_with bodies self.now) 18446744073709551615 }
     {
         self.own_nodes()
-            .saturating_add(self.outer_nodes(bodies))
+            .saturating_add(all_nodes(self.outer(), bodies))
             .saturating_add(self.inner_nodes(bodies))
-    }
-
-    #[cycle(nodes)]
-    #[tactic(auto, using(crate::specs::bridge::Smaller::first_is_smaller))]
-    fn outer_nodes(&self, bodies: Bodies) -> u64
-        ensures { result ≡ min (sum (map (nodes_with bodies) (outer self.now))) 18446744073709551615 }
-    {
-        let mut total: u64 = 0;
-        for at in 0..self.outer_visits() {
-            let Some(first) = self.outer_first(at) else {
-                unreachable!()
-            };
-            total = total
-                .saturating_add(first.nodes(bodies))
-                .saturating_add(self.second_nodes(at, bodies));
-        }
-        total
-    }
-
-    #[cycle(nodes)]
-    #[tactic(auto, using(crate::specs::bridge::Smaller::second_is_smaller, crate::proofs::Counting::sum_of_second, crate::proofs::Counting::sum_of_none))]
-    fn second_nodes(&self, at: usize, bodies: Bodies) -> u64
-        ensures { result ≡ min (sum (map (nodes_with bodies) (option_to_list (second_of (slice_get (visits self.now) at))))) 18446744073709551615 }
-    {
-        match self.outer_second(at) {
-            None => 0,
-            Some(second) => second.nodes(bodies),
-        }
     }
 
     // The nodes of the inner forms, as the body of a function counts.
     #[cycle(nodes)]
+    #[tactic(auto, using(crate::specs::bridge::Smaller::inner_is_smaller))]
     fn inner_nodes(&self, bodies: Bodies) -> u64
         ensures { result ≡ min (of_inner bodies self.now (sum (map (nodes_with bodies) (inner self.now)))) 18446744073709551615 }
     {
         if self.is_function() {
             match bodies {
                 Bodies::Apart => 0,
-                Bodies::Inside => self.all_inner_nodes(bodies).saturating_add(4),
+                Bodies::Inside => all_nodes(self.inner(), bodies).saturating_add(4),
             }
         } else {
-            self.all_inner_nodes(bodies)
+            all_nodes(self.inner(), bodies)
         }
-    }
-
-    #[cycle(nodes)]
-    #[tactic(auto, using(crate::specs::bridge::Smaller::inner_is_smaller))]
-    fn all_inner_nodes(&self, bodies: Bodies) -> u64
-        ensures { result ≡ min (sum (map (nodes_with bodies) (inner self.now))) 18446744073709551615 }
-    {
-        let mut total: u64 = 0;
-        for at in 0..self.inner_count() {
-            let Some(form) = self.inner_at(at) else {
-                unreachable!()
-            };
-            total = total.saturating_add(form.nodes(bodies));
-        }
-        total
     }
 
     // What it counts by itself.
@@ -115,4 +73,16 @@ impl Core {
             _ => false,
         }
     }
+}
+
+// The nodes of these forms together.
+#[cycle(nodes)]
+fn all_nodes(forms: Subforms<'_>, bodies: Bodies) -> u64
+    ensures { result ≡ min (sum (map (nodes_with bodies) forms.entry)) 18446744073709551615 }
+{
+    let mut total: u64 = 0;
+    for form in forms {
+        total = total.saturating_add(form.nodes(bodies));
+    }
+    total
 }

@@ -1,202 +1,164 @@
-// The forms right inside a form, as code goes over them: the outer ones visit by visit, then the inner ones. A test of a
-// clause and its body, or the two forms of a form that has two, are one visit.
+// The forms right inside a form, as code goes over them: those that stand where the form stands, and those that stand where
+// what it binds is bound.
 
-ghost use Rattle.std.specs.Prelude.{◌≡◌, ◌≤◌, [], ◌∷◌, map, length, slice_get, Some, None, MatchOption};
-ghost use Rattle.isl_meaning.specs.Subforms.{forms_list, value_list, dynamic_value_list, inner};
-ghost use Rattle.isl_meaning.specs.bridge.Visits.{Visit, single, clause_visits, visits, first_of, second_of};
-ghost use Rattle.isl_meaning.specs.model.View.{forms, clauses_of, bindings_of, dynamics_of};
+ghost use Rattle.std.specs.Prelude.{◌≡◌, [], ◌∷◌, ◌++◌, option_to_list, MatchOption};
+ghost use Rattle.std.specs.Iterator.{YieldsFirstRef, item_count};
+ghost use Rattle.isl_meaning.specs.Subforms.{outer, inner};
+ghost use Rattle.isl_meaning.specs.model.View.{view_form};
+ghost use Rattle.isl_meaning.specs.model.SubformsView.{view_left, clause_forms};
 
-use crate::core_form::{BindingList, ClauseList, Core, CoreForm, CoreList, DynBindings};
+use crate::core_form::{Binding, Clause, Core, CoreForm, DynBinding};
+use std::marker::Model;
+
+/// Forms right inside a form, in their order: gives one after another. Contracts see the list of
+/// those that are left.
+#[derive(Drop)]
+pub struct Subforms<'a> {
+    left: Left<'a>,
+}
+
+// What is left of a list of forms, of clauses or of bindings; of one form or two.
+#[derive(Clone, Copy)]
+enum Left<'a> {
+    Nothing,
+    One(&'a Core),
+    Two(&'a Core, &'a Core),
+    Forms(&'a [Core]),
+    Clauses(&'a [Clause]),
+    // The body of a clause, and the clauses after it.
+    Body(&'a Core, &'a [Clause]),
+    Values(&'a [Binding]),
+    DynamicValues(&'a [DynBinding]),
+}
+
+impl<'a> Model for Subforms<'a> {
+    ghost use Rattle.std.specs.Prelude.{List};
+    ghost use Rattle.isl_meaning.specs.Form.{Form};
+
+    ghost Value = { List Form };
+
+    ghost use Rattle.isl_meaning.specs.model.SubformsView.{forms_code, view_left};
+
+    ghost coded = { forms_code };
+
+    ghost view = { λ s. view_left s.left };
+}
+
+impl<'a> Iterator for Subforms<'a> {
+    type Item = &'a Core;
+
+    ghost next_gives = { YieldsFirstRef (λ forms. forms) };
+
+    ghost remaining = { item_count (λ forms. forms) };
+
+    /// The first form that is left; None exactly where none is. Takes no memory.
+    fn next(&mut self) -> Option<&'a Core> {
+        let (first, left) = split(self.left)?;
+        self.left = left;
+        Some(first)
+    }
+}
 
 impl Core {
-    /// How many visits there are over the forms right inside that stand where this form stands. Takes no
-    /// memory.
-    #[tactic(auto, using(crate::specs::bridge::Visits::forms_have_visits, crate::specs::bridge::Visits::clauses_have_visits, crate::specs::bridge::Visits::values_have_visits, crate::specs::bridge::Visits::dynamics_have_visits))]
-    pub fn outer_visits(&self) -> usize
-        ensures { result ≡ length (visits self.now) }
+    /// The forms right inside that stand where this form stands. Takes no memory.
+    pub fn outer(&self) -> Subforms<'_>
+        ensures { result ≡ outer self.now }
     {
-        match &self.form {
-            CoreForm::SetLocal(_, _)
-            | CoreForm::SetGlobal(_, _)
-            | CoreForm::DefGlobal(_, _)
-            | CoreForm::Return(_, _)
-            | CoreForm::SetDynamic(_, _)
-            | CoreForm::DefDynamic(_, _)
-            | CoreForm::Sited(_, _)
-            | CoreForm::Apply(_, _)
-            | CoreForm::While(_, _)
-            | CoreForm::Catch(_, _)
-            | CoreForm::Throw(_, _)
-            | CoreForm::Unwind(_, _)
-            | CoreForm::WithHandler(_, _)
-            | CoreForm::Signal(_, _)
-            | CoreForm::Continue(_, _) => 1,
-            CoreForm::Sequence(list)
-            | CoreForm::Call(_, list)
-            | CoreForm::CallValue(list)
-            | CoreForm::Prim(_, list) => list.len(),
-            CoreForm::Clauses(list) => list.len(),
-            CoreForm::Let(list, _) => list.len(),
-            CoreForm::DynamicLet(list, _) => list.len(),
-            _ => 0,
+        Subforms {
+            left: outer(&self.form),
         }
     }
 
-    /// The first form of a visit; None exactly where there is no such visit. Takes no memory.
-    #[tactic(auto, using(crate::specs::bridge::Visits::first_alone))]
-    pub fn outer_first(&self, at: usize) -> Option<&Core>
-        ensures { MatchOption result (length (visits self.now) ≤ at)
-            (λ form. first_of (slice_get (visits self.now) at) ≡ Some form.now) }
+    /// The forms right inside that stand where what this form binds is bound. Takes no memory.
+    pub fn inner(&self) -> Subforms<'_>
+        ensures { result ≡ inner self.now }
     {
-        match &self.form {
-            CoreForm::SetLocal(_, form)
-            | CoreForm::SetGlobal(_, form)
-            | CoreForm::DefGlobal(_, form)
-            | CoreForm::Return(_, form)
-            | CoreForm::SetDynamic(_, form)
-            | CoreForm::DefDynamic(_, form)
-            | CoreForm::Sited(_, form) => only(form, at),
-            CoreForm::Apply(form, _)
-            | CoreForm::While(form, _)
-            | CoreForm::Catch(form, _)
-            | CoreForm::Throw(form, _)
-            | CoreForm::Unwind(form, _)
-            | CoreForm::WithHandler(form, _)
-            | CoreForm::Signal(form, _)
-            | CoreForm::Continue(form, _) => only(form, at),
-            CoreForm::Sequence(list)
-            | CoreForm::Call(_, list)
-            | CoreForm::CallValue(list)
-            | CoreForm::Prim(_, list) => form_at(list, at),
-            CoreForm::Clauses(list) => test_at(list, at),
-            CoreForm::Let(list, _) => value_at(list, at),
-            CoreForm::DynamicLet(list, _) => dynamic_value_at(list, at),
-            _ => None,
-        }
-    }
-
-    /// The second form of a visit; None exactly where there is no such visit or it has just one. Takes no
-    /// memory.
-    #[tactic(auto, using(crate::specs::bridge::Visits::no_second, crate::specs::bridge::Visits::no_second_alone, crate::specs::bridge::Visits::second_alone, crate::specs::bridge::Visits::no_second_there))]
-    pub fn outer_second(&self, at: usize) -> Option<&Core>
-        ensures { MatchOption result (second_of (slice_get (visits self.now) at) ≡ None)
-            (λ form. second_of (slice_get (visits self.now) at) ≡ Some form.now) }
-    {
-        match &self.form {
-            CoreForm::SetLocal(_, _)
-            | CoreForm::SetGlobal(_, _)
-            | CoreForm::DefGlobal(_, _)
-            | CoreForm::Return(_, _)
-            | CoreForm::SetDynamic(_, _)
-            | CoreForm::DefDynamic(_, _)
-            | CoreForm::Sited(_, _) => None,
-            CoreForm::Sequence(_)
-            | CoreForm::Call(_, _)
-            | CoreForm::CallValue(_)
-            | CoreForm::Prim(_, _)
-            | CoreForm::Let(_, _)
-            | CoreForm::DynamicLet(_, _) => None,
-            CoreForm::Apply(_, form)
-            | CoreForm::While(_, form)
-            | CoreForm::Catch(_, form)
-            | CoreForm::Throw(_, form)
-            | CoreForm::Unwind(_, form)
-            | CoreForm::WithHandler(_, form)
-            | CoreForm::Signal(_, form)
-            | CoreForm::Continue(_, form) => only(form, at),
-            CoreForm::Clauses(list) => body_at(list, at),
-            _ => None,
-        }
-    }
-
-    /// How many forms right inside stand where what this form binds is bound. Takes no memory.
-    #[tactic(auto, using(crate::specs::bridge::Visits::segments_counted))]
-    pub fn inner_count(&self) -> usize
-        ensures { result ≡ length (inner self.now) }
-    {
-        match &self.form {
-            CoreForm::Let(_, _)
-            | CoreForm::Lambda(_, _, _, _)
-            | CoreForm::Block(_, _)
-            | CoreForm::DynamicLet(_, _) => 1,
-            CoreForm::Tagbody(_, list) => list.len(),
-            _ => 0,
-        }
-    }
-
-    /// Such a form; None exactly where there are no more than `at`. Takes no memory.
-    #[tactic(auto, using(crate::specs::bridge::Visits::segment_there, crate::specs::bridge::Visits::no_segment_there))]
-    pub fn inner_at(&self, at: usize) -> Option<&Core>
-        ensures { MatchOption result (length (inner self.now) ≤ at)
-            (λ form. slice_get (inner self.now) at ≡ Some form.now) }
-    {
-        match &self.form {
-            CoreForm::Let(_, form)
-            | CoreForm::Lambda(_, _, form, _)
-            | CoreForm::Block(_, form)
-            | CoreForm::DynamicLet(_, form) => only(form, at),
-            CoreForm::Tagbody(_, list) => list.get(at),
-            _ => None,
+        Subforms {
+            left: inner(&self.form),
         }
     }
 }
 
-// The one form of a visit.
-fn only(form: &Core, at: usize) -> Option<&Core>
-    ensures { MatchOption result (1 ≤ at)
-        (λ only. slice_get (form.now ∷ []) at ≡ Some only.now) }
+#[tactic(auto, using(crate::specs::bridge::Listed::forms_listed, crate::specs::bridge::Listed::clauses_listed, crate::specs::bridge::Listed::values_listed, crate::specs::bridge::Listed::dynamics_listed))]
+fn outer(form: &CoreForm) -> Left<'_>
+    ensures { view_left result ≡ outer (view_form form.now) }
 {
-    if at == 0 { Some(form) } else { None }
-}
-
-#[tactic(auto, using(crate::specs::bridge::Visits::form_there, crate::specs::bridge::Visits::no_form_there))]
-fn form_at(list: &CoreList, at: usize) -> Option<&Core>
-    ensures { MatchOption result (length (map single (forms_list (forms list.now))) ≤ at)
-        (λ form. first_of (slice_get (map single (forms_list (forms list.now))) at) ≡ Some form.now) }
-{
-    list.get(at)
-}
-
-#[tactic(auto, using(crate::specs::bridge::Visits::test_there, crate::specs::bridge::Visits::no_test_there))]
-fn test_at(list: &ClauseList, at: usize) -> Option<&Core>
-    ensures { MatchOption result (length (clause_visits (clauses_of list.now)) ≤ at)
-        (λ form. first_of (slice_get (clause_visits (clauses_of list.now)) at) ≡ Some form.now) }
-{
-    match list.get(at) {
-        None => None,
-        Some(clause) => Some(&clause.test),
+    match form {
+        CoreForm::SetLocal(_, inside)
+        | CoreForm::SetGlobal(_, inside)
+        | CoreForm::DefGlobal(_, inside)
+        | CoreForm::Return(_, inside)
+        | CoreForm::SetDynamic(_, inside)
+        | CoreForm::DefDynamic(_, inside)
+        | CoreForm::Sited(_, inside) => Left::One(inside),
+        CoreForm::Apply(first, second)
+        | CoreForm::While(first, second)
+        | CoreForm::Catch(first, second)
+        | CoreForm::Throw(first, second)
+        | CoreForm::Unwind(first, second)
+        | CoreForm::WithHandler(first, second)
+        | CoreForm::Signal(first, second)
+        | CoreForm::Continue(first, second) => Left::Two(first, second),
+        CoreForm::Sequence(list)
+        | CoreForm::Call(_, list)
+        | CoreForm::CallValue(list)
+        | CoreForm::Prim(_, list) => Left::Forms(list.as_slice()),
+        CoreForm::Clauses(list) => Left::Clauses(list.as_slice()),
+        CoreForm::Let(list, _) => Left::Values(list.as_slice()),
+        CoreForm::DynamicLet(list, _) => Left::DynamicValues(list.as_slice()),
+        _ => Left::Nothing,
     }
 }
 
-#[tactic(auto, using(crate::specs::bridge::Visits::body_there, crate::specs::bridge::Visits::no_body_there))]
-fn body_at(list: &ClauseList, at: usize) -> Option<&Core>
-    ensures { MatchOption result (second_of (slice_get (clause_visits (clauses_of list.now)) at) ≡ None)
-        (λ form. second_of (slice_get (clause_visits (clauses_of list.now)) at) ≡ Some form.now) }
+#[tactic(auto, using(crate::specs::bridge::Listed::forms_listed))]
+fn inner(form: &CoreForm) -> Left<'_>
+    ensures { view_left result ≡ inner (view_form form.now) }
 {
-    match list.get(at) {
-        None => None,
-        Some(clause) => clause.body.as_ref(),
+    match form {
+        CoreForm::Let(_, body)
+        | CoreForm::Lambda(_, _, body, _)
+        | CoreForm::Block(_, body)
+        | CoreForm::DynamicLet(_, body) => Left::One(body),
+        CoreForm::Tagbody(_, list) => Left::Forms(list.as_slice()),
+        _ => Left::Nothing,
     }
 }
 
-#[tactic(auto, using(crate::specs::bridge::Visits::value_there, crate::specs::bridge::Visits::no_value_there))]
-fn value_at(list: &BindingList, at: usize) -> Option<&Core>
-    ensures { MatchOption result (length (map single (value_list (bindings_of list.now))) ≤ at)
-        (λ form. first_of (slice_get (map single (value_list (bindings_of list.now))) at) ≡ Some form.now) }
+// The first form, and what is left after it; None exactly where nothing is left.
+fn split(left: Left<'_>) -> Option<(&Core, Left<'_>)>
+    ensures { MatchOption result (view_left left.entry ≡ [])
+        (λ parts. view_left left.entry ≡ parts.0.now ∷ view_left parts.1) }
 {
-    match list.get(at) {
-        None => None,
-        Some(binding) => Some(&binding.value),
+    match left {
+        Left::Nothing => None,
+        Left::One(form) => Some((form, Left::Nothing)),
+        Left::Two(first, second) => Some((first, Left::One(second))),
+        Left::Forms(list) => {
+            let (first, others) = list.split_first()?;
+            Some((first, Left::Forms(others)))
+        }
+        Left::Clauses(list) => {
+            let (clause, others) = list.split_first()?;
+            Some((&clause.test, after_test(clause, others)))
+        }
+        Left::Body(body, list) => Some((body, Left::Clauses(list))),
+        Left::Values(list) => {
+            let (binding, others) = list.split_first()?;
+            Some((&binding.value, Left::Values(others)))
+        }
+        Left::DynamicValues(list) => {
+            let (binding, others) = list.split_first()?;
+            Some((&binding.value, Left::DynamicValues(others)))
+        }
     }
 }
 
-#[tactic(auto, using(crate::specs::bridge::Visits::dynamic_there, crate::specs::bridge::Visits::no_dynamic_there))]
-fn dynamic_value_at(list: &DynBindings, at: usize) -> Option<&Core>
-    ensures { MatchOption result (length (map single (dynamic_value_list (dynamics_of list.now))) ≤ at)
-        (λ form. first_of (slice_get (map single (dynamic_value_list (dynamics_of list.now))) at) ≡ Some form.now) }
+// What is left after the test of a clause, with these clauses after it.
+fn after_test<'a>(clause: &'a Clause, others: &'a [Clause]) -> Left<'a>
+    ensures { view_left result ≡ option_to_list clause.now.body ++ clause_forms others.now }
 {
-    match list.get(at) {
-        None => None,
-        Some(binding) => Some(&binding.value),
+    match &clause.body {
+        None => Left::Clauses(others),
+        Some(body) => Left::Body(body, others),
     }
 }

@@ -1,16 +1,14 @@
 // What a function captures: the parts around it that its body mentions (ISO/IEC 13816:2007, 12.7).
 
-ghost use Rattle.std.specs.Prelude.{◌≡◌, option_to_list, slice_get, filter, IfOk};
+ghost use Rattle.std.specs.Prelude.{◌≡◌, option_to_list, filter, IfOk};
 ghost use Rattle.std.specs.List.{list_any};
 ghost use Rattle.isl_meaning.specs.declared.part.Part.TheVariants.{Variable};
 ghost use Rattle.isl_meaning.specs.model.View.{bindings_of};
 ghost use Rattle.isl_meaning.specs.Form.{parameters};
 ghost use Rattle.isl_meaning.specs.Mentions.{same_part, owns, variables_bound, binds, names_part, mentions};
-ghost use Rattle.isl_meaning.specs.Subforms.{outer, inner};
-ghost use Rattle.isl_meaning.specs.bridge.Visits.{visits, second_of};
 
 use isl_base::NoMemory;
-use isl_meaning::{BindingList, Core, CoreForm, Part, PartList, Var, VarList};
+use isl_meaning::{BindingList, Core, CoreForm, Part, PartList, Subforms, Var, VarList};
 use std::alloc::Global;
 
 /// Those of these parts, in their order.
@@ -28,52 +26,21 @@ pub(crate) fn captured(alloc: Global, around: &PartList, body: &Core) -> Result<
 
 // Whether the part is mentioned and not bound inside.
 #[cycle(mentions)]
-#[tactic(auto, using(isl_meaning::specs::bridge::Judged::mentions_folded))]
+#[tactic(auto, using(isl_meaning::specs::bridge::Judged::mentions_folded, isl_meaning::specs::bridge::Smaller::outer_is_smaller, isl_meaning::specs::bridge::Smaller::inner_is_smaller))]
 fn mentions(form: &Core, part: Part) -> bool
     ensures { result ≡ mentions part form.now }
 {
     names_part(form, part)
-        || outer_mention(form, part)
-        || (!binds(form, part) && inner_mention(form, part))
+        || one_mentions(form.outer(), part)
+        || (!binds(form, part) && one_mentions(form.inner(), part))
 }
 
 #[cycle(mentions)]
-#[tactic(auto, using(isl_meaning::specs::bridge::Smaller::first_is_smaller))]
-fn outer_mention(form: &Core, part: Part) -> bool
-    ensures { result ≡ list_any (mentions part) (outer form.now) }
+fn one_mentions(forms: Subforms<'_>, part: Part) -> bool
+    ensures { result ≡ list_any (mentions part) forms.entry }
 {
-    for at in 0..form.outer_visits() {
-        let Some(first) = form.outer_first(at) else {
-            unreachable!()
-        };
-        if mentions(first, part) || second_mentions(form, at, part) {
-            return true;
-        }
-    }
-    false
-}
-
-#[cycle(mentions)]
-#[tactic(auto, using(isl_meaning::specs::bridge::Smaller::second_is_smaller, crate::proofs::MakingWalks::one_of_second, crate::proofs::MakingWalks::one_of_none))]
-fn second_mentions(form: &Core, at: usize, part: Part) -> bool
-    ensures { result ≡ list_any (mentions part) (option_to_list (second_of (slice_get (visits form.now) at))) }
-{
-    match form.outer_second(at) {
-        None => false,
-        Some(second) => mentions(second, part),
-    }
-}
-
-#[cycle(mentions)]
-#[tactic(auto, using(isl_meaning::specs::bridge::Smaller::inner_is_smaller))]
-fn inner_mention(form: &Core, part: Part) -> bool
-    ensures { result ≡ list_any (mentions part) (inner form.now) }
-{
-    for at in 0..form.inner_count() {
-        let Some(inside) = form.inner_at(at) else {
-            unreachable!()
-        };
-        if mentions(inside, part) {
+    for form in forms {
+        if mentions(form, part) {
             return true;
         }
     }

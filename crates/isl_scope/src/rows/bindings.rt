@@ -89,7 +89,14 @@ fn dynamics<'a>(
     push_below(&mut parts, forms)?;
     let inside = deeper(here.spot, 1);
     let inner = Inner::new(here.alloc);
-    made_plain(here, tables, inside, parts, inner, Making::OfDynamics(names))
+    made_plain(
+        here,
+        tables,
+        inside,
+        parts,
+        inner,
+        Making::OfDynamics(names),
+    )
 }
 
 /// `(dynamic-let ((v x)*) f*)`: dynamic variables have names.

@@ -84,7 +84,14 @@ pub(crate) fn local_call_plan<'a>(
     let parts = all_forms(here, items)?;
     let inside = deeper(here.spot, 1);
     let inner = Inner::new(here.alloc);
-    made_plain(here, tables, inside, parts, inner, Making::CallOfLocal(variable))
+    made_plain(
+        here,
+        tables,
+        inside,
+        parts,
+        inner,
+        Making::CallOfLocal(variable),
+    )
 }
 
 // A call of a primitive, or of the function of a name.
@@ -99,14 +106,14 @@ fn named_making(name: Name, primitive: Option<Primitive>) -> Making
 
 // A direct call of a function object.
 fn is_value_call(text: &[u8], count: usize) -> bool
-    ensures { result ≡ (bytes_eq text.now (codes "funcall") && nat_le 1 count) }
+    ensures { result ≡ row.is_value_call text.now count }
 {
     text == b"funcall".as_slice() && 1 <= count
 }
 
 // A call of that name with two arguments.
 fn is_pair_call(text: &[u8], name: &[u8], count: usize) -> bool
-    ensures { result ≡ (bytes_eq text.now name.now && nat_eq count 2) }
+    ensures { result ≡ row.is_pair_call text.now name.now count }
 {
     text == name && count == 2
 }

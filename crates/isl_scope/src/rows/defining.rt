@@ -208,8 +208,7 @@ fn defun_with<'a>(
 fn is_reserved(here: Here, tables: &Tables, kept: bool, name: Name) -> bool
     ensures { result ≡ row.is_reserved kept (at here.entry.bound.now here.entry.spot) tables.now name }
 {
-    is_truth(here, tables, name)
-        || (here.spot.sited && (kept || has_name(&tables.prelude, name)))
+    is_truth(here, tables, name) || (here.spot.sited && (kept || has_name(&tables.prelude, name)))
 }
 
 /// `(defun name lambda-list f*)`. The language keeps the name or not.

@@ -52,7 +52,7 @@ fn exit_form<'a>(
     requires { here.spot.depth + 2 < 4294967296 }
     ensures plan { IfOk result (λ plan. shown here.entry.bound.now tables.new plan
         ≡ word.made_of (at here.entry.bound.now here.entry.spot)
-            (with_bound bound (word.deeper 2 (at here.entry.bound.now here.entry.spot))) here.entry.place tables.old (view_inner inner.entry) making) }
+        (with_bound bound (word.deeper 2 (at here.entry.bound.now here.entry.spot))) here.entry.place tables.old (view_inner inner.entry) making) }
     ensures grows { Grows tables.old tables.new }
 {
     let mut binds = BoundList::new(here.alloc);
@@ -87,7 +87,13 @@ pub(crate) fn block_plan<'a>(
     }
     let exit = take_exit(tables)?;
     let inner = inner_forms(here.alloc, forms)?;
-    exit_form(here, tables, Bound::Block(symbol, exit), inner, Making::OfBlock(exit))
+    exit_form(
+        here,
+        tables,
+        Bound::Block(symbol, exit),
+        inner,
+        Making::OfBlock(exit),
+    )
 }
 
 /// `(return-from name x)`
@@ -133,15 +139,17 @@ pub(crate) fn tagbody_plan<'a>(
     let exit = take_exit(tables)?;
     let inner = forms_in(here.alloc, items)?;
     let lengths = lengths_in(here.alloc, items)?;
-    exit_form(here, tables, Bound::Tags(tags, exit), inner, Making::OfSegments(exit, lengths))
+    exit_form(
+        here,
+        tables,
+        Bound::Tags(tags, exit),
+        inner,
+        Making::OfSegments(exit, lengths),
+    )
 }
 
 // A transfer to the segment behind a tag.
-fn go_to<'a>(
-    here: Here,
-    tables: &mut Tables,
-    symbol: Symbol,
-) -> Result<Plan<'a>, NoMemory>
+fn go_to<'a>(here: Here, tables: &mut Tables, symbol: Symbol) -> Result<Plan<'a>, NoMemory>
     ensures plan { IfOk result (λ plan. shown here.entry.bound.now tables.new plan
         ≡ row.go_to (at here.entry.bound.now here.entry.spot) tables.old here.entry.place symbol (tag_of here.entry.bound.now symbol)) }
     ensures grows { Grows tables.old tables.new }

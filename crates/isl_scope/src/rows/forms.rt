@@ -370,11 +370,7 @@ pub(crate) fn plain_plan<'a>(
 }
 
 // A datum that evaluates to itself.
-fn self_plan<'a>(
-    here: Here,
-    tables: &mut Tables,
-    datum: &Datum,
-) -> Result<Plan<'a>, NoMemory>
+fn self_plan<'a>(here: Here, tables: &mut Tables, datum: &Datum) -> Result<Plan<'a>, NoMemory>
     ensures plan { IfOk result (λ plan. shown here.entry.bound.now tables.new plan
         ≡ word.literal_node (at here.entry.bound.now here.entry.spot) here.entry.place tables.old (literal.Datum datum.now)) }
     ensures grows { Grows tables.old tables.new }

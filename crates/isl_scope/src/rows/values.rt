@@ -11,7 +11,8 @@ ghost use Rattle.isl_scope.specs.Marks.{Grows};
 
 use crate::bound::{function_of, variable_of};
 use crate::here::{
-    Here, deeper, deeper_at_top, fits_depth, literal_plan, made_at_once, made_plain, offence, unsited,
+    Here, deeper, deeper_at_top, fits_depth, literal_plan, made_at_once, made_plain, offence,
+    unsited,
 };
 use crate::making::{BodyLengths, Making, One, Two, WithBody};
 use crate::plan::{Inner, Parts, Plan, inner_forms, one_form, push_below, push_form};
@@ -270,7 +271,14 @@ pub(crate) fn cond_plan<'a>(
     let parts = clause_parts(here, &clauses)?;
     let inside = deeper(here.spot, 1);
     let inner = Inner::new(here.alloc);
-    made_plain(here, tables, inside, parts, inner, Making::OfClauses(lengths))
+    made_plain(
+        here,
+        tables,
+        inside,
+        parts,
+        inner,
+        Making::OfClauses(lengths),
+    )
 }
 
 /// Two forms: `(throw x x)`, `(%apply x x)`.

@@ -1,26 +1,15 @@
 -- The sizes of the forms fall; in a loop it is left to see what the rest says.
-use Rattle.std.proofs.Common.{◌≡◌, ◌+◌, ◌*◌, drop}
 use Rattle.std.specs.List.{list_all}
-use Rattle.isl_meaning.specs.Form.{form_size}
-use Rattle.isl_meaning.specs.Subforms.{outer, inner}
 use Rattle.isl_meaning.specs.Fits.{fits}
-use Rattle.isl_meaning.specs.bridge.Visits.{outer_from}
+use Rattle.isl_meaning.specs.bridge.Smaller.{form_measure, forms_measure}
+use Rattle.isl_checker.proofs.Walks.{IsLeft}
 use Rattle.isl_checker.proofs.fits.+fits.Given as goal
 
 abbrev pub decreases-fits : goal.decreases-fits
-decreases-fits l = 4 * form_size l.form.now + 3
+decreases-fits l = form_measure l.form.now
 
-abbrev pub decreases-outer_fit : goal.decreases-outer_fit
-decreases-outer_fit l = 4 * form_size l.form.now + 2
+abbrev pub decreases-all_fit : goal.decreases-all_fit
+decreases-all_fit l = forms_measure l.forms
 
-abbrev pub decreases-second_fits : goal.decreases-second_fits
-decreases-second_fits l = 4 * form_size l.form.now + 1
-
-abbrev pub decreases-inner_fit : goal.decreases-inner_fit
-decreases-inner_fit l = 4 * form_size l.form.now + 2
-
-abbrev pub invariant-outer_fit-loop-at : goal.invariant-outer_fit-loop-at
-invariant-outer_fit-loop-at l = list_all (fits l.rows) (outer_from l.form l.at) ≡ list_all (fits l.rows) (outer l.form)
-
-abbrev pub invariant-inner_fit-loop-at : goal.invariant-inner_fit-loop-at
-invariant-inner_fit-loop-at l = list_all (fits l.rows) (drop l.at (inner l.form)) ≡ list_all (fits l.rows) (inner l.form)
+abbrev pub invariant-all_fit-loop-form : goal.invariant-all_fit-loop-form
+invariant-all_fit-loop-form l = IsLeft (list_all (fits l.rows)) l.fn.forms l.form-iterator

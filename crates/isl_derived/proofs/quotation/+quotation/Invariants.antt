@@ -4,7 +4,7 @@ use Rattle.isl_base.specs.Data.{items_of, item_size, items_size, tail_size}
 use Rattle.isl_base.specs.model.DataView.{tail_of}
 use Rattle.isl_derived.specs.Pieces.{pieces_of}
 use Rattle.isl_derived.specs.Quotation.{parts}
-use Rattle.isl_derived.specs.Fronts.{pieces_before}
+use Rattle.isl_derived.specs.Prefixes.{pieces_before}
 use Rattle.isl_derived.proofs.quotation.+quotation.Given as goal
 
 abbrev pub decreases-template : goal.decreases-template

@@ -19,23 +19,23 @@ decreases-copies::body_copy l = 3 * maybe_size (maybe_form l.body.now)
 abbrev pub decreases-copies::forms_copy : goal.decreases-copies::forms_copy
 decreases-copies::forms_copy l = 3 * forms_size (forms l.list.now)
 
-abbrev pub invariant-copies::forms_copy-loop-at : goal.invariant-copies::forms_copy-loop-at
-invariant-copies::forms_copy-loop-at l = l.copied ≡ take l.at l.list
-
 abbrev pub decreases-copies::clauses_copy : goal.decreases-copies::clauses_copy
 decreases-copies::clauses_copy l = 3 * clauses_size (clauses_of l.list.now)
-
-abbrev pub invariant-copies::clauses_copy-loop-at : goal.invariant-copies::clauses_copy-loop-at
-invariant-copies::clauses_copy-loop-at l = l.copied ≡ take l.at l.list
 
 abbrev pub decreases-copies::bindings_copy : goal.decreases-copies::bindings_copy
 decreases-copies::bindings_copy l = 3 * bindings_size (bindings_of l.list.now)
 
-abbrev pub invariant-copies::bindings_copy-loop-at : goal.invariant-copies::bindings_copy-loop-at
-invariant-copies::bindings_copy-loop-at l = l.copied ≡ take l.at l.list
-
 abbrev pub decreases-copies::dynamics_copy : goal.decreases-copies::dynamics_copy
 decreases-copies::dynamics_copy l = 3 * dynamics_size (dynamics_of l.list.now)
+
+abbrev pub invariant-copies::forms_copy-loop-at : goal.invariant-copies::forms_copy-loop-at
+invariant-copies::forms_copy-loop-at l = l.copied ≡ take l.at l.list
+
+abbrev pub invariant-copies::clauses_copy-loop-at : goal.invariant-copies::clauses_copy-loop-at
+invariant-copies::clauses_copy-loop-at l = l.copied ≡ take l.at l.list
+
+abbrev pub invariant-copies::bindings_copy-loop-at : goal.invariant-copies::bindings_copy-loop-at
+invariant-copies::bindings_copy-loop-at l = l.copied ≡ take l.at l.list
 
 abbrev pub invariant-copies::dynamics_copy-loop-at : goal.invariant-copies::dynamics_copy-loop-at
 invariant-copies::dynamics_copy-loop-at l = l.copied ≡ take l.at l.list

@@ -1,7 +1,7 @@
 -- What the machine's run says, as what a run of the program says.
 use Rattle.std.proofs.Common.{◌≤◌, [], length, ap, arith, refl}
 use Rattle.rv_machine.specs.Run.{IsNoFault}
-use Rattle.isl_top.specs.Limits.{arena_words}
+use Rattle.isl_top.specs.Limits.{usual_arena_words}
 use Rattle.isl_top.proofs.Ran.{Laws, built, whole, halted, spent, only, cut_off, cut_other, no_read_fault, no_fault, fed, unread}
 use Rattle.isl_top.proofs.run.run.Goals as goal
 
@@ -10,7 +10,7 @@ started-requires g c = record { fits = omega (arith, ap length c.in-Ok.ensures.c
 
 pub returns-in-Halt-clause-done : goal.returns-in-Halt-clause-done
 returns-in-Halt-clause-done g c =
-    let fits : length c.in-Ok.image.words ≤ arena_words = omega (arith, ap length c.in-Ok.ensures.code, c.requires.small) in
+    let fits : length c.in-Ok.image.words ≤ usual_arena_words = omega (arith, ap length c.in-Ok.ensures.code, c.requires.small) in
     let begin = c.in-Ok-started.ensures.state in
     let compiled = c.in-Ok.ensures.compiled in
     let feeds = fed c.args.program.now c.in-Ok.image compiled fits _ begin (g.S.Source.left c.args.input.now) c.args.steps in
@@ -22,12 +22,12 @@ returns-in-Halt-clause-done g c =
 
 pub returns-in-Halt-clause-input : goal.returns-in-Halt-clause-input
 returns-in-Halt-clause-input g c =
-    let fits : length c.in-Ok.image.words ≤ arena_words = omega (arith, ap length c.in-Ok.ensures.code, c.requires.small) in
+    let fits : length c.in-Ok.image.words ≤ usual_arena_words = omega (arith, ap length c.in-Ok.ensures.code, c.requires.small) in
     c.in-Halt.ensures.no_read tt [] (unread c.args.program.now c.in-Ok.image c.in-Ok.ensures.compiled fits _ c.in-Ok-started.ensures.state c.args.steps [])
 
 pub returns-in-Budget-clause-budget : goal.returns-in-Budget-clause-budget
 returns-in-Budget-clause-budget g c =
-    let fits : length c.in-Ok.image.words ≤ arena_words = omega (arith, ap length c.in-Ok.ensures.code, c.requires.small) in
+    let fits : length c.in-Ok.image.words ≤ usual_arena_words = omega (arith, ap length c.in-Ok.ensures.code, c.requires.small) in
     let begin = c.in-Ok-started.ensures.state in
     let compiled = c.in-Ok.ensures.compiled in
     let feeds = fed c.args.program.now c.in-Ok.image compiled fits _ begin (g.S.Source.left c.args.input.now) c.args.steps in
@@ -42,13 +42,13 @@ returns-in-Budget-clause-budget g c =
 
 pub returns-in-Budget-clause-input : goal.returns-in-Budget-clause-input
 returns-in-Budget-clause-input g c =
-    let fits : length c.in-Ok.image.words ≤ arena_words = omega (arith, ap length c.in-Ok.ensures.code, c.requires.small) in
+    let fits : length c.in-Ok.image.words ≤ usual_arena_words = omega (arith, ap length c.in-Ok.ensures.code, c.requires.small) in
     c.in-Budget.ensures.no_read tt [] (unread c.args.program.now c.in-Ok.image c.in-Ok.ensures.compiled fits _ c.in-Ok-started.ensures.state c.args.steps [])
 
 pub returns-in-WriteFault-clause-cut_off : goal.returns-in-WriteFault-clause-cut_off
 returns-in-WriteFault-clause-cut_off g c =
     let laws : Laws = record { printed = c.law_budget.ensures.printed; split = c.law_split.ensures } in
-    let fits : length c.in-Ok.image.words ≤ arena_words = omega (arith, ap length c.in-Ok.ensures.code, c.requires.small) in
+    let fits : length c.in-Ok.image.words ≤ usual_arena_words = omega (arith, ap length c.in-Ok.ensures.code, c.requires.small) in
     λ e. record {
       built = built c.args.program.now c.in-Ok.image c.in-Ok.ensures.compiled fits;
       printed = cut_off c.args.program.now c.in-Ok.image c.in-Ok.ensures.compiled fits _ c.in-Ok-started.ensures.state laws c.args.steps _ _ _ _ _ refl (c.in-WriteFault.ensures.write_fault refl);
@@ -56,13 +56,13 @@ returns-in-WriteFault-clause-cut_off g c =
 
 pub returns-in-WriteFault-clause-input : goal.returns-in-WriteFault-clause-input
 returns-in-WriteFault-clause-input g c =
-    let fits : length c.in-Ok.image.words ≤ arena_words = omega (arith, ap length c.in-Ok.ensures.code, c.requires.small) in
+    let fits : length c.in-Ok.image.words ≤ usual_arena_words = omega (arith, ap length c.in-Ok.ensures.code, c.requires.small) in
     cut_other c.args.program.now c.in-Ok.image c.in-Ok.ensures.compiled fits _ c.in-Ok-started.ensures.state c.args.steps _ _ _ _ _ refl (c.in-WriteFault.ensures.write_fault refl)
 
 pub unreachable-requires : goal.unreachable-requires
 unreachable-requires g c =
     let laws : Laws = record { printed = c.law_budget.ensures.printed; split = c.law_split.ensures } in
-    let fits : length c.in-Ok.image.words ≤ arena_words = omega (arith, ap length c.in-Ok.ensures.code, c.requires.small) in
+    let fits : length c.in-Ok.image.words ≤ usual_arena_words = omega (arith, ap length c.in-Ok.ensures.code, c.requires.small) in
     let begin = c.in-Ok-started.ensures.state in
     let compiled = c.in-Ok.ensures.compiled in
     let plain : IsNoFault c.run-ending.result =

@@ -1,0 +1,26 @@
+// Classes: definitions, and what is found of the classes that they make.
+
+mod definition;
+mod questions;
+
+use crate::inputs::command;
+use definition::define;
+use isl_base::{Datum, Names};
+use isl_classes::Classes;
+use isl_rows::Answer;
+use questions::ask;
+
+/// Definitions and questions, in order. A definition that is refused answers so.
+pub fn put(got: &mut Answer, names: &mut Names, data: &[Datum]) -> Option<()> {
+    let mut classes = got.kept(Classes::builtin(got.alloc, names))?;
+    for datum in data {
+        match command(names, datum)? {
+            ("class", parts) => define(got, names, &mut classes, datum.place, parts, false)?,
+            ("abstract-class", parts) => {
+                define(got, names, &mut classes, datum.place, parts, true)?;
+            }
+            (question, parts) => ask(got, names, &classes, question, parts)?,
+        }
+    }
+    Some(())
+}

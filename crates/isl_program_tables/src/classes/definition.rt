@@ -1,0 +1,72 @@
+// Definitions of classes as data.
+
+ghost use Rattle.std.specs.Prelude.{◌<◌, ◌↔◌, All, IsTrue, length};
+
+use crate::inputs::{items, name};
+use crate::slots::slot_row;
+use isl_base::{Datum, Names, Place};
+use isl_classes::{Classes, SlotSpec, SlotSpecs};
+use isl_meaning::{ClassId, ClassIds};
+use isl_rows::Answer;
+
+/// Puts a definition: a name, superclasses and slots.
+pub fn define(
+    got: &mut Answer,
+    names: &Names,
+    classes: &mut Classes,
+    place: Place,
+    parts: &[Datum],
+    abstract_class: bool,
+) -> Option<()> {
+    let [class, supers, slots] = parts else {
+        return None;
+    };
+    let class = name(class)?;
+    let supers = class_list(got, classes, items(supers)?)?;
+    let supers = supers.as_slice();
+    let slots = slot_specs(got, names, items(slots)?)?;
+    if classes.find(class).is_some() || !are_below(supers, classes.rows().len()) {
+        return None;
+    }
+    match classes.define(class, place, supers, &slots, abstract_class) {
+        Ok(_) => Some(()),
+        Err(stop) => {
+            got.begin();
+            got.put_stop(stop);
+            Some(())
+        }
+    }
+}
+
+/// Whether these are numbers of classes, of which there are so many.
+pub fn are_below(classes: &[ClassId], count: usize) -> bool
+    ensures { IsTrue result ↔ All (λ class. class < count) classes.now }
+{
+    classes.iter().all(|class| *class < count)
+}
+
+/// The classes of these names.
+pub fn class_list(got: &mut Answer, classes: &Classes, data: &[Datum]) -> Option<ClassIds> {
+    let mut list = ClassIds::new(got.alloc);
+    for datum in data {
+        let class = classes.find(name(datum)?)?;
+        got.add(&mut list, class);
+    }
+    Some(list)
+}
+
+// What a definition says of its slots: a name each, or a name with its options.
+fn slot_specs(got: &mut Answer, names: &Names, data: &[Datum]) -> Option<SlotSpecs> {
+    let mut slots = SlotSpecs::new(got.alloc);
+    for datum in data {
+        let slot = slot_row(got, names, datum)?;
+        let spec = SlotSpec {
+            place: datum.place,
+            name: slot.name,
+            initargs: slot.initargs,
+            initform: slot.initform,
+        };
+        got.add(&mut slots, spec);
+    }
+    Some(slots)
+}

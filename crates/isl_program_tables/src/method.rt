@@ -1,0 +1,25 @@
+// Methods as data.
+
+use crate::inputs::{found, id, ids, items, word};
+use isl_base::{Datum, Names};
+use isl_meaning::{MethodRow, Qualifier};
+use isl_rows::Answer;
+
+const QUALIFIERS: &[(&str, Qualifier)] = &[
+    ("primary", Qualifier::Primary),
+    ("around", Qualifier::Around),
+    ("before", Qualifier::Before),
+    ("after", Qualifier::After),
+];
+
+/// The method of a qualifier, classes and a procedure.
+pub fn method(got: &mut Answer, names: &Names, parts: &[Datum]) -> Option<MethodRow> {
+    let [kind, classes, procedure] = parts else {
+        return None;
+    };
+    Some(MethodRow {
+        qualifier: found(QUALIFIERS, word(names, kind)?)?,
+        classes: ids(got, items(classes)?)?,
+        procedure: id(procedure)?,
+    })
+}

@@ -1,0 +1,26 @@
+// Generic functions: which methods they take, and which of them a call runs.
+
+mod questions;
+mod setting;
+
+use crate::inputs::command;
+use isl_base::{Datum, Names};
+use isl_rows::Answer;
+use questions::ask;
+use setting::Setting;
+
+/// Classes, generic functions, methods and questions, in order. A method that is refused answers so.
+pub fn put(got: &mut Answer, names: &Names, data: &[Datum]) -> Option<()> {
+    let mut setting = Setting::nothing(got.alloc);
+    for datum in data {
+        let (head, parts) = command(names, datum)?;
+        match head {
+            "classes" => setting.take_classes(got, parts)?,
+            "flat" => setting.take_flat(got, parts)?,
+            "generic" => setting.define(got, names, parts)?,
+            "add" => setting.add(got, names, parts)?,
+            _ => ask(got, &setting, head, parts)?,
+        }
+    }
+    Some(())
+}

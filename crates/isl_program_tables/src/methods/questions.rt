@@ -1,0 +1,134 @@
+// What is asked of classes and generic functions.
+
+use crate::inputs::{id, ids, items};
+use crate::methods::setting::Setting;
+use isl_base::{Datum, ItemList};
+use isl_dispatch::{
+    Chain, applies, argument_groups, chain_length, generic_cells, is_below, tables, tuple_at,
+    tuple_count,
+};
+use isl_meaning::{ClassIds, GenericRow};
+use isl_rows::Answer;
+
+/// Puts a question.
+pub fn ask(got: &mut Answer, setting: &Setting, question: &str, parts: &[Datum]) -> Option<()> {
+    match (question, parts) {
+        ("cells", []) => {
+            let cells = got.kept(setting.generics.cells(got.alloc, &setting.classes))?;
+            got.push(cells);
+        }
+        ("below", [class, above]) => {
+            got.push_yes_no(is_below(&setting.classes, id(class)?, id(above)?));
+        }
+        ("applies", [tuple, method]) => {
+            let tuple = ids(got, items(tuple)?)?;
+            let method = ids(got, items(method)?)?;
+            got.push_yes_no(applies(&setting.classes, &tuple, &method));
+        }
+        ("tuples", lists) => push_tuples(got, lists)?,
+        ("find", [function]) => got.push_found(setting.generic(function)),
+        (_, [function, numbers @ ..]) => ask_generic(got, setting, question, function, numbers)?,
+        _ => return None,
+    }
+    Some(())
+}
+
+// How many tuples these lists have, and each tuple.
+fn push_tuples(got: &mut Answer, parts: &[Datum]) -> Option<()> {
+    let mut lists = ItemList::new(got.alloc);
+    for part in parts {
+        let list = ids(got, items(part)?)?;
+        got.add(&mut lists, list);
+    }
+    let count = tuple_count(&lists);
+    got.push(count);
+    if count > 1000 {
+        return Some(());
+    }
+    for index in 0..count {
+        let tuple = got.kept(tuple_at(got.alloc, &lists, count, index))?;
+        push_list(got, tuple.as_slice());
+    }
+    Some(())
+}
+
+// A question on the generic function of a name, with numbers behind it.
+fn ask_generic(
+    got: &mut Answer,
+    setting: &Setting,
+    question: &str,
+    function: &Datum,
+    numbers: &[Datum],
+) -> Option<()> {
+    let generic = setting.generic(function)?;
+    let row = setting.generics.rows().get(generic)?;
+    let numbers: ClassIds = ids(got, numbers)?;
+    match question {
+        "count" => got.push(row.methods.len()),
+        "cells-of" => {
+            let cells = got.kept(generic_cells(got.alloc, row, &setting.classes))?;
+            got.push(cells);
+        }
+        "groups" => push_groups(got, setting, generic, numbers.as_slice())?,
+        "length" => got.push(chain_length(row, &setting.classes, &numbers)),
+        "chain" => push_chain(got, setting, generic, numbers.as_slice())?,
+        _ => return None,
+    }
+    Some(())
+}
+
+// The first class of each group at an argument, the group of each class, and whether the argument
+// is specialised.
+fn push_groups(
+    got: &mut Answer,
+    setting: &Setting,
+    generic: usize,
+    numbers: &[usize],
+) -> Option<()> {
+    let [argument] = numbers else {
+        return None;
+    };
+    let row = setting.generics.rows().get(generic)?;
+    let groups = got.kept(argument_groups(got.alloc, row, *argument, &setting.classes))?;
+    push_list(got, groups.firsts.as_slice());
+    push_list(got, groups.numbers.as_slice());
+    got.push_yes_no(groups.specialised);
+    Some(())
+}
+
+// The chain of a call, by the tables of all generic functions.
+fn push_chain(
+    got: &mut Answer,
+    setting: &Setting,
+    generic: usize,
+    classes: &[usize],
+) -> Option<()> {
+    if setting.generics.cells(got.alloc, &setting.classes).ok()? > 262_144 {
+        return None;
+    }
+    let tables = got.kept(tables(got.alloc, setting.generics.rows(), &setting.classes))?;
+    match tables.chain(generic, classes) {
+        Some(chain) => push_methods(got, chain),
+        None => got.push("none"),
+    }
+    Some(())
+}
+
+// The around, before, primary and after methods.
+fn push_methods(got: &mut Answer, chain: &Chain) {
+    got.push("(");
+    got.put_list(chain.around.as_slice());
+    got.put(" ");
+    got.put_list(chain.before.as_slice());
+    got.put(" ");
+    got.put_list(chain.primary.as_slice());
+    got.put(" ");
+    got.put_list(chain.after.as_slice());
+    got.put(")");
+}
+
+// A list of numbers more.
+fn push_list(got: &mut Answer, numbers: &[usize]) {
+    got.begin();
+    got.put_list(numbers);
+}

@@ -1,0 +1,30 @@
+// Programs: their rows and core forms as data, and what is said of them.
+
+mod built_in;
+mod forms;
+mod lambda;
+mod primitives;
+mod questions;
+mod rows;
+
+use crate::inputs::command;
+use built_in::no_rows;
+use isl_base::{Datum, Names};
+use isl_rows::Answer;
+use questions::ask;
+use rows::take;
+
+/// Rows of a program behind those of the built-in classes, and questions, in order.
+pub fn put(got: &mut Answer, names: &mut Names, data: &[Datum]) -> Option<()> {
+    let mut rows = no_rows(got, names)?;
+    for datum in data {
+        let (head, parts) = command(names, datum)?;
+        match head {
+            "whole" | "nodes" | "frame" | "depth" | "arity" => {
+                ask(got, names, &rows, head, parts)?;
+            }
+            _ => take(got, names, &mut rows, head, parts)?,
+        }
+    }
+    Some(())
+}

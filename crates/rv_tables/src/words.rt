@@ -1,0 +1,22 @@
+// Words of the machine and the instructions that they are, both ways.
+
+use isl_rows::Answer;
+use rv_encode::{decode, encode};
+
+/// A word in hexadecimal, and behind it the text of which an assembler made it. The answer is the
+/// instruction or `none`, and the word of that instruction where it is another.
+pub fn put(got: &mut Answer, line: &str) -> Option<()> {
+    let (digits, _) = line.split_once(' ').unwrap_or((line, ""));
+    let word = u32::from_str_radix(digits, 16).ok()?;
+    let Some(instr) = decode(word) else {
+        got.put("none");
+        return Some(());
+    };
+    got.put_debug(&instr);
+    let back = encode(instr);
+    if back != word {
+        got.put(" is ");
+        got.put_word(back);
+    }
+    Some(())
+}
