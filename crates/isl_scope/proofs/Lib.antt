@@ -7,3 +7,5 @@ pub mod MakingLists
 pub mod MakingFound
 pub mod MakingGroups
 pub mod MakingEnds
+pub mod GoodParts
+pub mod Later
