@@ -8,4 +8,8 @@ pub mod MakingFound
 pub mod MakingGroups
 pub mod MakingEnds
 pub mod GoodParts
+pub mod SoundParts
+pub mod SoundForms
+pub mod SoundBinders
+pub mod SoundRows
 pub mod Later
