@@ -1,5 +1,5 @@
 -- What shapes give of good data: parts that are good data too.
-use Rattle.std.specs.Prelude.{ℕ, List, [], ◌∷◌, ◌++◌, Option, Some, None, Bool, true, false, if◌then◌else◌}
+use Rattle.std.specs.Prelude.{ℕ, List, [], ◌∷◌, Option, Some, None, Bool, true, false}
 use Rattle.isl_base.specs.declared.place.Place.{Place}
 use Rattle.isl_base.specs.declared.datum.Symbol.{Symbol}
 use Rattle.isl_base.specs.Data.{Item, item, integer, character, symbol, string, vector, nil, list, Items, no_item, item_and, items_list, Tail, no_tail, dotted}

@@ -1,6 +1,6 @@
 -- The node of a datum that is no derived form stays the same under every later table of names.
 use Rattle.std.proofs.Common.{◌≡◌, List, [], ◌∷◌, length, refl, ap, ◌∙◌}
-use Rattle.std.specs.Prelude.{ℕ, Bool, true, false, ◌||◌, Option, Some, None, if◌then◌else◌}
+use Rattle.std.specs.Prelude.{ℕ, Bool, ◌||◌, Option, Some, None, if◌then◌else◌}
 use Rattle.isl_base.specs.declared.place.Place.{Place}
 use Rattle.isl_base.specs.declared.datum.Symbol.{Symbol}
 use Rattle.isl_base.specs.Names.{Extends}
@@ -14,13 +14,12 @@ use Rattle.isl_scope.specs.declared.special.Special.{Special}
 use Rattle.isl_scope.specs.declared.special.Special.TheVariants as name
 use Rattle.isl_scope.specs.declared.tables.Tables.{Tables}
 use Rattle.isl_scope.specs.Names.{function_of}
-use Rattle.isl_scope.specs.Nodes.{Around, Node, offends}
-use Rattle.isl_scope.specs.RowWords.{bad_shape}
+use Rattle.isl_scope.specs.Nodes.{Around, offends}
 use Rattle.isl_scope.specs.BindingRows.{with_functions_row}
 use Rattle.isl_scope.specs.DefiningRows.{defun_row}
 use Rattle.isl_scope.specs.CallRows.{all_parts}
 use Rattle.isl_base.specs.declared.reason.Reason.TheVariants.{NotAForm}
-use Rattle.isl_scope.specs.Rows.{kept_text, reserved_text, first_reserved, first_kept, some_kept, functions_kept, special_row, special_node, without_dot, call_as, special_of, headed_as, headed, is_lambda_name, is_lambda_items, is_lambda, headed_by_form, headed_by, list_node, plain_node}
+use Rattle.isl_scope.specs.Rows.{kept_text, reserved_text, first_reserved, first_kept, some_kept, functions_kept, special_row, special_node, without_dot, call_as, special_of, headed_as, headed, is_lambda_name, is_lambda_items, is_lambda, headed_by_form, list_node, plain_node}
 use Rattle.isl_scope.proofs.GoodParts.{MaybeGood, good_parts, good_list}
 
 -- the name of a datum and of a symbol

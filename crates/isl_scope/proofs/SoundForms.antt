@@ -1,5 +1,5 @@
 -- The rows of variables, values, exits and calls have sound parts.
-use Rattle.std.proofs.Common.{◌≡◌, ℕ, ◌+◌, ◌<◌, ◌≤◌, Bool, true, false, ◌||◌, List, [], ◌∷◌, ◌++◌, Option, Some, None, is_some, if◌then◌else◌, refl, arith}
+use Rattle.std.proofs.Common.{◌≡◌, ℕ, ◌+◌, ◌<◌, ◌≤◌, Bool, true, false, ◌||◌, List, [], ◌∷◌, Option, Some, None, is_some, if◌then◌else◌, refl, arith}
 use Rattle.std.specs.List.{list_any}
 use Rattle.isl_base.specs.declared.place.Place.{Place}
 use Rattle.isl_base.specs.declared.datum.Name.{Name}
@@ -19,12 +19,12 @@ use Rattle.isl_scope.specs.declared.making.Two.{Two}
 use Rattle.isl_scope.specs.declared.making.WithBody.{WithBody}
 use Rattle.isl_scope.specs.declared.making.Making.{Making}
 use Rattle.isl_scope.specs.Names.{variable_of, function_of, block_of, tag_of}
-use Rattle.isl_scope.specs.Nodes.{Around, Node, with_bound}
+use Rattle.isl_scope.specs.Nodes.{Around, with_bound}
 use Rattle.isl_scope.specs.Shapes.{symbol_of, name_of, is_true, all_differ, tags_in, forms_in, ClauseParts, clauses_in}
 use Rattle.isl_scope.specs.RowWords.{deeper, deeper_at_top, no_such, each_below}
-use Rattle.isl_scope.specs.ValueRows.{free_symbol, symbol_as, symbol_node, quote_row, is_constant, one_part, set_free, set_as, set_symbol, set_datum, setq_row, progn_row, clause_length, clause_parts, own_depth, cond_as, cond_row, two_parts, two_row, body_row, dynamic_name, dynamic_as, dynamic_row, set_dynamic_as, set_dynamic_row, function_named, function_as, function_symbol, function_row, method_row, class_of, class_symbol, class_datum, class_row}
+use Rattle.isl_scope.specs.ValueRows.{free_symbol, symbol_as, symbol_node, quote_row, is_constant, one_part, set_free, set_as, set_datum, setq_row, progn_row, clause_length, clause_parts, own_depth, cond_as, cond_row, two_row, body_row, dynamic_name, dynamic_as, dynamic_row, set_dynamic_as, set_dynamic_row, function_named, function_as, function_symbol, function_row, method_row, class_of, class_symbol, class_datum, class_row}
 use Rattle.isl_scope.specs.ExitRows.{block_as, block_row, return_to_exit, return_as, return_from_row, tagbody_row, go_to, go_as, go_row}
-use Rattle.isl_scope.specs.CallRows.{all_parts, local_call, call_making, named_call}
+use Rattle.isl_scope.specs.CallRows.{all_parts, local_call}
 use Rattle.isl_scope.specs.Sound.{weight, AllSound, SoundNode}
 use Rattle.isl_scope.proofs.GoodParts.{GoodClauses, MaybeClauses, good_clauses, good_forms}
 use Rattle.isl_scope.proofs.SoundParts.{weight_deeper, weight_below, weight_at_top, sound_if, sound_within, sound_unsited, sound_literal, sound_at_once, both_sound, forms_sound, below_sound, inner_sound}

@@ -11,9 +11,9 @@ use Rattle.isl_meaning.specs.declared.program.LiteralRow.{LiteralRow}
 use Rattle.isl_meaning.specs.Form.{Form}
 use Rattle.isl_scope.specs.declared.spot.Spot.{Spot}
 use Rattle.isl_scope.specs.declared.tables.Tables.{Tables}
-use Rattle.isl_scope.specs.Nodes.{Around, Part, form, below, inner, bind, parameter, Node, offends, steps, whole}
+use Rattle.isl_scope.specs.Nodes.{Around, Part, Node, offends}
 use Rattle.isl_scope.specs.Shapes.{Pair}
-use Rattle.isl_scope.specs.RowWords.{deeper_spot, deeper_at_top_spot, alone_spot, deeper, within_depth, made_at_once, unsited, literal_node, each_form, each_below, each_inner, each_bound, each_parameter}
+use Rattle.isl_scope.specs.RowWords.{deeper_spot, deeper_at_top_spot, alone_spot, within_depth, made_at_once, unsited, literal_node, each_form, each_below, each_inner, each_bound, each_parameter}
 use Rattle.isl_scope.specs.Sound.{weight, AllSound, SoundNode}
 use Rattle.isl_scope.proofs.GoodParts.{GoodPairs}
 

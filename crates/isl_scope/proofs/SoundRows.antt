@@ -1,7 +1,6 @@
 -- Every row of good data has sound parts, so judging ends.
 use Rattle.std.specs.Prelude.{ℕ, true, false, List, [], ◌∷◌, Option, Some, None, length}
 use Rattle.isl_base.specs.declared.place.Place.{Place}
-use Rattle.isl_base.specs.declared.datum.Name.{Name}
 use Rattle.isl_base.specs.declared.datum.Symbol.{Symbol}
 use Rattle.isl_base.specs.declared.datum.Symbol.TheVariants.{Named, Fresh}
 use Rattle.isl_base.specs.Data.{Item, item, integer, character, symbol, string, vector, nil, list, items_list, Tail, no_tail, dotted}
@@ -20,7 +19,7 @@ use Rattle.isl_scope.specs.Names.{function_of}
 use Rattle.isl_scope.specs.Nodes.{Around, Node}
 use Rattle.isl_scope.specs.Shapes.{symbol_of}
 use Rattle.isl_scope.specs.CallRows.{call_making}
-use Rattle.isl_scope.specs.Rows.{first_reserved, functions_kept, special_row, special_node, without_dot, call_named, call_symbol, call_as, special_of, headed_as, is_lambda, headed_by_form, headed_by, list_node, plain_node}
+use Rattle.isl_scope.specs.Rows.{first_reserved, functions_kept, special_row, special_node, without_dot, call_symbol, call_as, special_of, headed_as, is_lambda, headed_by_form, headed_by, list_node, plain_node}
 use Rattle.isl_scope.specs.Sound.{weight, SoundNode}
 use Rattle.isl_scope.proofs.GoodParts.{good_list}
 use Rattle.isl_scope.proofs.SoundParts.{sound_if, sound_literal}

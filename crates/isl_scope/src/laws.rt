@@ -1,10 +1,6 @@
 // Laws of what forms stand for.
 
-ghost use Rattle.std.specs.Prelude.{◌≡◌, ℕ, List, length};
-ghost use Rattle.isl_base.specs.Names.{Extends};
-ghost use Rattle.isl_base.specs.GoodData.{Good};
-ghost use Rattle.isl_scope.specs.Rows.{plain_node};
-ghost use Rattle.isl_scope.specs.Sound.{weight, SoundNode};
+ghost use Rattle.std.specs.Prelude.{◌≡◌, ℕ, List};
 ghost use Rattle.isl_base.specs.Names.{IsTable};
 ghost use Rattle.isl_base.specs.Data.{Item};
 ghost use Rattle.isl_scope.specs.declared.tables.Tables.{Tables};
@@ -21,18 +17,4 @@ pub fn law_one_verdict()
         Comes names (node names a s d) v → Comes names (node names a s d) w → v ≡ w }
 {
     law_one_step();
-}
-
-/// For the time being.
-pub fn law_later()
-    ensures { (old new : List (List ℕ)) (a : Around) (s : Tables) (d : Item) → Extends old new → Good (length old) d →
-        plain_node old a s d ≡ plain_node new a s d }
-{
-}
-
-/// For the time being.
-pub fn law_sound()
-    ensures { (names : List (List ℕ)) (n : ℕ) (a : Around) (s : Tables) (d : Item) → Good n d →
-        SoundNode n (weight a.spot) (plain_node names a s d) }
-{
 }
