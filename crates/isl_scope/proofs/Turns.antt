@@ -36,9 +36,9 @@ turn names more o i s xs rs i2 t y ys i3 u rs2 e h p = record {
   under = λ later f w g.
       let here : Goes later o (behind i2 t y) u ys w = subst (λ (j : Around). Goes later o j u ys w) p.around g in
       let all : Goes later o i s xs (all_in_front rs (in_front (recorded t y p.form) w)) =
-          h.under later (Extends-then names more later e f) _ (goes o i2 t y ys (record { form = p.form; tables = u }) w (p.part.under later f) here) in
+      h.under later (Extends-then names more later e f) _ (goes o i2 t y ys (record { form = p.form; tables = u }) w (p.part.under later f) here) in
       let same : all_in_front rs2 w ≡ all_in_front rs (in_front (recorded t y p.form) w) =
-          ap (λ qs. all_in_front qs w) p.found ∙ front_more rs (recorded t y p.form) w in
+      ap (λ qs. all_in_front qs w) p.found ∙ front_more rs (recorded t y p.form) w in
       subst (λ v. Goes later o i s xs v) (sym same) all;
 }
 

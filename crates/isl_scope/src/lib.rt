@@ -3,7 +3,6 @@
 
 pub mod bound;
 mod here;
-mod judge;
 pub mod laws;
 mod make;
 pub mod making;
