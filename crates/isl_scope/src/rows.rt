@@ -1,0 +1,8 @@
+// The row of each form: what a datum is where it stands, before its parts are judged.
+
+pub(crate) mod bindings;
+pub(crate) mod calls;
+pub(crate) mod defining;
+pub(crate) mod exits;
+pub(crate) mod forms;
+pub(crate) mod values;

@@ -1,0 +1,45 @@
+// What the forms judged so far gave.
+
+use isl_base::{FreshList, ItemList, Name, NameList, PlaceList};
+use isl_classes::Classes;
+use isl_meaning::{CoreList, ExitVar, FunctionRows, LiteralRows, Procedure, Var};
+
+/// The names that no variable has: `t`, and the two words in front of a rest variable.
+#[derive(Clone, Copy, Debug, PartialEq, Eq)]
+pub struct ReservedWords {
+    pub truth: Name,
+    pub rest: Name,
+    pub and_rest: Name,
+}
+
+/// A global variable that was defined, and whether it is a constant (ISO/IEC 13816:2007, 12.8).
+#[derive(Clone, Copy, Debug, PartialEq, Eq)]
+pub struct GlobalRow {
+    pub name: Name,
+    pub constant: bool,
+}
+
+/// Procedures; one whose parts are still being judged has its number and nothing else.
+pub type MaybeProcedures = ItemList<Option<Procedure>>;
+
+/// What the forms judged so far gave: rows of a program, names that were defined or set, the new
+/// symbols of steps, and the numbers of the next variable and the next exit.
+#[derive(Drop)]
+pub struct Tables {
+    pub words: ReservedWords,
+    pub literals: LiteralRows,
+    pub procedures: MaybeProcedures,
+    pub functions: FunctionRows,
+    /// The functions that the prelude defined.
+    pub prelude: NameList,
+    pub classes: Classes,
+    pub globals: ItemList<GlobalRow>,
+    /// The global variables that a form sets.
+    pub set: NameList,
+    pub dynamics: NameList,
+    pub sites: PlaceList,
+    pub fresh: FreshList,
+    pub variables: Var,
+    pub exits: ExitVar,
+    pub main: CoreList,
+}
