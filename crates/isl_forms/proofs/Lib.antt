@@ -1,0 +1,4 @@
+pub mod Lists
+pub mod Choices
+pub mod Shaping
+pub mod Settling

@@ -1,0 +1,56 @@
+-- Each step leads on, and the last datum is no derived form.
+use Rattle.std.proofs.lemmas.Result.{err_from_is_err_and}
+use Rattle.isl_profile.specs.Promises.{settled_datum}
+use Rattle.isl_forms.proofs.Settling.{with_symbols, led_same, led_step, Ended, led_ends, Stopped, led_stops}
+use Rattle.isl_forms.proofs.settle.settle.Goals as goal
+
+pub loop-found-init : goal.loop-found-init
+loop-found-init c = led_same c.args.names.now c.args.tables.now c.args.datum.now c.requires.good
+
+pub derive-requires-clause-formed : goal.derive-requires-clause-formed
+derive-requires-clause-formed c = rw c.last_datum-last.ensures c.loop-found.invariant.good.formed
+
+pub derive-requires-clause-named : goal.derive-requires-clause-named
+derive-requires-clause-named c = rw c.last_datum-last.ensures c.loop-found.invariant.good.named
+
+pub loop-found-preserved : goal.loop-found-preserved
+loop-found-preserved c =
+    let h = c.in_ok-derive.ensures in
+    led_step _ _ _ _ _ c.loop-found.tables _ _ _ _ c.derive.new.fresh c.loop-found.invariant c.last_datum-last.ensures c.in-Derived.is
+    h.names h.step_stays h.whole
+
+ended : (c : goal.In-Plain) → Ended c.args.names.now c.derive.new.names c.args.tables.now c.args.datum.now
+    (with_symbols c.derive.new.fresh c.loop-found.tables) (settled_datum c.loop-found.found c.args.datum.now)
+ended c =
+    let h = c.in_ok-derive.ensures in
+    led_ends _ _ _ _ _ c.loop-found.tables _ _ _ c.derive.new.fresh c.loop-found.invariant c.last_datum-last.ensures c.in-Plain.is
+    h.names h.step_stays
+
+pub returns-in-Plain-clause-settles : goal.returns-in-Plain-clause-settles
+returns-in-Plain-clause-settles c = (ended c).settles
+
+pub returns-in-Plain-clause-good : goal.returns-in-Plain-clause-good
+returns-in-Plain-clause-good c = (ended c).good
+
+pub returns-in-Plain-clause-names : goal.returns-in-Plain-clause-names
+returns-in-Plain-clause-names c = (ended c).later
+
+pub returns-in-Plain-clause-grows : goal.returns-in-Plain-clause-grows
+returns-in-Plain-clause-grows c = (ended c).grows
+
+stopped : (c : goal.Joined-found) → Stopped c.args.names.now c.derive.new.names c.args.tables.now c.args.datum.now
+    (with_symbols c.derive.new.fresh c.loop-found.tables) c.in_err-derive.field-0.0
+stopped c =
+    let h = c.in_err-derive.ensures in
+    led_stops _ _ _ _ _ c.loop-found.tables _ _ _ c.derive.new.fresh c.loop-found.invariant c.last_datum-last.ensures
+    h.names h.stop_stays h.fresh
+
+pub returns-in_err-derive-clause-stops : goal.returns-in_err-derive-clause-stops
+returns-in_err-derive-clause-stops c =
+    let p = err_from_is_err_and c.from_residual.result c.from_residual.ensures.1 in rw (p.1, p.2) (stopped c).stops
+
+pub returns-in_err-derive-clause-names : goal.returns-in_err-derive-clause-names
+returns-in_err-derive-clause-names c = (stopped c).later
+
+pub returns-in_err-derive-clause-grows : goal.returns-in_err-derive-clause-grows
+returns-in_err-derive-clause-grows c = (stopped c).grows

@@ -1,0 +1,15 @@
+// What a form is before its parts are judged: an offence, or its parts and how its core form is made.
+#![tactic(auto)]
+
+mod bound;
+pub mod here;
+pub mod plan;
+mod primitives;
+mod rows;
+pub mod settle;
+mod shapes;
+
+pub use here::{Here, deeper};
+pub use plan::{Inner, Part, Parts, Plan, Work};
+pub use rows::forms::plain_plan;
+pub use settle::settle;

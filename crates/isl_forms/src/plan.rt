@@ -1,0 +1,114 @@
+// What a form comes to before its parts are judged: an offence, or the work that its parts are.
+
+ghost use Rattle.std.specs.Prelude.{◌≡◌, ◌++◌, ◌∷◌, [], IfOk, OnOk, map};
+ghost use Rattle.isl_forms.specs.Views.{at, shown, view_part, view_parts, view_inner, view_pairs, data_of};
+ghost use Rattle.isl_profile.specs.Nodes.{form};
+ghost use Rattle.isl_profile.specs.RowWords.{bad_shape, each_form, each_below, each_inner, each_bound, each_parameter};
+
+use crate::shapes::PairList;
+use isl_base::{Datum, FreshList, ItemList, NoMemory, Place, Reason, Symbol};
+use isl_profile::{BoundList, Made, Spot};
+use std::alloc::Global;
+
+/// A part that stands where the whole stands: a form, a form of a body there, a variable with its
+/// value, or a parameter.
+#[derive(Drop)]
+pub enum Part<'a> {
+    Form(&'a Datum),
+    Below(&'a Datum),
+    Bind(Symbol, &'a Datum),
+    Parameter(Symbol),
+}
+
+/// Such parts.
+pub type Parts<'a> = ItemList<Part<'a>>;
+
+/// Forms that stand inside.
+pub type Inner<'a> = ItemList<&'a Datum>;
+
+/// The parts of a core form: those outside come first, and then the forms inside, where what the form
+/// binds is bound, these things and the variables among the parts.
+#[derive(Drop)]
+pub struct Work<'a> {
+    pub outside: Spot,
+    pub inside: Spot,
+    pub binds: BoundList,
+    pub parts: Parts<'a>,
+    pub inner: Inner<'a>,
+    pub made: Made,
+}
+
+/// An offence of the form itself, or its parts.
+#[derive(Drop)]
+pub enum Plan<'a> {
+    Offends(Place, Reason),
+    Whole(Work<'a>),
+}
+
+/// Appends a form that stands where the whole stands.
+pub(crate) fn push_form<'a>(parts: &mut Parts<'a>, datum: &'a Datum) -> Result<(), NoMemory>
+    ensures { OnOk result (view_parts parts.new ≡ view_parts parts.old ++ form datum.now ∷ []) }
+{
+    parts.push(Part::Form(datum))
+}
+
+/// One form that stands where the whole stands.
+pub(crate) fn one_form<'a>(alloc: Global, datum: &'a Datum) -> Result<Parts<'a>, NoMemory>
+    ensures { IfOk result (λ parts. view_parts parts ≡ form datum.now ∷ []) }
+{
+    let mut parts = Parts::new(alloc);
+    parts.push(Part::Form(datum))?;
+    Ok(parts)
+}
+
+/// Appends forms that stand where the whole stands.
+pub(crate) fn push_forms<'a>(parts: &mut Parts<'a>, items: &'a [Datum]) -> Result<(), NoMemory>
+    ensures { OnOk result (view_parts parts.new ≡ view_parts parts.old ++ each_form items.now) }
+{
+    for item in items {
+        parts.push(Part::Form(item))?;
+    }
+    Ok(())
+}
+
+/// Appends forms of a body there.
+pub(crate) fn push_below<'a>(parts: &mut Parts<'a>, items: &'a [Datum]) -> Result<(), NoMemory>
+    ensures { OnOk result (view_parts parts.new ≡ view_parts parts.old ++ each_below items.now) }
+{
+    for item in items {
+        parts.push(Part::Below(item))?;
+    }
+    Ok(())
+}
+
+/// The forms that stand inside.
+pub(crate) fn inner_forms<'a>(alloc: Global, items: &'a [Datum]) -> Result<Inner<'a>, NoMemory>
+    ensures { IfOk result (λ inner. view_inner inner ≡ each_inner items.now) }
+{
+    let mut inner = Inner::new(alloc);
+    for item in items {
+        inner.push(item)?;
+    }
+    Ok(inner)
+}
+
+/// Variables with their values.
+pub(crate) fn bound_parts<'a>(alloc: Global, pairs: &PairList<'a>) -> Result<Parts<'a>, NoMemory>
+    ensures { IfOk result (λ parts. view_parts parts ≡ each_bound (view_pairs pairs.now)) }
+{
+    let mut parts = Parts::new(alloc);
+    for pair in pairs.as_slice() {
+        parts.push(Part::Bind(pair.name, pair.datum))?;
+    }
+    Ok(parts)
+}
+
+/// Appends parameters.
+pub(crate) fn push_parameters(parts: &mut Parts, symbols: &FreshList) -> Result<(), NoMemory>
+    ensures { OnOk result (view_parts parts.new ≡ view_parts parts.old ++ each_parameter symbols.now) }
+{
+    for symbol in symbols.as_slice() {
+        parts.push(Part::Parameter(*symbol))?;
+    }
+    Ok(())
+}

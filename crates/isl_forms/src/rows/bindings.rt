@@ -1,0 +1,218 @@
+// The rows of forms that bind: variables, dynamic variables, functions and local functions.
+
+ghost use Rattle.std.specs.Prelude.{◌≡◌, ◌+◌, ◌<◌, ◌++◌, ◌∷◌, [], Some, None, IfOk, OnOk, map};
+ghost use Rattle.isl_profile.specs.RowWords as word;
+ghost use Rattle.isl_profile.specs.BindingRows as row;
+ghost use Rattle.isl_profile.specs.Shapes as shape;
+ghost use Rattle.isl_profile.specs.Shapes.{symbol_of, pairs_in, parameters_in};
+ghost use Rattle.isl_forms.specs.Views.{at, shown, view_parts, view_inner, view_pairs};
+ghost use Rattle.isl_profile.specs.Marks.{Grows};
+
+use crate::bound::{parts_around, variable_of};
+use crate::here::{Bindings, Here, deeper, fits_depth, made_of, made_plain, offence};
+use crate::plan::{
+    Inner, Parts, Plan, bound_parts, inner_forms, push_below, push_form, push_parameters,
+};
+use crate::shapes::{PairList, all_symbols, name_of, pairs_in, parameters_in, symbol_of};
+use isl_base::{Datum, NameList, NoMemory, Reason};
+use isl_profile::{Bound, BoundList, Making, Parameters, Tables};
+
+/// `(let ((v x)*) f*)`
+pub(crate) fn let_plan<'a>(
+    here: Here,
+    tables: &mut Tables,
+    items: &'a [Datum],
+) -> Result<Plan<'a>, NoMemory>
+    ensures plan { IfOk result (λ plan. shown here.entry.bound.now tables.new plan
+        ≡ row.let_row (at here.entry.bound.now here.entry.spot) tables.old here.entry.place items.now) }
+    ensures grows { Grows tables.old tables.new }
+{
+    let [list, forms @ ..] = items else {
+        return Ok(offence(here.place, Reason::BadShape));
+    };
+    if !fits_depth(here.spot, 2) {
+        return Ok(offence(here.place, Reason::DepthLimit));
+    }
+    let Some(pairs) = pairs_in(here.alloc, tables.words, list)? else {
+        return Ok(offence(list.place, Reason::BadBinding));
+    };
+    let parts = bound_parts(here.alloc, &pairs)?;
+    let inner = inner_forms(here.alloc, forms)?;
+    let inside = deeper(here.spot, 2);
+    made_plain(here, tables, inside, parts, inner, Making::OfVariables)
+}
+
+// The names of these bindings, none where one has no name.
+fn names_of(here: Here, pairs: &PairList) -> Result<Option<NameList>, NoMemory>
+    ensures { IfOk result (λ names. names ≡ row.names_of (view_pairs pairs.now)) }
+{
+    let mut names = NameList::new(here.alloc);
+    for pair in pairs.as_slice() {
+        let Some(name) = name_of(pair.name) else {
+            return Ok(None);
+        };
+        names.push(name)?;
+    }
+    Ok(Some(names))
+}
+
+// Their values.
+fn values_of<'a>(here: Here, pairs: &PairList<'a>) -> Result<Parts<'a>, NoMemory>
+    ensures { IfOk result (λ parts. view_parts parts ≡ row.values_of (view_pairs pairs.now)) }
+{
+    let mut parts = Parts::new(here.alloc);
+    for pair in pairs.as_slice() {
+        push_form(&mut parts, pair.datum)?;
+    }
+    Ok(parts)
+}
+
+// Dynamic variables of these names, bound to these values round a body.
+fn dynamics<'a>(
+    here: Here,
+    tables: &mut Tables,
+    pairs: &PairList<'a>,
+    names: NameList,
+    forms: &'a [Datum],
+) -> Result<Plan<'a>, NoMemory>
+    ensures plan { IfOk result (λ plan. shown here.entry.bound.now tables.new plan
+        ≡ row.dynamics_as (at here.entry.bound.now here.entry.spot) tables.old here.entry.place forms.now (view_pairs pairs.now) (Some names)) }
+    ensures grows { Grows tables.old tables.new }
+{
+    if !fits_depth(here.spot, 2) {
+        return Ok(offence(here.place, Reason::DepthLimit));
+    }
+    let mut parts = values_of(here, pairs)?;
+    push_below(&mut parts, forms)?;
+    let inside = deeper(here.spot, 1);
+    let inner = Inner::new(here.alloc);
+    made_plain(
+        here,
+        tables,
+        inside,
+        parts,
+        inner,
+        Making::OfDynamics(names),
+    )
+}
+
+/// `(dynamic-let ((v x)*) f*)`: dynamic variables have names.
+pub(crate) fn dynamic_let_plan<'a>(
+    here: Here,
+    tables: &mut Tables,
+    items: &'a [Datum],
+) -> Result<Plan<'a>, NoMemory>
+    ensures plan { IfOk result (λ plan. shown here.entry.bound.now tables.new plan
+        ≡ row.dynamic_let_row (at here.entry.bound.now here.entry.spot) tables.old here.entry.place items.now) }
+    ensures grows { Grows tables.old tables.new }
+{
+    let [list, forms @ ..] = items else {
+        return Ok(offence(here.place, Reason::BadShape));
+    };
+    let Some(pairs) = pairs_in(here.alloc, tables.words, list)? else {
+        if !fits_depth(here.spot, 2) {
+            return Ok(offence(here.place, Reason::DepthLimit));
+        }
+        return Ok(offence(list.place, Reason::BadBinding));
+    };
+    match names_of(here, &pairs)? {
+        Some(names) => dynamics(here, tables, &pairs, names, forms),
+        None => Ok(offence(here.place, Reason::BadShape)),
+    }
+}
+
+/// The variables of a lambda list, as parts.
+pub(crate) fn parameter_parts<'a>(
+    here: Here,
+    parameters: &Parameters,
+) -> Result<Parts<'a>, NoMemory>
+    ensures { IfOk result (λ parts. view_parts parts ≡ word.each_parameter (shape.all_symbols parameters.now)) }
+{
+    let symbols = all_symbols(here.alloc, parameters)?;
+    let mut parts = Parts::new(here.alloc);
+    push_parameters(&mut parts, &symbols)?;
+    Ok(parts)
+}
+
+/// `(lambda lambda-list f*)`
+pub(crate) fn lambda_plan<'a>(
+    here: Here,
+    tables: &mut Tables,
+    items: &'a [Datum],
+) -> Result<Plan<'a>, NoMemory>
+    ensures plan { IfOk result (λ plan. shown here.entry.bound.now tables.new plan
+        ≡ row.lambda_row (at here.entry.bound.now here.entry.spot) tables.old here.entry.place items.now) }
+    ensures grows { Grows tables.old tables.new }
+{
+    let [list, forms @ ..] = items else {
+        return Ok(offence(here.place, Reason::BadShape));
+    };
+    if !fits_depth(here.spot, 2) {
+        return Ok(offence(here.place, Reason::DepthLimit));
+    }
+    let Some(parameters) = parameters_in(here.alloc, tables.words, list)? else {
+        return Ok(offence(list.place, Reason::BadBinding));
+    };
+    let parts = parameter_parts(here, &parameters)?;
+    let inner = inner_forms(here.alloc, forms)?;
+    let around = parts_around(here.alloc, here.bound, here.spot.in_method)?;
+    let making = Making::OfFunction(parameters.required.len(), parameters.rest.is_some(), around);
+    let inside = deeper(here.spot, 2);
+    made_plain(here, tables, inside, parts, inner, making)
+}
+
+// The local functions of a list, each the value of a variable around; none where one is not.
+fn functions_of(here: Here, pairs: &PairList) -> Result<Option<BoundList>, NoMemory>
+    ensures { IfOk result (λ functions. functions ≡ row.functions_of (at here.entry.bound.now here.entry.spot) (view_pairs pairs.now)) }
+{
+    let mut functions = BoundList::new(here.alloc);
+    for pair in pairs.as_slice() {
+        let Some(symbol) = symbol_of(pair.datum) else {
+            return Ok(None);
+        };
+        let Some(variable) = variable_of(here.bound, symbol) else {
+            return Ok(None);
+        };
+        functions.push(Bound::Function(pair.name, variable))?;
+    }
+    Ok(Some(functions))
+}
+
+/// `(%with-functions ((g v)*) f*)`: in the body each g is the function that is the value of the variable
+/// v. The language keeps one of these names or not.
+pub(crate) fn with_functions_plan<'a>(
+    here: Here,
+    tables: &mut Tables,
+    kept: bool,
+    items: &'a [Datum],
+) -> Result<Plan<'a>, NoMemory>
+    ensures plan { IfOk result (λ plan. shown here.entry.bound.now tables.new plan
+        ≡ row.with_functions_row kept (at here.entry.bound.now here.entry.spot) tables.old here.entry.place items.now) }
+    ensures grows { Grows tables.old tables.new }
+{
+    let [list, forms @ ..] = items else {
+        return Ok(offence(here.place, Reason::BadShape));
+    };
+    let Some(pairs) = pairs_in(here.alloc, tables.words, list)? else {
+        if !fits_depth(here.spot, 1) {
+            return Ok(offence(here.place, Reason::DepthLimit));
+        }
+        return Ok(offence(list.place, Reason::BadBinding));
+    };
+    let Some(functions) = functions_of(here, &pairs)? else {
+        return Ok(offence(here.place, Reason::BadShape));
+    };
+    if kept {
+        return Ok(offence(here.place, Reason::ReservedName));
+    }
+    if !fits_depth(here.spot, 1) {
+        return Ok(offence(here.place, Reason::DepthLimit));
+    }
+    let work = Bindings {
+        inside: deeper(here.spot, 1),
+        binds: functions,
+        parts: Parts::new(here.alloc),
+        inner: inner_forms(here.alloc, forms)?,
+    };
+    made_of(here, tables, work, Making::InSequence)
+}

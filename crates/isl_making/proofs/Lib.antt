@@ -1,0 +1,5 @@
+pub mod MakingWalks
+pub mod MakingLists
+pub mod MakingFound
+pub mod MakingGroups
+pub mod MakingEnds

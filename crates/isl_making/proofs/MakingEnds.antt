@@ -1,0 +1,23 @@
+-- What counts once a core form is made that defines nothing.
+use Rattle.std.proofs.Common.{◌≡◌, ◌≤◌, ℕ, Bool, true, false, List, [], ◌∷◌, ◌++◌, Some, length, slice_set, Result, Ok, Err, OnOk, refl, ap, ◌∙◌, arith}
+use Rattle.isl_base.specs.declared.datum.Name.{Name}
+use Rattle.isl_meaning.specs.Form.{Form}
+use Rattle.isl_meaning.specs.declared.program.Procedure.{Procedure}
+use Rattle.isl_profile.specs.declared.tables.Tables.{Tables}
+use Rattle.isl_profile.specs.declared.making.Found.{Found}
+use Rattle.isl_profile.specs.declared.making.One.{One}
+use Rattle.isl_profile.specs.declared.making.Making.{Making}
+use Rattle.isl_profile.specs.declared.making.Making.TheVariants.{OfOne, OfFunctionNamed}
+use Rattle.isl_profile.specs.declared.making.One.TheVariants.{DefineGlobal, DefineDynamic}
+use Rattle.isl_profile.specs.Makings.{with_global, with_dynamic, prelude_with, with_function, procedure_found, finish_one, finish}
+use Rattle.isl_profile.specs.Marks.{StandsFirst, Grows}
+
+pub whatever_comes : {T E : Type 0} (r : Result T E) (P : Type 0) → P → OnOk r P
+whatever_comes (Ok x) P p = p
+whatever_comes (Err e) P p = tt
+
+pub nothing_counts : (m : Making) (rs : List Found) (s : Tables) → ((k : One) → m ≡ OfOne k → ⊥)
+    → ((name : Name) (i n : ℕ) (rest of_file : Bool) (f : Form) → m ≡ OfFunctionNamed name i n rest of_file f → ⊥) → s ≡ finish m rs s
+nothing_counts (OfOne k) rs s no_one no_function = absurd (no_one k refl)
+nothing_counts (OfFunctionNamed name i n rest of_file f) rs s no_one no_function = absurd (no_function name i n rest of_file f refl)
+nothing_counts m rs s no_one no_function = refl

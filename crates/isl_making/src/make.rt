@@ -1,0 +1,100 @@
+// The core form that is made of what was found of its parts, and what counts once it is made.
+
+ghost use Rattle.std.specs.Prelude.{◌≡◌, IfOk, OnOk, OnErr};
+ghost use Rattle.isl_profile.specs.Makings.{make, at_site, made_form, finished};
+
+mod captured;
+mod finish;
+mod lists;
+mod parts;
+mod queue;
+mod simple;
+mod sort;
+
+use finish::{define_function, finish_one, procedure_found};
+use isl_base::NoMemory;
+use isl_meaning::{Core, CoreForm, SiteId};
+use lists::{make_clauses, make_dynamics, make_segments};
+use parts::{make_block, make_function, make_let};
+use simple::{call_of_local, make_one, make_two, make_with_body};
+use sort::sort_found;
+use isl_profile::{FoundList, Made, Making, Tables};
+use std::alloc::Global;
+
+// The core form, its site aside.
+fn make(alloc: Global, making: Making, found: FoundList) -> Result<Core, NoMemory>
+    ensures { IfOk result (λ core. core ≡ make making found) }
+{
+    let sorted = sort_found(alloc, found)?;
+    let forms = sorted.forms;
+    match making {
+        Making::Ready(core) => Ok(core),
+        Making::OfOne(one) => make_one(alloc, one, forms),
+        Making::OfTwo(two) => make_two(alloc, two, forms),
+        Making::OfBody(with_body) => make_with_body(alloc, with_body, forms),
+        Making::InSequence => Ok(Core::sequence(forms)),
+        Making::CallOf(name) => Ok(Core::new(CoreForm::Call(name, forms))),
+        Making::CallOfValue => Ok(Core::new(CoreForm::CallValue(forms))),
+        Making::CallOfLocal(var) => call_of_local(alloc, var, forms),
+        Making::CallOfPrimitive(which) => Ok(Core::prim(which, forms)),
+        Making::OfClauses(lengths) => make_clauses(alloc, &lengths, forms),
+        Making::OfVariables => make_let(alloc, sorted.bindings, forms),
+        Making::OfDynamics(names) => make_dynamics(alloc, &names, forms),
+        Making::OfFunction(required, rest, around) => {
+            make_function(alloc, required, rest, &around, sorted.variables, forms)
+        }
+        Making::OfBlock(exit) => make_block(alloc, exit, forms),
+        Making::OfSegments(exit, lengths) => make_segments(alloc, exit, &lengths, forms),
+        Making::OfFunctionNamed(_, _, _, _, _, form) => Ok(form),
+    }
+}
+
+// The form at its site, where it has one.
+fn at_site(alloc: Global, site: Option<SiteId>, form: Core) -> Result<Core, NoMemory>
+    ensures { IfOk result (λ core. core ≡ at_site site form) }
+{
+    match site {
+        None => Ok(form),
+        Some(site) => Core::sited(alloc, site, form),
+    }
+}
+
+// The core form at its site.
+fn made_form(
+    alloc: Global,
+    site: Option<SiteId>,
+    making: Making,
+    found: FoundList,
+) -> Result<Core, NoMemory>
+    ensures { IfOk result (λ core. core ≡ at_site site (make making found)) }
+{
+    at_site(alloc, site, make(alloc, making, found)?)
+}
+
+/// The core form, of which counts from now on what it defines. After `NoMemory` nothing counts.
+pub fn complete(
+    alloc: Global,
+    made: Made,
+    found: FoundList,
+    tables: &mut Tables,
+) -> Result<Core, NoMemory>
+    ensures form { IfOk result (λ core. core ≡ made_form made found) }
+    ensures ok { OnOk result (tables.new ≡ finished made found tables.old) }
+    ensures err { OnErr result (tables.new ≡ tables.old) }
+{
+    let site = made.site;
+    match made.making {
+        Making::OfOne(one) => {
+            let core = made_form(alloc, site, Making::OfOne(one), found)?;
+            finish_one(one, tables)?;
+            Ok(core)
+        }
+        Making::OfFunctionNamed(name, id, required, rest, of_file, form) => {
+            let core = at_site(alloc, site, form)?;
+            let procedure = procedure_found(alloc, name, required, rest, found)?;
+            define_function(name, id, procedure, of_file, tables)?;
+            Ok(core)
+        }
+        making => made_form(alloc, site, making, found),
+    }
+}

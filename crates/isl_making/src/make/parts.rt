@@ -1,0 +1,96 @@
+// Core forms with a body alone, or with the variables of it: blocks, `let` and functions.
+
+ghost use Rattle.std.specs.Prelude.{◌≡◌, take, drop, IfOk};
+ghost use Rattle.isl_meaning.specs.Form.{block, let_form};
+ghost use Rattle.isl_meaning.specs.model.View.{bindings_of};
+ghost use Rattle.isl_profile.specs.Makings.{body_of, rest_found, make_function};
+
+use crate::make::captured::captured;
+use isl_base::NoMemory;
+use isl_meaning::{BindingList, Core, CoreForm, CoreList, ExitVar, PartList, Var, VarList};
+use std::alloc::Global;
+
+/// The form in a box; after `NoMemory` it is dropped.
+pub(crate) fn boxed(alloc: Global, form: Core) -> Result<Box<Core>, NoMemory>
+    ensures { IfOk result (λ boxed. boxed.value ≡ form) }
+{
+    match Box::new(alloc, form) {
+        Ok(boxed) => Ok(boxed),
+        Err(_) => Err(NoMemory),
+    }
+}
+
+/// A body with that exit.
+pub(crate) fn make_block(alloc: Global, exit: ExitVar, forms: CoreList) -> Result<Core, NoMemory>
+    ensures { IfOk result (λ core. core ≡ block exit (body_of forms)) }
+{
+    let body = boxed(alloc, Core::sequence(forms))?;
+    Ok(Core::new(CoreForm::Block(exit, body)))
+}
+
+/// Variables with their values, round a body.
+pub(crate) fn make_let(
+    alloc: Global,
+    bindings: BindingList,
+    forms: CoreList,
+) -> Result<Core, NoMemory>
+    ensures { IfOk result (λ core. core ≡ let_form (bindings_of bindings) (body_of forms)) }
+{
+    let body = boxed(alloc, Core::sequence(forms))?;
+    Ok(Core::new(CoreForm::Let(bindings, body)))
+}
+
+/// The variables of a function.
+#[derive(Drop)]
+pub(crate) struct Variables {
+    pub(crate) required: VarList,
+    pub(crate) rest: Option<Var>,
+}
+
+/// So many required ones, and the rest variable behind them, where there is one. Takes no memory.
+pub(crate) fn split_variables(variables: VarList, required: usize, rest: bool) -> Variables
+    ensures required { result.required ≡ take required variables }
+    ensures rest { result.rest ≡ rest_found rest (drop required variables) }
+{
+    let mut variables = variables;
+    let rest = rest_variable(&variables, required, rest);
+    if required < variables.len() {
+        variables.cut(required);
+    }
+    Variables {
+        required: variables,
+        rest,
+    }
+}
+
+#[tactic(auto, using(crate::proofs::MakingLists::there))]
+fn rest_variable(variables: &VarList, required: usize, rest: bool) -> Option<Var>
+    ensures { result ≡ rest_found rest (drop required variables.now) }
+{
+    if !rest {
+        return None;
+    }
+    match variables.get(required) {
+        None => None,
+        Some(var) => Some(*var),
+    }
+}
+
+/// A function of these variables and that body, which captures what its body mentions of the parts
+/// around it.
+pub(crate) fn make_function(
+    alloc: Global,
+    required: usize,
+    rest: bool,
+    around: &PartList,
+    variables: VarList,
+    forms: CoreList,
+) -> Result<Core, NoMemory>
+    ensures { IfOk result (λ core. core ≡ make_function required rest around.now variables (body_of forms)) }
+{
+    let body = Core::sequence(forms);
+    let parts = captured(alloc, around, &body)?;
+    let body = boxed(alloc, body)?;
+    let variables = split_variables(variables, required, rest);
+    Ok(Core::new(CoreForm::Lambda(variables.required, variables.rest, body, parts)))
+}

@@ -1,0 +1,201 @@
+-- The core forms that are made of what was found of their parts, and what counts once they are made.
+use Rattle.std.specs.Prelude.{ℕ, zero, suc, ◌+◌, Bool, true, false, List, [], ◌∷◌, ◌++◌, Option, Some, None, take, drop, map, slice_set}
+use Rattle.std.specs.List.{filter, filter_map}
+use Rattle.isl_base.specs.declared.datum.Name.{Name}
+use Rattle.isl_meaning.specs.declared.part.Part.{Part as Captured}
+use Rattle.isl_meaning.specs.declared.program.Procedure.{Procedure}
+use Rattle.isl_meaning.specs.declared.program.FunctionRow.{FunctionRow}
+use Rattle.isl_meaning.specs.declared.program.Callee.TheVariants as callee
+use Rattle.isl_meaning.specs.Form.{Form, literal, local, set_local, global, set_global, def_global, clauses, sequence, let_form, lambda, call, call_value, apply, prim, while_form, block, return_from, tagbody, go, catch_form, throw, unwind, dynamic_let, set_dynamic, def_dynamic, with_handler, signal_form, continue_form, sited}
+use Rattle.isl_meaning.specs.Form.{Forms, no_form, form_and, ClauseForms, no_clause, clause_and, MaybeForm, no_body, with_body}
+use Rattle.isl_meaning.specs.Form.{BindingForms, no_binding, binding_and, DynamicForms, no_dynamic, dynamic_and}
+use Rattle.isl_meaning.specs.Mentions.{mentions}
+use Rattle.isl_meaning.specs.model.View.{forms}
+use Rattle.isl_profile.specs.declared.tables.Tables.{Tables}
+use Rattle.isl_profile.specs.declared.tables.GlobalRow.{GlobalRow}
+use Rattle.isl_profile.specs.declared.making.Found.{Found}
+use Rattle.isl_profile.specs.declared.making.One.{One}
+use Rattle.isl_profile.specs.declared.making.Two.{Two}
+use Rattle.isl_profile.specs.declared.making.WithBody.{WithBody}
+use Rattle.isl_profile.specs.declared.making.Making.{Making}
+use Rattle.isl_profile.specs.declared.making.Made.{Made}
+use Rattle.isl_profile.specs.declared.making.Found.TheVariants.{Value, Binding, Parameter}
+use Rattle.isl_profile.specs.declared.making.One.TheVariants.{SetVariable, SetGlobal, DefineGlobal, SetDynamic, DefineDynamic, ReturnTo}
+use Rattle.isl_profile.specs.declared.making.Two.TheVariants.{Applying, Throwing, Signalling, Continuing}
+use Rattle.isl_profile.specs.declared.making.WithBody.TheVariants.{Repeating, Catching, Unwinding, Handling}
+use Rattle.isl_profile.specs.declared.making.Making.TheVariants.{Ready, OfOne, OfTwo, OfBody, InSequence, CallOf, CallOfValue, CallOfLocal, CallOfPrimitive, OfClauses, OfVariables, OfDynamics, OfFunction, OfBlock, OfSegments, OfFunctionNamed}
+
+-- forms without a body, where none was found
+abbrev pub nothing : Form
+nothing = sequence no_form
+
+-- the forms among what was found, and the variables, in order
+
+abbrev pub form_found : Found → Option Form
+form_found (Value f) = Some f
+form_found (Binding v f) = None
+form_found (Parameter v) = None
+
+abbrev pub variable_found : Found → Option ℕ
+variable_found (Parameter v) = Some v
+variable_found (Value f) = None
+variable_found (Binding v f) = None
+
+abbrev pub forms_found : List Found → List Form
+forms_found rs = filter_map form_found rs
+
+abbrev pub variables_found : List Found → List ℕ
+variables_found rs = filter_map variable_found rs
+
+-- variables with their values
+abbrev pub bindings_found : List Found → BindingForms
+bindings_found [] = no_binding
+bindings_found (Value f ∷ rs) = bindings_found rs
+bindings_found (Binding v f ∷ rs) = binding_and v f (bindings_found rs)
+bindings_found (Parameter v ∷ rs) = bindings_found rs
+
+-- every body is one sequence
+abbrev pub body_of : List Form → Form
+body_of fs = sequence (forms fs)
+
+abbrev pub one_of : One → Form → Form
+one_of (SetVariable v) f = set_local v f
+one_of (SetGlobal n) f = set_global n.0 f
+one_of (DefineGlobal n constant) f = def_global n.0 f
+one_of (SetDynamic n) f = set_dynamic n.0 f
+one_of (DefineDynamic n) f = def_dynamic n.0 f
+one_of (ReturnTo x) f = return_from x f
+
+abbrev pub two_of : Two → Form → Form → Form
+two_of Applying f g = apply f g
+two_of Throwing f g = throw f g
+two_of Signalling f g = signal_form f g
+two_of Continuing f g = continue_form f g
+
+abbrev pub with_body_of : WithBody → Form → Form → Form
+with_body_of Repeating f body = while_form f body
+with_body_of Catching f body = catch_form f body
+with_body_of Unwinding f body = unwind f body
+with_body_of Handling f body = with_handler f body
+
+abbrev pub make_one : One → List Form → Form
+make_one k [] = nothing
+make_one k (f ∷ fs) = one_of k f
+
+abbrev pub make_two : Two → List Form → Form
+make_two k [] = nothing
+make_two k (f ∷ []) = nothing
+make_two k (f ∷ g ∷ fs) = two_of k f g
+
+abbrev pub make_with_body : WithBody → List Form → Form
+make_with_body k [] = nothing
+make_with_body k (f ∷ fs) = with_body_of k f (body_of fs)
+
+-- clauses: for each a test, and a body of so many forms or none
+abbrev pub clause_body : Option ℕ → List Form → MaybeForm
+clause_body None fs = no_body
+clause_body (Some n) fs = with_body (body_of (take n fs))
+
+abbrev pub behind_clause : Option ℕ → List Form → List Form
+behind_clause None fs = fs
+behind_clause (Some n) fs = drop n fs
+
+abbrev pub make_clauses : List (Option ℕ) → List Form → ClauseForms
+make_clauses [] fs = no_clause
+make_clauses (n ∷ ns) [] = no_clause
+make_clauses (n ∷ ns) (f ∷ fs) = clause_and f (clause_body n fs) (make_clauses ns (behind_clause n fs))
+
+abbrev pub make_segments : List ℕ → List Form → Forms
+make_segments [] fs = no_form
+make_segments (n ∷ ns) fs = form_and (body_of (take n fs)) (make_segments ns (drop n fs))
+
+-- dynamic variables with their values, and the forms behind these
+abbrev pub make_dynamics : List Name → List Form → DynamicForms
+make_dynamics [] fs = no_dynamic
+make_dynamics (n ∷ ns) [] = no_dynamic
+make_dynamics (n ∷ ns) (f ∷ fs) = dynamic_and n.0 f (make_dynamics ns fs)
+
+abbrev pub behind_dynamics : List Name → List Form → List Form
+behind_dynamics [] fs = fs
+behind_dynamics (n ∷ ns) [] = []
+behind_dynamics (n ∷ ns) (f ∷ fs) = behind_dynamics ns fs
+
+-- the rest variable stands behind the required ones
+abbrev pub rest_found : Bool → List ℕ → Option ℕ
+rest_found false vs = None
+rest_found true [] = None
+rest_found true (v ∷ vs) = Some v
+
+-- a function captures the parts around it that its body mentions
+abbrev pub make_function : ℕ → Bool → List Captured → List ℕ → Form → Form
+make_function n rest parts vs body =
+    lambda (take n vs) (rest_found rest (drop n vs)) body (filter (λ p. mentions p body) parts)
+
+abbrev pub make : Making → List Found → Form
+make (Ready f) rs = f
+make (OfOne k) rs = make_one k (forms_found rs)
+make (OfTwo k) rs = make_two k (forms_found rs)
+make (OfBody k) rs = make_with_body k (forms_found rs)
+make InSequence rs = sequence (forms (forms_found rs))
+make (CallOf n) rs = call n.0 (forms (forms_found rs))
+make CallOfValue rs = call_value (forms (forms_found rs))
+make (CallOfLocal v) rs = call_value (form_and (local v) (forms (forms_found rs)))
+make (CallOfPrimitive p) rs = prim p (forms (forms_found rs))
+make (OfClauses ns) rs = clauses (make_clauses ns (forms_found rs))
+make OfVariables rs = let_form (bindings_found rs) (body_of (forms_found rs))
+make (OfDynamics ns) rs = dynamic_let (make_dynamics ns (forms_found rs)) (body_of (behind_dynamics ns (forms_found rs)))
+make (OfFunction n rest parts) rs = make_function n rest parts (variables_found rs) (body_of (forms_found rs))
+make (OfBlock x) rs = block x (body_of (forms_found rs))
+make (OfSegments x ns) rs = tagbody x (make_segments ns (forms_found rs))
+make (OfFunctionNamed name i n rest of_file f) rs = f
+
+abbrev pub at_site : Option ℕ → Form → Form
+at_site None f = f
+at_site (Some site) f = sited site f
+
+abbrev pub made_form : Made → List Found → Form
+made_form m rs = at_site m.site (make m.making rs)
+
+-- what counts for the forms that come after
+
+abbrev pub with_global : Name → Bool → Tables → Tables
+with_global n constant s = record s { globals = s.globals ++ (record { name = n; constant = constant }) ∷ [] }
+
+abbrev pub with_dynamic : Name → Tables → Tables
+with_dynamic n s = record s { dynamics = s.dynamics ++ n ∷ [] }
+
+-- a function of the prelude is one that no definition of the file may name
+abbrev pub prelude_with : Bool → Name → List Name → List Name
+prelude_with true n ns = ns
+prelude_with false n ns = ns ++ n ∷ []
+
+abbrev pub with_function : Name → ℕ → Procedure → Bool → Tables → Tables
+with_function name i p of_file s = record s {
+  procedures = slice_set s.procedures i (Some p);
+  functions = s.functions ++ (record { name = name; callee = callee.Procedure i }) ∷ [];
+  prelude = prelude_with of_file name s.prelude;
+}
+
+abbrev pub procedure_found : Name → ℕ → Bool → List Found → Procedure
+procedure_found name n rest rs = record {
+  name = Some name;
+  required = take n (variables_found rs);
+  rest = rest_found rest (drop n (variables_found rs));
+  body = body_of (forms_found rs);
+}
+
+abbrev pub finish_one : One → Tables → Tables
+finish_one (DefineGlobal n constant) s = with_global n constant s
+finish_one (DefineDynamic n) s = with_dynamic n s
+finish_one (SetVariable v) s = s
+finish_one (SetGlobal n) s = s
+finish_one (SetDynamic n) s = s
+finish_one (ReturnTo x) s = s
+
+abbrev pub finish : Making → List Found → Tables → Tables
+finish (OfOne k) rs s = finish_one k s
+finish (OfFunctionNamed name i n rest of_file f) rs s = with_function name i (procedure_found name n rest rs) of_file s
+finish m rs s = s
+
+abbrev pub finished : Made → List Found → Tables → Tables
+finished m rs s = finish m.making rs s

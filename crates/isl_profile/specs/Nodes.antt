@@ -1,0 +1,71 @@
+-- What judging meets: a node that offends, a derived form that stands for its step, or a core form with its parts, which
+-- stand where the whole stands, or where what it binds is bound (ISO/IEC 13816:2007, 12).
+use Rattle.std.specs.Prelude.{List, [], ◌∷◌, ◌++◌}
+use Rattle.isl_base.specs.declared.place.Place.{Place}
+use Rattle.isl_base.specs.declared.reason.Reason.{Reason}
+use Rattle.isl_base.specs.declared.datum.Symbol.{Symbol}
+use Rattle.isl_base.specs.Data.{Item}
+use Rattle.isl_meaning.specs.Form.{Form}
+use Rattle.isl_profile.specs.declared.bound.Bound.{Bound}
+use Rattle.isl_profile.specs.declared.bound.Bound.TheVariants.{Variable}
+use Rattle.isl_profile.specs.declared.spot.Spot.{Spot}
+use Rattle.isl_profile.specs.declared.making.Found.{Found}
+use Rattle.isl_profile.specs.declared.making.Found.TheVariants.{Value, Binding, Parameter}
+use Rattle.isl_profile.specs.declared.making.Made.{Made}
+use Rattle.isl_profile.specs.declared.tables.Tables.{Tables}
+
+-- where a form stands: what is bound there, the innermost last, and the rest
+pub record Around : Type 0 where
+  pub bound : List Bound
+  pub spot : Spot
+
+-- the parts of a form, in the order in which they are met
+pub data Part : Type 0 where
+  -- a form outside, a form of a body there, and a form inside, where what the whole binds is bound
+  form : Item → Part
+  below : Item → Part
+  inner : Item → Part
+  -- a variable, which takes the next number and is bound inside for the parts behind it, with its value, which stands
+  -- outside, or as a parameter
+  bind : Symbol → Item → Part
+  parameter : Symbol → Part
+
+pub data Node : Type 0 where
+  -- its own offence, the lowest reason
+  offends : Place → Reason → Node
+  -- a derived form, there and with these tables
+  steps : Around → Tables → Item → Node
+  -- the parts stand there, outside and inside
+  whole : Around → Around → Tables → List Part → Made → Node
+
+-- how judging ends: the core form and the tables behind it, or the end of it all
+pub data Ending : Type 0 where
+  refused : Place → Reason → Ending
+
+pub record Standing : Type 0 where
+  pub form : Form
+  pub tables : Tables
+
+pub data Verdict : Type 0 where
+  stands : Standing → Verdict
+  ended : Ending → Verdict
+
+-- the variable of a part is bound where the parts behind it stand
+
+abbrev pub with_bound : Bound → Around → Around
+with_bound b i = record i { bound = i.bound ++ b ∷ [] }
+
+abbrev pub behind : Around → Tables → Part → Around
+behind i s (form d) = i
+behind i s (below d) = i
+behind i s (inner d) = i
+behind i s (bind x d) = with_bound (Variable x s.variables) i
+behind i s (parameter x) = with_bound (Variable x s.variables) i
+
+-- what is recorded of a part of which that form was found
+abbrev pub recorded : Tables → Part → Form → Found
+recorded s (form d) f = Value f
+recorded s (below d) f = Value f
+recorded s (inner d) f = Value f
+recorded s (bind x d) f = Binding s.variables f
+recorded s (parameter x) f = Parameter s.variables

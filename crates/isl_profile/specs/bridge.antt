@@ -1,0 +1,10 @@
+-- What proofs of the code need of the definition.
+pub mod Growing
+pub mod Turns
+pub mod Once
+pub mod GoodParts
+pub mod SoundParts
+pub mod SoundForms
+pub mod SoundBinders
+pub mod SoundRows
+pub mod Later

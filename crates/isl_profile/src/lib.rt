@@ -1,0 +1,17 @@
+// The profile as definitions: which form stands for which core form, and which is refused and why.
+#![tactic(auto)]
+
+pub mod bound;
+pub mod laws;
+pub mod making;
+pub mod parameters;
+pub mod special;
+pub mod spot;
+pub mod tables;
+
+pub use bound::{Bound, BoundList, Target};
+pub use making::{BodyLengths, Found, FoundList, Lengths, Made, Making, One, Two, WithBody};
+pub use parameters::Parameters;
+pub use special::{Special, special_named};
+pub use spot::Spot;
+pub use tables::{GlobalRow, MaybeProcedures, ReservedWords, Tables};
