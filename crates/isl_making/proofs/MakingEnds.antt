@@ -17,7 +17,7 @@ whatever_comes (Ok x) P p = p
 whatever_comes (Err e) P p = tt
 
 pub nothing_counts : (m : Making) (rs : List Found) (s : Tables) → ((k : One) → m ≡ OfOne k → ⊥)
-    → ((name : Name) (i n : ℕ) (rest of_file : Bool) (f : Form) → m ≡ OfFunctionNamed name i n rest of_file f → ⊥) → s ≡ finish m rs s
+    → ((name : Name) (n : ℕ) (rest of_file : Bool) (f : Form) → m ≡ OfFunctionNamed name n rest of_file f → ⊥) → s ≡ finish m rs s
 nothing_counts (OfOne k) rs s no_one no_function = absurd (no_one k refl)
-nothing_counts (OfFunctionNamed name i n rest of_file f) rs s no_one no_function = absurd (no_function name i n rest of_file f refl)
+nothing_counts (OfFunctionNamed name n rest of_file f) rs s no_one no_function = absurd (no_function name n rest of_file f refl)
 nothing_counts m rs s no_one no_function = refl

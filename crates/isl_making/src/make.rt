@@ -45,7 +45,7 @@ fn make(alloc: Global, making: Making, found: FoundList) -> Result<Core, NoMemor
         }
         Making::OfBlock(exit) => make_block(alloc, exit, forms),
         Making::OfSegments(exit, lengths) => make_segments(alloc, exit, &lengths, forms),
-        Making::OfFunctionNamed(_, _, _, _, _, form) => Ok(form),
+        Making::OfFunctionNamed(_, _, _, _, form) => Ok(form),
     }
 }
 
@@ -89,10 +89,10 @@ pub fn complete(
             finish_one(one, tables)?;
             Ok(core)
         }
-        Making::OfFunctionNamed(name, id, required, rest, of_file, form) => {
+        Making::OfFunctionNamed(name, required, rest, of_file, form) => {
             let core = at_site(alloc, site, form)?;
             let procedure = procedure_found(alloc, name, required, rest, found)?;
-            define_function(name, id, procedure, of_file, tables)?;
+            define_function(name, procedure, of_file, tables)?;
             Ok(core)
         }
         making => made_form(alloc, site, making, found),

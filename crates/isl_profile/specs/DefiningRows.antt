@@ -108,18 +108,15 @@ abbrev pub named_form : Bool → Tables → Form
 named_form true s = literal (length s.literals)
 named_form false s = nothing
 
-abbrev pub with_new_procedure : Tables → Tables
-with_new_procedure s = record s { procedures = s.procedures ++ None ∷ [] }
-
 abbrev pub function_parts : Parameters → List Item → List Part
 function_parts ps fs = each_parameter (all_symbols ps) ++ each_inner fs
 
 abbrev pub defun_of : Around → Tables → Name → Item → List Item → Parameters → Node
 defun_of a s n d fs ps =
-    whole (alone false a) (alone false a) (with_new_procedure (with_name a.spot.sited d s)) (function_parts ps fs)
+    whole (alone false a) (alone false a) (with_name a.spot.sited d s) (function_parts ps fs)
     (record {
       site = None;
-      making = OfFunctionNamed n (length s.procedures) (length ps.required) (is_some ps.rest) a.spot.sited (named_form a.spot.sited s);
+      making = OfFunctionNamed n (length ps.required) (is_some ps.rest) a.spot.sited (named_form a.spot.sited s);
     })
 
 abbrev pub defun_with : Around → Tables → Name → Item → Item → List Item → Option Parameters → Node

@@ -1,5 +1,5 @@
 -- The core forms that are made of what was found of their parts, and what counts once they are made.
-use Rattle.std.specs.Prelude.{ℕ, zero, suc, ◌+◌, Bool, true, false, List, [], ◌∷◌, ◌++◌, Option, Some, None, take, drop, map, slice_set}
+use Rattle.std.specs.Prelude.{ℕ, zero, suc, ◌+◌, Bool, true, false, List, [], ◌∷◌, ◌++◌, Option, Some, None, take, drop, map, length}
 use Rattle.std.specs.List.{filter, filter_map}
 use Rattle.isl_base.specs.declared.datum.Name.{Name}
 use Rattle.isl_meaning.specs.declared.part.Part.{Part as Captured}
@@ -147,7 +147,7 @@ make (OfDynamics ns) rs = dynamic_let (make_dynamics ns (forms_found rs)) (body_
 make (OfFunction n rest parts) rs = make_function n rest parts (variables_found rs) (body_of (forms_found rs))
 make (OfBlock x) rs = block x (body_of (forms_found rs))
 make (OfSegments x ns) rs = tagbody x (make_segments ns (forms_found rs))
-make (OfFunctionNamed name i n rest of_file f) rs = f
+make (OfFunctionNamed name n rest of_file f) rs = f
 
 abbrev pub at_site : Option ℕ → Form → Form
 at_site None f = f
@@ -169,10 +169,11 @@ abbrev pub prelude_with : Bool → Name → List Name → List Name
 prelude_with true n ns = ns
 prelude_with false n ns = ns ++ n ∷ []
 
-abbrev pub with_function : Name → ℕ → Procedure → Bool → Tables → Tables
-with_function name i p of_file s = record s {
-  procedures = slice_set s.procedures i (Some p);
-  functions = s.functions ++ (record { name = name; callee = callee.Procedure i }) ∷ [];
+-- no definition stands inside another, so the procedure takes the next number when its body was judged
+abbrev pub with_function : Name → Procedure → Bool → Tables → Tables
+with_function name p of_file s = record s {
+  procedures = s.procedures ++ p ∷ [];
+  functions = s.functions ++ (record { name = name; callee = callee.Procedure (length s.procedures) }) ∷ [];
   prelude = prelude_with of_file name s.prelude;
 }
 
@@ -194,7 +195,7 @@ finish_one (ReturnTo x) s = s
 
 abbrev pub finish : Making → List Found → Tables → Tables
 finish (OfOne k) rs s = finish_one k s
-finish (OfFunctionNamed name i n rest of_file f) rs s = with_function name i (procedure_found name n rest rs) of_file s
+finish (OfFunctionNamed name n rest of_file f) rs s = with_function name (procedure_found name n rest rs) of_file s
 finish m rs s = s
 
 abbrev pub finished : Made → List Found → Tables → Tables

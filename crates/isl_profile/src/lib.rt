@@ -14,4 +14,4 @@ pub use making::{BodyLengths, Found, FoundList, Lengths, Made, Making, One, Two,
 pub use parameters::Parameters;
 pub use special::{Special, special_named};
 pub use spot::Spot;
-pub use tables::{GlobalRow, MaybeProcedures, ReservedWords, Tables};
+pub use tables::{GlobalRow, ReservedWords, Tables};

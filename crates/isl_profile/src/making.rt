@@ -1,7 +1,7 @@
 // How a core form is made of what was found of its parts.
 
 use isl_base::{ItemList, Name, NameList};
-use isl_meaning::{Core, ExitVar, PartList, Primitive, ProcedureId, SiteId, Var};
+use isl_meaning::{Core, ExitVar, PartList, Primitive, SiteId, Var};
 
 /// What was found of a part: its core form, that of a variable's value with the variable, or a
 /// parameter.
@@ -78,9 +78,9 @@ pub enum Making {
     OfBlock(ExitVar),
     /// Segments of so many forms.
     OfSegments(ExitVar, Lengths),
-    /// The function of that name, whose procedure has that number, with so many required variables, a
-    /// rest variable or none, and a body. The definition, of a file or not, stands for that form.
-    OfFunctionNamed(Name, ProcedureId, usize, bool, bool, Core),
+    /// The function of that name, with so many required variables, a rest variable or none, and a body.
+    /// The definition, of a file or not, stands for that form.
+    OfFunctionNamed(Name, usize, bool, bool, Core),
 }
 
 /// How a core form is made, and its site where it has one.

@@ -2,7 +2,7 @@
 
 use isl_base::{FreshList, ItemList, Name, NameList, PlaceList};
 use isl_classes::Classes;
-use isl_meaning::{CoreList, ExitVar, FunctionRows, LiteralRows, Procedure, Var};
+use isl_meaning::{CoreList, ExitVar, FunctionRows, LiteralRows, ProcedureList, Var};
 
 /// The names that no variable has: `t`, and the two words in front of a rest variable.
 #[derive(Clone, Copy, Debug, PartialEq, Eq)]
@@ -19,16 +19,13 @@ pub struct GlobalRow {
     pub constant: bool,
 }
 
-/// Procedures; one whose parts are still being judged has its number and nothing else.
-pub type MaybeProcedures = ItemList<Option<Procedure>>;
-
 /// What the forms judged so far gave: rows of a program, names that were defined or set, the new
 /// symbols of steps, and the numbers of the next variable and the next exit.
 #[derive(Drop)]
 pub struct Tables {
     pub words: ReservedWords,
     pub literals: LiteralRows,
-    pub procedures: MaybeProcedures,
+    pub procedures: ProcedureList,
     pub functions: FunctionRows,
     /// The functions that the prelude defined.
     pub prelude: NameList,

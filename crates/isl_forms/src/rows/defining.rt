@@ -180,11 +180,8 @@ fn defun_with<'a>(
     ensures grows { Grows tables.old tables.new }
 {
     let form = named_form(here, tables, datum)?;
-    let procedure = tables.procedures.len();
-    tables.procedures.push(None)?;
     let making = Making::OfFunctionNamed(
         name,
-        procedure,
         parameters.required.len(),
         parameters.rest.is_some(),
         here.spot.sited,

@@ -1,13 +1,13 @@
 // What counts once a core form is made: the definition that it stands for.
 
-ghost use Rattle.std.specs.Prelude.{◌≡◌, ◌∷◌, [], ◌++◌, slice_set, Some, IfOk, OnOk, OnErr};
+ghost use Rattle.std.specs.Prelude.{◌≡◌, ◌∷◌, [], ◌++◌, Some, IfOk, OnOk, OnErr};
 ghost use Rattle.isl_profile.specs.Makings.{with_global, with_dynamic, prelude_with, with_function, procedure_found, finish_one};
 
 use crate::make::parts::split_variables;
 use crate::make::sort::sort_found;
 use isl_base::{Name, NameList, NoMemory};
-use isl_meaning::{Callee, Core, FunctionRow, Procedure, ProcedureId};
-use isl_profile::{FoundList, GlobalRow, MaybeProcedures, One, Tables};
+use isl_meaning::{Callee, Core, FunctionRow, Procedure};
+use isl_profile::{FoundList, GlobalRow, One, Tables};
 use std::alloc::Global;
 
 /// A variable that was defined counts.
@@ -53,33 +53,28 @@ fn note_prelude(of_file: bool, name: Name, prelude: &mut NameList) -> Result<(),
     prelude.push(name)
 }
 
-// A procedure that had its number gets its parts. Takes no memory.
-fn fill(procedures: &mut MaybeProcedures, id: ProcedureId, procedure: Procedure)
-    ensures { procedures.new ≡ slice_set procedures.old id (Some procedure) }
-{
-    if id < procedures.len() {
-        procedures.replace(id, Some(procedure));
-    }
-}
-
-/// The function counts, and its procedure has its parts.
+/// The function counts, with its procedure.
 pub(crate) fn define_function(
     name: Name,
-    id: ProcedureId,
     procedure: Procedure,
     of_file: bool,
     tables: &mut Tables,
 ) -> Result<(), NoMemory>
-    ensures ok { OnOk result (tables.new ≡ with_function name id procedure of_file tables.old) }
+    ensures ok { OnOk result (tables.new ≡ with_function name procedure of_file tables.old) }
     ensures err { OnErr result (tables.new ≡ tables.old) }
 {
-    let count = tables.functions.len();
-    let callee = Callee::Procedure(id);
-    tables.functions.push(FunctionRow { name, callee })?;
-    if note_prelude(of_file, name, &mut tables.prelude).is_err() {
-        tables.functions.cut(count);
+    let procedures = tables.procedures.len();
+    let functions = tables.functions.len();
+    let callee = Callee::Procedure(procedures);
+    tables.procedures.push(procedure)?;
+    if tables.functions.push(FunctionRow { name, callee }).is_err() {
+        tables.procedures.cut(procedures);
         return Err(NoMemory);
     }
-    fill(&mut tables.procedures, id, procedure);
+    if note_prelude(of_file, name, &mut tables.prelude).is_err() {
+        tables.procedures.cut(procedures);
+        tables.functions.cut(functions);
+        return Err(NoMemory);
+    }
     Ok(())
 }

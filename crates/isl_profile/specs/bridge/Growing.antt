@@ -1,9 +1,8 @@
 -- Tables that grow: twice, not at all, and by what counts once a form is made.
-use Rattle.std.proofs.Common.{◌≡◌, ◌≤◌, ℕ, Bool, true, false, List, [], ◌∷◌, ◌++◌, Some, take, length, slice_set, refl, ap, ◌∙◌, sym, arith}
-use Rattle.std.proofs.lemmas.List.{length-take, take-append-le, take-set-le}
+use Rattle.std.proofs.Common.{◌≡◌, ◌≤◌, ℕ, Bool, true, false, List, [], ◌∷◌, ◌++◌, take, length, refl, ap, ◌∙◌, sym, arith}
+use Rattle.std.proofs.lemmas.List.{length-take, take-append-le}
 use Rattle.std.proofs.Math.Seq.{take-length}
 use Rattle.isl_base.specs.declared.datum.Name.{Name}
-use Rattle.isl_meaning.specs.Form.{Form}
 use Rattle.isl_meaning.specs.declared.program.Procedure.{Procedure}
 use Rattle.isl_profile.specs.declared.tables.Tables.{Tables}
 use Rattle.isl_profile.specs.declared.making.Found.{Found}
@@ -62,21 +61,13 @@ grows_same t = record {
   exits = omega arith;
 }
 
--- a list that stands in front still does where the other grows at its end, or changes behind it
+-- a list that stands in front still does where the other grows at its end
 
 fits : {X : Type 0} (xs ys : List X) → StandsFirst xs ys → length xs ≤ length ys
 fits xs ys h = omega (arith, ap length h, length-take (length xs) ys)
 
 pub grows_at_end : {X : Type 0} (xs ys zs : List X) → StandsFirst xs ys → StandsFirst xs (ys ++ zs)
 grows_at_end xs ys zs h = take-append-le (length xs) ys zs (fits xs ys h) ∙ h
-
-pub grows_behind : {X : Type 0} (xs ys : List X) (i : ℕ) (y : X) → length xs ≤ i → StandsFirst xs ys → StandsFirst xs (slice_set ys i y)
-grows_behind xs ys i y l h = take-set-le (length xs) ys i y l ∙ h
-
--- the procedure of a function that was named has that number or a later one
-abbrev pub IsFrom : ℕ → Making → Type 0
-IsFrom from (OfFunctionNamed name i n rest of_file f) = from ≤ i
-IsFrom from m = Unit {0}
 
 with_global_grows : (mark s : Tables) (n : Name) (constant : Bool) → Grows mark s → Grows mark (with_global n constant s)
 with_global_grows mark s n constant g = record {
@@ -118,13 +109,12 @@ prelude_grows : (xs ns : List Name) (of_file : Bool) (n : Name) → StandsFirst 
 prelude_grows xs ns true n h = h
 prelude_grows xs ns false n h = grows_at_end xs ns (n ∷ []) h
 
-with_function_grows : (mark s : Tables) (name : Name) (i : ℕ) (p : Procedure) (of_file : Bool) → length mark.procedures ≤ i
-    → Grows mark s → Grows mark (with_function name i p of_file s)
-with_function_grows mark s name i p of_file l g = record {
+with_function_grows : (mark s : Tables) (name : Name) (p : Procedure) (of_file : Bool) → Grows mark s → Grows mark (with_function name p of_file s)
+with_function_grows mark s name p of_file g = record {
   words = g.words;
   classes = g.classes;
   literals = g.literals;
-  procedures = grows_behind mark.procedures s.procedures i (Some p) l g.procedures;
+  procedures = grows_at_end mark.procedures s.procedures _ g.procedures;
   functions = grows_at_end mark.functions s.functions _ g.functions;
   prelude = prelude_grows mark.prelude s.prelude of_file name g.prelude;
   globals = g.globals;
@@ -142,9 +132,9 @@ finish_one_grows mark s (DefineGlobal n constant) g = with_global_grows mark s n
 finish_one_grows mark s (DefineDynamic n) g = with_dynamic_grows mark s n g
 finish_one_grows mark s k g = g
 
-pub finish_grows : (mark s : Tables) (m : Making) (rs : List Found) → IsFrom (length mark.procedures) m
-    → Grows mark s → Grows mark (finish m rs s)
-finish_grows mark s (OfOne k) rs l g = finish_one_grows mark s k g
-finish_grows mark s (OfFunctionNamed name i n rest of_file f) rs l g =
-    with_function_grows mark s name i (procedure_found name n rest rs) of_file l g
-finish_grows mark s m rs l g = g
+-- what counts once a form is made
+pub finish_grows : (mark s : Tables) (m : Making) (rs : List Found) → Grows mark s → Grows mark (finish m rs s)
+finish_grows mark s (OfOne k) rs g = finish_one_grows mark s k g
+finish_grows mark s (OfFunctionNamed name n rest of_file f) rs g =
+    with_function_grows mark s name (procedure_found name n rest rs) of_file g
+finish_grows mark s m rs g = g
