@@ -2,7 +2,7 @@
 use Rattle.std.proofs.lemmas.Result.{err_from_is_err_and}
 use Rattle.isl_profile.specs.Promises.{settled_datum}
 use Rattle.isl_forms.proofs.Settling.{with_symbols, led_same, led_step, Ended, led_ends, Stopped, led_stops}
-use Rattle.isl_forms.proofs.settle.settle.Goals as goal
+use Rattle.isl_forms.proofs.steps.settle.Goals as goal
 
 pub loop-found-init : goal.loop-found-init
 loop-found-init c = led_same c.args.names.now c.args.tables.now c.args.datum.now c.requires.good
@@ -16,14 +16,14 @@ derive-requires-clause-named c = rw c.last_datum-last.ensures c.loop-found.invar
 pub loop-found-preserved : goal.loop-found-preserved
 loop-found-preserved c =
     let h = c.in_ok-derive.ensures in
-    led_step _ _ _ _ _ c.loop-found.tables _ _ _ _ c.derive.new.fresh c.loop-found.invariant c.last_datum-last.ensures c.in-Derived.is
+    led_step _ _ _ _ _ c.loop-found.tables _ _ _ _ c.derive.new.fresh c.loop-found.invariant c.last_datum-last.ensures ? c.in-Derived.is
     h.names h.step_stays h.whole
 
 ended : (c : goal.In-Plain) → Ended c.args.names.now c.derive.new.names c.args.tables.now c.args.datum.now
     (with_symbols c.derive.new.fresh c.loop-found.tables) (settled_datum c.loop-found.found c.args.datum.now)
 ended c =
     let h = c.in_ok-derive.ensures in
-    led_ends _ _ _ _ _ c.loop-found.tables _ _ _ c.derive.new.fresh c.loop-found.invariant c.last_datum-last.ensures c.in-Plain.is
+    led_ends _ _ _ _ _ c.loop-found.tables _ _ _ c.derive.new.fresh c.loop-found.invariant c.last_datum-last.ensures ? c.in-Plain.is
     h.names h.step_stays
 
 pub returns-in-Plain-clause-settles : goal.returns-in-Plain-clause-settles
@@ -42,7 +42,7 @@ stopped : (c : goal.Joined-found) → Stopped c.args.names.now c.derive.new.name
     (with_symbols c.derive.new.fresh c.loop-found.tables) c.in_err-derive.field-0.0
 stopped c =
     let h = c.in_err-derive.ensures in
-    led_stops _ _ _ _ _ c.loop-found.tables _ _ _ c.derive.new.fresh c.loop-found.invariant c.last_datum-last.ensures
+    led_stops _ _ _ _ _ c.loop-found.tables _ _ _ c.derive.new.fresh c.loop-found.invariant c.last_datum-last.ensures ?
     h.names h.stop_stays h.fresh
 
 pub returns-in_err-derive-clause-stops : goal.returns-in_err-derive-clause-stops
