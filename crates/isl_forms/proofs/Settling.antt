@@ -228,3 +228,8 @@ pub led_refused : (old names : List (List ℕ)) (s : Tables) (d : Item) (t : Tab
     → Led old names s d t e → last ≡ e → found ≡ class_in_front names t (list_items last) → found ≡ Some r → StepsStop names s d (Refused r)
 led_refused old names s d t e last found r l same is some =
     class_stops names s d t e r l.leads l.good (subst (λ i. class_in_front names t (list_items i) ≡ Some r) same (sym is ∙ some))
+
+-- where there is no refusal
+pub no_refusal : (found asked : Option Refusal) → found ≡ asked → ((r : Refusal) → found ≡ Some r → ⊥) → asked ≡ None
+no_refusal None asked e h = sym e
+no_refusal (Some r) asked e h = absurd (h r refl)

@@ -1,1 +1,4 @@
 pub mod Walking
+pub mod Judging
+pub mod Cutting
+pub mod Counting

@@ -1,4 +1,9 @@
 // Judging top-level forms: the profile's verdict on each, with what it gives.
 #![tactic(auto)]
 
+mod counts;
 mod judge;
+mod mark;
+pub mod scope;
+
+pub use scope::Scope;
