@@ -1,10 +1,11 @@
 -- Counting a list from a place on, and the nodes of tables that have grown.
-use Rattle.std.proofs.Common.{◌≡◌, ℕ, ◌+◌, ◌≤◌, min, List, [], ◌∷◌, Some, length, take, drop, slice_get, refl, ap, ◌∙◌, arith}
+use Rattle.std.proofs.Common.{◌≡◌, ℕ, ◌+◌, ◌≤◌, ◌<◌, min, List, [], ◌∷◌, Some, length, take, drop, slice_get, refl, ap, ◌∙◌, arith}
 use Rattle.isl_meaning.specs.Counts.{all_nodes}
 use Rattle.isl_meaning.specs.ProgramCounts.{total, row_nodes, procedure_nodes, class_nodes}
 use Rattle.isl_meaning.specs.bridge.Totals.{total_left, no_total_left, one_counted, all_counted}
 use Rattle.isl_profile.specs.declared.tables.Tables.{Tables}
 use Rattle.isl_profile.specs.Marks.{StandsFirst, Grows}
+use Rattle.isl_scope.specs.declared.mark.Mark.{Mark}
 use Rattle.isl_scope.specs.Cuts.{mark_of, nodes_behind}
 use Rattle.isl_scope.specs.Scopes.{nodes_of}
 
@@ -42,3 +43,16 @@ grown_nodes s t g =
     let classes : total class_nodes t.classes.rows ≡ total class_nodes s.classes.rows = ap (λ h. total class_nodes h.rows) g.classes in
     omega (arith, classes, split row_nodes s.literals t.literals g.literals, split procedure_nodes s.procedures t.procedures g.procedures,
     split all_nodes s.main t.main g.main)
+
+-- what was counted, with what was added, tells whether the program is too large
+pub counted_exactly : (s t : Tables) (mark : Mark) (n r : ℕ) → Grows s t → mark ≡ mark_of s → n ≡ min (nodes_of s) 18446744073709551615
+    → r ≡ min (n + nodes_behind mark t) 18446744073709551615 → r ≤ 100000 → r ≡ nodes_of t
+counted_exactly s t mark n r g m e h small =
+    let behind : nodes_behind mark t ≡ nodes_behind (mark_of s) t = ap (λ k. nodes_behind k t) m in
+    omega (arith, grown_nodes s t g, behind, e, h, small)
+
+pub counted_too_many : (s t : Tables) (mark : Mark) (n r : ℕ) → Grows s t → mark ≡ mark_of s → n ≡ min (nodes_of s) 18446744073709551615
+    → r ≡ min (n + nodes_behind mark t) 18446744073709551615 → 100000 < r → 100000 < nodes_of t
+counted_too_many s t mark n r g m e h large =
+    let behind : nodes_behind mark t ≡ nodes_behind (mark_of s) t = ap (λ k. nodes_behind k t) m in
+    omega (arith, grown_nodes s t g, behind, e, h, large)

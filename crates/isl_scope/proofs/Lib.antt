@@ -2,3 +2,4 @@ pub mod Walking
 pub mod Judging
 pub mod Cutting
 pub mod Counting
+pub mod Beginning

@@ -10,8 +10,10 @@ use Rattle.isl_base.specs.Data.{Item, place_of}
 use Rattle.isl_meaning.specs.declared.program.ProgramRows.{ProgramRows}
 use Rattle.isl_meaning.specs.Form.{Form}
 use Rattle.isl_meaning.specs.ProgramCounts.{program_nodes}
+use Rattle.isl_classes.specs.InheritedClasses.{Hierarchy}
 use Rattle.isl_classes.specs.InheritedBuiltIn.{AreBuiltIn}
 use Rattle.isl_profile.specs.declared.spot.Spot.{Spot}
+use Rattle.isl_profile.specs.declared.tables.ReservedWords.{ReservedWords}
 use Rattle.isl_profile.specs.declared.tables.Tables.{Tables}
 use Rattle.isl_profile.specs.Nodes.{Around, refused, stands, ended}
 use Rattle.isl_profile.specs.Promises.{FormComes}
@@ -77,21 +79,33 @@ IsStopped names origin s d (Refused r) =
     FormComes names (top origin) s d (ended (refused r.place r.reason)) ⊎ (IsTooLarge names origin s d × (r ≡ too_large d))
 IsStopped names origin s d NoMemory = Unit {0}
 
--- the tables in front of all forms: the built-in classes, the numbers of three words, and nothing else
+-- the words that no variable has
+pub record AreWords (names : List (List ℕ)) (words : ReservedWords) : Type 0 where
+  pub truth : slice_get names words.truth.0 ≡ Some (codes "t")
+  pub rest : slice_get names words.rest.0 ≡ Some (codes ":rest")
+  pub and_rest : slice_get names words.and_rest.0 ≡ Some (codes "&rest")
+
+-- tables with words and classes, and nothing else
+abbrev pub first_tables : ReservedWords → Hierarchy → Tables
+first_tables words classes = record {
+  words = words;
+  literals = [];
+  procedures = [];
+  functions = [];
+  prelude = [];
+  classes = classes;
+  globals = [];
+  set = [];
+  dynamics = [];
+  sites = [];
+  fresh = [];
+  variables = 0;
+  exits = 0;
+  main = [];
+}
+
+-- the tables in front of all forms: the words, the built-in classes, and nothing else
 pub record IsFirst (names : List (List ℕ)) (t : Tables) : Type 0 where
-  pub truth : slice_get names t.words.truth.0 ≡ Some (codes "t")
-  pub rest : slice_get names t.words.rest.0 ≡ Some (codes ":rest")
-  pub and_rest : slice_get names t.words.and_rest.0 ≡ Some (codes "&rest")
+  pub words : AreWords names t.words
   pub classes : AreBuiltIn names t.classes
-  pub literals : t.literals ≡ []
-  pub procedures : t.procedures ≡ []
-  pub functions : t.functions ≡ []
-  pub prelude : t.prelude ≡ []
-  pub globals : t.globals ≡ []
-  pub set : t.set ≡ []
-  pub dynamics : t.dynamics ≡ []
-  pub sites : t.sites ≡ []
-  pub fresh : t.fresh ≡ []
-  pub main : t.main ≡ []
-  pub variables : t.variables ≡ 0
-  pub exits : t.exits ≡ 0
+  pub nothing_else : t ≡ first_tables t.words t.classes

@@ -2,6 +2,7 @@
 #![tactic(auto)]
 
 mod counts;
+mod first;
 mod judge;
 mod mark;
 pub mod scope;

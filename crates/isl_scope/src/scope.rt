@@ -1,26 +1,26 @@
 // The scope: what the top-level forms so far have defined, and the verdict on the next one.
 
-ghost use Rattle.std.specs.Prelude.{◌≡◌, ◌×◌, length, OnOk, OnErr, IfOk, IfErr};
+ghost use Rattle.std.specs.Prelude.{◌≡◌, length, min, OnOk, OnErr, IfOk, IfErr};
 ghost use Rattle.isl_base.specs.GoodData.{Good};
 ghost use Rattle.isl_base.specs.Names.{Extends};
 ghost use Rattle.isl_profile.specs.Marks.{Grows};
 ghost use Rattle.isl_scope.specs.Scopes.{top_spot, with_main, nodes_of, Given, IsTaken, IsStopped, IsFirst};
 
 use crate::counts::with_added;
+use crate::first::{first_tables, reserved_words};
 use crate::judge::judge;
-use crate::mark::{Mark, cut_to, mark_of};
-use isl_base::{Datum, FreshList, ItemList, NameList, Names, NoMemory, Origin, PlaceList, Reason, Refusal, Stop};
+use crate::mark::{cut_to, mark_of};
+use isl_base::{Datum, Names, NoMemory, Origin, Reason, Refusal, Stop};
 use isl_classes::Classes;
-use isl_meaning::{Core, CoreList, FunctionRows, LiteralRows, ProcedureList, class_list_nodes};
-use isl_profile::{BoundList, ReservedWords, Spot, Tables};
+use isl_meaning::{Core, class_list_nodes};
+use isl_profile::{BoundList, Spot, Tables};
 use std::alloc::Global;
 use std::marker::Model;
 
 /// The most nodes that a program may have.
 const MOST_NODES: u64 = 100_000;
 
-/// What the top-level forms so far have defined. Contracts see it as the tables of the profile; no more
-/// than 100,000 nodes are in them.
+/// What the top-level forms so far have defined. Contracts see it as the tables of the profile.
 #[derive(Drop)]
 pub struct Scope {
     alloc: Global,
@@ -33,12 +33,18 @@ impl Model for Scope {
 
     ghost Value = { Tables };
 
+    ghost use Rattle.isl_base.specs.contracts.datum.Datum as datum;
+    ghost use Rattle.isl_meaning.specs.contracts.core_form.Core as core;
+    ghost use Rattle.std.specs.Coded.{codes};
+
+    ghost coded = { Prim.hlevel (codes, datum.the_row.coded, core.the_row.coded) };
+
     ghost view = { λ s. s.tables };
 
-    ghost use Rattle.std.specs.Prelude.{◌≡◌, ◌≤◌};
-    ghost use Rattle.isl_scope.specs.Scopes.{nodes_of, most_nodes};
+    ghost use Rattle.std.specs.Prelude.{◌≡◌, min};
+    ghost use Rattle.isl_scope.specs.Scopes.{nodes_of};
 
-    ghost invariant = { λ s. (s.nodes ≡ nodes_of s.tables) × (s.nodes ≤ most_nodes) };
+    ghost invariant = { λ s. s.nodes ≡ min (nodes_of s.tables) 18446744073709551615 };
 }
 
 // Where a top-level form stands: a form of a file has a site.
@@ -98,9 +104,9 @@ fn take_form(
     origin: Origin,
 ) -> Result<u64, Stop>
     requires good { Good (length names.old) datum.now }
-    requires nodes { nodes ≡ nodes_of tables.old }
+    requires nodes { nodes ≡ min (nodes_of tables.old) 18446744073709551615 }
     ensures taken { OnOk result (IsTaken names.new origin tables.old datum.now tables.new) }
-    ensures nodes { IfOk result (λ nodes. nodes ≡ nodes_of tables.new) }
+    ensures nodes { IfOk result (λ nodes. nodes ≡ min (nodes_of tables.new) 18446744073709551615) }
     ensures stop { IfErr result (IsStopped names.new origin tables.old datum.now) }
     ensures names { Extends names.old names.new }
     ensures grows { Grows tables.old tables.new }
@@ -124,29 +130,10 @@ impl Scope {
         ensures first { IfOk result (IsFirst names.new) }
         ensures names { Extends names.old names.new }
     {
-        let words = ReservedWords {
-            truth: names.intern(b"t")?,
-            rest: names.intern(b":rest")?,
-            and_rest: names.intern(b"&rest")?,
-        };
+        let words = reserved_words(names)?;
         let classes = Classes::builtin(alloc, names)?;
         let nodes = class_list_nodes(classes.rows());
-        let tables = Tables {
-            words,
-            literals: LiteralRows::new(alloc),
-            procedures: ProcedureList::new(alloc),
-            functions: FunctionRows::new(alloc),
-            prelude: NameList::new(alloc),
-            classes,
-            globals: ItemList::new(alloc),
-            set: NameList::new(alloc),
-            dynamics: NameList::new(alloc),
-            sites: PlaceList::new(alloc),
-            fresh: FreshList::new(alloc),
-            variables: 0,
-            exits: 0,
-            main: CoreList::new(alloc),
-        };
+        let tables = first_tables(alloc, words, classes);
         Ok(Scope {
             alloc,
             tables,
