@@ -1,1 +1,4 @@
 pub mod Scopes
+pub mod Ground
+pub mod Places
+pub mod Right
