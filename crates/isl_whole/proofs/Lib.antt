@@ -1,3 +1,4 @@
 pub mod Tests
 pub mod Enough
 pub mod Forms
+pub mod Places
