@@ -46,11 +46,11 @@ under v (w ∷ vs) ws us f h =
     or_both true b h k = absurd (cc h)
     or_both false b h k = k
 
-no_exit : (vs : List ℕ) (x : ℕ) → owns vs (Exit x) ≡ false
+pub no_exit : (vs : List ℕ) (x : ℕ) → owns vs (Exit x) ≡ false
 no_exit [] x = refl
 no_exit (v ∷ vs) x = no_exit vs x
 
-no_method : (vs : List ℕ) → owns vs Method ≡ false
+pub no_method : (vs : List ℕ) → owns vs Method ≡ false
 no_method [] = refl
 no_method (v ∷ vs) = no_method vs
 
@@ -99,7 +99,7 @@ front_kept q x e es a false true k g t more h =
     let same : q x ≡ q e.exit = ap q (eqb-true x e.exit g) in absurd (cc (t, same, k))
 front_kept q x e es a false false k g t more h = rw k (more (rw g at h))
 
-exit_kept : (q : ℕ → Bool) (x : ℕ) (es : List ExitAround) (a : Around) → q x ≡ true → exit_around x es ≡ Some a
+pub exit_kept : (q : ℕ → Bool) (x : ℕ) (es : List ExitAround) (a : Around) → q x ≡ true → exit_around x es ≡ Some a
     → exit_around x (filter (λ e. q e.exit) es) ≡ Some a
 exit_kept q x [] a g h = absurd (cc h)
 exit_kept q x (e ∷ es) a g h = front_kept q x e es a (q e.exit) (x == e.exit) refl refl g (exit_kept q x es a g) h

@@ -2,3 +2,5 @@ pub mod Tests
 pub mod Enough
 pub mod Forms
 pub mod Places
+pub mod Good
+pub mod Captured

@@ -51,7 +51,7 @@ pub each_append : {X : Type 0} (P : X → Type 0) (xs ys : List X) → Each P xs
 each_append P [] ys e f = f
 each_append P (x ∷ xs) ys e f = (e.0, each_append P xs ys e.1 f)
 
-any_front : {X : Type 0} (p : X → Bool) (xs ys : List X) → list_any p xs ≡ true → list_any p (xs ++ ys) ≡ true
+pub any_front : {X : Type 0} (p : X → Bool) (xs ys : List X) → list_any p xs ≡ true → list_any p (xs ++ ys) ≡ true
 any_front p [] ys h = absurd (cc h)
 any_front p (x ∷ xs) ys h = front (p x) (list_any p xs) (list_any p (xs ++ ys)) (any_front p xs ys) h
   where
@@ -63,7 +63,7 @@ pub any_behind : {X : Type 0} (p : X → Bool) (xs ys : List X) → list_any p y
 any_behind p [] ys h = h
 any_behind p (x ∷ xs) ys h = or_right (p x) _ (any_behind p xs ys h)
 
-function_there_more : (vs ws : List ℕ) → ((v : ℕ) → list_any (λ w. v == w) vs ≡ true → list_any (λ w. v == w) ws ≡ true)
+pub function_there_more : (vs ws : List ℕ) → ((v : ℕ) → list_any (λ w. v == w) vs ≡ true → list_any (λ w. v == w) ws ≡ true)
     → (b : Bound) → FunctionThere vs b → FunctionThere ws b
 function_there_more vs ws f (Function x v) h = f v h
 function_there_more vs ws f (Variable x v) h = tt
