@@ -4,3 +4,6 @@ pub mod Forms
 pub mod Places
 pub mod Good
 pub mod Captured
+pub mod Grounds
+pub mod Matches
+pub mod Made
