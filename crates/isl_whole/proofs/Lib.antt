@@ -7,3 +7,4 @@ pub mod Captured
 pub mod Grounds
 pub mod Matches
 pub mod Made
+pub mod Apt
