@@ -8,3 +8,5 @@ pub mod Grounds
 pub mod Matches
 pub mod Made
 pub mod Apt
+pub mod Found
+pub mod ValueRows
