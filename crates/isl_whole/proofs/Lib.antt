@@ -10,3 +10,5 @@ pub mod Made
 pub mod Apt
 pub mod Found
 pub mod ValueRows
+pub mod ExitRows
+pub mod CallRows
