@@ -70,17 +70,28 @@ there_later : (ps qs : List Procedure) → length ps ≤ length qs → (c : Call
 there_later ps qs l (callee.Procedure i) h = omega (arith, l, h)
 there_later ps qs l (callee.Generic i) h = h
 
+-- what fits, in later tables
+
+pub literals_later : (g h : Ground) → Later g h → (xs : List LiteralRow) → list_all (literal_fits (rows_of g)) xs ≡ true → list_all (literal_fits (rows_of h)) xs ≡ true
+literals_later g h l xs e = all_more (literal_fits (rows_of g)) (literal_fits (rows_of h)) (literal_fits_later (rows_of g) (rows_of h) l.classes) xs e
+
+pub procedures_later : (g h : Ground) → Later g h → (ps : List Procedure) → list_all (procedure_fits g) ps ≡ true → list_all (procedure_fits h) ps ≡ true
+procedures_later g h l ps e = all_more (procedure_fits g) (procedure_fits h) (procedure_fits_later g h l) ps e
+
+pub mains_later : (g h : Ground) → Later g h → (fs : List Form) → list_all (main_fits g) fs ≡ true → list_all (main_fits h) fs ≡ true
+mains_later g h l fs e = all_more (main_fits g) (main_fits h) (main_fits_later g h l) fs e
+
 -- tables with other literals, sites and numbers
 pub whole_later : (g h : Ground) → Later g h → WholeGround g → list_all (literal_fits (rows_of g)) h.literals ≡ true → h.procedures ≡ g.procedures
     → h.functions ≡ g.functions → h.main ≡ g.main → WholeGround h
 whole_later g h l w e p f m = record {
-  literals = all_more (literal_fits (rows_of g)) (literal_fits (rows_of h)) (literal_fits_later (rows_of g) (rows_of h) l.classes) h.literals e;
-  procedures = ap (list_all (procedure_fits h)) p ∙ all_more (procedure_fits g) (procedure_fits h) (procedure_fits_later g h l) g.procedures w.procedures;
+  literals = literals_later g h l h.literals e;
+  procedures = ap (list_all (procedure_fits h)) p ∙ procedures_later g h l g.procedures w.procedures;
   functions = subst (Each (λ (f : FunctionRow). IsThere h.procedures f.callee)) (sym f)
       (each_more (λ f. IsThere g.procedures f.callee) (λ f. IsThere h.procedures f.callee)
           (λ f e. there_later g.procedures h.procedures l.procedures f.callee e) g.functions w.functions);
   names = subst (λ (fs : List FunctionRow). all_differ same_name fs ≡ true) (sym f) w.names;
-  main = ap (list_all (main_fits h)) m ∙ all_more (main_fits g) (main_fits h) (main_fits_later g h l) g.main w.main;
+  main = ap (list_all (main_fits h)) m ∙ mains_later g h l g.main w.main;
 }
 
 -- what judging enters with: whole tables in which nothing more is defined

@@ -12,3 +12,5 @@ pub mod Found
 pub mod ValueRows
 pub mod ExitRows
 pub mod CallRows
+pub mod BinderRows
+pub mod DefiningRows
