@@ -65,31 +65,36 @@ abbrev pub AllApt : ℕ → Around → List Part → Type 0
 AllApt n i [] = Unit {0}
 AllApt n i (x ∷ xs) = AptPart n i x × AllApt n i xs
 
+-- what a form has to be: right at a place, or anything
+abbrev pub Wanted : Option Around → Ground → Form → Type 0
+Wanted None h f = Unit {0}
+Wanted (Some a) h f = RightAt h a f
+
 -- a node, where what it comes to has to be so, and what it began with
-pub record AptSteps (Q : Ground → Form → Type 0) (top : Bool) (n : ℕ) (g : Ground) (a : Around) (s : Tables) (d : Item) : Type 0 where
+pub record AptSteps (Q : Option Around) (top : Bool) (n : ℕ) (g : Ground) (a : Around) (s : Tables) (d : Item) : Type 0 where
   pub entered : Entered g (ground s)
   pub good : GoodAround (ground s) a
   pub datum : Good n d
-  pub gives : (h : Ground) (f : Form) → RightAt h a f → Q h f
+  pub gives : (h : Ground) (f : Form) → RightAt h a f → Wanted Q h f
   pub same_top : a.spot.top ≡ top
 
-pub record AptWhole (Q : Ground → Form → Type 0) (top : Bool) (n : ℕ) (g : Ground) (o i : Around) (s : Tables) (xs : List Part) (m : Made) : Type 0 where
+pub record AptWhole (Q : Option Around) (top : Bool) (n : ℕ) (g : Ground) (o i : Around) (s : Tables) (xs : List Part) (m : Made) : Type 0 where
   pub entered : Entered g (ground s)
   pub outside : GoodAround (ground s) o
   pub inside : GoodAround (ground s) i
   pub low : top ≡ false → (o.spot.top ≡ false) × (i.spot.top ≡ false)
   pub parts : AllApt n i xs
-  pub right : (t : Tables) (rs : List Found) → AllCame o i (ground s) xs rs (ground t) → Q (ground (finished m rs t)) (made_form m rs)
+  pub right : (t : Tables) (rs : List Found) → AllCame o i (ground s) xs rs (ground t) → Wanted Q (ground (finished m rs t)) (made_form m rs)
   pub ends : (t : Tables) (rs : List Found) → AllCame o i (ground s) xs rs (ground t) → Behind top (ground t) (ground (finished m rs t))
 
-abbrev pub Apt : (Ground → Form → Type 0) → Bool → ℕ → Ground → Node → Type 0
+abbrev pub Apt : Option Around → Bool → ℕ → Ground → Node → Type 0
 Apt Q top n g (offends p r) = Unit {0}
 Apt Q top n g (steps a s d) = AptSteps Q top n g a s d
 Apt Q top n g (whole o i s xs m) = AptWhole Q top n g o i s xs m
 
 -- the node of a datum at a place, beside these tables
 abbrev pub AptAt : ℕ → Around → Tables → Node → Type 0
-AptAt n a s x = Apt (λ h f. RightAt h a f) a.spot.top n (ground s) x
+AptAt n a s x = Apt (Some a) a.spot.top n (ground s) x
 
 -- a good place beside whole tables
 pub record Stage (a : Around) (s : Tables) : Type 0 where

@@ -14,3 +14,5 @@ pub mod ExitRows
 pub mod CallRows
 pub mod BinderRows
 pub mod DefiningRows
+pub mod AllRows
+pub mod Comes
