@@ -61,7 +61,7 @@ procedure_fits_later g h l p e =
     let k : (body_fits (rows_of g) p.body ≡ true) × (is_alone false (Some p) ≡ true) = both _ _ e in
     and_true _ _ (body_fits_later g h l p.body k.0) k.1
 
-main_fits_later : (g h : Ground) → Later g h → (f : Form) → main_fits g f ≡ true → main_fits h f ≡ true
+pub main_fits_later : (g h : Ground) → Later g h → (f : Form) → main_fits g f ≡ true → main_fits h f ≡ true
 main_fits_later g h l f e =
     let k : (body_fits (rows_of g) f ≡ true) × (stands_alone false f ≡ true) = both _ _ e in
     and_true _ _ (body_fits_later g h l f k.0) k.1

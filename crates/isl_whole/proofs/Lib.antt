@@ -16,3 +16,4 @@ pub mod BinderRows
 pub mod DefiningRows
 pub mod AllRows
 pub mod Comes
+pub mod Programs

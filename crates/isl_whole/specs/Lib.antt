@@ -2,3 +2,4 @@ pub mod Scopes
 pub mod Ground
 pub mod Places
 pub mod Right
+pub mod Classes

@@ -1,11 +1,12 @@
 -- What a datum has to come to: a form that stands there, fits, and is not too deep; with tables behind it that are whole.
-use Rattle.std.specs.Prelude.{◌≡◌, ℕ, ◌+◌, ◌≤◌, Bool, true, false}
+use Rattle.std.specs.Prelude.{◌≡◌, ℕ, ◌+◌, ◌≤◌, Bool, true, false, [], ◌∷◌, ◌++◌}
 use Rattle.isl_meaning.specs.declared.scope.LexicalScope.{LexicalScope}
 use Rattle.isl_meaning.specs.Form.{Form}
 use Rattle.isl_meaning.specs.Fits.{fits}
 use Rattle.isl_meaning.specs.Standing.{stands}
 use Rattle.isl_meaning.specs.Counts.{depth}
-use Rattle.isl_profile.specs.Nodes.{Around, Standing, Verdict, stands as comes_to, ended}
+use Rattle.isl_profile.specs.Nodes.{Around, Standing}
+use Rattle.isl_profile.specs.declared.tables.Tables.{Tables}
 use Rattle.isl_whole.specs.Ground.{Ground, ground, rows_of, Later, WholeGround}
 use Rattle.isl_whole.specs.Places.{scope_of}
 
@@ -25,11 +26,11 @@ pub record Behind (top : Bool) (g h : Ground) : Type 0 where
   pub main : h.main ≡ g.main
   pub inside : top ≡ false → h.functions ≡ g.functions
 
-pub record Came (g : Ground) (a : Around) (m : Standing) : Type 0 where
+-- a datum came to a form that is right there, and to whole tables
+pub record Came (a : Around) (s : Tables) (m : Standing) : Type 0 where
   pub right : RightAt (ground m.tables) a m.form
-  pub behind : Behind a.spot.top g (ground m.tables)
+  pub behind : Behind a.spot.top (ground s) (ground m.tables)
 
--- a verdict that stands
-abbrev pub CameTo : Ground → Around → Verdict → Type 0
-CameTo g a (comes_to m) = Came g a m
-CameTo g a (ended e) = Unit {0}
+-- with a main form more
+abbrev pub with_main : Form → Tables → Tables
+with_main f t = record t { main = t.main ++ f ∷ [] }
