@@ -17,3 +17,4 @@ pub mod DefiningRows
 pub mod AllRows
 pub mod Comes
 pub mod Programs
+pub mod Classes

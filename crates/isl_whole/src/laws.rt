@@ -8,6 +8,8 @@ ghost use Rattle.isl_meaning.specs.Form.{Form};
 ghost use Rattle.isl_meaning.specs.Standing.{stands};
 ghost use Rattle.isl_meaning.specs.ProgramCounts.{program_nodes};
 ghost use Rattle.isl_meaning.specs.Facts.{is_whole};
+ghost use Rattle.isl_classes.specs.InheritedClasses.{Hierarchy};
+ghost use Rattle.isl_classes.specs.InheritedBuiltIn.{AreBuiltIn};
 ghost use Rattle.isl_profile.specs.declared.tables.Tables.{Tables};
 ghost use Rattle.isl_profile.specs.Nodes.{Around, Standing, stands as comes_to};
 ghost use Rattle.isl_profile.specs.Rows.{node};
@@ -45,4 +47,10 @@ pub fn law_top_forms()
 pub fn law_programs()
     ensures { (t : Tables) → WholeTables t → SimpleClasses t.classes.rows → length t.sites ≤ 100000 → program_nodes (rows_of (ground t)) ≤ 100000 →
         is_whole (rows_of (ground t)) ≡ true }
+{}
+
+/// The built-in classes are such as a program has to have, and no form changes the classes.
+pub fn law_classes()
+    ensures first { (texts : List (List ℕ)) (h : Hierarchy) → AreBuiltIn texts h → SimpleClasses h.rows }
+    ensures kept { (a : Around) (s : Tables) (m : Standing) → Came a s m → SimpleClasses s.classes.rows → SimpleClasses m.tables.classes.rows }
 {}
