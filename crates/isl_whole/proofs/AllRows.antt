@@ -1,11 +1,11 @@
 -- The node of every good datum at a good place beside whole tables is apt.
 use Rattle.std.proofs.Common.{◌≡◌, refl, arith}
-use Rattle.std.specs.Prelude.{ℕ, true, false, Bool, List, [], ◌∷◌, Option, Some, None, length}
+use Rattle.std.specs.Prelude.{ℕ, true, false, List, [], ◌∷◌, Option, Some, None, length}
 use Rattle.isl_base.specs.declared.place.Place.{Place}
 use Rattle.isl_base.specs.declared.datum.Symbol.{Symbol}
 use Rattle.isl_base.specs.declared.datum.Symbol.TheVariants.{Named, Fresh}
 use Rattle.isl_base.specs.declared.reason.Refusal.{Refusal}
-use Rattle.isl_base.specs.Data.{Item, item, integer, character, symbol, string, vector, nil, list, items_list, Tail, no_tail, dotted, place_of}
+use Rattle.isl_base.specs.Data.{Item, item, integer, character, symbol, string, vector, nil, list, items_list, Tail, no_tail, dotted}
 use Rattle.isl_base.specs.DataFormed.{formed_tells}
 use Rattle.isl_base.specs.DataNames.{symbol_text}
 use Rattle.isl_base.specs.DataParts.{AllOf}

@@ -1,6 +1,6 @@
 -- What a node has to say so that what it comes to is right: its parts are good and stand at good places, and what is made of
 -- right forms is right.
-use Rattle.std.proofs.Common.{◌≡◌, ◌+◌, ◌≤◌, ℕ, nat_le, Bool, true, false, List, [], ◌∷◌, ◌++◌, length, Option, Some, None, if◌then◌else◌, refl, sym, ap, subst, ◌∙◌, arith}
+use Rattle.std.proofs.Common.{◌≡◌, ◌+◌, ◌≤◌, ℕ, nat_le, Bool, true, false, List, [], ◌∷◌, ◌++◌, length, Option, Some, None, if◌then◌else◌, refl, sym, subst, ◌∙◌, arith}
 use Rattle.std.proofs.lemmas.Bool.{leb-true}
 use Rattle.std.proofs.lemmas.List.{length-append}
 use Rattle.isl_base.specs.declared.place.Place.{Place}
@@ -20,16 +20,16 @@ use Rattle.isl_profile.specs.declared.making.Found.{Found}
 use Rattle.isl_profile.specs.declared.making.Made.{Made}
 use Rattle.isl_profile.specs.declared.making.Making.{Making}
 use Rattle.isl_profile.specs.declared.making.Making.TheVariants.{Ready}
-use Rattle.isl_profile.specs.Nodes.{Around, Part, form, below, inner, bind, parameter, Node, offends, steps, whole, Standing, Verdict, stands as comes_to, ended}
+use Rattle.isl_profile.specs.Nodes.{Around, Part, form, below, inner, bind, parameter, Node, offends, steps, whole}
 use Rattle.isl_profile.specs.Makings.{make, at_site, made_form, finish, finished}
 use Rattle.isl_profile.specs.Shapes.{Pair}
-use Rattle.isl_profile.specs.RowWords.{deeper, with_site_if, with_site, site_if, next_site, within_depth, made_of, made_at_once, unsited, with_literal, literal_node, each_form, each_below, each_inner, each_bound, each_parameter}
+use Rattle.isl_profile.specs.RowWords.{deeper, with_site_if, site_if, within_depth, made_of, made_at_once, unsited, with_literal, literal_node, each_form, each_below, each_inner, each_bound, each_parameter}
 use Rattle.isl_profile.specs.bridge.GoodParts.{GoodPairs}
 use Rattle.isl_whole.specs.Ground.{Ground, ground, rows_of, Later, WholeGround}
 use Rattle.isl_whole.specs.Places.{scope_of, GoodAround}
 use Rattle.isl_whole.specs.Right.{RightIn, RightAt, Behind}
-use Rattle.isl_whole.proofs.Forms.{each_more, right_later, right_sited}
-use Rattle.isl_whole.proofs.Grounds.{Entered, later_same, later_then, entered_same, entered_then, entered_site, entered_literal, behind_same}
+use Rattle.isl_whole.proofs.Forms.{each_more, right_sited}
+use Rattle.isl_whole.proofs.Grounds.{Entered, later_then, entered_same, entered_then, entered_site, entered_literal, behind_same}
 use Rattle.isl_whole.proofs.Good.{good_later, good_deeper}
 use Rattle.isl_whole.proofs.Matches.{new_variables, Spots, AllMatch}
 use Rattle.isl_whole.proofs.Made.{made_literal}
@@ -179,7 +179,7 @@ apt_made n a s i p t xs k b m =
       right = λ u rs c.
           subst (λ (h : Ground). RightAt h a (at_site (site_if a.spot.sited (length t.sites)) (make k rs))) (sym (m.ends u rs))
           (at_its_site a.spot.sited p t (ground u) (scope_of a) a.spot.depth (make k rs) c.later
-              (m.right u rs (came_earlier (deeper 1 a) i (ground t) (ground t2) xs rs (ground u) e c)));
+          (m.right u rs (came_earlier (deeper 1 a) i (ground t) (ground t2) xs rs (ground u) e c)));
       ends = λ u rs c. subst (Behind a.spot.top (ground u)) (sym (m.ends u rs)) (behind_same a.spot.top (ground u) c.whole);
     }
 
@@ -201,7 +201,7 @@ pub apt_at_once : (n : ℕ) (a : Around) (s : Tables) (p : Place) (f : Form) →
     → AptAt n a s (made_at_once a p s f)
 apt_at_once n a s p f b r =
     apt_within n a s 1 p _ (λ l. apt_made n a s (deeper 1 a) p s [] (Ready f) b
-        (plain_parts n a s [] (Ready f) b tt (λ u rs c. r (ground u) l) (λ u rs. refl)))
+    (plain_parts n a s [] (Ready f) b tt (λ u rs c. r (ground u) l) (λ u rs. refl)))
 
 -- lists of parts
 

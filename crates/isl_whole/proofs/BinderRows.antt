@@ -1,5 +1,5 @@
 -- The rows of forms that bind are apt.
-use Rattle.std.proofs.Common.{◌≡◌, ◌+◌, ◌≤◌, ℕ, zero, suc, Bool, true, false, List, [], ◌∷◌, ◌++◌, filter, take, drop, length, Option, Some, None, is_some, if◌then◌else◌, refl, sym, ap, subst, ◌∙◌, arith}
+use Rattle.std.proofs.Common.{◌≡◌, ◌+◌, ◌≤◌, ℕ, Bool, true, false, List, [], ◌∷◌, ◌++◌, filter, take, drop, length, Option, Some, None, is_some, refl, sym, ap, subst, ◌∙◌, arith}
 use Rattle.isl_base.specs.declared.place.Place.{Place}
 use Rattle.isl_base.specs.declared.datum.Name.{Name}
 use Rattle.isl_base.specs.Data.{Item}
@@ -7,7 +7,7 @@ use Rattle.isl_base.specs.DataParts.{AllOf}
 use Rattle.isl_base.specs.GoodData.{Good}
 use Rattle.isl_meaning.specs.declared.part.Part.{Part as Captured}
 use Rattle.isl_meaning.specs.declared.scope.LexicalScope.{LexicalScope}
-use Rattle.isl_meaning.specs.Form.{Form, parameters}
+use Rattle.isl_meaning.specs.Form.{parameters}
 use Rattle.isl_meaning.specs.Subforms.{Each}
 use Rattle.isl_meaning.specs.Mentions.{variables_bound, mentions}
 use Rattle.isl_meaning.specs.Standing.{with_bound}
@@ -17,19 +17,19 @@ use Rattle.isl_profile.specs.declared.parameters.Parameters.{Parameters}
 use Rattle.isl_profile.specs.declared.making.Found.{Found}
 use Rattle.isl_profile.specs.declared.making.Making.TheVariants.{InSequence, OfVariables, OfDynamics, OfFunction}
 use Rattle.isl_profile.specs.Names.{parts_around}
-use Rattle.isl_profile.specs.Nodes.{Around, Part}
+use Rattle.isl_profile.specs.Nodes.{Around}
 use Rattle.isl_profile.specs.Makings.{forms_found, variables_found, bindings_found, body_of, make_dynamics, behind_dynamics, rest_found, make}
 use Rattle.isl_profile.specs.Shapes.{Pair, pairs_in, parameters_in, all_symbols, name_of}
 use Rattle.isl_profile.specs.RowWords.{deeper, with_all, each_below, each_inner, each_bound, each_parameter}
 use Rattle.isl_profile.specs.BindingRows.{let_as, let_row, name_and, names_of, values_of, dynamics_as, dynamic_let_as, dynamic_let_row, lambda_as, lambda_row, functions_of, functions_as, with_functions_as, with_functions_row}
 use Rattle.isl_profile.specs.bridge.GoodParts.{GoodPairs, MaybePairs, good_pairs}
-use Rattle.isl_whole.specs.Ground.{Ground, ground, Later}
+use Rattle.isl_whole.specs.Ground.{Ground, ground}
 use Rattle.isl_whole.specs.Places.{variables_around, scope_of, GoodAround}
 use Rattle.isl_whole.specs.Right.{RightIn, RightAt}
 use Rattle.isl_whole.proofs.Grounds.{entered_same}
-use Rattle.isl_whole.proofs.Good.{good_later, good_deeper, good_functions, MaybeFunctions, AreFunctions, are_functions, functions_scope}
+use Rattle.isl_whole.proofs.Good.{good_deeper, good_functions, MaybeFunctions, are_functions, functions_scope}
 use Rattle.isl_whole.proofs.Captured.{IsCaptured, is_captured}
-use Rattle.isl_whole.proofs.Matches.{new_variables, Spots, AllMatch, BoundMatch, bound_match, ParametersMatch, parameters_match, DynamicsMatch, dynamics_match}
+use Rattle.isl_whole.proofs.Matches.{new_variables, AllMatch, BoundMatch, bound_match, ParametersMatch, parameters_match, DynamicsMatch, dynamics_match}
 use Rattle.isl_whole.proofs.Made.{made_let, made_dynamic_let, made_lambda, made_body}
 use Rattle.isl_whole.proofs.Apt.{spots, AllCame, AllApt, AptAt, Stage, apt_within, apt_made, plain_parts, both_apt, below_apt, inner_apt, bound_apt, parameters_apt}
 use Rattle.isl_whole.proofs.Found.{found_inner, parameters_are, symbols_counted}
@@ -43,7 +43,7 @@ found_let h a qs fs rs l x =
     let m : BoundMatch (spots h (deeper 1 a) (deeper 2 a) rs) rs = bound_match (spots h (deeper 1 a) (deeper 2 a) rs) qs fs rs x in
     made_let h (scope_of a) a.spot.depth (bindings_found rs) (forms_found rs) (omega (arith, l)) m.values
     (two_deeper h (with_bound (variables_bound (bindings_found rs)) (scope_of a)) a.spot.depth (forms_found rs)
-        (subst (λ (vs : List ℕ). Each (RightIn h (with_bound vs (scope_of a)) (a.spot.depth + 2)) (forms_found rs)) (sym m.variables) m.forms))
+    (subst (λ (vs : List ℕ). Each (RightIn h (with_bound vs (scope_of a)) (a.spot.depth + 2)) (forms_found rs)) (sym m.variables) m.forms))
 
 apt_let_as : (n : ℕ) (a : Around) (s : Tables) (p : Place) (bs : Item) (fs : List Item) (qs : Option (List Pair)) → Stage a s → AllOf (Good n) fs → MaybePairs n qs
     → a.spot.depth + 2 ≤ 1000 → AptAt n a s (let_as a s p bs fs qs)
@@ -93,9 +93,9 @@ apt_dynamics_as : (n : ℕ) (a : Around) (s : Tables) (p : Place) (fs : List Ite
 apt_dynamics_as n a s p fs qs None b g k e = tt
 apt_dynamics_as n a s p fs qs (Some ns) b g k e =
     apt_within n a s 2 p _ (λ l. apt_made n a s (deeper 1 a) p s (values_of qs ++ each_below fs) (OfDynamics ns) b
-        (plain_parts n a s (values_of qs ++ each_below fs) (OfDynamics ns) b
-            (both_apt n (deeper 1 a) (values_of qs) (each_below fs) (values_apt n (deeper 1 a) qs k) (below_apt n (deeper 1 a) fs g))
-            (λ u rs c. found_dynamics (ground u) a ns qs fs rs l (names_counted qs ns e) c.match) (λ u rs. refl)))
+    (plain_parts n a s (values_of qs ++ each_below fs) (OfDynamics ns) b
+    (both_apt n (deeper 1 a) (values_of qs) (each_below fs) (values_apt n (deeper 1 a) qs k) (below_apt n (deeper 1 a) fs g))
+    (λ u rs c. found_dynamics (ground u) a ns qs fs rs l (names_counted qs ns e) c.match) (λ u rs. refl)))
 
 apt_dynamic_let_as : (n : ℕ) (a : Around) (s : Tables) (p : Place) (bs : Item) (fs : List Item) (qs : Option (List Pair)) → Stage a s → AllOf (Good n) fs
     → MaybePairs n qs → AptAt n a s (dynamic_let_as a s p bs fs qs)
@@ -170,7 +170,7 @@ apt_functions_as n a s p fs false (Some bs) b g f =
       right = λ u rs c.
           made_body (ground u) (scope_of a) a.spot.depth (forms_found rs) l
           (subst (λ (t : LexicalScope). Each (RightIn (ground u) t (a.spot.depth + 1)) (forms_found rs)) (functions_scope bs (deeper 1 a) f)
-              (found_inner (ground u) (deeper 1 a) i fs rs c.match));
+          (found_inner (ground u) (deeper 1 a) i fs rs c.match));
       ends = λ u rs. refl;
     }))
 

@@ -1,5 +1,5 @@
 -- The rows of calls are apt: each call has as many parts as it takes.
-use Rattle.std.proofs.Common.{◌≡◌, ◌+◌, ◌≤◌, ℕ, nat_le, nat_eq, Bool, true, false, ◌&&◌, List, [], ◌∷◌, ◌++◌, length, Option, Some, None, if◌then◌else◌, refl, sym, ap, subst, ◌∙◌, arith}
+use Rattle.std.proofs.Common.{◌≡◌, ◌+◌, ◌≤◌, ℕ, nat_le, nat_eq, Bool, true, false, List, [], ◌∷◌, length, Option, Some, None, if◌then◌else◌, refl, ap, ◌∙◌, arith}
 use Rattle.std.specs.Prelude.{codes}
 use Rattle.std.specs.Str.{bytes_eq}
 use Rattle.std.proofs.lemmas.Bool.{leb-true, eqb-true}
@@ -69,8 +69,8 @@ pub apt_all_parts : (n : ℕ) (m : Making) (a : Around) (s : Tables) (p : Place)
     → AptAt n a s (all_parts m a s p ds)
 apt_all_parts n m a s p ds b g c =
     apt_within n a s 1 p _ (λ l. apt_made n a s (deeper 1 a) p s (each_form ds) m b
-        (plain_parts n a s (each_form ds) m b (forms_apt n (deeper 1 a) ds g)
-            (λ u rs x. found_call (ground u) a (deeper 1 a) m ds rs c l x.match) (call_ends m (length ds) c)))
+    (plain_parts n a s (each_form ds) m b (forms_apt n (deeper 1 a) ds g)
+    (λ u rs x. found_call (ground u) a (deeper 1 a) m ds rs c l x.match) (call_ends m (length ds) c)))
 
 -- a call by name is one of these
 
@@ -94,10 +94,10 @@ call_is : (n : Name) (text : List ℕ) (count : ℕ) → IsCall (call_making n t
 call_is n text count =
     one_of_two (is_value_call text count) count _ _ (λ e. of_value count (leb-true 1 count (both (bytes_eq text (codes "funcall")) (nat_le 1 count) e).1))
     (one_of_two (is_pair_call text (codes "signal-condition") count) count _ _
-        (λ e. of_two Signalling count (eqb-true count 2 (both (bytes_eq text (codes "signal-condition")) (nat_eq count 2) e).1))
-        (one_of_two (is_pair_call text (codes "continue-condition") count) count _ _
-            (λ e. of_two Continuing count (eqb-true count 2 (both (bytes_eq text (codes "continue-condition")) (nat_eq count 2) e).1))
-            (named_is_call n count (primitive_called text count) (primitive_taken (primitive_named text) count))))
+    (λ e. of_two Signalling count (eqb-true count 2 (both (bytes_eq text (codes "signal-condition")) (nat_eq count 2) e).1))
+    (one_of_two (is_pair_call text (codes "continue-condition") count) count _ _
+    (λ e. of_two Continuing count (eqb-true count 2 (both (bytes_eq text (codes "continue-condition")) (nat_eq count 2) e).1))
+    (named_is_call n count (primitive_called text count) (primitive_taken (primitive_named text) count))))
 
 pub apt_named_call : (n : ℕ) (name : Name) (text : List ℕ) (a : Around) (s : Tables) (p : Place) (ds : List Item) → Stage a s → AllOf (Good n) ds
     → AptAt n a s (named_call name text a s p ds)
@@ -109,7 +109,7 @@ pub apt_local_call : (n v : ℕ) (a : Around) (s : Tables) (p : Place) (ds : Lis
     → AptAt n a s (local_call v a s p ds)
 apt_local_call n v a s p ds b e g =
     apt_within n a s 2 p _ (λ l. apt_made n a s (deeper 1 a) p s (each_form ds) (CallOfLocal v) b
-        (plain_parts n a s (each_form ds) (CallOfLocal v) b (forms_apt n (deeper 1 a) ds g)
-            (λ u rs x. made_local_call (ground u) (scope_of a) a.spot.depth v (forms_found rs) (omega (arith, l)) e
-                (forms_match (spots (ground u) (deeper 1 a) (deeper 1 a) rs) ds rs x.match))
-            (λ u rs. refl)))
+    (plain_parts n a s (each_form ds) (CallOfLocal v) b (forms_apt n (deeper 1 a) ds g)
+    (λ u rs x. made_local_call (ground u) (scope_of a) a.spot.depth v (forms_found rs) (omega (arith, l)) e
+    (forms_match (spots (ground u) (deeper 1 a) (deeper 1 a) rs) ds rs x.match))
+    (λ u rs. refl)))

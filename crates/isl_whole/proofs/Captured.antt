@@ -1,30 +1,27 @@
 -- What a function captures: just the parts around it that its body mentions, in their order; so its body stands where only
 -- these are seen.
-use Rattle.std.proofs.Common.{◌≡◌, ◌+◌, ◌==◌, ◌≤◌, ◌<◌, ◌⊎◌, inl, inr, ⊎_elim, ℕ, nat_lt, Bool, true, false, not, ◌&&◌, ◌||◌, List, [], ◌∷◌, ◌++◌, length, Option, Some, None, filter, if◌then◌else◌, map, refl, sym, ap, subst, ◌∙◌, arith}
+use Rattle.std.proofs.Common.{◌≡◌, ◌+◌, ◌==◌, ◌≤◌, ◌<◌, ◌⊎◌, ⊎_elim, ℕ, Bool, true, false, not, ◌&&◌, List, [], ◌∷◌, ◌++◌, filter, if◌then◌else◌, map, refl, sym, ap, subst, ◌∙◌, arith}
 use Rattle.std.specs.List.{list_all, list_any, filter_map}
 use Rattle.std.proofs.lemmas.Bool.{eqb-true, eq-eqb, ne_eqb, lt-ltb}
 use Rattle.std.proofs.lemmas.List.Folds.{list_any-append}
 use Rattle.std.proofs.lemmas.Map.Views.{any-filter_same}
 use Rattle.isl_meaning.specs.declared.part.Part.{Part}
 use Rattle.isl_meaning.specs.declared.part.Part.TheVariants as part
-use Rattle.isl_meaning.specs.declared.scope.Around.{Around as Kind}
-use Rattle.isl_meaning.specs.declared.scope.ExitAround.{ExitAround}
 use Rattle.isl_meaning.specs.declared.scope.LexicalScope.{LexicalScope}
 use Rattle.isl_meaning.specs.Form.{Form}
 use Rattle.isl_meaning.specs.Subforms.{Each}
 use Rattle.isl_meaning.specs.Mentions.{same_part, comes_before, is_next, in_order, owns, mentions}
-use Rattle.isl_meaning.specs.Standing.{with_bound, is_variable, exit_around, is_bound, seen, is_free, are_captured, stands}
+use Rattle.isl_meaning.specs.Standing.{with_bound, is_variable, is_bound, seen, are_captured, stands}
 use Rattle.isl_profile.specs.declared.bound.Bound.{Bound}
 use Rattle.isl_profile.specs.declared.bound.Bound.TheVariants.{Variable, Function, Block, Tags}
 use Rattle.isl_profile.specs.Names.{variable_part, exit_part, method_part, parts_around}
 use Rattle.isl_profile.specs.Nodes.{Around}
 use Rattle.isl_whole.specs.Scopes.{Provides, MentionsWithin}
 use Rattle.isl_whole.specs.Ground.{Ground}
-use Rattle.isl_whole.specs.Places.{variable_at, variables_around, exit_at, exit_numbers, exit_of, exits_around, scope_of, Rises, GoodAround}
+use Rattle.isl_whole.specs.Places.{variables_around, exit_at, exit_numbers, exit_of, exits_around, scope_of, Rises, GoodAround}
 use Rattle.isl_whole.proofs.Tests.{both, and_true, or_left, or_right, or_cases, all_more}
 use Rattle.isl_whole.proofs.Enough.{enough, seen_variables, exit_some, exit_kept, no_exit, no_method}
 use Rattle.isl_whole.proofs.Places.{any_front, any_behind, each_append}
-use Rattle.isl_whole.proofs.Forms.{each_more}
 
 -- parts in their order
 
@@ -188,10 +185,10 @@ parts_bound : (a : Around) → list_all (is_bound (scope_of a)) (parts_around a.
 parts_bound a =
     rw (parts_numbered a.bound a.spot.in_method)
     (all_append (is_bound (scope_of a)) (map part.Variable (variables_around a.bound)) _
-        (all_variables_bound (scope_of a) (variables_around a.bound) (λ v h. h))
-        (all_append (is_bound (scope_of a)) (map part.Exit (exit_numbers a.bound)) (method_part a.spot.in_method)
-            (all_exits_bound (scope_of a) (exit_numbers a.bound) (λ e h. exit_number_there e a.bound h))
-            (method_bound (scope_of a) a.spot.in_method refl)))
+    (all_variables_bound (scope_of a) (variables_around a.bound) (λ v h. h))
+    (all_append (is_bound (scope_of a)) (map part.Exit (exit_numbers a.bound)) (method_part a.spot.in_method)
+    (all_exits_bound (scope_of a) (exit_numbers a.bound) (λ e h. exit_number_there e a.bound h))
+    (method_bound (scope_of a) a.spot.in_method refl)))
 
 -- what is bound around is one of the parts around
 
@@ -223,12 +220,12 @@ variable_around a v h =
 exit_around_part : (a : Around) (e : ℕ) → list_any (λ x. e == x.exit) (exits_around a.bound) ≡ true → list_any (same_part (part.Exit e)) (around_parts a) ≡ true
 exit_around_part a e h =
     numbered_among a (part.Exit e) (any_behind _ (map part.Variable (variables_around a.bound)) _
-        (any_front _ (map part.Exit (exit_numbers a.bound)) (method_part a.spot.in_method) (exit_among e (exit_numbers a.bound) (number_of_exit e a.bound h))))
+    (any_front _ (map part.Exit (exit_numbers a.bound)) (method_part a.spot.in_method) (exit_among e (exit_numbers a.bound) (number_of_exit e a.bound h))))
 
 method_around : (a : Around) → a.spot.in_method ≡ true → list_any (same_part part.Method) (around_parts a) ≡ true
 method_around a h =
     numbered_among a part.Method (any_behind _ (map part.Variable (variables_around a.bound)) _
-        (any_behind _ (map part.Exit (exit_numbers a.bound)) (method_part a.spot.in_method) (method_among a.spot.in_method h)))
+    (any_behind _ (map part.Exit (exit_numbers a.bound)) (method_part a.spot.in_method) (method_among a.spot.in_method h)))
 
 equal_parts : (p q : Part) → same_part p q ≡ true → p ≡ q
 equal_parts (part.Variable v) (part.Variable w) h = ap part.Variable (eqb-true v w h)
@@ -320,10 +317,10 @@ pub is_captured : (g : Ground) (a : Around) (vs : List ℕ) (body : Form) → Go
 is_captured g a vs body o e h = record {
   captured = and_true _ _
       (and_true _ _
-          (ordered_in_order (captured body a) (ordered_kept (λ p. mentions p body) (around_parts a)
-              (subst Ordered (sym (parts_numbered a.bound a.spot.in_method))
-                  (parts_ordered (variables_around a.bound) (exit_numbers a.bound) a.spot.in_method g.variables g.exits o.variables o.exits))))
-          (also_kept (is_bound (scope_of a)) (λ p. mentions p body) (around_parts a) (parts_bound a)))
+      (ordered_in_order (captured body a) (ordered_kept (λ p. mentions p body) (around_parts a)
+      (subst Ordered (sym (parts_numbered a.bound a.spot.in_method))
+      (parts_ordered (variables_around a.bound) (exit_numbers a.bound) a.spot.in_method g.variables g.exits o.variables o.exits))))
+      (also_kept (is_bound (scope_of a)) (λ p. mentions p body) (around_parts a) (parts_bound a)))
       (all_kept (λ p. not (owns vs p)) (λ p. mentions p body) (around_parts a) (none_owned g a vs o e));
   stands = enough body _ _ (seen_enough body a vs) h;
 }

@@ -1,5 +1,5 @@
 -- The built-in classes are such as a program has to have.
-use Rattle.std.proofs.Common.{◌≡◌, ◌+◌, ◌==◌, ◌≤◌, ◌<◌, ◌⊎◌, ⊎_elim, ℕ, zero, suc, nat_le, nat_lt, Bool, true, false, not, ◌&&◌, ◌||◌, List, [], ◌∷◌, ◌++◌, length, map, take, filter, flat_map, slice_get, is_some, Option, Some, None, if◌then◌else◌, refl, sym, ap, subst, ◌∙◌, arith}
+use Rattle.std.proofs.Common.{◌≡◌, ◌+◌, ◌≤◌, ◌<◌, ℕ, suc, nat_lt, Bool, true, false, not, List, [], ◌∷◌, ◌++◌, length, map, take, filter, flat_map, slice_get, is_some, Option, Some, None, if◌then◌else◌, refl, sym, ap, subst, ◌∙◌, arith}
 use Rattle.std.specs.Prelude.{All}
 use Rattle.std.specs.List.{list_all}
 use Rattle.std.proofs.lemmas.Bool.{lt-ltb, le-leb, eqb-true, eq-eqb}
@@ -13,9 +13,9 @@ use Rattle.isl_meaning.specs.Values.{same_text}
 use Rattle.isl_meaning.specs.BuiltIn.{built_in_precedence, built_in_slots}
 use Rattle.isl_meaning.specs.Facts.{is_one, is_plain_slot, is_row, begins_with_built_in}
 use Rattle.isl_meaning.specs.bridge.Prefixes.{of_prefix}
-use Rattle.isl_classes.specs.InheritedSlots.{same_name, without_name, each_first, of_name, last_initform, initargs_of, initform_of, slot_of, slots_of, names_of, united, slots_said_by, own_slots, said_by}
-use Rattle.isl_classes.specs.InheritedClasses.{Hierarchy, IsRow, AreClasses, IsBuiltIn, IsHierarchy}
-use Rattle.isl_classes.specs.InheritedBuiltIn.{own_initarg, SaysSlots, AreNamed, AreBuiltIn, built_in_own}
+use Rattle.isl_classes.specs.InheritedSlots.{same_name, without_name, each_first, of_name, last_initform, slot_of, slots_of, names_of, united, slots_said_by, own_slots, said_by}
+use Rattle.isl_classes.specs.InheritedClasses.{Hierarchy, IsRow, IsBuiltIn}
+use Rattle.isl_classes.specs.InheritedBuiltIn.{own_initarg, SaysSlots, AreBuiltIn, built_in_own}
 use Rattle.isl_whole.specs.Classes.{is_simple, SimpleClasses}
 use Rattle.isl_whole.proofs.Tests.{and_true}
 use Rattle.isl_whole.proofs.Forms.{each_more}
@@ -142,10 +142,10 @@ row_plain texts h b c row e =
     ap (list_all is_plain_slot) r.slots
     ∙ united_plain (said_by (take (c + 1) h.own) row.precedence)
     (all_said (take (c + 1) h.own)
-        (λ d slots k.
-        let s : SaysSlots texts (built_in_own d) slots = b.named.own d slots (of_prefix (c + 1) h.own d slots k).1 in
-        subst (Each IsOwn) (sym s.slots_are) (own_said (names_of slots)))
-        row.precedence)
+    (λ d slots k.
+    let s : SaysSlots texts (built_in_own d) slots = b.named.own d slots (of_prefix (c + 1) h.own d slots k).1 in
+    subst (Each IsOwn) (sym s.slots_are) (own_said (names_of slots)))
+    row.precedence)
 
 line_below : (n : ℕ) (ds : List ℕ) (c : ℕ) → All (λ d. d ≤ c) ds → c < n → list_all (λ d. nat_lt d n) ds ≡ true
 line_below n [] c h l = refl
@@ -183,10 +183,10 @@ begins (c ∷ cs) (p ∷ ps) (n ∷ ns) l r =
     let b : Some n ≡ Some (length c.slots) = r.count 0 c refl in
     and_true _ _ (built_in_row c p n (cc a) (cc b) (r.concrete 0 c refl) (r.plain 0 c refl))
     (begins cs ps ns (omega (arith, l)) (record {
-        precedence = λ k row e. r.precedence (suc k) row e;
-        count = λ k row e. r.count (suc k) row e;
-        concrete = λ k row e. r.concrete (suc k) row e;
-        plain = λ k row e. r.plain (suc k) row e;
+      precedence = λ k row e. r.precedence (suc k) row e;
+      count = λ k row e. r.count (suc k) row e;
+      concrete = λ k row e. r.concrete (suc k) row e;
+      plain = λ k row e. r.plain (suc k) row e;
     }))
 
 pub built_in_simple : (texts : List (List ℕ)) (h : Hierarchy) → AreBuiltIn texts h → SimpleClasses h.rows
@@ -204,5 +204,5 @@ built_in_simple texts h b =
       simple = rows_all (is_simple h.rows) h.rows (λ c row e.
           let r : IsRow (take c h.rows) (take (c + 1) h.own) c row = b.hierarchy.classes.right c row e in
           and_true _ _ (and_true _ _ (line_below (length h.rows) row.precedence c r.in_range (slice_get_within h.rows c row e)) (row_plain texts h b c row e))
-              (le-leb (length row.slots) 64 r.few));
+          (le-leb (length row.slots) 64 r.few));
     }

@@ -3,7 +3,6 @@ use Rattle.std.proofs.Common.{◌≡◌, ◌+◌, ◌==◌, ◌≤◌, ◌⊎◌
 use Rattle.std.specs.List.{list_any}
 use Rattle.std.proofs.lemmas.List.Folds.{list_any-append}
 use Rattle.isl_base.specs.declared.datum.Symbol.{Symbol}
-use Rattle.isl_base.specs.Data.{Item}
 use Rattle.isl_base.specs.GoodData.{Good}
 use Rattle.isl_meaning.specs.declared.scope.LexicalScope.{LexicalScope}
 use Rattle.isl_meaning.specs.declared.part.Part.{Part as Captured}
@@ -11,13 +10,9 @@ use Rattle.isl_meaning.specs.declared.part.Part.TheVariants as part
 use Rattle.isl_meaning.specs.Form.{Form}
 use Rattle.isl_meaning.specs.Subforms.{Each}
 use Rattle.isl_meaning.specs.Standing.{with_bound, exit_around}
-use Rattle.isl_derived.specs.Derived.{Derives}
 use Rattle.isl_derived.proofs.Kept.{step_formed, step_named}
 use Rattle.isl_profile.specs.declared.tables.Tables.{Tables}
-use Rattle.isl_profile.specs.declared.bound.Bound.{Bound}
 use Rattle.isl_profile.specs.declared.bound.Bound.TheVariants.{Variable}
-use Rattle.isl_profile.specs.declared.making.Found.{Found}
-use Rattle.isl_profile.specs.declared.making.Found.TheVariants.{Value, Binding, Parameter}
 use Rattle.isl_profile.specs.declared.making.Made.{Made}
 use Rattle.isl_profile.specs.Nodes.{Around, with_bound as bind_in, Part, form, below, inner, bind, parameter, Node, Standing, Verdict, stands as comes_to, ended, behind, recorded}
 use Rattle.isl_profile.specs.declared.spot.Spot.{Spot}
@@ -26,15 +21,15 @@ use Rattle.isl_profile.specs.Rows.{node}
 use Rattle.isl_profile.specs.Judged.{with_fresh, with_variable, subject, AllFound, Verdicts, all_stand, one_ended, in_front, made_verdict, Comes, offence, step, made, Goes, ends, goes, stops}
 use Rattle.isl_whole.specs.Scopes.{Provides, Within}
 use Rattle.isl_whole.specs.Ground.{Ground, ground, Later, WholeGround}
-use Rattle.isl_whole.specs.Places.{variables_around, exits_around, scope_of, GoodAround}
-use Rattle.isl_whole.specs.Right.{RightIn, RightAt, Behind}
+use Rattle.isl_whole.specs.Places.{variables_around, scope_of, GoodAround}
+use Rattle.isl_whole.specs.Right.{Behind}
 use Rattle.isl_whole.proofs.Forms.{each_more, right_later, right_within}
 use Rattle.isl_whole.proofs.Grounds.{later_same, later_then, Entered, entered_same, entered_numbers, behind_same, behind_entered, behind_then}
 use Rattle.isl_whole.proofs.Good.{good_later, good_deeper, good_variable}
 use Rattle.isl_whole.proofs.Tests.{or_left, or_right, or_cases}
 use Rattle.isl_whole.proofs.Places.{any_front, any_behind, variables_append, exits_append}
-use Rattle.isl_whole.proofs.Matches.{new_variables, Matches, AllMatch, all_match_within}
-use Rattle.isl_whole.proofs.Apt.{spots, AllCame, AptPart, AllApt, Wanted, AptSteps, AptWhole, Apt, AptAt, Stage}
+use Rattle.isl_whole.proofs.Matches.{new_variables, all_match_within}
+use Rattle.isl_whole.proofs.Apt.{spots, AllCame, AptPart, AllApt, Wanted, AptWhole, Apt, Stage}
 use Rattle.isl_whole.proofs.AllRows.{apt_node}
 
 -- what a node came to
@@ -134,7 +129,7 @@ variable_moved w v vs us ks e h =
     let p : ℕ → Bool = λ k. w == k in
     ⊎_elim (λ k. or_right (w == v) _ (any_front p vs us k))
     (λ k. ⊎_elim (λ l. or_right (w == v) _ (any_behind p vs us l)) (λ l. or_left (w == v) _ (alone (w == v) l))
-        (any_cases p us (v ∷ []) (ap (list_any p) (sym e) ∙ k)))
+    (any_cases p us (v ∷ []) (ap (list_any p) (sym e) ∙ k)))
     (any_cases p vs ks h)
   where
     alone : (b : Bool) → (b || false) ≡ true → b ≡ true
@@ -274,7 +269,7 @@ mutual
       let good : Good (length names) d2 = record { formed = step_formed names d _ d2 _ a.datum.formed h; named = step_named names d _ d2 _ a.datum.named h } in
       moved (Some b) Q b.spot.top top g (ground s) v2 a.gives a.same_top a.entered
       (node_came names (node names b (with_fresh n s) d2) v2 c (Some b) b.spot.top (ground (with_fresh n s))
-          (apt_node names (length names) b (with_fresh n s) d2 stage good))
+      (apt_node names (length names) b (with_fresh n s) d2 stage good))
   node_came names x v (made o i s xs m w g) Q top g2 a =
       whole_came Q top (length names) g2 o i s xs m w a (all_came names o i s xs w g a.entered.whole a.outside a.inside a.parts)
 
@@ -288,7 +283,7 @@ mutual
       (part_apt names (length names) o2 i2 s2 x b go gi a.0) in
       one_more_came o2 i2 s2 x ys m w2 (length names) b a.0 here
       (all_came names o2 (behind i2 s2 x) m.tables ys w2 g here.behind.whole
-          (good_later (ground s2) (ground m.tables) o2 (later_part s2 x (ground m.tables) b here.behind.later) go)
-          (good_behind i2 s2 x (length names) (ground m.tables) a.0 gi here.behind.later)
-          (elsewhere (length names) i2 (behind i2 s2 x) ys (same_spot i2 s2 x) a.1))
+      (good_later (ground s2) (ground m.tables) o2 (later_part s2 x (ground m.tables) b here.behind.later) go)
+      (good_behind i2 s2 x (length names) (ground m.tables) a.0 gi here.behind.later)
+      (elsewhere (length names) i2 (behind i2 s2 x) ys (same_spot i2 s2 x) a.1))
   all_came names o i s xs w (stops o2 i2 s2 x ys e c) b go gi a = tt

@@ -1,7 +1,7 @@
 -- The rows of forms that define are apt: a function is there under a name of its own, with a procedure that stands alone.
-use Rattle.std.proofs.Common.{◌≡◌, ◌+◌, ◌==◌, ◌≤◌, ◌<◌, ℕ, zero, suc, nat_le, Bool, true, false, not, ◌&&◌, ◌||◌, List, [], ◌∷◌, ◌++◌, take, drop, length, Option, Some, None, is_some, if◌then◌else◌, refl, sym, ap, subst, ◌∙◌, arith, append-nil}
-use Rattle.std.specs.List.{list_all, list_any}
-use Rattle.std.proofs.lemmas.Bool.{eqb-true, eqb-false, ne_eqb, le-leb}
+use Rattle.std.proofs.Common.{◌≡◌, ◌+◌, ◌==◌, ◌≤◌, ℕ, Bool, true, false, not, ◌&&◌, ◌||◌, List, [], ◌∷◌, ◌++◌, take, drop, length, Option, Some, None, is_some, if◌then◌else◌, refl, sym, ap, subst, ◌∙◌, arith, append-nil}
+use Rattle.std.specs.List.{list_any}
+use Rattle.std.proofs.lemmas.Bool.{eqb-false, ne_eqb, le-leb}
 use Rattle.std.proofs.lemmas.List.{length-append}
 use Rattle.isl_base.specs.declared.place.Place.{Place}
 use Rattle.isl_base.specs.declared.datum.Name.{Name}
@@ -15,33 +15,31 @@ use Rattle.isl_meaning.specs.declared.program.Callee.TheVariants as callee
 use Rattle.isl_meaning.specs.declared.program.LiteralRow.TheVariants as row
 use Rattle.isl_meaning.specs.declared.program.Procedure.{Procedure}
 use Rattle.isl_meaning.specs.declared.scope.LexicalScope.{LexicalScope}
-use Rattle.isl_meaning.specs.Form.{Form, literal, parameters}
-use Rattle.isl_meaning.specs.Subforms.{Each}
+use Rattle.isl_meaning.specs.Form.{parameters}
 use Rattle.isl_meaning.specs.Counts.{depth}
 use Rattle.isl_meaning.specs.Lookup.{some_of, all_differ}
-use Rattle.isl_meaning.specs.Standing.{alone as alone_in, with_bound, stands, is_alone}
-use Rattle.isl_meaning.specs.Facts.{body_fits, same_name}
+use Rattle.isl_meaning.specs.Standing.{alone as alone_in, with_bound, stands}
+use Rattle.isl_meaning.specs.Facts.{same_name}
 use Rattle.isl_profile.specs.declared.tables.Tables.{Tables}
 use Rattle.isl_profile.specs.declared.parameters.Parameters.{Parameters}
 use Rattle.isl_profile.specs.declared.making.Found.{Found}
-use Rattle.isl_profile.specs.declared.making.One.{One}
 use Rattle.isl_profile.specs.declared.making.One.TheVariants.{DefineGlobal, DefineDynamic}
 use Rattle.isl_profile.specs.Nodes.{Around, Node}
-use Rattle.isl_profile.specs.Makings.{nothing, forms_found, variables_found, body_of, rest_found, procedure_found, with_function}
+use Rattle.isl_profile.specs.Makings.{nothing, forms_found, variables_found, body_of, rest_found, procedure_found}
 use Rattle.isl_profile.specs.Shapes.{symbol_of, parameters_in, all_symbols}
-use Rattle.isl_profile.specs.RowWords.{alone, with_literal, each_parameter, each_inner}
-use Rattle.isl_profile.specs.DefiningRows.{named, is_that, has_global, has_dynamic, is_set, is_of_prelude, has_function, is_taken, is_truth, is_reserved, defining_offence, unless_offending, defining, global_as, global_row, defdynamic_as, defdynamic_row, with_name, named_form, function_parts, defun_of, defun_with, defun_as, defun_row}
-use Rattle.isl_whole.specs.Ground.{Ground, ground, rows_of, Later, IsThere, procedure_fits, WholeGround}
+use Rattle.isl_profile.specs.RowWords.{alone}
+use Rattle.isl_profile.specs.DefiningRows.{named, is_that, has_global, has_dynamic, is_set, is_of_prelude, has_function, is_taken, is_truth, is_reserved, defining_offence, unless_offending, global_as, global_row, defdynamic_as, defdynamic_row, with_name, named_form, defun_of, defun_with, defun_as, defun_row}
+use Rattle.isl_whole.specs.Ground.{Ground, ground, Later, IsThere, procedure_fits, WholeGround}
 use Rattle.isl_whole.specs.Places.{variables_around, exits_around, scope_of, NothingAround}
-use Rattle.isl_whole.specs.Right.{RightIn, RightAt, Behind}
+use Rattle.isl_whole.specs.Right.{RightIn}
 use Rattle.isl_whole.proofs.Tests.{both, and_true, not_true}
-use Rattle.isl_whole.proofs.Forms.{each_more, right_later}
+use Rattle.isl_whole.proofs.Forms.{each_more}
 use Rattle.isl_whole.proofs.Grounds.{Entered, entered_same, entered_literal, later_then, literals_later, procedures_later, mains_later, all_push}
 use Rattle.isl_whole.proofs.Good.{good_later, good_alone, scope_with}
 use Rattle.isl_whole.proofs.Places.{each_append}
 use Rattle.isl_whole.proofs.Matches.{new_variables, ParametersMatch, parameters_match}
 use Rattle.isl_whole.proofs.Made.{made_body, made_literal}
-use Rattle.isl_whole.proofs.Apt.{spots, AllCame, AptAt, Stage, apt_if, apt_within}
+use Rattle.isl_whole.proofs.Apt.{spots, AptAt, Stage, apt_if, apt_within}
 use Rattle.isl_whole.proofs.ValueRows.{apt_one}
 use Rattle.isl_whole.proofs.BinderRows.{found_parameters, function_apt}
 
@@ -217,7 +215,7 @@ apt_defun_as n kept a s p d l fs None b h g = tt
 apt_defun_as n kept a s p d l fs (Some name) b h g =
     where_no_offence n a s p a.spot.top (is_taken a.spot.sited s name) (is_reserved kept a s name) _
     (λ t k r. apt_within n a s 1 p _ (apt_defun_with n a s name d l fs (parameters_in s.words l) b h g t
-        (fresh_name a.spot.sited (has_function s name) (is_of_prelude s name) (is_truth a s name) kept k r)))
+    (fresh_name a.spot.sited (has_function s name) (is_of_prelude s name) (is_truth a s name) kept k r)))
 
 pub apt_defun : (n : ℕ) (kept : Bool) (a : Around) (s : Tables) (p : Place) (ds : List Item) → Stage a s → AllOf (Good n) ds → AptAt n a s (defun_row kept a s p ds)
 apt_defun n kept a s p [] b g = tt

@@ -1,5 +1,5 @@
 -- A form stands in each scope that binds all that the form mentions.
-use Rattle.std.proofs.Common.{◌≡◌, ◌==◌, ◌⊎◌, inl, inr, ℕ, Bool, true, false, not, ◌&&◌, ◌||◌, List, [], ◌∷◌, ◌++◌, Option, Some, None, filter, refl, sym, ap, subst, ◌∙◌, arith}
+use Rattle.std.proofs.Common.{◌≡◌, ◌==◌, ℕ, Bool, true, false, not, ◌&&◌, ◌||◌, List, [], ◌∷◌, ◌++◌, Option, Some, None, filter, refl, sym, ap, ◌∙◌}
 use Rattle.std.specs.List.{list_all, list_any}
 use Rattle.std.proofs.lemmas.Bool.{eqb-true, eq-eqb}
 use Rattle.std.proofs.lemmas.Map.Views.{any-filter_same}
@@ -13,11 +13,11 @@ use Rattle.isl_meaning.specs.Form.{Form, local, set_local, let_form, lambda, blo
 use Rattle.isl_meaning.specs.Subforms.{Each, outer, inner}
 use Rattle.isl_meaning.specs.Counts.{count_forms}
 use Rattle.isl_meaning.specs.Mentions.{same_part, owns, in_order, variables_bound, binds, names_part, mentions}
-use Rattle.isl_meaning.specs.Standing.{with_bound, with_around, is_variable, exit_around, is_block, is_segment, is_bound, seen, is_free, are_captured, around_inner, stands_itself, stands}
+use Rattle.isl_meaning.specs.Standing.{with_bound, with_around, is_variable, exit_around, is_block, is_segment, is_bound, seen, is_free, around_inner, stands_itself, stands}
 use Rattle.isl_meaning.specs.bridge.Walks.{by_subforms}
 use Rattle.isl_meaning.specs.bridge.Judged.{mentions_folded, stands_folded}
 use Rattle.isl_whole.specs.Scopes.{Provides, Within, MentionsWithin}
-use Rattle.isl_whole.proofs.Tests.{both, and_true, or_left, or_right, or_cases, not_true, true_or_false, or_else, all_more}
+use Rattle.isl_whole.proofs.Tests.{both, and_true, or_left, or_right, not_true, or_else}
 
 pub same_number : (n : ℕ) → (n == n) ≡ true
 same_number n = eq-eqb n n refl
@@ -66,7 +66,6 @@ pub seen_variables : (parts : List Part) (s : LexicalScope) (v : ℕ)
 seen_variables parts s v =
     any-filter_same (λ w. v == w) (seen_variable parts) (seen_variable parts v)
     (λ w e. ap (seen_variable parts) (sym (eqb-true v w e))) s.variables
-
 
 -- a list of exits, some of which are seen
 
@@ -194,10 +193,10 @@ itself (lambda required rest body parts) s t m h =
     let b : (in_order parts ≡ true) × (list_all (is_bound s) parts ≡ true) = both _ _ a.0 in
     let f : Form = lambda required rest body parts in
     and_true _ _ (and_true _ _ b.0 (all_bound_there f (parameters required rest) body s t parts
-        (λ p k.
-        let c : (not (owns (parameters required rest) p) ≡ true) × (mentions p body ≡ true) = both _ _ k in
-        m.provides p (inner_mentioned p f (not_true _ c.0) (or_left (mentions p body) false c.1)))
-        b.1 a.1)) a.1
+    (λ p k.
+    let c : (not (owns (parameters required rest) p) ≡ true) × (mentions p body ≡ true) = both _ _ k in
+    m.provides p (inner_mentioned p f (not_true _ c.0) (or_left (mentions p body) false c.1)))
+    b.1 a.1)) a.1
 itself (return_from x f) s t m h =
     let there : exit_around x s.exits ≡ Some Block = block_there _ h in
     ap is_block (m.provides (Exit x) (names_mentioned (Exit x) (return_from x f) (same_number x)) Block there)
@@ -227,7 +226,7 @@ one_step f os is s t m h =
     stands_folded t f ∙ and_true _ _
     (and_true _ _ (itself f s t m b.0) (each_enough s t (outer f) os (λ p k. m.provides p (outer_mentioned p f k)) b.1))
     (each_enough (around_inner f s) (around_inner f t) (inner f) is
-        (λ p k. inner_provides f s t p (λ e. m.provides p (inner_mentioned p f e k))) a.1)
+    (λ p k. inner_provides f s t p (λ e. m.provides p (inner_mentioned p f e k))) a.1)
 
 pub enough : (f : Form) (s t : LexicalScope) → MentionsWithin f s t → stands s f ≡ true → stands t f ≡ true
 enough f = by_subforms Enough one_step f

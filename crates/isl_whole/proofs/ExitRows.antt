@@ -1,5 +1,5 @@
 -- The rows of exits are apt.
-use Rattle.std.proofs.Common.{◌≡◌, ◌+◌, ◌≤◌, ℕ, zero, suc, Bool, true, false, List, [], ◌∷◌, ◌++◌, length, Option, Some, None, if◌then◌else◌, refl, sym, ap, subst, ◌∙◌, arith}
+use Rattle.std.proofs.Common.{◌≡◌, ◌+◌, ℕ, List, [], ◌∷◌, ◌++◌, length, Option, Some, None, refl, subst, arith}
 use Rattle.isl_base.specs.declared.place.Place.{Place}
 use Rattle.isl_base.specs.declared.datum.Name.{Name}
 use Rattle.isl_base.specs.declared.datum.Symbol.{Symbol}
@@ -60,8 +60,8 @@ apt_block_as n a s p (Some x) fs b g =
       right = λ u rs c.
           made_block (ground u) (scope_of a) a.spot.depth s.exits (forms_found rs) (omega (arith, l))
           (two_deeper (ground u) (with_around s.exits exit.Block (scope_of a)) a.spot.depth (forms_found rs)
-              (in_scope (ground u) (scope_of i) (with_around s.exits exit.Block (scope_of a)) (a.spot.depth + 2) (forms_found rs)
-                  (block_scope x s.exits (deeper 2 a)) (found_inner (ground u) (deeper 1 a) i fs rs c.match)));
+          (in_scope (ground u) (scope_of i) (with_around s.exits exit.Block (scope_of a)) (a.spot.depth + 2) (forms_found rs)
+          (block_scope x s.exits (deeper 2 a)) (found_inner (ground u) (deeper 1 a) i fs rs c.match)));
       ends = λ u rs. refl;
     }))
 
@@ -112,8 +112,8 @@ apt_tagbody n a s p ds b g =
       right = λ u rs c.
           made_tagbody (ground u) (scope_of a) a.spot.depth s.exits (length (tags_in ds)) (lengths_in ds) (forms_found rs) (omega (arith, l)) (lengths_counted ds)
           (two_deeper (ground u) t a.spot.depth (forms_found rs)
-              (in_scope (ground u) (scope_of i) t (a.spot.depth + 2) (forms_found rs)
-                  (tags_scope (tags_in ds) s.exits (deeper 2 a)) (found_inner (ground u) (deeper 1 a) i (forms_in ds) rs c.match)));
+          (in_scope (ground u) (scope_of i) t (a.spot.depth + 2) (forms_found rs)
+          (tags_scope (tags_in ds) s.exits (deeper 2 a)) (found_inner (ground u) (deeper 1 a) i (forms_in ds) rs c.match)));
       ends = λ u rs. refl;
     })))
     tt

@@ -1,9 +1,9 @@
 -- Forms that are made of what was found of their parts are right where the whole stands.
-use Rattle.std.proofs.Common.{◌≡◌, ◌+◌, ◌≤◌, ℕ, zero, suc, Bool, true, false, List, [], ◌∷◌, ◌++◌, length, take, drop, map, option_to_list, Option, Some, None, is_some, if◌then◌else◌, refl, sym, ap, subst, ◌∙◌, arith}
+use Rattle.std.proofs.Common.{◌≡◌, ◌+◌, ◌≤◌, ℕ, zero, suc, Bool, true, false, List, [], ◌∷◌, ◌++◌, length, take, drop, Option, Some, None, is_some, if◌then◌else◌, refl, sym, ap, subst, ◌∙◌, arith}
 use Rattle.isl_base.specs.declared.datum.Symbol.{Symbol}
 use Rattle.isl_base.specs.Data.{Item}
 use Rattle.isl_meaning.specs.declared.scope.LexicalScope.{LexicalScope}
-use Rattle.isl_meaning.specs.Form.{Form, parameters, ClauseForms, with_body, no_body}
+use Rattle.isl_meaning.specs.Form.{Form, parameters}
 use Rattle.isl_meaning.specs.Subforms.{Each, clause_list}
 use Rattle.isl_meaning.specs.Standing.{with_bound}
 use Rattle.isl_profile.specs.declared.tables.Tables.{Tables}
@@ -13,8 +13,8 @@ use Rattle.isl_profile.specs.declared.making.One.{One}
 use Rattle.isl_profile.specs.declared.making.One.TheVariants.{SetVariable, SetGlobal, DefineGlobal, SetDynamic, DefineDynamic, ReturnTo}
 use Rattle.isl_profile.specs.declared.making.Two.{Two}
 use Rattle.isl_profile.specs.declared.making.WithBody.{WithBody}
-use Rattle.isl_profile.specs.Nodes.{Around, Part, form, below, inner, bind, parameter}
-use Rattle.isl_profile.specs.Makings.{forms_found, variables_found, body_of, make_one, make_two, make_with_body, clause_body, behind_clause, make_clauses, rest_found, finish_one}
+use Rattle.isl_profile.specs.Nodes.{Around, form}
+use Rattle.isl_profile.specs.Makings.{forms_found, make_one, make_two, make_with_body, make_clauses, rest_found, finish_one}
 use Rattle.isl_profile.specs.Shapes.{ClauseParts, all_symbols, symbols_of_rest}
 use Rattle.isl_profile.specs.declared.parameters.Parameters.{Parameters}
 use Rattle.isl_profile.specs.RowWords.{deeper, each_below, each_inner}
@@ -22,8 +22,6 @@ use Rattle.isl_profile.specs.ValueRows.{length_if, clause_lengths, clause_parts}
 use Rattle.isl_whole.specs.Ground.{Ground, ground}
 use Rattle.isl_whole.specs.Places.{scope_of}
 use Rattle.isl_whole.specs.Right.{RightIn, RightAt}
-use Rattle.isl_whole.proofs.Forms.{all_deep}
-use Rattle.isl_whole.proofs.Places.{each_append}
 use Rattle.isl_whole.proofs.Matches.{new_variables, Spots, RightOutside, RightBelow, AllMatch, below_match, inner_match, BodyThen, body_then}
 use Rattle.isl_whole.proofs.Made.{OneStands, made_one, made_two, made_with_body, made_body}
 use Rattle.isl_whole.proofs.Apt.{spots}
@@ -113,8 +111,7 @@ behind_test p f (d ∷ ds) cs rs r b more =
     ap (take (length ds + 1)) b.found ∙ taken_front (length ds + 1) b.body (forms_found b.rest) count in
     let rest : drop (length ds + 1) (forms_found rs) ≡ forms_found b.rest =
     ap (drop (length ds + 1)) b.found ∙ dropped_front (length ds + 1) b.body (forms_found b.rest) count in
-    let deep : p.depth + 1 ≤ 1000 = some_deep p.ground p.outside (p.depth + 1) b.body b.right (omega (arith, count)) in
-    (
+    let deep : p.depth + 1 ≤ 1000 = some_deep p.ground p.outside (p.depth + 1) b.body b.right (omega (arith, count)) in (
       r,
       (
         made_body p.ground p.outside p.depth (take (length ds + 1) (forms_found rs)) deep (subst (Each (RightBelow p)) (sym front) b.right),

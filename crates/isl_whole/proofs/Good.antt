@@ -1,23 +1,22 @@
 -- Places that forms make inside: they are good again, and their scopes are those that the forms give their inner forms.
-use Rattle.std.proofs.Common.{◌≡◌, ◌+◌, ◌==◌, ◌≤◌, ◌<◌, ℕ, Bool, true, false, List, [], ◌∷◌, ◌++◌, length, Option, Some, None, refl, sym, ap, subst, ◌∙◌, arith, append-nil}
+use Rattle.std.proofs.Common.{◌≡◌, ◌+◌, ◌==◌, ℕ, Bool, true, false, List, [], ◌∷◌, ◌++◌, length, Option, Some, None, refl, ap, ◌∙◌, append-nil}
 use Rattle.std.specs.List.{list_any}
 use Rattle.isl_base.specs.declared.datum.Symbol.{Symbol}
-use Rattle.isl_meaning.specs.declared.scope.Around.{Around as Kind}
 use Rattle.isl_meaning.specs.declared.scope.Around.TheVariants as exit
 use Rattle.isl_meaning.specs.declared.scope.ExitAround.{ExitAround}
 use Rattle.isl_meaning.specs.declared.scope.LexicalScope.{LexicalScope}
 use Rattle.isl_meaning.specs.Subforms.{Each}
 use Rattle.isl_meaning.specs.Standing.{with_around}
 use Rattle.isl_profile.specs.declared.bound.Bound.{Bound}
-use Rattle.isl_profile.specs.declared.bound.Bound.TheVariants.{Variable, Function, Block, Tags}
+use Rattle.isl_profile.specs.declared.bound.Bound.TheVariants.{Variable, Block, Tags}
 use Rattle.isl_profile.specs.Names.{variable_of}
 use Rattle.isl_profile.specs.Nodes.{Around, with_bound}
 use Rattle.isl_profile.specs.Shapes.{Pair, symbol_of}
 use Rattle.isl_profile.specs.RowWords.{deeper, deeper_at_top, with_all, alone}
 use Rattle.isl_profile.specs.BindingRows.{function_and, variable_that_is, functions_of}
 use Rattle.isl_whole.specs.Ground.{Ground, Later}
-use Rattle.isl_whole.specs.Places.{variables_around, exit_numbers, exits_around, scope_of, Rises, FunctionThere, NothingAround, GoodAround}
-use Rattle.isl_whole.proofs.Places.{rises_longer, rises_push, variables_append, exit_numbers_append, exits_append, each_append, any_behind, function_there_more, any_front, variable_there}
+use Rattle.isl_whole.specs.Places.{variables_around, exit_numbers, exits_around, scope_of, FunctionThere, NothingAround, GoodAround}
+use Rattle.isl_whole.proofs.Places.{rises_longer, rises_push, variables_append, exit_numbers_append, exits_append, each_append, function_there_more, any_front, variable_there}
 use Rattle.isl_whole.proofs.Forms.{each_more}
 
 -- later, deeper, alone
@@ -55,7 +54,7 @@ functions_still : (bs cs : List Bound) → Each (FunctionThere (variables_around
 functions_still bs cs f =
     each_more (FunctionThere (variables_around bs)) (FunctionThere (variables_around (bs ++ cs)))
     (function_there_more (variables_around bs) (variables_around (bs ++ cs))
-        (λ v e. rw (variables_append bs cs) (any_front (λ w. v == w) (variables_around bs) (variables_around cs) e)))
+    (λ v e. rw (variables_append bs cs) (any_front (λ w. v == w) (variables_around bs) (variables_around cs) e)))
     bs f
 
 pub good_variable : (g : Ground) (x : Symbol) (a : Around) → a.spot.top ≡ false → GoodAround g a

@@ -1,9 +1,8 @@
 -- Tables that stay whole: with a literal, a site, an exit or a variable more, and with a function.
-use Rattle.std.proofs.Common.{◌≡◌, ◌+◌, ◌==◌, ◌≤◌, ◌<◌, ℕ, nat_le, nat_lt, Bool, true, false, not, ◌&&◌, ◌||◌, List, [], ◌∷◌, ◌++◌, length, Some, refl, sym, ap, subst, ◌∙◌, arith}
-use Rattle.std.specs.List.{list_all, list_any}
+use Rattle.std.proofs.Common.{◌≡◌, ◌≤◌, ℕ, nat_le, nat_lt, Bool, true, false, List, [], ◌∷◌, ◌++◌, length, Some, refl, sym, ap, subst, ◌∙◌, arith}
+use Rattle.std.specs.List.{list_all}
 use Rattle.std.proofs.lemmas.List.{length-append}
 use Rattle.isl_base.specs.declared.place.Place.{Place}
-use Rattle.isl_base.specs.declared.datum.Name.{Name}
 use Rattle.isl_meaning.specs.declared.program.LiteralRow.{LiteralRow}
 use Rattle.isl_meaning.specs.declared.program.LiteralRow.TheVariants as row
 use Rattle.isl_meaning.specs.declared.program.Procedure.{Procedure}
@@ -89,7 +88,7 @@ whole_later g h l w e p f m = record {
   procedures = ap (list_all (procedure_fits h)) p ∙ procedures_later g h l g.procedures w.procedures;
   functions = subst (Each (λ (f : FunctionRow). IsThere h.procedures f.callee)) (sym f)
       (each_more (λ f. IsThere g.procedures f.callee) (λ f. IsThere h.procedures f.callee)
-          (λ f e. there_later g.procedures h.procedures l.procedures f.callee e) g.functions w.functions);
+      (λ f e. there_later g.procedures h.procedures l.procedures f.callee e) g.functions w.functions);
   names = subst (λ (fs : List FunctionRow). all_differ same_name fs ≡ true) (sym f) w.names;
   main = ap (list_all (main_fits h)) m ∙ mains_later g h l g.main w.main;
 }

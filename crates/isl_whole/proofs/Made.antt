@@ -1,19 +1,16 @@
 -- Forms that are made of right forms are right.
-use Rattle.std.proofs.Common.{◌≡◌, ◌+◌, ◌==◌, ◌≤◌, ◌<◌, ℕ, zero, suc, max, nat_le, nat_lt, nat_eq, if◌then◌else◌, Bool, true, false, ◌&&◌, List, [], ◌∷◌, ◌++◌, filter, map, length, take, drop, option_to_list, Option, Some, None, refl, sym, ap, subst, ◌∙◌, arith}
-use Rattle.std.specs.List.{list_all, list_any}
-use Rattle.std.proofs.lemmas.Bool.{leb-true, ltb-true, le-leb, lt-ltb, eq-eqb}
-use Rattle.isl_base.specs.declared.datum.Name.{Name}
+use Rattle.std.proofs.Common.{◌≡◌, ◌+◌, ◌≤◌, ◌<◌, ℕ, zero, suc, max, if◌then◌else◌, Bool, true, false, List, [], ◌∷◌, map, length, take, drop, Option, Some, refl, sym, ap, subst, ◌∙◌, arith}
+use Rattle.std.proofs.lemmas.Bool.{le-leb, lt-ltb, eq-eqb}
 use Rattle.isl_meaning.specs.declared.primitive.Primitive.{Primitive}
 use Rattle.isl_meaning.specs.declared.part.Part.{Part as Captured}
 use Rattle.isl_meaning.specs.declared.scope.Around.TheVariants as exit
 use Rattle.isl_meaning.specs.declared.scope.LexicalScope.{LexicalScope}
-use Rattle.isl_meaning.specs.Form.{Form, Forms, no_form, form_and, ClauseForms, BindingForms, DynamicForms, literal, local, sequence, let_form, lambda, call, call_value, prim, clauses, block, tagbody, dynamic_let, go, parameters}
+use Rattle.isl_meaning.specs.Form.{Form, form_and, ClauseForms, BindingForms, DynamicForms, literal, local, let_form, lambda, call, call_value, prim, clauses, block, tagbody, dynamic_let, go, parameters}
 use Rattle.isl_meaning.specs.Arity.{arity}
-use Rattle.isl_meaning.specs.Subforms.{Each, forms_list, clause_list, value_list, dynamic_value_list, outer, inner}
-use Rattle.isl_meaning.specs.Counts.{count_forms, depth, greatest, is_function, own_depth}
-use Rattle.isl_meaning.specs.Mentions.{variables_bound, mentions}
-use Rattle.isl_meaning.specs.Fits.{fits}
-use Rattle.isl_meaning.specs.Standing.{with_bound, with_around, is_variable, exit_around, is_block, is_segment, seen, stands}
+use Rattle.isl_meaning.specs.Subforms.{Each, forms_list, clause_list, value_list, dynamic_value_list, inner}
+use Rattle.isl_meaning.specs.Counts.{count_forms, depth, greatest}
+use Rattle.isl_meaning.specs.Mentions.{variables_bound}
+use Rattle.isl_meaning.specs.Standing.{with_bound, with_around, is_variable, exit_around, is_block, is_segment}
 use Rattle.isl_meaning.specs.model.View.{forms, forms_back}
 use Rattle.isl_meaning.specs.bridge.Lengths.{forms_counted}
 use Rattle.isl_meaning.specs.bridge.Judged.{fits_folded, stands_folded}
@@ -26,8 +23,8 @@ use Rattle.isl_profile.specs.declared.making.WithBody.TheVariants.{Repeating, Ca
 use Rattle.isl_profile.specs.Makings.{body_of, one_of, two_of, with_body_of, make_segments}
 use Rattle.isl_whole.specs.Ground.{Ground, rows_of}
 use Rattle.isl_whole.specs.Right.{RightIn}
-use Rattle.isl_whole.proofs.Tests.{both, and_true}
-use Rattle.isl_whole.proofs.Forms.{each_more, right_whole, right_less, all_deep, depth_folded}
+use Rattle.isl_whole.proofs.Tests.{and_true}
+use Rattle.isl_whole.proofs.Forms.{right_whole, depth_folded}
 use Rattle.isl_whole.proofs.Captured.{IsCaptured}
 
 -- lists of forms
@@ -139,7 +136,7 @@ made_tagbody g s n x tags ns fs l c h =
     let same : count_forms (make_segments ns fs) ≡ tags + 1 = segments_counted ns fs ∙ c in
     right_whole g s n _ refl refl (omega (arith, l)) refl (le-leb 1 (count_forms (make_segments ns fs)) (omega (arith, same))) tt
     (segments_right g (with_around x (exit.Tagbody (count_forms (make_segments ns fs))) s) (n + 1) ns fs l
-        (subst (λ (k : ℕ). Each (RightIn g (with_around x (exit.Tagbody k) s) (n + 1 + 1)) fs) (sym same) h))
+    (subst (λ (k : ℕ). Each (RightIn g (with_around x (exit.Tagbody k) s) (n + 1 + 1)) fs) (sym same) h))
 
 -- a function: its body begins a depth of its own
 

@@ -1,11 +1,11 @@
 -- What was found of parts is right, each where it stands.
-use Rattle.std.proofs.Common.{◌≡◌, ◌+◌, ◌≤◌, ℕ, Bool, List, [], ◌∷◌, ◌++◌, length, take, drop, map, Option, Some, None, refl, sym, ap, subst, ◌∙◌, arith}
+use Rattle.std.proofs.Common.{◌≡◌, ◌+◌, ℕ, List, [], ◌∷◌, ◌++◌, length, refl, ap, arith}
 use Rattle.isl_base.specs.declared.datum.Symbol.{Symbol}
 use Rattle.isl_base.specs.declared.datum.Name.{Name}
 use Rattle.isl_base.specs.Data.{Item}
 use Rattle.isl_meaning.specs.declared.scope.LexicalScope.{LexicalScope}
-use Rattle.isl_meaning.specs.Form.{Form, BindingForms}
-use Rattle.isl_meaning.specs.Subforms.{Each, value_list, dynamic_value_list, clause_list}
+use Rattle.isl_meaning.specs.Form.{Form}
+use Rattle.isl_meaning.specs.Subforms.{Each, value_list, dynamic_value_list}
 use Rattle.isl_meaning.specs.Mentions.{variables_bound}
 use Rattle.isl_profile.specs.declared.making.Found.{Found}
 use Rattle.isl_profile.specs.declared.making.Found.TheVariants.{Value, Binding, Parameter}

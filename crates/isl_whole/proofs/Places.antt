@@ -1,23 +1,19 @@
 -- Places: what is looked up there is bound in their scopes, and places that a form makes inside are good again.
-use Rattle.std.proofs.Common.{◌≡◌, ◌+◌, ◌==◌, ◌≤◌, ◌<◌, ℕ, zero, suc, nat_lt, Bool, true, false, ◌&&◌, ◌||◌, List, [], ◌∷◌, ◌++◌, length, Option, Some, None, if◌then◌else◌, refl, sym, ap, subst, ◌∙◌, arith, append_assoc, append-nil}
+use Rattle.std.proofs.Common.{◌≡◌, ◌+◌, ◌==◌, ◌≤◌, ◌<◌, ℕ, Bool, true, false, ◌||◌, List, [], ◌∷◌, ◌++◌, length, Option, Some, None, if◌then◌else◌, refl, sym, ap, subst, ◌∙◌, arith, append_assoc, append-nil}
 use Rattle.std.specs.List.{list_any}
-use Rattle.std.proofs.lemmas.Bool.{eqb-true, eq-eqb, ne_eqb, lt-ltb}
+use Rattle.std.proofs.lemmas.Bool.{eq-eqb, ne_eqb, lt-ltb}
 use Rattle.isl_base.specs.declared.datum.Symbol.{Symbol}
 use Rattle.isl_meaning.specs.declared.scope.Around.{Around as Kind}
 use Rattle.isl_meaning.specs.declared.scope.Around.TheVariants as exit
 use Rattle.isl_meaning.specs.declared.scope.ExitAround.{ExitAround}
-use Rattle.isl_meaning.specs.declared.scope.LexicalScope.{LexicalScope}
 use Rattle.isl_meaning.specs.Subforms.{Each}
-use Rattle.isl_meaning.specs.Standing.{exit_around, is_block, is_segment, with_around}
+use Rattle.isl_meaning.specs.Standing.{exit_around, is_segment}
 use Rattle.isl_profile.specs.declared.bound.Bound.{Bound}
 use Rattle.isl_profile.specs.declared.bound.Bound.TheVariants.{Variable, Function, Block, Tags}
 use Rattle.isl_profile.specs.declared.bound.Target.{Target}
-use Rattle.isl_profile.specs.Names.{same_symbol, given_by, as_variable, as_function, as_block, as_tag, target_among, or_first, innermost, variable_of, function_of, block_of, tag_of}
-use Rattle.isl_profile.specs.Nodes.{Around}
-use Rattle.isl_whole.specs.Ground.{Ground, Later}
-use Rattle.isl_whole.specs.Places.{variable_at, variables_around, exit_at, exit_numbers, exit_of, exits_around, scope_of, Rises, FunctionThere, NothingAround, GoodAround}
-use Rattle.isl_whole.proofs.Tests.{or_left, or_right, any_more}
-use Rattle.isl_whole.proofs.Forms.{each_more}
+use Rattle.isl_profile.specs.Names.{same_symbol, given_by, as_variable, as_function, as_block, as_tag, target_among, or_first, variable_of, function_of, block_of, tag_of}
+use Rattle.isl_whole.specs.Places.{variable_at, variables_around, exit_at, exit_numbers, exit_of, exits_around, Rises, FunctionThere}
+use Rattle.isl_whole.proofs.Tests.{or_left, or_right}
 
 -- numbers that rise
 

@@ -1,10 +1,9 @@
 -- Whole tables between top-level forms, and the program that they are.
-use Rattle.std.proofs.Common.{◌≡◌, ◌+◌, ◌≤◌, ◌<◌, ℕ, zero, suc, nat_le, nat_lt, Bool, true, false, not, ◌&&◌, ◌||◌, List, [], ◌∷◌, ◌++◌, length, slice_get, is_some, Option, Some, None, refl, sym, ap, subst, ◌∙◌, arith}
-use Rattle.std.specs.List.{list_all, list_any}
+use Rattle.std.proofs.Common.{◌≡◌, ◌+◌, ◌≤◌, ◌<◌, ℕ, zero, suc, nat_le, nat_lt, Bool, true, false, not, ◌&&◌, List, [], ◌∷◌, ◌++◌, length, slice_get, is_some, Option, Some, None, refl, sym, ap, subst, ◌∙◌, arith}
+use Rattle.std.specs.List.{list_all}
 use Rattle.std.proofs.lemmas.Bool.{le-leb}
 use Rattle.isl_base.specs.Data.{Item}
 use Rattle.isl_base.specs.GoodData.{Good}
-use Rattle.isl_meaning.specs.declared.program.ProgramRows.{ProgramRows}
 use Rattle.isl_meaning.specs.declared.program.Procedure.{Procedure}
 use Rattle.isl_meaning.specs.declared.program.ClassRow.{ClassRow}
 use Rattle.isl_meaning.specs.declared.program.SlotRow.{SlotRow}
@@ -18,7 +17,7 @@ use Rattle.isl_meaning.specs.Counts.{depth}
 use Rattle.isl_meaning.specs.ProgramCounts.{program_nodes}
 use Rattle.isl_meaning.specs.Lookup.{all_differ}
 use Rattle.isl_meaning.specs.Standing.{is_alone, alone as alone_in, stands}
-use Rattle.isl_meaning.specs.Facts.{body_fits, literal_fits, same_name, initform_fits, class_fits, is_plain_slot, is_one, callee_fits, is_of_method, procedures_stand, rows_fit, bodies_stand, is_whole}
+use Rattle.isl_meaning.specs.Facts.{body_fits, literal_fits, same_name, initform_fits, class_fits, is_plain_slot, is_one, callee_fits, procedures_stand, rows_fit, bodies_stand, is_whole}
 use Rattle.isl_profile.specs.declared.tables.Tables.{Tables}
 use Rattle.isl_profile.specs.declared.bound.Bound.{Bound}
 use Rattle.isl_profile.specs.Nodes.{Around, Standing, stands as comes_to}
@@ -26,12 +25,11 @@ use Rattle.isl_profile.specs.Rows.{node}
 use Rattle.isl_profile.specs.Judged.{Comes}
 use Rattle.isl_whole.specs.Ground.{Ground, ground, rows_of, Later, IsThere, procedure_fits, main_fits, WholeGround, WholeTables}
 use Rattle.isl_whole.specs.Places.{variables_around, exit_numbers, exits_around, scope_of, Rises, FunctionThere, NothingAround, GoodAround}
-use Rattle.isl_whole.specs.Right.{RightIn, RightAt, Behind, Came, with_main}
+use Rattle.isl_whole.specs.Right.{RightAt, Came, with_main}
 use Rattle.isl_whole.specs.Classes.{is_simple, SimpleClasses}
-use Rattle.isl_whole.proofs.Tests.{both, and_true, or_right, all_more}
-use Rattle.isl_whole.proofs.Grounds.{later_same, literals_later, procedures_later, mains_later, main_fits_later, all_push}
+use Rattle.isl_whole.proofs.Tests.{both, and_true, all_more}
+use Rattle.isl_whole.proofs.Grounds.{literals_later, procedures_later, mains_later, main_fits_later, all_push}
 use Rattle.isl_whole.proofs.Good.{scope_with}
-use Rattle.isl_whole.proofs.Apt.{Stage}
 use Rattle.isl_whole.proofs.AllRows.{apt_node}
 use Rattle.isl_whole.proofs.Comes.{CameAs, node_came}
 
@@ -146,8 +144,8 @@ pub program_whole : (g : Ground) → WholeGround g → SimpleClasses g.classes �
 program_whole g w c s n =
     and_true _ _
     (and_true (rows_fit (rows_of g)) (bodies_stand (rows_of g))
-        (and_true _ _ (and_true _ _ (and_true _ _ (and_true _ _ (and_true _ _ c.built_in w.literals) (procedures_fit g g.procedures w.procedures)) w.names)
-            (le-leb (length g.sites) 100000 s)) (le-leb (program_nodes (rows_of g)) 100000 n))
-        (and_true _ _ (and_true _ _ (and_true _ _ (and_true _ _ (all_more (is_simple g.classes) (class_fits (rows_of g)) (simple_fits g) g.classes c.simple) refl)
-            (functions_there g g.functions w.procedures w.functions)) w.main) (procedures_alone g 0 g.procedures w.procedures)))
+    (and_true _ _ (and_true _ _ (and_true _ _ (and_true _ _ (and_true _ _ c.built_in w.literals) (procedures_fit g g.procedures w.procedures)) w.names)
+    (le-leb (length g.sites) 100000 s)) (le-leb (program_nodes (rows_of g)) 100000 n))
+    (and_true _ _ (and_true _ _ (and_true _ _ (and_true _ _ (all_more (is_simple g.classes) (class_fits (rows_of g)) (simple_fits g) g.classes c.simple) refl)
+    (functions_there g g.functions w.procedures w.functions)) w.main) (procedures_alone g 0 g.procedures w.procedures)))
     refl

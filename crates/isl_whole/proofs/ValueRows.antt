@@ -1,13 +1,12 @@
 -- The rows of variables and values are apt.
-use Rattle.std.proofs.Common.{◌≡◌, ◌+◌, ◌≤◌, ◌<◌, ℕ, nat_lt, option_map, Bool, true, false, ◌||◌, List, [], ◌∷◌, ◌++◌, length, Option, Some, None, is_some, if◌then◌else◌, refl, sym, ap, subst, ◌∙◌, arith}
-use Rattle.std.specs.List.{list_any}
+use Rattle.std.proofs.Common.{◌≡◌, ◌+◌, ◌≤◌, ◌<◌, ℕ, nat_lt, option_map, Bool, true, false, List, [], ◌∷◌, length, Option, Some, None, if◌then◌else◌, refl, arith}
 use Rattle.std.proofs.lemmas.Bool.{ltb-true, lt-ltb}
 use Rattle.isl_base.specs.declared.place.Place.{Place}
 use Rattle.isl_base.specs.declared.datum.Name.{Name}
 use Rattle.isl_base.specs.declared.datum.Symbol.{Symbol}
 use Rattle.isl_base.specs.declared.datum.Symbol.TheVariants.{Named, Fresh}
 use Rattle.isl_base.specs.Data.{Item, item, integer, character, symbol, string, vector, nil, list, place_of}
-use Rattle.isl_base.specs.DataFormed.{is_formed, formed_tells}
+use Rattle.isl_base.specs.DataFormed.{formed_tells}
 use Rattle.isl_base.specs.DataParts.{AllOf}
 use Rattle.isl_base.specs.GoodData.{Good}
 use Rattle.isl_meaning.specs.declared.program.ClassRow.{ClassRow}
@@ -28,8 +27,8 @@ use Rattle.isl_profile.specs.Shapes.{symbol_of, is_true, ClauseParts, clauses_in
 use Rattle.isl_profile.specs.RowWords.{deeper, deeper_at_top, made_at_once, each_below, each_inner, bad_shape}
 use Rattle.isl_profile.specs.ValueRows.{free_symbol, symbol_as, symbol_node, quote_row, is_constant, with_set, one_part, set_free, set_as, set_datum, setq_row, progn_row, clause_lengths, clause_parts, own_depth, cond_as, cond_row, two_row, body_row, dynamic_name, dynamic_as, dynamic_row, set_dynamic_as, set_dynamic_row, function_named, function_as, function_symbol, function_row, method_row, class_of, class_symbol, class_datum, class_row}
 use Rattle.isl_profile.specs.bridge.GoodParts.{GoodClauses, MaybeClauses, good_clauses}
-use Rattle.isl_whole.specs.Ground.{Ground, ground, WholeGround}
-use Rattle.isl_whole.specs.Places.{scope_of, GoodAround}
+use Rattle.isl_whole.specs.Ground.{Ground, ground}
+use Rattle.isl_whole.specs.Places.{scope_of}
 use Rattle.isl_whole.specs.Right.{RightAt}
 use Rattle.isl_whole.proofs.Forms.{right_whole}
 use Rattle.isl_whole.proofs.Grounds.{entered_same}
@@ -69,7 +68,7 @@ apt_quote n a s p (d ∷ e ∷ ds) b g = tt
 pub apt_one : (n : ℕ) (a : Around) (p : Place) (s : Tables) (k : One) (d : Item) → Stage a s → OneStands (scope_of a) k → Good n d → AptAt n a s (one_part a p s k d)
 apt_one n a p s k d b o g =
     apt_within n a s 1 p _ (λ l. apt_made n a s (deeper 1 a) p s _ (OfOne k) b
-        (plain_parts n a s _ (OfOne k) b (g, tt) (λ u rs c. found_one (ground u) a (deeper 1 a) k d rs l o c.match) (λ u rs. one_ends k u)))
+    (plain_parts n a s _ (OfOne k) b (g, tt) (λ u rs c. found_one (ground u) a (deeper 1 a) k d rs l o c.match) (λ u rs. one_ends k u)))
 
 -- setq
 
@@ -125,10 +124,10 @@ apt_cond_as : (n : ℕ) (a : Around) (s : Tables) (p : Place) (cs : Option (List
 apt_cond_as n a s p None b g = tt
 apt_cond_as n a s p (Some cs) b g =
     apt_within n a s (own_depth cs) p _ (λ l. apt_made n a s (deeper 1 a) p s (clause_parts cs) (OfClauses (clause_lengths cs)) b
-        (plain_parts n a s (clause_parts cs) (OfClauses (clause_lengths cs)) b (clauses_apt n (deeper 1 a) cs g)
-            (λ u rs c. made_clauses (ground u) (scope_of a) a.spot.depth _ (deep_enough a.spot.depth _ l)
-                (found_clauses (spots (ground u) (deeper 1 a) (deeper 1 a) rs) cs rs c.match))
-            (λ u rs. refl)))
+    (plain_parts n a s (clause_parts cs) (OfClauses (clause_lengths cs)) b (clauses_apt n (deeper 1 a) cs g)
+    (λ u rs c. made_clauses (ground u) (scope_of a) a.spot.depth _ (deep_enough a.spot.depth _ l)
+    (found_clauses (spots (ground u) (deeper 1 a) (deeper 1 a) rs) cs rs c.match))
+    (λ u rs. refl)))
 
 pub apt_cond : (n : ℕ) (a : Around) (s : Tables) (p : Place) (ds : List Item) → Stage a s → AllOf (Good n) ds → AptAt n a s (cond_row a s p ds)
 apt_cond n a s p ds b g = apt_cond_as n a s p (clauses_in ds) b (good_clauses n ds g)
@@ -138,7 +137,7 @@ apt_cond n a s p ds b g = apt_cond_as n a s p (clauses_in ds) b (good_clauses n 
 pub apt_two : (n : ℕ) (k : Two) (a : Around) (s : Tables) (p : Place) (ds : List Item) → Stage a s → AllOf (Good n) ds → AptAt n a s (two_row k a s p ds)
 apt_two n k a s p (d ∷ e ∷ []) b g =
     apt_within n a s 1 p _ (λ l. apt_made n a s (deeper 1 a) p s _ (OfTwo k) b
-        (plain_parts n a s _ (OfTwo k) b (g.0, (g.1.0, tt)) (λ u rs c. found_two (ground u) a (deeper 1 a) k d e rs l c.match) (λ u rs. refl)))
+    (plain_parts n a s _ (OfTwo k) b (g.0, (g.1.0, tt)) (λ u rs c. found_two (ground u) a (deeper 1 a) k d e rs l c.match) (λ u rs. refl)))
 apt_two n k a s p [] b g = tt
 apt_two n k a s p (d ∷ []) b g = tt
 apt_two n k a s p (d ∷ e ∷ f ∷ ds) b g = tt
@@ -147,7 +146,7 @@ pub apt_body : (n : ℕ) (k : WithBody) (a : Around) (s : Tables) (p : Place) (d
 apt_body n k a s p [] b g = tt
 apt_body n k a s p (d ∷ ds) b g =
     apt_within n a s 2 p _ (λ l. apt_made n a s (deeper 1 a) p s _ (OfBody k) b
-        (plain_parts n a s _ (OfBody k) b (g.0, below_apt n (deeper 1 a) ds g.1) (λ u rs c. found_with_body (ground u) a (deeper 1 a) k d ds rs l c.match) (λ u rs. refl)))
+    (plain_parts n a s _ (OfBody k) b (g.0, below_apt n (deeper 1 a) ds g.1) (λ u rs c. found_with_body (ground u) a (deeper 1 a) k d ds rs l c.match) (λ u rs. refl)))
 
 -- dynamic variables
 

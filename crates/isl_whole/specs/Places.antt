@@ -1,6 +1,6 @@
 -- Where a form may stand: what is bound there has numbers that rise from the outermost to the innermost, below those of
 -- the next variable and the next exit; and the lexical scope of such a place (ISO/IEC 13816:2007, 11).
-use Rattle.std.specs.Prelude.{◌≡◌, ℕ, ◌+◌, ◌==◌, ◌≤◌, Bool, true, false, List, [], ◌∷◌, ◌++◌, length}
+use Rattle.std.specs.Prelude.{◌≡◌, ℕ, ◌+◌, ◌==◌, ◌≤◌, true, false, List, [], ◌∷◌, ◌++◌, length}
 use Rattle.std.specs.List.{list_any}
 use Rattle.isl_meaning.specs.declared.scope.ExitAround.{ExitAround}
 use Rattle.isl_meaning.specs.declared.scope.Around.TheVariants as exit
