@@ -18,3 +18,4 @@ pub mod AllRows
 pub mod Comes
 pub mod Programs
 pub mod Classes
+pub mod Nodes
