@@ -80,13 +80,13 @@ found_inner h o i ds rs m =
 
 -- clauses
 
-taken_front : {X : Type 0} (n : ℕ) (xs ys : List X) → length xs ≡ n → take n (xs ++ ys) ≡ xs
+pub taken_front : {X : Type 0} (n : ℕ) (xs ys : List X) → length xs ≡ n → take n (xs ++ ys) ≡ xs
 taken_front zero [] ys e = refl
 taken_front zero (x ∷ xs) ys e = absurd (omega (arith, e))
 taken_front (suc n) [] ys e = absurd (omega (arith, e))
 taken_front (suc n) (x ∷ xs) ys e = ap (λ zs. x ∷ zs) (taken_front n xs ys (omega (arith, e)))
 
-dropped_front : {X : Type 0} (n : ℕ) (xs ys : List X) → length xs ≡ n → drop n (xs ++ ys) ≡ ys
+pub dropped_front : {X : Type 0} (n : ℕ) (xs ys : List X) → length xs ≡ n → drop n (xs ++ ys) ≡ ys
 dropped_front zero [] ys e = refl
 dropped_front zero (x ∷ xs) ys e = absurd (omega (arith, e))
 dropped_front (suc n) [] ys e = absurd (omega (arith, e))

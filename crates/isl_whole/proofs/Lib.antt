@@ -19,3 +19,4 @@ pub mod Comes
 pub mod Programs
 pub mod Classes
 pub mod Nodes
+pub mod FoundNodes
