@@ -29,7 +29,7 @@ use Rattle.isl_profile.specs.bridge.GoodParts.{good_list}
 use Rattle.isl_whole.specs.Ground.{ground}
 use Rattle.isl_whole.specs.Places.{scope_of}
 use Rattle.isl_whole.proofs.Places.{function_there}
-use Rattle.isl_whole.proofs.Grounds.{entered_same}
+use Rattle.isl_whole.proofs.Grounds.{entered_same, counted_same}
 use Rattle.isl_whole.proofs.Apt.{AptAt, Stage, apt_if, apt_literal}
 use Rattle.isl_whole.proofs.ValueRows.{apt_symbol, apt_quote, apt_setq, apt_progn, apt_cond, apt_two, apt_body, apt_dynamic, apt_set_dynamic, apt_function, apt_method, next_of_methods, has_of_methods, apt_class}
 use Rattle.isl_whole.proofs.ExitRows.{apt_block, apt_return_from, apt_tagbody, apt_go}
@@ -140,8 +140,9 @@ apt_derived names n (becomes r) a s d b g = record {
   entered = entered_same (ground s) b.whole;
   good = b.good;
   datum = g;
-  gives = λ h f r. r;
-  same_top = refl;
+  wanted = refl;
+  same_spot = refl;
+  start = counted_same a.spot.sited (ground s);
 }
 
 apt_unless : (n : ℕ) (a : Around) (s : Tables) (r : Option Refusal) (x : Node) → AptAt n a s x → AptAt n a s (unless_refused r x)

@@ -26,7 +26,9 @@ use Rattle.isl_profile.specs.bridge.GoodParts.{GoodPairs, MaybePairs, good_pairs
 use Rattle.isl_whole.specs.Ground.{Ground, ground}
 use Rattle.isl_whole.specs.Places.{variables_around, scope_of, GoodAround}
 use Rattle.isl_whole.specs.Right.{RightIn, RightAt}
-use Rattle.isl_whole.proofs.Grounds.{entered_same}
+use Rattle.isl_whole.proofs.Grounds.{entered_same, counted_same}
+use Rattle.isl_whole.proofs.Nodes.{let_nodes, lambda_nodes, sequence_nodes, dynamic_let_nodes}
+use Rattle.isl_whole.proofs.FoundNodes.{both_plain, below_plain, inner_plain, parameters_plain, values_plain, forms_counted, enough_nodes}
 use Rattle.isl_whole.proofs.Good.{good_deeper, good_functions, MaybeFunctions, are_functions, functions_scope}
 use Rattle.isl_whole.proofs.Captured.{IsCaptured, is_captured}
 use Rattle.isl_whole.proofs.Matches.{new_variables, AllMatch, BoundMatch, bound_match, ParametersMatch, parameters_match, DynamicsMatch, dynamics_match}
@@ -52,9 +54,12 @@ apt_let_as n a s p bs fs (Some qs) b g k l = apt_made n a s (deeper 2 a) p s (ea
   entered = entered_same (ground s) b.whole;
   inside = good_deeper (ground s) 2 a b.good;
   low = λ e. refl;
+  sited = refl;
+  start = counted_same a.spot.sited (ground s);
   parts = both_apt n (deeper 2 a) (each_bound qs) (each_inner fs) (bound_apt n (deeper 2 a) qs refl k) (inner_apt n (deeper 2 a) fs g);
   right = λ u rs c. found_let (ground u) a qs fs rs l c.match;
   ends = λ u rs. refl;
+  nodes = λ u rs c. let_nodes rs;
 })
 
 pub apt_let : (n : ℕ) (a : Around) (s : Tables) (p : Place) (ds : List Item) → Stage a s → AllOf (Good n) ds → AptAt n a s (let_row a s p ds)
@@ -95,7 +100,12 @@ apt_dynamics_as n a s p fs qs (Some ns) b g k e =
     apt_within n a s 2 p _ (λ l. apt_made n a s (deeper 1 a) p s (values_of qs ++ each_below fs) (OfDynamics ns) b
     (plain_parts n a s (values_of qs ++ each_below fs) (OfDynamics ns) b
     (both_apt n (deeper 1 a) (values_of qs) (each_below fs) (values_apt n (deeper 1 a) qs k) (below_apt n (deeper 1 a) fs g))
-    (λ u rs c. found_dynamics (ground u) a ns qs fs rs l (names_counted qs ns e) c.match) (λ u rs. refl)))
+    (λ u rs c. found_dynamics (ground u) a ns qs fs rs l (names_counted qs ns e) c.match) (λ u rs. refl)
+    (λ u rs c.
+        enough_nodes _ _ _
+        (forms_counted (spots (ground u) (deeper 1 a) (deeper 1 a) rs) (values_of qs ++ each_below fs) rs c.match
+            (both_plain (values_of qs) (each_below fs) (values_plain qs) (below_plain fs)))
+        (dynamic_let_nodes ns (forms_found rs)))))
 
 apt_dynamic_let_as : (n : ℕ) (a : Around) (s : Tables) (p : Place) (bs : Item) (fs : List Item) (qs : Option (List Pair)) → Stage a s → AllOf (Good n) fs
     → MaybePairs n qs → AptAt n a s (dynamic_let_as a s p bs fs qs)
@@ -144,9 +154,16 @@ apt_lambda_as n a s p d fs (Some ps) b g l = apt_made n a s (deeper 2 a) p s (ea
   entered = entered_same (ground s) b.whole;
   inside = good_deeper (ground s) 2 a b.good;
   low = λ e. refl;
+  sited = refl;
+  start = counted_same a.spot.sited (ground s);
   parts = function_apt n (deeper 2 a) ps fs refl g;
   right = λ u rs c. found_lambda (ground s) (ground u) a ps fs rs l b.good c;
   ends = λ u rs. refl;
+  nodes = λ u rs c.
+      enough_nodes _ _ _
+      (forms_counted (spots (ground u) (deeper 1 a) (deeper 2 a) rs) (each_parameter (all_symbols ps) ++ each_inner fs) rs c.match
+          (both_plain (each_parameter (all_symbols ps)) (each_inner fs) (parameters_plain (all_symbols ps)) (inner_plain fs)))
+      (lambda_nodes (take (length ps.required) (variables_found rs)) (rest_found (is_some ps.rest) (drop (length ps.required) (variables_found rs))) (forms_found rs) _);
 })
 
 pub apt_lambda : (n : ℕ) (a : Around) (s : Tables) (p : Place) (ds : List Item) → Stage a s → AllOf (Good n) ds → AptAt n a s (lambda_row a s p ds)
@@ -166,12 +183,16 @@ apt_functions_as n a s p fs false (Some bs) b g f =
       entered = entered_same (ground s) b.whole;
       inside = good_functions (ground s) bs (deeper 1 a) refl f (good_deeper (ground s) 1 a b.good);
       low = λ e. refl;
+      sited = refl;
+      start = counted_same a.spot.sited (ground s);
       parts = inner_apt n i fs g;
       right = λ u rs c.
           made_body (ground u) (scope_of a) a.spot.depth (forms_found rs) l
           (subst (λ (t : LexicalScope). Each (RightIn (ground u) t (a.spot.depth + 1)) (forms_found rs)) (functions_scope bs (deeper 1 a) f)
           (found_inner (ground u) (deeper 1 a) i fs rs c.match));
       ends = λ u rs. refl;
+      nodes = λ u rs c.
+          enough_nodes _ _ _ (forms_counted (spots (ground u) (deeper 1 a) i rs) (each_inner fs) rs c.match (inner_plain fs)) (sequence_nodes (forms_found rs));
     }))
 
 apt_with_functions_as : (n : ℕ) (kept : Bool) (a : Around) (s : Tables) (p : Place) (bs : Item) (fs : List Item) (qs : Option (List Pair)) → Stage a s

@@ -28,7 +28,10 @@ use Rattle.isl_whole.specs.Ground.{Ground, ground}
 use Rattle.isl_whole.specs.Places.{scope_of}
 use Rattle.isl_whole.specs.Right.{RightIn, RightAt}
 use Rattle.isl_whole.proofs.Tests.{both}
-use Rattle.isl_whole.proofs.Matches.{AllMatch, forms_match, forms_as_many}
+use Rattle.isl_whole.proofs.Matches.{Spots, AllMatch, forms_match, forms_as_many}
+use Rattle.isl_whole.proofs.Nodes.{nodes_in, found_nodes, call_nodes, call_value_nodes, prim_nodes, two_nodes, local_call_nodes}
+use Rattle.isl_whole.proofs.FoundNodes.{forms_plain, forms_counted, enough_nodes}
+use Rattle.isl_meaning.specs.Counts.{all_nodes}
 use Rattle.isl_whole.proofs.Made.{made_two, made_call, made_call_value, made_prim, made_local_call}
 use Rattle.isl_whole.proofs.Apt.{spots, AptAt, Stage, apt_within, apt_made, plain_parts, forms_apt}
 
@@ -65,12 +68,31 @@ call_ends m count (of_value k h) u rs = refl
 call_ends m count (of_two t k h) u rs = refl
 call_ends m count (of_primitive p k h) u rs = refl
 
+two_counted : (k : Two) (fs : List Form) → length fs ≡ 2 → nodes_in fs + 1 ≤ all_nodes (make_two k fs)
+two_counted k [] e = absurd (omega (arith, e))
+two_counted k (f ∷ []) e = absurd (omega (arith, e))
+two_counted k (f ∷ h ∷ []) e = two_more (all_nodes f) (all_nodes h) _ (two_nodes k f h)
+  where
+    two_more : (n m k : ℕ) → n + m + 1 ≤ k → n + (m + 0) + 1 ≤ k
+    two_more n m k h = omega (arith, h)
+two_counted k (f ∷ h ∷ g ∷ fs) e = absurd (omega (arith, e))
+
+counted_call : (m : Making) (count : ℕ) (rs : List Found) → IsCall m count → length (forms_found rs) ≡ count → nodes_in (forms_found rs) + 1 ≤ all_nodes (make m rs)
+counted_call m count rs (of_name n k) e = call_nodes n.0 (forms_found rs)
+counted_call m count rs (of_value k h) e = call_value_nodes (forms_found rs)
+counted_call m count rs (of_two t k h) e = two_counted t (forms_found rs) (e ∙ h)
+counted_call m count rs (of_primitive p k h) e = prim_nodes p (forms_found rs)
+
+call_counted : (p : Spots) (m : Making) (ds : List Item) (rs : List Found) → IsCall m (length ds) → AllMatch p (each_form ds) rs → found_nodes rs + 1 ≤ all_nodes (make m rs)
+call_counted p m ds rs c x = enough_nodes _ _ _ (forms_counted p (each_form ds) rs x (forms_plain ds)) (counted_call m (length ds) rs c (forms_as_many p ds rs x))
+
 pub apt_all_parts : (n : ℕ) (m : Making) (a : Around) (s : Tables) (p : Place) (ds : List Item) → Stage a s → AllOf (Good n) ds → IsCall m (length ds)
     → AptAt n a s (all_parts m a s p ds)
 apt_all_parts n m a s p ds b g c =
     apt_within n a s 1 p _ (λ l. apt_made n a s (deeper 1 a) p s (each_form ds) m b
     (plain_parts n a s (each_form ds) m b (forms_apt n (deeper 1 a) ds g)
-    (λ u rs x. found_call (ground u) a (deeper 1 a) m ds rs c l x.match) (call_ends m (length ds) c)))
+    (λ u rs x. found_call (ground u) a (deeper 1 a) m ds rs c l x.match) (call_ends m (length ds) c)
+    (λ u rs x. call_counted (spots (ground u) (deeper 1 a) (deeper 1 a) rs) m ds rs c x.match)))
 
 -- a call by name is one of these
 
@@ -112,4 +134,7 @@ apt_local_call n v a s p ds b e g =
     (plain_parts n a s (each_form ds) (CallOfLocal v) b (forms_apt n (deeper 1 a) ds g)
     (λ u rs x. made_local_call (ground u) (scope_of a) a.spot.depth v (forms_found rs) (omega (arith, l)) e
     (forms_match (spots (ground u) (deeper 1 a) (deeper 1 a) rs) ds rs x.match))
-    (λ u rs. refl)))
+    (λ u rs. refl)
+    (λ u rs x.
+        enough_nodes _ _ _ (forms_counted (spots (ground u) (deeper 1 a) (deeper 1 a) rs) (each_form ds) rs x.match (forms_plain ds))
+        (local_call_nodes v (forms_found rs)))))

@@ -27,14 +27,17 @@ use Rattle.isl_profile.specs.declared.making.One.TheVariants.{DefineGlobal, Defi
 use Rattle.isl_profile.specs.Nodes.{Around, Node}
 use Rattle.isl_profile.specs.Makings.{nothing, forms_found, variables_found, body_of, rest_found, procedure_found}
 use Rattle.isl_profile.specs.Shapes.{symbol_of, parameters_in, all_symbols}
-use Rattle.isl_profile.specs.RowWords.{alone}
-use Rattle.isl_profile.specs.DefiningRows.{named, is_that, has_global, has_dynamic, is_set, is_of_prelude, has_function, is_taken, is_truth, is_reserved, defining_offence, unless_offending, global_as, global_row, defdynamic_as, defdynamic_row, with_name, named_form, defun_of, defun_with, defun_as, defun_row}
+use Rattle.isl_profile.specs.RowWords.{each_parameter, each_inner, alone}
+use Rattle.isl_profile.specs.DefiningRows.{function_parts, named, is_that, has_global, has_dynamic, is_set, is_of_prelude, has_function, is_taken, is_truth, is_reserved, defining_offence, unless_offending, global_as, global_row, defdynamic_as, defdynamic_row, with_name, named_form, defun_of, defun_with, defun_as, defun_row}
 use Rattle.isl_whole.specs.Ground.{Ground, ground, Later, IsThere, procedure_fits, WholeGround}
 use Rattle.isl_whole.specs.Places.{variables_around, exits_around, scope_of, NothingAround}
-use Rattle.isl_whole.specs.Right.{RightIn}
+use Rattle.isl_whole.specs.Right.{RightIn, Counted}
 use Rattle.isl_whole.proofs.Tests.{both, and_true, not_true}
 use Rattle.isl_whole.proofs.Forms.{each_more}
-use Rattle.isl_whole.proofs.Grounds.{Entered, entered_same, entered_literal, later_then, literals_later, procedures_later, mains_later, all_push}
+use Rattle.isl_whole.proofs.Grounds.{Entered, entered_same, entered_literal, later_then, literals_later, procedures_later, mains_later, all_push, counted_same, counted_then}
+use Rattle.isl_whole.proofs.Nodes.{nodes_in, found_nodes, body_nodes}
+use Rattle.isl_whole.proofs.FoundNodes.{both_plain, inner_plain, parameters_plain, forms_counted}
+use Rattle.isl_meaning.specs.ProgramCounts.{total, procedure_nodes}
 use Rattle.isl_whole.proofs.Good.{good_later, good_alone, scope_with}
 use Rattle.isl_whole.proofs.Places.{each_append}
 use Rattle.isl_whole.proofs.Matches.{new_variables, ParametersMatch, parameters_match}
@@ -176,6 +179,22 @@ name_right : (sited : Bool) (d : Item) (s : Tables) (h : Ground) (t : LexicalSco
 name_right true d s h t k l e = made_literal h t k (length s.literals) l (omega (arith, e.literals, length-append s.literals (row.Datum d ∷ [])))
 name_right false d s h t k l e = made_body h t k [] l tt
 
+procedures_then : (ps : List Procedure) (p : Procedure) → total procedure_nodes (ps ++ p ∷ []) ≡ total procedure_nodes ps + procedure_nodes p
+procedures_then [] p = omega arith
+procedures_then (q ∷ qs) p = more (procedure_nodes q) (total procedure_nodes (qs ++ p ∷ [])) (total procedure_nodes qs) (procedure_nodes p) (procedures_then qs p)
+  where
+    more : (a n m k : ℕ) → n ≡ m + k → a + n ≡ a + m + k
+    more a n m k e = omega (arith, e)
+
+-- the sites of a body are counted by its procedure
+function_counted : (b : Bool) (x g : Ground) (name : Name) (p : Procedure) (n k : ℕ) → n ≤ procedure_nodes p → Counted b x g n → Counted b x (one_more g name p) k
+function_counted true x g name p n k l c = record { sites = omega (arith, c.sites, l, procedures_then g.procedures p) }
+function_counted false x g name p n k l c = record { sites = omega (arith, c.sites, procedures_then g.procedures p) }
+
+name_counted : (b sited : Bool) (d : Item) (s : Tables) → Counted b (ground s) (ground (with_name sited d s)) 0
+name_counted b true d s = record { sites = (counted_same b (ground s)).sites }
+name_counted b false d s = record { sites = (counted_same b (ground s)).sites }
+
 apt_defun_of : (n : ℕ) (a : Around) (s : Tables) (name : Name) (d : Item) (fs : List Item) (ps : Parameters) → Stage a s → Good n d → AllOf (Good n) fs
     → a.spot.top ≡ true → has_function s name ≡ false → a.spot.depth + 1 ≤ 1000 → AptAt n a s (defun_of a s name d fs ps)
 apt_defun_of n a s name d fs ps b h g top fresh l =
@@ -187,6 +206,7 @@ apt_defun_of n a s name d fs ps b h g top fresh l =
       outside = good_later (ground s) (ground t) i e.later (good_alone (ground s) a b.good);
       inside = good_later (ground s) (ground t) i e.later (good_alone (ground s) a b.good);
       low = λ k. (refl, refl);
+      sited = (refl, refl);
       parts = function_apt n i ps fs refl g;
       right = λ u rs c. name_right a.spot.sited d s _ (scope_of a) a.spot.depth l (later_then (ground t) (ground u) _ c.later (later_function (ground u) name _));
       ends = λ u rs c.
@@ -202,6 +222,13 @@ apt_defun_of n a s name d fs ps b h g top fresh l =
             main = refl;
             inside = λ k. absurd (cc (top, k));
           };
+      counted = λ u rs c k.
+          let p : Procedure = procedure_found name (length ps.required) (is_some ps.rest) rs in
+          let forms : found_nodes rs ≡ nodes_in (forms_found rs) =
+          forms_counted (spots (ground u) i i rs) (function_parts ps fs) rs c.match
+          (both_plain (each_parameter (all_symbols ps)) (each_inner fs) (parameters_plain (all_symbols ps)) (inner_plain fs)) in
+          function_counted a.spot.sited (ground s) (ground u) name p (0 + found_nodes rs) _ (omega (arith, forms, body_nodes (forms_found rs)))
+          (counted_then a.spot.sited (ground s) (ground t) (ground u) 0 (found_nodes rs) (name_counted a.spot.sited a.spot.sited d s) k);
     }
 
 apt_defun_with : (n : ℕ) (a : Around) (s : Tables) (name : Name) (d l : Item) (fs : List Item) (ps : Option Parameters) → Stage a s → Good n d → AllOf (Good n) fs

@@ -9,7 +9,7 @@ use Rattle.isl_base.specs.DataParts.{AllOf}
 use Rattle.isl_base.specs.GoodData.{Good}
 use Rattle.isl_meaning.specs.declared.scope.LexicalScope.{LexicalScope}
 use Rattle.isl_meaning.specs.declared.scope.Around.TheVariants as exit
-use Rattle.isl_meaning.specs.Form.{Form}
+use Rattle.isl_meaning.specs.Form.{Form, go}
 use Rattle.isl_meaning.specs.Subforms.{Each}
 use Rattle.isl_meaning.specs.Standing.{with_around}
 use Rattle.isl_profile.specs.declared.tables.Tables.{Tables}
@@ -27,11 +27,13 @@ use Rattle.isl_profile.specs.bridge.GoodParts.{good_forms}
 use Rattle.isl_whole.specs.Ground.{Ground, ground}
 use Rattle.isl_whole.specs.Places.{scope_of}
 use Rattle.isl_whole.specs.Right.{RightIn}
-use Rattle.isl_whole.proofs.Grounds.{entered_numbers}
+use Rattle.isl_whole.proofs.Grounds.{entered_numbers, counted_same}
+use Rattle.isl_whole.proofs.Nodes.{block_nodes, tagbody_nodes}
+use Rattle.isl_whole.proofs.FoundNodes.{inner_plain, forms_counted, inner_as_many, lengths_added, enough_nodes}
 use Rattle.isl_whole.proofs.Good.{good_deeper, good_block, good_tags, block_scope, tags_scope}
 use Rattle.isl_whole.proofs.Places.{block_there, tag_there}
 use Rattle.isl_whole.proofs.Made.{made_block, made_tagbody, made_go}
-use Rattle.isl_whole.proofs.Apt.{AptAt, Stage, apt_if, apt_within, apt_made, apt_at_once, inner_apt}
+use Rattle.isl_whole.proofs.Apt.{spots, AptAt, Stage, apt_if, apt_within, apt_made, apt_at_once, inner_apt}
 use Rattle.isl_whole.proofs.Found.{found_inner}
 use Rattle.isl_whole.proofs.ValueRows.{apt_one}
 
@@ -56,6 +58,8 @@ apt_block_as n a s p (Some x) fs b g =
       entered = entered_numbers (ground s) s.variables (s.exits + 1) (omega arith) (omega arith) b.whole;
       inside = good_block (ground s) x (deeper 2 a) refl (good_deeper (ground s) 2 a b.good);
       low = λ k. refl;
+      sited = refl;
+      start = record { sites = (counted_same a.spot.sited (ground s)).sites };
       parts = inner_apt n i fs g;
       right = λ u rs c.
           made_block (ground u) (scope_of a) a.spot.depth s.exits (forms_found rs) (omega (arith, l))
@@ -63,6 +67,8 @@ apt_block_as n a s p (Some x) fs b g =
           (in_scope (ground u) (scope_of i) (with_around s.exits exit.Block (scope_of a)) (a.spot.depth + 2) (forms_found rs)
           (block_scope x s.exits (deeper 2 a)) (found_inner (ground u) (deeper 1 a) i fs rs c.match)));
       ends = λ u rs. refl;
+      nodes = λ u rs c.
+          enough_nodes _ _ _ (forms_counted (spots (ground u) (deeper 1 a) i rs) (each_inner fs) rs c.match (inner_plain fs)) (block_nodes s.exits (forms_found rs));
     }))
 
 pub apt_block : (n : ℕ) (a : Around) (s : Tables) (p : Place) (ds : List Item) → Stage a s → AllOf (Good n) ds → AptAt n a s (block_row a s p ds)
@@ -108,6 +114,8 @@ apt_tagbody n a s p ds b g =
       entered = entered_numbers (ground s) s.variables (s.exits + 1) (omega arith) (omega arith) b.whole;
       inside = good_tags (ground s) (tags_in ds) (deeper 2 a) refl (good_deeper (ground s) 2 a b.good);
       low = λ k. refl;
+      sited = refl;
+      start = record { sites = (counted_same a.spot.sited (ground s)).sites };
       parts = inner_apt n i (forms_in ds) (good_forms n ds g);
       right = λ u rs c.
           made_tagbody (ground u) (scope_of a) a.spot.depth s.exits (length (tags_in ds)) (lengths_in ds) (forms_found rs) (omega (arith, l)) (lengths_counted ds)
@@ -115,13 +123,17 @@ apt_tagbody n a s p ds b g =
           (in_scope (ground u) (scope_of i) t (a.spot.depth + 2) (forms_found rs)
           (tags_scope (tags_in ds) s.exits (deeper 2 a)) (found_inner (ground u) (deeper 1 a) i (forms_in ds) rs c.match)));
       ends = λ u rs. refl;
+      nodes = λ u rs c.
+          let many : length (forms_found rs) ≡ length (forms_in ds) = inner_as_many (spots (ground u) (deeper 1 a) i rs) (forms_in ds) rs c.match in
+          enough_nodes _ _ _ (forms_counted (spots (ground u) (deeper 1 a) i rs) (each_inner (forms_in ds)) rs c.match (inner_plain (forms_in ds)))
+          (tagbody_nodes s.exits (lengths_in ds) (forms_found rs) (omega (arith, many, lengths_added ds)));
     })))
     tt
 
 apt_go_to : (n : ℕ) (a : Around) (s : Tables) (p : Place) (x : Symbol) (target : Option Target) → Stage a s → tag_of a.bound x ≡ target → AptAt n a s (go_to a s p x target)
 apt_go_to n a s p x None b h = apt_no_such n a s p _ (name_of x)
 apt_go_to n a s p x (Some t) b h =
-    apt_at_once n a s p _ b (λ k l. made_go k (scope_of a) a.spot.depth t.exit t.segment l (tag_there x a.bound 0 s.exits t b.good.exits h))
+    apt_at_once n a s p (go t.exit t.segment) b (omega arith) (λ k l. made_go k (scope_of a) a.spot.depth t.exit t.segment l (tag_there x a.bound 0 s.exits t b.good.exits h))
 
 apt_go_as : (n : ℕ) (a : Around) (s : Tables) (p : Place) (x : Option Symbol) → Stage a s → AptAt n a s (go_as a s p x)
 apt_go_as n a s p None b = tt

@@ -22,7 +22,7 @@ use Rattle.isl_profile.specs.ValueRows.{length_if, clause_lengths, clause_parts}
 use Rattle.isl_whole.specs.Ground.{Ground, ground}
 use Rattle.isl_whole.specs.Places.{scope_of}
 use Rattle.isl_whole.specs.Right.{RightIn, RightAt}
-use Rattle.isl_whole.proofs.Matches.{new_variables, Spots, RightOutside, RightBelow, AllMatch, below_match, inner_match, BodyThen, body_then}
+use Rattle.isl_whole.proofs.Matches.{new_variables, Spots, RightOutside, RightBelow, AllMatch, taken_front, dropped_front, below_match, inner_match, BodyThen, body_then}
 use Rattle.isl_whole.proofs.Made.{OneStands, made_one, made_two, made_with_body, made_body}
 use Rattle.isl_whole.proofs.Apt.{spots}
 
@@ -79,18 +79,6 @@ found_inner h o i ds rs m =
     (inner_match (spots h o i rs) ds rs m)
 
 -- clauses
-
-pub taken_front : {X : Type 0} (n : ℕ) (xs ys : List X) → length xs ≡ n → take n (xs ++ ys) ≡ xs
-taken_front zero [] ys e = refl
-taken_front zero (x ∷ xs) ys e = absurd (omega (arith, e))
-taken_front (suc n) [] ys e = absurd (omega (arith, e))
-taken_front (suc n) (x ∷ xs) ys e = ap (λ zs. x ∷ zs) (taken_front n xs ys (omega (arith, e)))
-
-pub dropped_front : {X : Type 0} (n : ℕ) (xs ys : List X) → length xs ≡ n → drop n (xs ++ ys) ≡ ys
-dropped_front zero [] ys e = refl
-dropped_front zero (x ∷ xs) ys e = absurd (omega (arith, e))
-dropped_front (suc n) [] ys e = absurd (omega (arith, e))
-dropped_front (suc n) (x ∷ xs) ys e = dropped_front n xs ys (omega (arith, e))
 
 some_deep : (g : Ground) (s : LexicalScope) (n : ℕ) (fs : List Form) → Each (RightIn g s n) fs → 1 ≤ length fs → n ≤ 1000
 some_deep g s n [] e l = absurd (omega (arith, l))

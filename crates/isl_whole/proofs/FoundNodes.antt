@@ -16,9 +16,8 @@ use Rattle.isl_profile.specs.Shapes.{Pair, ClauseParts, symbol_of, forms_in, for
 use Rattle.isl_profile.specs.RowWords.{each_form, each_below, each_inner, each_parameter}
 use Rattle.isl_profile.specs.ValueRows.{length_if, clause_lengths, clause_parts}
 use Rattle.isl_profile.specs.BindingRows.{values_of}
-use Rattle.isl_whole.proofs.Matches.{Spots, AllMatch, BodyThen, body_then}
+use Rattle.isl_whole.proofs.Matches.{Spots, AllMatch, BodyThen, body_then, dropped_front}
 use Rattle.isl_whole.proofs.Nodes.{nodes_in, added, nodes_of, found_nodes, body_nodes, one_nodes, two_nodes, with_body_nodes, split_nodes}
-use Rattle.isl_whole.proofs.Found.{taken_front, dropped_front}
 
 -- parts that bind no variable with a value
 
@@ -184,3 +183,10 @@ inner_as_many p (d ∷ ds) [] h = absurd h
 inner_as_many p (d ∷ ds) (Value f ∷ rs) h = omega (arith, inner_as_many p ds rs h.1)
 inner_as_many p (d ∷ ds) (Binding v f ∷ rs) h = absurd h.0
 inner_as_many p (d ∷ ds) (Parameter v ∷ rs) h = absurd h.0
+
+-- what is counted of the forms is enough
+pub enough_nodes : (n b k : ℕ) → n ≡ b → b + 1 ≤ k → n + 1 ≤ k
+enough_nodes n b k e h = omega (arith, e, h)
+
+pub enough_more : (n b c k : ℕ) → n ≡ b → b ≤ c → c + 1 ≤ k → n + 1 ≤ k
+enough_more n b c k e l h = omega (arith, e, l, h)

@@ -1,5 +1,5 @@
 -- Tables that stay whole: with a literal, a site, an exit or a variable more, and with a function.
-use Rattle.std.proofs.Common.{◌≡◌, ◌≤◌, ℕ, nat_le, nat_lt, Bool, true, false, List, [], ◌∷◌, ◌++◌, length, Some, refl, sym, ap, subst, ◌∙◌, arith}
+use Rattle.std.proofs.Common.{◌+◌, ◌≡◌, ◌≤◌, ℕ, nat_le, nat_lt, Bool, true, false, List, [], ◌∷◌, ◌++◌, length, Some, refl, sym, ap, subst, ◌∙◌, arith}
 use Rattle.std.specs.List.{list_all}
 use Rattle.std.proofs.lemmas.List.{length-append}
 use Rattle.isl_base.specs.declared.place.Place.{Place}
@@ -19,7 +19,7 @@ use Rattle.isl_meaning.specs.Lookup.{all_differ}
 use Rattle.isl_meaning.specs.Standing.{stands_alone, is_alone}
 use Rattle.isl_meaning.specs.Facts.{body_fits, literal_fits, same_name}
 use Rattle.isl_whole.specs.Ground.{Ground, rows_of, Later, IsThere, procedure_fits, main_fits, WholeGround}
-use Rattle.isl_whole.specs.Right.{Behind}
+use Rattle.isl_whole.specs.Right.{Behind, Counted}
 use Rattle.isl_whole.proofs.Tests.{both, and_true, all_more}
 use Rattle.isl_whole.proofs.Forms.{each_more, fits_later}
 
@@ -189,3 +189,17 @@ behind_then top g h k a b = record {
   main = b.main ∙ a.main;
   inside = λ low. b.inside low ∙ a.inside low;
 }
+
+-- sites and nodes
+
+pub counted_same : (b : Bool) (g : Ground) → Counted b g g 0
+counted_same true g = record { sites = omega arith }
+counted_same false g = record { sites = omega arith }
+
+pub counted_then : (b : Bool) (g h k : Ground) (m n : ℕ) → Counted b g h m → Counted b h k n → Counted b g k (m + n)
+counted_then true g h k m n c d = record { sites = omega (arith, c.sites, d.sites) }
+counted_then false g h k m n c d = record { sites = omega (arith, c.sites, d.sites) }
+
+pub counted_more : (b : Bool) (g h : Ground) (m n : ℕ) → m ≤ n → Counted b g h m → Counted b g h n
+counted_more true g h m n l c = record { sites = omega (arith, l, c.sites) }
+counted_more false g h m n l c = record { sites = c.sites }

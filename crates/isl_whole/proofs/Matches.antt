@@ -1,5 +1,5 @@
 -- What was found of parts is right, each where it stands.
-use Rattle.std.proofs.Common.{◌≡◌, ◌+◌, ℕ, List, [], ◌∷◌, ◌++◌, length, refl, ap, arith}
+use Rattle.std.proofs.Common.{◌≡◌, ◌+◌, ℕ, List, [], ◌∷◌, ◌++◌, length, refl, ap, arith, suc, zero, take, drop}
 use Rattle.isl_base.specs.declared.datum.Symbol.{Symbol}
 use Rattle.isl_base.specs.declared.datum.Name.{Name}
 use Rattle.isl_base.specs.Data.{Item}
@@ -225,3 +225,17 @@ body_then p (d ∷ ds) ys (Value f ∷ rs) h =
     }
 body_then p (d ∷ ds) ys (Binding v f ∷ rs) h = absurd h.0
 body_then p (d ∷ ds) ys (Parameter v ∷ rs) h = absurd h.0
+
+-- a list that stands in front of another
+
+pub taken_front : {X : Type 0} (n : ℕ) (xs ys : List X) → length xs ≡ n → take n (xs ++ ys) ≡ xs
+taken_front zero [] ys e = refl
+taken_front zero (x ∷ xs) ys e = absurd (omega (arith, e))
+taken_front (suc n) [] ys e = absurd (omega (arith, e))
+taken_front (suc n) (x ∷ xs) ys e = ap (λ zs. x ∷ zs) (taken_front n xs ys (omega (arith, e)))
+
+pub dropped_front : {X : Type 0} (n : ℕ) (xs ys : List X) → length xs ≡ n → drop n (xs ++ ys) ≡ ys
+dropped_front zero [] ys e = refl
+dropped_front zero (x ∷ xs) ys e = absurd (omega (arith, e))
+dropped_front (suc n) [] ys e = absurd (omega (arith, e))
+dropped_front (suc n) (x ∷ xs) ys e = dropped_front n xs ys (omega (arith, e))

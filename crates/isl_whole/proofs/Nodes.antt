@@ -81,6 +81,9 @@ listed_nodes fs = ap nodes_in (forms_back fs)
 pub body_nodes : (fs : List Form) → all_nodes (body_of fs) ≡ nodes_in fs + 1
 body_nodes fs = omega (arith, nodes_folded (body_of fs), listed_nodes fs)
 
+pub sequence_nodes : (fs : List Form) → nodes_in fs + 1 ≤ all_nodes (body_of fs)
+sequence_nodes fs = omega (arith, body_nodes fs)
+
 pub one_nodes : (k : One) (f : Form) → all_nodes f + 1 ≤ all_nodes (one_of k f)
 one_nodes (SetVariable v) f = omega arith
 one_nodes (SetGlobal n) f = omega arith

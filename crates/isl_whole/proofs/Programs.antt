@@ -37,9 +37,9 @@ use Rattle.isl_whole.proofs.Comes.{CameAs, node_came}
 pub form_came : (names : List (List ℕ)) (a : Around) (s : Tables) (d : Item) (m : Standing) → Good (length names) d → GoodAround (ground s) a → WholeTables s
     → Comes names (node names a s d) (comes_to m) → Came a s m
 form_came names a s d m g o w c =
-    let r : CameAs (Some a) a.spot.top (ground s) m =
-    node_came names (node names a s d) (comes_to m) c (Some a) a.spot.top (ground s) (apt_node names (length names) a s d (record { good = o; whole = w }) g) in
-    record { right = r.right; behind = r.behind }
+    let r : CameAs (Some a) a.spot (ground s) m =
+    node_came names (node names a s d) (comes_to m) c (Some a) a.spot (ground s) (apt_node names (length names) a s d (record { good = o; whole = w }) g) in
+    record { right = r.right; behind = r.behind; counted = r.counted }
 
 -- where nothing is bound, all is good
 pub nothing_good : (g : Ground) (a : Around) → NothingAround a → GoodAround g a

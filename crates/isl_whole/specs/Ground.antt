@@ -1,6 +1,6 @@
 -- What of the tables a program is made of, and when that is whole: literals in form, procedures whose bodies stand by
 -- themselves, functions that are there under names of their own, and main forms that stand alone.
-use Rattle.std.specs.Prelude.{◌≡◌, ℕ, ◌<◌, ◌≤◌, Bool, true, false, ◌&&◌, List, [], Some, length}
+use Rattle.std.specs.Prelude.{◌≡◌, ℕ, ◌+◌, ◌<◌, ◌≤◌, Bool, true, false, ◌&&◌, List, [], Some, length}
 use Rattle.std.specs.List.{list_all}
 use Rattle.isl_base.specs.declared.place.Place.{Place}
 use Rattle.isl_meaning.specs.declared.program.LiteralRow.{LiteralRow}
@@ -12,6 +12,8 @@ use Rattle.isl_meaning.specs.declared.program.Callee.TheVariants as callee
 use Rattle.isl_meaning.specs.declared.program.ProgramRows.{ProgramRows}
 use Rattle.isl_meaning.specs.Form.{Form}
 use Rattle.isl_meaning.specs.Subforms.{Each}
+use Rattle.isl_meaning.specs.Counts.{all_nodes}
+use Rattle.isl_meaning.specs.ProgramCounts.{total, procedure_nodes}
 use Rattle.isl_meaning.specs.Lookup.{all_differ}
 use Rattle.isl_meaning.specs.Standing.{stands_alone, is_alone}
 use Rattle.isl_meaning.specs.Facts.{body_fits, literal_fits, same_name}
@@ -72,6 +74,17 @@ procedure_fits g p = body_fits (rows_of g) p.body && is_alone false (Some p)
 -- a main form fits, and stands alone
 abbrev pub main_fits : Ground → Form → Bool
 main_fits g f = body_fits (rows_of g) f && stands_alone false f
+
+-- the nodes of the procedures and of the main forms
+abbrev pub procedure_count : Ground → ℕ
+procedure_count g = total procedure_nodes g.procedures
+
+abbrev pub main_count : Ground → ℕ
+main_count g = total all_nodes g.main
+
+-- there are no more sites than nodes: each site is that of a form of its own
+pub record FewSites (g : Ground) : Type 0 where
+  pub few : length g.sites ≤ procedure_count g + main_count g
 
 pub record WholeGround (g : Ground) : Type 0 where
   pub literals : list_all (literal_fits (rows_of g)) g.literals ≡ true
