@@ -13,8 +13,8 @@ use Rattle.isl_meaning.specs.declared.program.Callee.TheVariants as callee
 use Rattle.isl_meaning.specs.declared.scope.LexicalScope.{LexicalScope}
 use Rattle.isl_meaning.specs.Form.{Form}
 use Rattle.isl_meaning.specs.Subforms.{Each}
-use Rattle.isl_meaning.specs.Counts.{depth}
-use Rattle.isl_meaning.specs.ProgramCounts.{program_nodes}
+use Rattle.isl_meaning.specs.Counts.{depth, all_nodes}
+use Rattle.isl_meaning.specs.ProgramCounts.{total, program_nodes}
 use Rattle.isl_meaning.specs.Lookup.{all_differ}
 use Rattle.isl_meaning.specs.Standing.{is_alone, alone as alone_in, stands}
 use Rattle.isl_meaning.specs.Facts.{body_fits, literal_fits, same_name, initform_fits, class_fits, is_plain_slot, is_one, callee_fits, procedures_stand, rows_fit, bodies_stand, is_whole}
@@ -23,9 +23,12 @@ use Rattle.isl_profile.specs.declared.bound.Bound.{Bound}
 use Rattle.isl_profile.specs.Nodes.{Around, Standing, stands as comes_to}
 use Rattle.isl_profile.specs.Rows.{node}
 use Rattle.isl_profile.specs.Judged.{Comes}
-use Rattle.isl_whole.specs.Ground.{Ground, ground, rows_of, Later, IsThere, procedure_fits, main_fits, WholeGround, WholeTables}
+use Rattle.isl_whole.specs.Ground.{Ground, ground, rows_of, Later, IsThere, procedure_fits, main_fits, WholeGround, WholeTables, FewSites}
+use Rattle.isl_whole.specs.Between.{WholeBetween, HasNoForm}
+use Rattle.isl_whole.proofs.Classes.{built_in_simple}
+use Rattle.isl_classes.specs.InheritedBuiltIn.{AreBuiltIn}
 use Rattle.isl_whole.specs.Places.{variables_around, exit_numbers, exits_around, scope_of, Rises, FunctionThere, NothingAround, GoodAround}
-use Rattle.isl_whole.specs.Right.{RightAt, Came, with_main}
+use Rattle.isl_whole.specs.Right.{RightAt, Came, with_main, Counted}
 use Rattle.isl_whole.specs.Classes.{is_simple, SimpleClasses}
 use Rattle.isl_whole.proofs.Tests.{both, and_true, all_more}
 use Rattle.isl_whole.proofs.Grounds.{literals_later, procedures_later, mains_later, main_fits_later, all_push}
@@ -85,13 +88,62 @@ main_whole a t f n r w =
     }
 
 -- the tables in front of all forms
-pub first_whole : (t : Tables) → t.literals ≡ [] → t.procedures ≡ [] → t.functions ≡ [] → t.main ≡ [] → WholeTables t
-first_whole t l p f m = record {
-  literals = ap (list_all (literal_fits (rows_of (ground t)))) l;
-  procedures = ap (list_all (procedure_fits (ground t))) p;
-  functions = subst (Each (λ (f : FunctionRow). IsThere t.procedures f.callee)) (sym f) tt;
-  names = ap (all_differ same_name) f;
-  main = ap (list_all (main_fits (ground t))) m;
+first_whole : (t : Tables) → HasNoForm t → WholeTables t
+first_whole t n = record {
+  literals = ap (list_all (literal_fits (rows_of (ground t)))) n.literals;
+  procedures = ap (list_all (procedure_fits (ground t))) n.procedures;
+  functions = subst (Each (λ (f : FunctionRow). IsThere t.procedures f.callee)) (sym n.functions) tt;
+  names = ap (all_differ same_name) n.functions;
+  main = ap (list_all (main_fits (ground t))) n.main;
+}
+
+pub first_between : (texts : List (List ℕ)) (t : Tables) → AreBuiltIn texts t.classes → HasNoForm t → WholeBetween t
+first_between texts t b n =
+    let none : length t.sites ≡ 0 = ap (λ ps. length ps) n.sites in
+    record {
+      whole = first_whole t n;
+      classes = built_in_simple texts t.classes b;
+      sites = record { few = omega (arith, none) };
+    }
+
+-- sites and nodes of main forms
+
+main_then : (fs : List Form) (f : Form) → total all_nodes (fs ++ f ∷ []) ≡ total all_nodes fs + all_nodes f
+main_then [] f = omega arith
+main_then (g ∷ gs) f = more (all_nodes g) (total all_nodes (gs ++ f ∷ [])) (total all_nodes gs) (all_nodes f) (main_then gs f)
+  where
+    more : (a n m k : ℕ) → n ≡ m + k → a + n ≡ a + m + k
+    more a n m k e = omega (arith, e)
+
+sites_of_file : (b : Bool) (g h : Ground) (f : Form) → h.main ≡ g.main → Counted b g h (all_nodes f) → FewSites g → FewSites (record h { main = h.main ++ f ∷ [] })
+sites_of_file true g h f e c s =
+    let same : total all_nodes h.main ≡ total all_nodes g.main = ap (total all_nodes) e in
+    record { few = omega (arith, c.sites, s.few, same, main_then h.main f) }
+sites_of_file false g h f e c s =
+    let same : total all_nodes h.main ≡ total all_nodes g.main = ap (total all_nodes) e in
+    record { few = omega (arith, c.sites, s.few, same, main_then h.main f) }
+
+sites_of_prelude : (b : Bool) (g h : Ground) (f : Form) → b ≡ false → h.main ≡ g.main → Counted b g h (all_nodes f) → FewSites g → FewSites h
+sites_of_prelude true g h f u e c s = absurd (cc u)
+sites_of_prelude false g h f u e c s =
+    let same : total all_nodes h.main ≡ total all_nodes g.main = ap (total all_nodes) e in
+    record { few = omega (arith, c.sites, s.few, same) }
+
+same_classes : (a : Around) (s : Tables) (m : Standing) → Came a s m → SimpleClasses s.classes.rows → SimpleClasses m.tables.classes.rows
+same_classes a s m r c = subst (λ (cs : List ClassRow). SimpleClasses cs) (sym r.behind.later.classes) c
+
+pub file_between : (a : Around) (s : Tables) (m : Standing) → NothingAround a → Came a s m → WholeBetween s → WholeBetween (with_main m.form m.tables)
+file_between a s m n r b = record {
+  whole = main_whole a m.tables m.form n r.right r.behind.whole;
+  classes = same_classes a s m r b.classes;
+  sites = sites_of_file a.spot.sited (ground s) (ground m.tables) m.form r.behind.main r.counted b.sites;
+}
+
+pub prelude_between : (a : Around) (s : Tables) (m : Standing) → a.spot.sited ≡ false → Came a s m → WholeBetween s → WholeBetween m.tables
+prelude_between a s m u r b = record {
+  whole = r.behind.whole;
+  classes = same_classes a s m r b.classes;
+  sites = sites_of_prelude a.spot.sited (ground s) (ground m.tables) m.form u r.behind.main r.counted b.sites;
 }
 
 -- the program of whole tables
@@ -139,9 +191,9 @@ simple_fits g c h =
     let f : (line ≡ true) × (slots ≡ true) = both line slots e.0 in
     and_true _ _ (and_true _ _ f.0 (all_more is_plain_slot (λ s. initform_fits (rows_of g) s.initform) (plain_initform g) c.slots f.1)) e.1
 
-pub program_whole : (g : Ground) → WholeGround g → SimpleClasses g.classes → length g.sites ≤ 100000 → program_nodes (rows_of g) ≤ 100000
+rows_whole : (g : Ground) → WholeGround g → SimpleClasses g.classes → length g.sites ≤ 100000 → program_nodes (rows_of g) ≤ 100000
     → is_whole (rows_of g) ≡ true
-program_whole g w c s n =
+rows_whole g w c s n =
     and_true _ _
     (and_true (rows_fit (rows_of g)) (bodies_stand (rows_of g))
     (and_true _ _ (and_true _ _ (and_true _ _ (and_true _ _ (and_true _ _ c.built_in w.literals) (procedures_fit g g.procedures w.procedures)) w.names)
@@ -149,3 +201,10 @@ program_whole g w c s n =
     (and_true _ _ (and_true _ _ (and_true _ _ (and_true _ _ (all_more (is_simple g.classes) (class_fits (rows_of g)) (simple_fits g) g.classes c.simple) refl)
     (functions_there g g.functions w.procedures w.functions)) w.main) (procedures_alone g 0 g.procedures w.procedures)))
     refl
+
+-- each site is one of a node
+sites_within : (g : Ground) → FewSites g → program_nodes (rows_of g) ≤ 100000 → length g.sites ≤ 100000
+sites_within g s n = omega (arith, s.few, n)
+
+pub program_whole : (t : Tables) → WholeBetween t → program_nodes (rows_of (ground t)) ≤ 100000 → is_whole (rows_of (ground t)) ≡ true
+program_whole t b n = rows_whole (ground t) b.whole b.classes (sites_within (ground t) b.sites n) n

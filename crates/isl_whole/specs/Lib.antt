@@ -3,3 +3,4 @@ pub mod Ground
 pub mod Places
 pub mod Right
 pub mod Classes
+pub mod Between

@@ -1,6 +1,6 @@
 // Laws of what forms stand for: a form is whole where it stands, and so is a program of such forms.
 
-ghost use Rattle.std.specs.Prelude.{◌≡◌, ℕ, ◌≤◌, true, List, [], length};
+ghost use Rattle.std.specs.Prelude.{◌≡◌, ℕ, ◌≤◌, true, false, List, length};
 ghost use Rattle.isl_base.specs.Data.{Item};
 ghost use Rattle.isl_base.specs.GoodData.{Good};
 ghost use Rattle.isl_meaning.specs.declared.scope.LexicalScope.{LexicalScope};
@@ -8,7 +8,6 @@ ghost use Rattle.isl_meaning.specs.Form.{Form};
 ghost use Rattle.isl_meaning.specs.Standing.{stands};
 ghost use Rattle.isl_meaning.specs.ProgramCounts.{program_nodes};
 ghost use Rattle.isl_meaning.specs.Facts.{is_whole};
-ghost use Rattle.isl_classes.specs.InheritedClasses.{Hierarchy};
 ghost use Rattle.isl_classes.specs.InheritedBuiltIn.{AreBuiltIn};
 ghost use Rattle.isl_profile.specs.declared.tables.Tables.{Tables};
 ghost use Rattle.isl_profile.specs.Nodes.{Around, Standing, stands as comes_to};
@@ -18,7 +17,7 @@ ghost use Rattle.isl_whole.specs.Scopes.{Within};
 ghost use Rattle.isl_whole.specs.Ground.{ground, rows_of, WholeTables};
 ghost use Rattle.isl_whole.specs.Places.{NothingAround, GoodAround};
 ghost use Rattle.isl_whole.specs.Right.{Came, with_main};
-ghost use Rattle.isl_whole.specs.Classes.{SimpleClasses};
+ghost use Rattle.isl_whole.specs.Between.{WholeBetween, HasNoForm};
 
 /// A form that stands in a scope stands in each that binds as much.
 pub fn law_scopes()
@@ -32,25 +31,18 @@ pub fn law_forms()
         WholeTables s → Comes names (node names a s d) (comes_to m) → Came a s m }
 {}
 
-/// A top-level form leaves whole tables, also with the form behind the main forms; and the first tables
-/// are whole.
+/// The first tables are whole, with the built-in classes and no more sites than nodes; so they are behind
+/// each top-level form, where that of a file is a main form then, and that of a prelude, in which forms
+/// have no sites, is none.
 pub fn law_top_forms()
-    ensures form { (names : List (List ℕ)) (a : Around) (s : Tables) (d : Item) (m : Standing) → Good (length names) d → NothingAround a →
-        WholeTables s → Comes names (node names a s d) (comes_to m) → WholeTables m.tables }
-    ensures main { (names : List (List ℕ)) (a : Around) (s : Tables) (d : Item) (m : Standing) → Good (length names) d → NothingAround a →
-        WholeTables s → Comes names (node names a s d) (comes_to m) → WholeTables (with_main m.form m.tables) }
-    ensures first { (t : Tables) → t.literals ≡ [] → t.procedures ≡ [] → t.functions ≡ [] → t.main ≡ [] → WholeTables t }
+    ensures first { (texts : List (List ℕ)) (t : Tables) → AreBuiltIn texts t.classes → HasNoForm t → WholeBetween t }
+    ensures file { (names : List (List ℕ)) (a : Around) (s : Tables) (d : Item) (m : Standing) → Good (length names) d → NothingAround a →
+        WholeBetween s → Comes names (node names a s d) (comes_to m) → WholeBetween (with_main m.form m.tables) }
+    ensures prelude { (names : List (List ℕ)) (a : Around) (s : Tables) (d : Item) (m : Standing) → Good (length names) d → NothingAround a →
+        a.spot.sited ≡ false → WholeBetween s → Comes names (node names a s d) (comes_to m) → WholeBetween m.tables }
 {}
 
-/// Whole tables are a whole program, where the classes are the built-in ones and the sites and the nodes
-/// are within their limits.
+/// Such tables are a whole program where its nodes are within their limit.
 pub fn law_programs()
-    ensures { (t : Tables) → WholeTables t → SimpleClasses t.classes.rows → length t.sites ≤ 100000 → program_nodes (rows_of (ground t)) ≤ 100000 →
-        is_whole (rows_of (ground t)) ≡ true }
-{}
-
-/// The built-in classes are such as a program has to have, and no form changes the classes.
-pub fn law_classes()
-    ensures first { (texts : List (List ℕ)) (h : Hierarchy) → AreBuiltIn texts h → SimpleClasses h.rows }
-    ensures kept { (a : Around) (s : Tables) (m : Standing) → Came a s m → SimpleClasses s.classes.rows → SimpleClasses m.tables.classes.rows }
+    ensures { (t : Tables) → WholeBetween t → program_nodes (rows_of (ground t)) ≤ 100000 → is_whole (rows_of (ground t)) ≡ true }
 {}
