@@ -1,0 +1,250 @@
+-- The rows of forms that define are apt: a function is there under a name of its own, with a procedure that stands alone.
+use Rattle.std.proofs.Common.{◌≡◌, ◌+◌, ◌==◌, ◌≤◌, ℕ, Bool, true, false, not, ◌&&◌, ◌||◌, List, [], ◌∷◌, ◌++◌, take, drop, length, Option, Some, None, is_some, if◌then◌else◌, refl, sym, ap, subst, ◌∙◌, arith, append-nil}
+use Rattle.std.specs.List.{list_any}
+use Rattle.std.proofs.lemmas.Bool.{eqb-false, ne_eqb, le-leb}
+use Rattle.std.proofs.lemmas.List.{length-append}
+use Rattle.isl_base.specs.declared.place.Place.{Place}
+use Rattle.isl_base.specs.declared.datum.Name.{Name}
+use Rattle.isl_base.specs.Data.{Item}
+use Rattle.isl_base.specs.DataFormed.{formed_tells}
+use Rattle.isl_base.specs.DataParts.{AllOf}
+use Rattle.isl_base.specs.GoodData.{Good}
+use Rattle.isl_meaning.specs.declared.program.FunctionRow.{FunctionRow}
+use Rattle.isl_meaning.specs.declared.program.Callee.{Callee}
+use Rattle.isl_meaning.specs.declared.program.Callee.TheVariants as callee
+use Rattle.isl_meaning.specs.declared.program.LiteralRow.TheVariants as row
+use Rattle.isl_meaning.specs.declared.program.Procedure.{Procedure}
+use Rattle.isl_meaning.specs.declared.scope.LexicalScope.{LexicalScope}
+use Rattle.isl_meaning.specs.Form.{parameters}
+use Rattle.isl_meaning.specs.Counts.{depth}
+use Rattle.isl_meaning.specs.Lookup.{some_of, all_differ}
+use Rattle.isl_meaning.specs.Standing.{alone as alone_in, with_bound, stands}
+use Rattle.isl_meaning.specs.Facts.{same_name}
+use Rattle.isl_profile.specs.declared.tables.Tables.{Tables}
+use Rattle.isl_profile.specs.declared.parameters.Parameters.{Parameters}
+use Rattle.isl_profile.specs.declared.making.Found.{Found}
+use Rattle.isl_profile.specs.declared.making.One.TheVariants.{DefineGlobal, DefineDynamic}
+use Rattle.isl_profile.specs.Nodes.{Around, Node}
+use Rattle.isl_profile.specs.Makings.{nothing, forms_found, variables_found, body_of, rest_found, procedure_found}
+use Rattle.isl_profile.specs.Shapes.{symbol_of, parameters_in, all_symbols}
+use Rattle.isl_profile.specs.RowWords.{each_parameter, each_inner, alone}
+use Rattle.isl_profile.specs.DefiningRows.{function_parts, named, is_that, has_global, has_dynamic, is_set, is_of_prelude, has_function, is_taken, is_truth, is_reserved, defining_offence, unless_offending, global_as, global_row, defdynamic_as, defdynamic_row, with_name, named_form, defun_of, defun_with, defun_as, defun_row}
+use Rattle.isl_whole.specs.Ground.{Ground, ground, Later, IsThere, procedure_fits, WholeGround}
+use Rattle.isl_whole.specs.Places.{variables_around, exits_around, scope_of, NothingAround}
+use Rattle.isl_whole.specs.Right.{RightIn, Counted}
+use Rattle.isl_whole.proofs.Tests.{both, and_true, not_true}
+use Rattle.isl_whole.proofs.Forms.{each_more}
+use Rattle.isl_whole.proofs.Grounds.{Entered, entered_same, entered_literal, later_then, literals_later, procedures_later, mains_later, all_push, counted_same, counted_then}
+use Rattle.isl_whole.proofs.Nodes.{nodes_in, found_nodes, body_nodes}
+use Rattle.isl_whole.proofs.FoundNodes.{both_plain, inner_plain, parameters_plain, forms_counted}
+use Rattle.isl_meaning.specs.ProgramCounts.{total, procedure_nodes}
+use Rattle.isl_whole.proofs.Good.{good_later, good_alone, scope_with}
+use Rattle.isl_whole.proofs.Places.{each_append}
+use Rattle.isl_whole.proofs.Matches.{new_variables, ParametersMatch, parameters_match}
+use Rattle.isl_whole.proofs.Made.{made_body, made_literal}
+use Rattle.isl_whole.proofs.Apt.{spots, AptAt, Stage, apt_if, apt_within}
+use Rattle.isl_whole.proofs.ValueRows.{apt_one}
+use Rattle.isl_whole.proofs.BinderRows.{found_parameters, function_apt}
+
+-- where nothing offends
+
+where_no_offence : (n : ℕ) (a : Around) (s : Tables) (p : Place) (top taken reserved : Bool) (x : Node) → (top ≡ true → taken ≡ false → reserved ≡ false → AptAt n a s x)
+    → AptAt n a s (unless_offending p (defining_offence top taken reserved) x)
+where_no_offence n a s p top true reserved x h = tt
+where_no_offence n a s p false false reserved x h = tt
+where_no_offence n a s p true false true x h = tt
+where_no_offence n a s p true false false x h = h refl refl refl
+
+-- variables
+
+apt_global_as : (n : ℕ) (constant : Bool) (a : Around) (s : Tables) (p : Place) (name : Option Name) (x : Item) → Stage a s → Good n x
+    → AptAt n a s (global_as constant a s p name x)
+apt_global_as n constant a s p None x b g = tt
+apt_global_as n constant a s p (Some name) x b g =
+    where_no_offence n a s p a.spot.top (has_global s name) (is_truth a s name) _
+    (λ t k r. apt_if n a s (constant && is_set s name) _ _ tt (apt_one n a p s (DefineGlobal name constant) x b tt g))
+
+pub apt_global : (n : ℕ) (constant : Bool) (a : Around) (s : Tables) (p : Place) (ds : List Item) → Stage a s → AllOf (Good n) ds → AptAt n a s (global_row constant a s p ds)
+apt_global n constant a s p (d ∷ x ∷ []) b g = apt_global_as n constant a s p (named (symbol_of d)) x b g.1.0
+apt_global n constant a s p [] b g = tt
+apt_global n constant a s p (d ∷ []) b g = tt
+apt_global n constant a s p (d ∷ x ∷ e ∷ ds) b g = tt
+
+apt_defdynamic_as : (n : ℕ) (a : Around) (s : Tables) (p : Place) (name : Option Name) (x : Item) → Stage a s → Good n x → AptAt n a s (defdynamic_as a s p name x)
+apt_defdynamic_as n a s p None x b g = tt
+apt_defdynamic_as n a s p (Some name) x b g =
+    where_no_offence n a s p a.spot.top (has_dynamic s name) (is_truth a s name) _ (λ t k r. apt_one n a p s (DefineDynamic name) x b tt g)
+
+pub apt_defdynamic : (n : ℕ) (a : Around) (s : Tables) (p : Place) (ds : List Item) → Stage a s → AllOf (Good n) ds → AptAt n a s (defdynamic_row a s p ds)
+apt_defdynamic n a s p (d ∷ x ∷ []) b g = apt_defdynamic_as n a s p (named (symbol_of d)) x b g.1.0
+apt_defdynamic n a s p [] b g = tt
+apt_defdynamic n a s p (d ∷ []) b g = tt
+apt_defdynamic n a s p (d ∷ x ∷ e ∷ ds) b g = tt
+
+-- no function has the name before
+
+fresh_name : (sited has prelude truth kept : Bool) → (has && not (sited && prelude)) ≡ false → (truth || (sited && (kept || prelude))) ≡ false → has ≡ false
+fresh_name sited false prelude truth kept h k = refl
+fresh_name false true prelude truth kept h k = absurd (cc h)
+fresh_name true true false truth kept h k = absurd (cc h)
+fresh_name true true true true kept h k = absurd (cc k)
+fresh_name true true true false true h k = absurd (cc k)
+fresh_name true true true false false h k = absurd (cc k)
+
+other_way : (m n : ℕ) → (m == n) ≡ false → (n == m) ≡ false
+other_way m n h = ne_eqb n m (λ e. eqb-false m n h (sym e))
+
+apart : (b : Bool) (o : Bool) → (b || o) ≡ false → (b ≡ false) × (o ≡ false)
+apart true o h = absurd (cc h)
+apart false o h = (refl, h)
+
+none_more : (f y : FunctionRow) (fs : List FunctionRow) → some_of (same_name f) fs ≡ false → same_name f y ≡ false → some_of (same_name f) (fs ++ y ∷ []) ≡ false
+none_more f y [] h k = rw k refl
+none_more f y (x ∷ xs) h k = by_test (same_name f x) (some_of (same_name f) xs) (some_of (same_name f) (xs ++ y ∷ [])) (λ e. none_more f y xs e k) h
+  where
+    by_test : (b o u : Bool) → (o ≡ false → u ≡ false) → (if b then true else o) ≡ false → (if b then true else u) ≡ false
+    by_test true o u g h = absurd (cc h)
+    by_test false o u g h = g h
+
+one_name_more : (name : Name) (c : Callee) (fs : List FunctionRow) → all_differ same_name fs ≡ true → list_any (λ f. is_that name f.name) fs ≡ false
+    → all_differ same_name (fs ++ (record { name = name; callee = c }) ∷ []) ≡ true
+one_name_more name c [] h k = refl
+one_name_more name c (f ∷ fs) h k =
+    let d : (not (some_of (same_name f) fs) ≡ true) × (all_differ same_name fs ≡ true) = both (not (some_of (same_name f) fs)) (all_differ same_name fs) h in
+    let o : (is_that name f.name ≡ false) × (list_any (λ f. is_that name f.name) fs ≡ false) = apart (is_that name f.name) (list_any (λ f. is_that name f.name) fs) k in
+    and_true (not (some_of (same_name f) (fs ++ (record { name = name; callee = c }) ∷ []))) _
+    (ap not (none_more f (record { name = name; callee = c }) fs (not_true (some_of (same_name f) fs) d.0) (other_way name.0 f.name.0 o.0)))
+    (one_name_more name c fs d.1 o.1)
+
+-- with a function
+
+abbrev one_more : Ground → Name → Procedure → Ground
+one_more g name p = record g {
+  procedures = g.procedures ++ p ∷ [];
+  functions = g.functions ++ (record { name = name; callee = callee.Procedure (length g.procedures) }) ∷ [];
+}
+
+later_function : (g : Ground) (name : Name) (p : Procedure) → Later g (one_more g name p)
+later_function g name p = record {
+  literals = omega arith;
+  procedures = omega (arith, length-append g.procedures (p ∷ []));
+  sites = omega arith;
+  variables = omega arith;
+  exits = omega arith;
+  classes = refl;
+}
+
+still_there : (g : Ground) (name : Name) (p : Procedure) (c : Callee) → IsThere g.procedures c → IsThere (g.procedures ++ p ∷ []) c
+still_there g name p (callee.Procedure i) h = omega (arith, h, length-append g.procedures (p ∷ []))
+still_there g name p (callee.Generic i) h = h
+
+-- literals, procedures and main forms fit under rows that have as many literals and sites
+whole_function : (g : Ground) (name : Name) (p : Procedure) → WholeGround g → procedure_fits g p ≡ true → list_any (λ f. is_that name f.name) g.functions ≡ false
+    → WholeGround (one_more g name p)
+whole_function g name p w f k =
+    let h : Ground = one_more g name p in
+    record {
+      literals = literals_later g h (later_function g name p) g.literals w.literals;
+      procedures = procedures_later g h (later_function g name p) (g.procedures ++ p ∷ []) (all_push (procedure_fits g) g.procedures p w.procedures f);
+      functions = each_append (λ f. IsThere h.procedures f.callee) g.functions _
+          (each_more (λ f. IsThere g.procedures f.callee) (λ f. IsThere h.procedures f.callee) (λ f e. still_there g name p f.callee e) g.functions w.functions)
+          (omega (arith, length-append g.procedures (p ∷ [])), tt);
+      names = one_name_more name (callee.Procedure (length g.procedures)) g.functions w.names k;
+      main = mains_later g h (later_function g name p) g.main w.main;
+    }
+
+-- a definition leaves such tables
+
+found_function : (h : Ground) (a : Around) (name : Name) (ps : Parameters) (fs : List Item) (rs : List Found) → NothingAround a
+    → ParametersMatch (spots h (alone false a) (alone false a) rs) (length (all_symbols ps)) rs
+    → parameters (take (length ps.required) (variables_found rs)) (rest_found (is_some ps.rest) (drop (length ps.required) (variables_found rs))) ≡ new_variables rs
+    → procedure_fits h (procedure_found name (length ps.required) (is_some ps.rest) rs) ≡ true
+found_function h a name ps fs rs nothing m e =
+    let t : LexicalScope = with_bound (new_variables rs) (scope_of (alone false a)) in
+    let u : LexicalScope = alone_in (parameters (take (length ps.required) (variables_found rs)) (rest_found (is_some ps.rest) (drop (length ps.required) (variables_found rs)))) false in
+    let body : RightIn h t 0 (body_of (forms_found rs)) = made_body h t 0 (forms_found rs) (omega arith) m.forms in
+    let same : t ≡ u =
+    ap (λ bs. scope_with (new_variables rs ++ variables_around bs) (exits_around bs) false) nothing.bound
+    ∙ ap (λ vs. scope_with vs [] false) (append-nil (new_variables rs) ∙ sym e) in
+    and_true _ _ (and_true _ _ body.fits (le-leb (depth (body_of (forms_found rs))) 1000 (omega (arith, body.deep))))
+    (subst (λ (v : LexicalScope). stands v (body_of (forms_found rs)) ≡ true) same body.stands)
+
+-- the name of a file's function is a literal
+name_entered : (n : ℕ) (sited : Bool) (d : Item) (s : Tables) → WholeGround (ground s) → Good n d → Entered (ground s) (ground (with_name sited d s))
+name_entered n true d s w g = entered_literal (ground s) (row.Datum d) w (formed_tells d g.formed)
+name_entered n false d s w g = entered_same (ground s) w
+
+name_right : (sited : Bool) (d : Item) (s : Tables) (h : Ground) (t : LexicalScope) (k : ℕ) → k + 1 ≤ 1000 → Later (ground (with_name sited d s)) h
+    → RightIn h t k (named_form sited s)
+name_right true d s h t k l e = made_literal h t k (length s.literals) l (omega (arith, e.literals, length-append s.literals (row.Datum d ∷ [])))
+name_right false d s h t k l e = made_body h t k [] l tt
+
+procedures_then : (ps : List Procedure) (p : Procedure) → total procedure_nodes (ps ++ p ∷ []) ≡ total procedure_nodes ps + procedure_nodes p
+procedures_then [] p = omega arith
+procedures_then (q ∷ qs) p = more (procedure_nodes q) (total procedure_nodes (qs ++ p ∷ [])) (total procedure_nodes qs) (procedure_nodes p) (procedures_then qs p)
+  where
+    more : (a n m k : ℕ) → n ≡ m + k → a + n ≡ a + m + k
+    more a n m k e = omega (arith, e)
+
+-- the sites of a body are counted by its procedure
+function_counted : (b : Bool) (x g : Ground) (name : Name) (p : Procedure) (n k : ℕ) → n ≤ procedure_nodes p → Counted b x g n → Counted b x (one_more g name p) k
+function_counted true x g name p n k l c = record { sites = omega (arith, c.sites, l, procedures_then g.procedures p) }
+function_counted false x g name p n k l c = record { sites = omega (arith, c.sites, procedures_then g.procedures p) }
+
+name_counted : (b sited : Bool) (d : Item) (s : Tables) → Counted b (ground s) (ground (with_name sited d s)) 0
+name_counted b true d s = record { sites = (counted_same b (ground s)).sites }
+name_counted b false d s = record { sites = (counted_same b (ground s)).sites }
+
+apt_defun_of : (n : ℕ) (a : Around) (s : Tables) (name : Name) (d : Item) (fs : List Item) (ps : Parameters) → Stage a s → Good n d → AllOf (Good n) fs
+    → a.spot.top ≡ true → has_function s name ≡ false → a.spot.depth + 1 ≤ 1000 → AptAt n a s (defun_of a s name d fs ps)
+apt_defun_of n a s name d fs ps b h g top fresh l =
+    let i : Around = alone false a in
+    let t : Tables = with_name a.spot.sited d s in
+    let e : Entered (ground s) (ground t) = name_entered n a.spot.sited d s b.whole h in
+    record {
+      entered = e;
+      outside = good_later (ground s) (ground t) i e.later (good_alone (ground s) a b.good);
+      inside = good_later (ground s) (ground t) i e.later (good_alone (ground s) a b.good);
+      low = λ k. (refl, refl);
+      sited = (refl, refl);
+      parts = function_apt n i ps fs refl g;
+      right = λ u rs c. name_right a.spot.sited d s _ (scope_of a) a.spot.depth l (later_then (ground t) (ground u) _ c.later (later_function (ground u) name _));
+      ends = λ u rs c.
+          let p : Procedure = procedure_found name (length ps.required) (is_some ps.rest) rs in
+          let fits : procedure_fits (ground u) p ≡ true =
+          found_function (ground u) a name ps fs rs (b.good.top top) (parameters_match (spots (ground u) i i rs) (all_symbols ps) fs rs c.match)
+          (found_parameters (ground u) i i ps fs rs c.match) in
+          let same : u.functions ≡ s.functions = c.functions refl refl ∙ e.functions in
+          record {
+            later = later_function (ground u) name p;
+            whole = whole_function (ground u) name p c.whole fits
+                (subst (λ (fs : List FunctionRow). list_any (λ f. is_that name f.name) fs ≡ false) (sym same) fresh);
+            main = refl;
+            inside = λ k. absurd (cc (top, k));
+          };
+      counted = λ u rs c k.
+          let p : Procedure = procedure_found name (length ps.required) (is_some ps.rest) rs in
+          let forms : found_nodes rs ≡ nodes_in (forms_found rs) =
+          forms_counted (spots (ground u) i i rs) (function_parts ps fs) rs c.match
+          (both_plain (each_parameter (all_symbols ps)) (each_inner fs) (parameters_plain (all_symbols ps)) (inner_plain fs)) in
+          function_counted a.spot.sited (ground s) (ground u) name p (0 + found_nodes rs) _ (omega (arith, forms, body_nodes (forms_found rs)))
+          (counted_then a.spot.sited (ground s) (ground t) (ground u) 0 (found_nodes rs) (name_counted a.spot.sited a.spot.sited d s) k);
+    }
+
+apt_defun_with : (n : ℕ) (a : Around) (s : Tables) (name : Name) (d l : Item) (fs : List Item) (ps : Option Parameters) → Stage a s → Good n d → AllOf (Good n) fs
+    → a.spot.top ≡ true → has_function s name ≡ false → a.spot.depth + 1 ≤ 1000 → AptAt n a s (defun_with a s name d l fs ps)
+apt_defun_with n a s name d l fs None b h g top fresh k = tt
+apt_defun_with n a s name d l fs (Some ps) b h g top fresh k = apt_defun_of n a s name d fs ps b h g top fresh k
+
+apt_defun_as : (n : ℕ) (kept : Bool) (a : Around) (s : Tables) (p : Place) (d l : Item) (fs : List Item) (name : Option Name) → Stage a s → Good n d → AllOf (Good n) fs
+    → AptAt n a s (defun_as kept a s p d l fs name)
+apt_defun_as n kept a s p d l fs None b h g = tt
+apt_defun_as n kept a s p d l fs (Some name) b h g =
+    where_no_offence n a s p a.spot.top (is_taken a.spot.sited s name) (is_reserved kept a s name) _
+    (λ t k r. apt_within n a s 1 p _ (apt_defun_with n a s name d l fs (parameters_in s.words l) b h g t
+    (fresh_name a.spot.sited (has_function s name) (is_of_prelude s name) (is_truth a s name) kept k r)))
+
+pub apt_defun : (n : ℕ) (kept : Bool) (a : Around) (s : Tables) (p : Place) (ds : List Item) → Stage a s → AllOf (Good n) ds → AptAt n a s (defun_row kept a s p ds)
+apt_defun n kept a s p [] b g = tt
+apt_defun n kept a s p (d ∷ []) b g = tt
+apt_defun n kept a s p (d ∷ l ∷ fs) b g = apt_defun_as n kept a s p d l fs (named (symbol_of d)) b g.0 g.1.1

@@ -1,0 +1,6 @@
+-- The law is the lemma.
+use Rattle.isl_whole.proofs.Programs.{form_came}
+use Rattle.isl_whole.proofs.laws.law_forms.Goals as goal
+
+pub returns : goal.returns
+returns c = form_came

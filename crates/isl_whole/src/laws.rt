@@ -1,0 +1,48 @@
+// Laws of what forms stand for: a form is whole where it stands, and so is a program of such forms.
+
+ghost use Rattle.std.specs.Prelude.{◌≡◌, ℕ, ◌≤◌, true, false, List, length};
+ghost use Rattle.isl_base.specs.Data.{Item};
+ghost use Rattle.isl_base.specs.GoodData.{Good};
+ghost use Rattle.isl_meaning.specs.declared.scope.LexicalScope.{LexicalScope};
+ghost use Rattle.isl_meaning.specs.Form.{Form};
+ghost use Rattle.isl_meaning.specs.Standing.{stands};
+ghost use Rattle.isl_meaning.specs.ProgramCounts.{program_nodes};
+ghost use Rattle.isl_meaning.specs.Facts.{is_whole};
+ghost use Rattle.isl_classes.specs.InheritedBuiltIn.{AreBuiltIn};
+ghost use Rattle.isl_profile.specs.declared.tables.Tables.{Tables};
+ghost use Rattle.isl_profile.specs.Nodes.{Around, Standing, stands as comes_to};
+ghost use Rattle.isl_profile.specs.Rows.{node};
+ghost use Rattle.isl_profile.specs.Judged.{Comes};
+ghost use Rattle.isl_whole.specs.Scopes.{Within};
+ghost use Rattle.isl_whole.specs.Ground.{ground, rows_of, WholeTables};
+ghost use Rattle.isl_whole.specs.Places.{NothingAround, GoodAround};
+ghost use Rattle.isl_whole.specs.Right.{Came, with_main};
+ghost use Rattle.isl_whole.specs.Between.{WholeBetween, HasNoForm};
+
+/// A form that stands in a scope stands in each that binds as much.
+pub fn law_scopes()
+    ensures { (s t : LexicalScope) (f : Form) → Within s t → stands s f ≡ true → stands t f ≡ true }
+{}
+
+/// A datum in form, at a good place beside whole tables, comes to a form that stands there, fits and is
+/// not too deep, and the tables behind it are whole.
+pub fn law_forms()
+    ensures { (names : List (List ℕ)) (a : Around) (s : Tables) (d : Item) (m : Standing) → Good (length names) d → GoodAround (ground s) a →
+        WholeTables s → Comes names (node names a s d) (comes_to m) → Came a s m }
+{}
+
+/// The first tables are whole, with the built-in classes and no more sites than nodes; so they are behind
+/// each top-level form, where that of a file is a main form then, and that of a prelude, in which forms
+/// have no sites, is none.
+pub fn law_top_forms()
+    ensures first { (texts : List (List ℕ)) (t : Tables) → AreBuiltIn texts t.classes → HasNoForm t → WholeBetween t }
+    ensures file { (names : List (List ℕ)) (a : Around) (s : Tables) (d : Item) (m : Standing) → Good (length names) d → NothingAround a →
+        WholeBetween s → Comes names (node names a s d) (comes_to m) → WholeBetween (with_main m.form m.tables) }
+    ensures prelude { (names : List (List ℕ)) (a : Around) (s : Tables) (d : Item) (m : Standing) → Good (length names) d → NothingAround a →
+        a.spot.sited ≡ false → WholeBetween s → Comes names (node names a s d) (comes_to m) → WholeBetween m.tables }
+{}
+
+/// Such tables are a whole program where its nodes are within their limit.
+pub fn law_programs()
+    ensures { (t : Tables) → WholeBetween t → program_nodes (rows_of (ground t)) ≤ 100000 → is_whole (rows_of (ground t)) ≡ true }
+{}
