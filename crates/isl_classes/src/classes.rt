@@ -68,6 +68,13 @@ impl Classes {
         self.table.rows()
     }
 
+    /// The rows alone, for those who ask no more of classes. Takes no memory.
+    pub fn into_rows(self) -> ClassRows
+        ensures { result ≡ self.rows }
+    {
+        self.table.into_rows()
+    }
+
     /// The precedence list of a class: the class itself, and what stands above it (ISO/IEC
     /// 13816:2007, 15). Takes no memory: it is the list that the row of the class keeps.
     pub fn precedence(&self, class: ClassId) -> &[ClassId]

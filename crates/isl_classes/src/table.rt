@@ -58,6 +58,13 @@ impl ClassTable {
         &self.rows
     }
 
+    /// The rows alone. Takes no memory.
+    pub fn into_rows(self) -> ClassRows
+        ensures { result ≡ self.rows }
+    {
+        self.rows
+    }
+
     /// What each class says of slots itself. Takes no memory.
     pub fn own(&self) -> &OwnSlots
         ensures { result.now ≡ self.now.own }

@@ -45,13 +45,13 @@ grown_nodes s t g =
     split all_nodes s.main t.main g.main)
 
 -- what was counted, with what was added, tells whether the program is too large
-pub counted_exactly : (s t : Tables) (mark : Mark) (n r : ℕ) → Grows s t → mark ≡ mark_of s → n ≡ min (nodes_of s) 18446744073709551615
+pub counted_exactly : (s t : Tables) (mark : Mark) (n r : ℕ) → Grows s t → mark ≡ mark_of s → n ≡ nodes_of s
     → r ≡ min (n + nodes_behind mark t) 18446744073709551615 → r ≤ 100000 → r ≡ nodes_of t
 counted_exactly s t mark n r g m e h small =
     let behind : nodes_behind mark t ≡ nodes_behind (mark_of s) t = ap (λ k. nodes_behind k t) m in
     omega (arith, grown_nodes s t g, behind, e, h, small)
 
-pub counted_too_many : (s t : Tables) (mark : Mark) (n r : ℕ) → Grows s t → mark ≡ mark_of s → n ≡ min (nodes_of s) 18446744073709551615
+pub counted_too_many : (s t : Tables) (mark : Mark) (n r : ℕ) → Grows s t → mark ≡ mark_of s → n ≡ nodes_of s
     → r ≡ min (n + nodes_behind mark t) 18446744073709551615 → 100000 < r → 100000 < nodes_of t
 counted_too_many s t mark n r g m e h large =
     let behind : nodes_behind mark t ≡ nodes_behind (mark_of s) t = ap (λ k. nodes_behind k t) m in

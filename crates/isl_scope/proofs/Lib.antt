@@ -3,3 +3,4 @@ pub mod Judging
 pub mod Cutting
 pub mod Counting
 pub mod Beginning
+pub mod Keeping

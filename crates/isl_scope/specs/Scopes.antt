@@ -15,6 +15,7 @@ use Rattle.isl_classes.specs.InheritedBuiltIn.{AreBuiltIn}
 use Rattle.isl_profile.specs.declared.spot.Spot.{Spot}
 use Rattle.isl_profile.specs.declared.tables.ReservedWords.{ReservedWords}
 use Rattle.isl_profile.specs.declared.tables.Tables.{Tables}
+use Rattle.isl_whole.specs.Between.{WholeBetween}
 use Rattle.isl_profile.specs.Nodes.{Around, refused, stands, ended}
 use Rattle.isl_profile.specs.Promises.{FormComes}
 
@@ -51,6 +52,11 @@ nodes_of t = program_nodes (rows_of t)
 
 abbrev pub most_nodes : ℕ
 most_nodes = 100000
+
+-- tables that are a whole program, within the limit of nodes
+pub record IsWhole (t : Tables) : Type 0 where
+  pub between : WholeBetween t
+  pub small : nodes_of t ≤ most_nodes
 
 -- the datum stands for that form, which gives these tables
 pub record Given (names : List (List ℕ)) (origin : Origin) (s : Tables) (d : Item) (t : Tables) : Type 0 where

@@ -1,10 +1,10 @@
 // The scope: what the top-level forms so far have defined, and the verdict on the next one.
 
-ghost use Rattle.std.specs.Prelude.{◌≡◌, length, min, OnOk, OnErr, IfOk, IfErr};
+ghost use Rattle.std.specs.Prelude.{◌≡◌, length, OnOk, OnErr, IfOk, IfErr};
 ghost use Rattle.isl_base.specs.GoodData.{Good};
 ghost use Rattle.isl_base.specs.Names.{Extends};
 ghost use Rattle.isl_profile.specs.Marks.{Grows};
-ghost use Rattle.isl_scope.specs.Scopes.{top_spot, with_main, nodes_of, Given, IsTaken, IsStopped, IsFirst};
+ghost use Rattle.isl_scope.specs.Scopes.{top_spot, with_main, rows_of, nodes_of, IsWhole, Given, IsTaken, IsStopped, IsFirst};
 
 use crate::counts::with_added;
 use crate::first::{first_tables, reserved_words};
@@ -12,8 +12,9 @@ use crate::judge::judge;
 use crate::mark::{cut_to, mark_of};
 use isl_base::{Datum, Names, NoMemory, Origin, Reason, Refusal, Stop};
 use isl_classes::Classes;
-use isl_meaning::{Core, class_list_nodes};
+use isl_meaning::{Core, GenericRows, Program, ProgramRows, class_list_nodes};
 use isl_profile::{BoundList, Spot, Tables};
+use isl_whole::laws::{law_programs, law_top_forms};
 use std::alloc::Global;
 use std::marker::Model;
 
@@ -41,10 +42,10 @@ impl Model for Scope {
 
     ghost view = { λ s. s.tables };
 
-    ghost use Rattle.std.specs.Prelude.{◌≡◌, min};
-    ghost use Rattle.isl_scope.specs.Scopes.{nodes_of};
+    ghost use Rattle.std.specs.Prelude.{◌≡◌};
+    ghost use Rattle.isl_scope.specs.Scopes.{nodes_of, IsWhole};
 
-    ghost invariant = { λ s. s.nodes ≡ min (nodes_of s.tables) 18446744073709551615 };
+    ghost invariant = { λ s. (s.nodes ≡ nodes_of s.tables) × IsWhole s.tables };
 }
 
 // Where a top-level form stands: a form of a file has a site.
@@ -104,13 +105,16 @@ fn take_form(
     origin: Origin,
 ) -> Result<u64, Stop>
     requires good { Good (length names.old) datum.now }
-    requires nodes { nodes ≡ min (nodes_of tables.old) 18446744073709551615 }
+    requires nodes { nodes ≡ nodes_of tables.old }
+    requires whole { IsWhole tables.old }
     ensures taken { OnOk result (IsTaken names.new origin tables.old datum.now tables.new) }
-    ensures nodes { IfOk result (λ nodes. nodes ≡ min (nodes_of tables.new) 18446744073709551615) }
+    ensures nodes { IfOk result (λ nodes. nodes ≡ nodes_of tables.new) }
+    ensures whole { OnOk result (IsWhole tables.new) }
     ensures stop { IfErr result (IsStopped names.new origin tables.old datum.now) }
     ensures names { Extends names.old names.new }
     ensures grows { Grows tables.old tables.new }
 {
+    law_top_forms();
     let mark = mark_of(tables);
     judge_top(alloc, names, tables, datum, origin)?;
     let nodes = with_added(tables, mark, nodes);
@@ -130,6 +134,7 @@ impl Scope {
         ensures first { IfOk result (IsFirst names.new) }
         ensures names { Extends names.old names.new }
     {
+        law_top_forms();
         let words = reserved_words(names)?;
         let classes = Classes::builtin(alloc, names)?;
         let nodes = class_list_nodes(classes.rows());
@@ -171,5 +176,22 @@ impl Scope {
                 Err(stop)
             }
         }
+    }
+
+    /// The whole program of the forms that were taken, with its main forms.
+    pub fn finish(self) -> Program
+        ensures { result ≡ rows_of self }
+    {
+        law_programs();
+        let tables = self.tables;
+        Program::new(ProgramRows {
+            literals: tables.literals,
+            procedures: tables.procedures,
+            classes: tables.classes.into_rows(),
+            generics: GenericRows::new(self.alloc),
+            functions: tables.functions,
+            main: tables.main,
+            sites: tables.sites,
+        })
     }
 }
