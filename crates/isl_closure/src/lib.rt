@@ -1,0 +1,6 @@
+// Closure conversion: programs whose functions stand side by side, with what they capture listed.
+#![tactic(auto)]
+
+pub mod place;
+
+pub use place::{ExitPlace, FlatPart, Home, MethodPlace, VariablePlace};
