@@ -46,10 +46,15 @@ abbrev pub VariableAt : World → FlatEnvironment → Known → Option ℕ → T
 VariableAt w e k None = ⊥
 VariableAt w e k (Some i) = PlaceAt w e k.place k.fixed i
 
+pub record ExitAt (e : FlatEnvironment) (p : ExitPlace) (o : Option ℕ) : Type 0 where
+  pub number : ℕ
+  pub one : o ≡ Some number
+  pub other : exit_of p e ≡ Some number
+
 -- two environments in a scope
 pub record Matches (w : World) (s : Scope) (env : Environment) (e : FlatEnvironment) : Type 0 where
   pub variables : (v : ℕ) (k : Known) → under v s.variables ≡ Some k → VariableAt w e k (under_number v env.variables)
-  pub exits : (x : ℕ) (p : ExitPlace) → under x s.exits ≡ Some p → exit_of p e ≡ under_number x env.exits
+  pub exits : (x : ℕ) (p : ExitPlace) → under x s.exits ≡ Some p → ExitAt e p (under_number x env.exits)
   pub method : (p : MethodPlace) → s.method ≡ Some p → method_of p e ≡ env.method
   pub slots : length e.slots ≡ s.slots
   pub own : length e.exits ≡ s.own_exits

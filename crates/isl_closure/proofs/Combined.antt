@@ -195,7 +195,7 @@ module _ {ps : List FlatProcedure} where
     bare = λ p h. absurd (d.no_function p (cc h));
   }
 
-  stored_related : {w : World} {vs : List Value} {store flat_store : List Object} {cs : List (ℕ × List Captured)} (o : Object) → IsDatum o
+  pub stored_related : {w : World} {vs : List Value} {store flat_store : List Object} {cs : List (ℕ × List Captured)} (o : Object) → IsDatum o
       → Related ps w vs store flat_store cs → Related ps w vs (store ++ o ∷ []) (flat_store ++ o ∷ []) cs
   stored_related {w} {vs} {store} {flat_store} {cs} o d r = record {
     count = r.count;
@@ -214,7 +214,7 @@ module _ {ps : List FlatProcedure} where
     is = ap (λ (x : FlatState). flat.on_state (λ x. stored o x) x) b.is;
   }
 
-  changed_related : {w : World} {vs : List Value} {store flat_store : List Object} {cs : List (ℕ × List Captured)} (i : ℕ) (o : Object) → IsDatum o
+  pub changed_related : {w : World} {vs : List Value} {store flat_store : List Object} {cs : List (ℕ × List Captured)} (i : ℕ) (o : Object) → IsDatum o
       → Related ps w vs store flat_store cs → Related ps w vs (slice_set store i o) (slice_set flat_store i o) cs
   changed_related {w} {vs} {store} {flat_store} {cs} i o d r = record {
     count = r.count;
