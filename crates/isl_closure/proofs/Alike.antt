@@ -18,7 +18,7 @@ use Rattle.isl_closure.specs.declared.place.VariablePlace.TheVariants.{Slot, Slo
 use Rattle.isl_closure.specs.declared.place.ExitPlace.{ExitPlace}
 use Rattle.isl_closure.specs.declared.place.MethodPlace.{MethodPlace}
 use Rattle.isl_closure.specs.FlatProgram.{FlatProcedure}
-use Rattle.isl_closure.specs.FlatState.{Captured, of_value, of_cell, FlatEnvironment, FlatState, FlatEvaluated, FlatAct, under, captured_or_none, exit_of, method_of}
+use Rattle.isl_closure.specs.FlatState.{Captured, of_value, of_cell, FlatEnvironment, FlatState, FlatEvaluated, FlatAct, under, exit_of, method_of}
 use Rattle.isl_closure.specs.FlatState as flat
 use Rattle.isl_closure.specs.Scope.{Known, Scope, with_bound, with_around, seen}
 use Rattle.isl_closure.specs.Flatten.{functions, functions_of_values, functions_of_body, functions_of_dynamics, functions_of_forms, flat_procedure, body_scope}
@@ -95,7 +95,7 @@ PartIsThere s (Exit x) = IsAround s x
 PartIsThere s Method = IsInMethod s
 
 -- a form that can be made flat in a scope, with the procedures of its functions where they have their numbers
-module _ (procedures : List FlatProcedure) where
+module _ (lambdas : List FlatProcedure) where
   abbrev mutual
     pub Sound : Scope → ℕ → Form → Type 0
     Sound s n (core.literal i) = ⊤
@@ -110,7 +110,7 @@ module _ (procedures : List FlatProcedure) where
         SoundValues s n bs × Sound (with_bound (bound_variables bs) body s) (n + functions_of_values bs) body
     Sound s n (core.lambda required rest body parts) =
         Each (PartIsThere s) parts
-        × slice_get procedures n ≡ Some (flat_procedure (seen s parts) (n + 1) required rest body)
+        × slice_get lambdas n ≡ Some (flat_procedure (seen s parts) (n + 1) required rest body)
         × Sound (body_scope required rest body (seen s parts)) (n + 1) body
     Sound s n (core.call name fs) = SoundForms s n fs
     Sound s n (core.call_value fs) = SoundForms s n fs
@@ -161,7 +161,7 @@ module _ (procedures : List FlatProcedure) where
   pub record ClosureAlike (w : World) (required : List ℕ) (rest : Option ℕ) (body : Form) (env : Environment) (p : ℕ) (cs : List Captured) : Type 0 where
     pub scope : Scope
     pub first : ℕ
-    pub there : slice_get procedures p ≡ Some (flat_procedure scope first required rest body)
+    pub there : slice_get lambdas p ≡ Some (flat_procedure scope first required rest body)
     pub sound : Sound (body_scope required rest body scope) first body
     pub environment : Matches w scope env (record flat.no_environment { captured = cs })
 
@@ -169,7 +169,7 @@ module _ (procedures : List FlatProcedure) where
   pub record SameObject (o o' : Option Object) (t : Option (List Captured)) : Type 0 where
     pub same : o' ≡ o
     pub plain : (required : List ℕ) (rest : Option ℕ) (body : Form) (env : Environment) → o ≡ Some (closure required rest body env) → ⊥
-    pub bare : (p : ℕ) → o ≡ Some (function p) → captured_or_none t ≡ []
+    pub bare : (p : ℕ) → o ≡ Some (function p) → t ≡ None
 
   pub record SameFunction (w : World) (o o' : Option Object) (t : Option (List Captured)) : Type 0 where
     pub required : List ℕ

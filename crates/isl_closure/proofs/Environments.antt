@@ -158,7 +158,7 @@ length-count : (i n : ℕ) → length (count_up i n) ≡ n
 length-count i zero = refl
 length-count i (suc n) = ap suc (length-count (i + 1) n)
 
-length-homes : (vs : List ℕ) (body : Form) → length (homes_of vs body) ≡ length vs
+pub length-homes : (vs : List ℕ) (body : Form) → length (homes_of vs body) ≡ length vs
 length-homes [] body = refl
 length-homes (v ∷ vs) body = ap suc (length-homes vs body)
 

@@ -4,3 +4,4 @@ pub mod Combined
 pub mod Nodes
 pub mod Answers
 pub mod Environments
+pub mod Applied

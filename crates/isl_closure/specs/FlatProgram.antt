@@ -1,5 +1,6 @@
--- Flat procedures and flat programs, and their nodes: a program whose functions stand side by side. Procedures of the
--- program that it was made from come first, with their numbers; then those of its functions.
+-- Flat procedures and flat programs, and their nodes: a program whose functions stand side by side, beside the procedures
+-- of the program that it was made from, which keep their numbers. A function has a number above that of a function in which
+-- it stands.
 use Rattle.std.specs.Prelude.{ℕ, ◌+◌, ◌-◌, List, [], ◌∷◌, ◌++◌, Option, Bool, length, is_some, option_to_list}
 use Rattle.std.specs.List.{sum}
 use Rattle.isl_base.specs.declared.place.Place.{Place}
@@ -26,6 +27,7 @@ homes p = p.required ++ option_to_list p.rest
 pub record FlatRows : Type 0 where
   pub literals : List LiteralRow
   pub procedures : List FlatProcedure
+  pub lambdas : List FlatProcedure
   pub classes : List ClassRow
   pub generics : List GenericRow
   pub functions : List FunctionRow

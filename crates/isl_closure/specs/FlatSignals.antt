@@ -126,17 +126,19 @@ module _ (context : FlatContext) where
       z
       else wrong program_error_class [] around z
 
-  -- the application of a procedure by its number: a level is needed before all else
-  abbrev pub apply_function : FlatSignals → ℕ → List Captured → Option Called → List Value → FlatAct
-  apply_function wrong i captured called vs around z =
+  -- the application of a procedure by its number: a level is needed before all else. It captured nothing.
+  abbrev pub apply_procedure : FlatSignals → ℕ → Option Called → List Value → FlatAct
+  apply_procedure wrong i called vs around z =
       descend context.below (λ entered.
-      with_some (slice_get context.program.procedures i) (λ a y. gives nil y)
-      (λ p. enter wrong p captured called vs) around entered)
+      with_some (slice_get context.program.procedures i) (λ a y. gives nil y) (λ p. enter wrong p [] called vs) around entered)
       around z
 
-  -- a procedure that captured nothing
-  abbrev pub apply_procedure : FlatSignals → ℕ → Option Called → List Value → FlatAct
-  apply_procedure wrong i called vs = apply_function wrong i [] called vs
+  -- the application of a function that a form made, with what it captured
+  abbrev pub apply_function : FlatSignals → ℕ → List Captured → List Value → FlatAct
+  apply_function wrong i captured vs around z =
+      descend context.below (λ entered.
+      with_some (slice_get context.program.lambdas i) (λ a y. gives nil y) (λ p. enter wrong p captured None vs) around entered)
+      around z
 
   -- a method, with the arguments and the rest of the chain
   abbrev pub apply_method : FlatSignals → ℕ → Called → FlatAct
@@ -187,8 +189,9 @@ module _ (context : FlatContext) where
   apply_generic wrong i vs around z = apply_generic_row wrong (slice_get context.program.generics i) vs around z
 
   -- the application of a value, which is to be a function
-  abbrev pub apply_object : FlatSignals → Option Object → List Captured → Value → List Value → FlatAct
-  apply_object wrong (Some (function p)) captured f vs = apply_function wrong p captured None vs
+  abbrev pub apply_object : FlatSignals → Option Object → Option (List Captured) → Value → List Value → FlatAct
+  apply_object wrong (Some (function p)) None f vs = apply_procedure wrong p None vs
+  apply_object wrong (Some (function p)) (Some captured) f vs = apply_function wrong p captured vs
   apply_object wrong (Some (generic_function g)) captured f vs = apply_generic wrong g vs
   apply_object wrong o captured f vs = signal_domain_error wrong f function_class
 

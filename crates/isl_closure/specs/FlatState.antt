@@ -1,5 +1,5 @@
--- What an evaluation of flat forms changes and comes to: the state of the meaning, where a function is the number of its
--- procedure, and beside it what each function that a form made has captured. The combinators are those of the meaning.
+-- What an evaluation of flat forms changes and comes to: the state of the meaning, where a function is a number, and beside
+-- it what each function that a form made has captured: so it is known which functions those are. The combinators are those of the meaning.
 use Rattle.std.specs.Prelude.{ℕ, ◌+◌, ◌-◌, ◌==◌, List, [], ◌∷◌, ◌++◌, Option, Some, None, length, slice_get, slice_index_or, if◌then◌else◌}
 use Rattle.isl_meaning.specs.Values.{Value, nil, object}
 use Rattle.isl_meaning.specs.Objects.{Called, Object, function}
@@ -61,14 +61,10 @@ abbrev pub under : {X : Type 0} → ℕ → List (ℕ × X) → Option X
 under n [] = None
 under n (x ∷ xs) = if n == x.0 then Some x.1 else under n xs
 
--- what a function captured: nothing, where no form made it
-abbrev pub captured_or_none : Option (List Captured) → List Captured
-captured_or_none (Some cs) = cs
-captured_or_none None = []
-
-abbrev pub captured_by : Value → FlatState → List Captured
-captured_by (object i) z = captured_or_none (under i z.captured)
-captured_by v z = []
+-- what a function captured, where a form made it
+abbrev pub captured_by : Value → FlatState → Option (List Captured)
+captured_by (object i) z = under i z.captured
+captured_by v z = None
 
 -- places
 

@@ -241,24 +241,15 @@ abbrev pub inner_of_mains : ℕ → List Form → List FlatProcedure
 inner_of_mains n [] = []
 inner_of_mains n (f ∷ fs) = inner_procedures no_scope n f ++ inner_of_mains (n + functions f) fs
 
--- the numbers of the first function in a procedure, and of the first one in a main form
-abbrev pub first_inner : ProgramRows → ℕ
-first_inner rows = length rows.procedures
-
-abbrev pub first_of_mains : ProgramRows → ℕ
-first_of_mains rows = length rows.procedures + functions_of_procedures rows.procedures
-
--- a program made flat
+-- a program made flat: the functions in its procedures have the first numbers, and then come those in its main forms
 abbrev pub flat_program : ProgramRows → FlatRows
 flat_program rows = record {
   literals = rows.literals;
-  procedures =
-      flat_procedures (first_inner rows) rows.procedures
-      ++ (inner_of_procedures (first_inner rows) rows.procedures ++ inner_of_mains (first_of_mains rows) rows.main);
+  procedures = flat_procedures 0 rows.procedures;
+  lambdas = inner_of_procedures 0 rows.procedures ++ inner_of_mains (functions_of_procedures rows.procedures) rows.main;
   classes = rows.classes;
   generics = rows.generics;
   functions = rows.functions;
-  main = flat_mains (first_of_mains rows) rows.main;
+  main = flat_mains (functions_of_procedures rows.procedures) rows.main;
   sites = rows.sites;
 }
-
