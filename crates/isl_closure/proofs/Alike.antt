@@ -34,6 +34,10 @@ abbrev pub Holds : World → Bool → ℕ → Type 0
 Holds w true i = (v : Value) × slice_get w i ≡ Some (Some v)
 Holds w false i = slice_get w i ≡ Some None
 
+-- the dynamic bindings of surroundings are of variables of which nothing is known
+abbrev pub AreFree : World → Surroundings → Type 0
+AreFree w around = Each (λ (b : List ℕ × ℕ). slice_get w b.1 ≡ Some None) around.bindings
+
 -- a place holds the variable of that number; a captured value is the one that the variable keeps
 abbrev pub PlaceAt : World → FlatEnvironment → VariablePlace → Bool → ℕ → Type 0
 PlaceAt w e (Slot n) fixed i = slice_get e.slots n ≡ Some i × Holds w fixed i
@@ -217,7 +221,7 @@ module _ (lambdas : List FlatProcedure) where
   Follows w next next' = (z : State) (y : FlatState) → Beside w z y → Sim w (next z) (next' y)
 
   abbrev pub Acts : World → Act → FlatAct → Type 0
-  Acts w act act' = (around : Surroundings) (z : State) (y : FlatState) → Beside w z y → Sim w (act around z) (act' around y)
+  Acts w act act' = (around : Surroundings) → AreFree w around → (z : State) (y : FlatState) → Beside w z y → Sim w (act around z) (act' around y)
 
   abbrev pub Lands : World → (Value → Landing → State → Evaluated) → (Value → Landing → FlatState → FlatEvaluated) → Type 0
   Lands w land land' =

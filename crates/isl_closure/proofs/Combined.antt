@@ -3,6 +3,7 @@ use Rattle.std.proofs.Common.{◌≡◌, ℕ, zero, suc, ◌+◌, ◌==◌, Bool
 use Rattle.std.proofs.Math.Dec.{eqb_refl}
 use Rattle.std.specs.Prelude.{⊤, slice_get, slice_set, if◌then◌else◌}
 use Rattle.isl_meaning.specs.Form.{Form}
+use Rattle.isl_meaning.specs.Subforms.{Each}
 use Rattle.isl_meaning.specs.Values.{Value, nil, object}
 use Rattle.isl_meaning.specs.Objects.{Object, Environment, cons, string, vector, instance, function, closure, fresh_symbol}
 use Rattle.isl_meaning.specs.State.{State, Surroundings, Landing, Outcome, value, exit, full, more, Evaluated, gives, leaves, Act, go_on, go_on_from, landed, landed_from, caught, cleaned, cleaned_from, exits_from, Limit, exit_made, has_room, room_left, request, with_words, charged, make, stored, changed, with_stack, in_frame}
@@ -15,7 +16,7 @@ use Rattle.isl_closure.specs.FlatState.{Captured, FlatEnvironment, FlatState, Fl
 use Rattle.isl_closure.specs.FlatState as flat
 use Rattle.isl_closure.specs.FlatSignals as flat_signals
 use Rattle.isl_closure.specs.Scope.{Known, Scope}
-use Rattle.isl_closure.proofs.Alike.{World, Later, Holds, PlaceAt, VariableAt, Matches, ClosureAlike, SameObject, SameFunction, ObjectsAlike, Related, Beside, twin, Sim, Continues, Follows, Acts, Lands}
+use Rattle.isl_closure.proofs.Alike.{World, Later, AreFree, Holds, PlaceAt, VariableAt, Matches, ClosureAlike, SameObject, SameFunction, ObjectsAlike, Related, Beside, twin, Sim, Continues, Follows, Acts, Lands}
 use Rattle.isl_closure.proofs.Lists.{pushed, changed_both, length-changed, in_front, behind, IsBehind, of_either}
 
 -- later worlds
@@ -25,6 +26,10 @@ itself w = record { kept = λ i x h. h }
 
 pub after_that : {w u x : World} → Later w u → Later u x → Later w x
 after_that a b = record { kept = λ i x h. b.kept i x (a.kept i x h) }
+
+pub free_later : {w u : World} → Later w u → (bs : List (List ℕ × ℕ)) → Each (λ (b : List ℕ × ℕ). slice_get w b.1 ≡ Some None) bs → Each (λ (b : List ℕ × ℕ). slice_get u b.1 ≡ Some None) bs
+free_later l [] e = tt
+free_later l (b ∷ bs) e = (l.kept b.1 None e.0, free_later l bs e.1)
 
 pub with_more : (w ks : World) → Later w (w ++ ks)
 with_more w ks = record { kept = λ i x h. in_front w ks i x h }
@@ -162,14 +167,14 @@ module _ {ps : List FlatProcedure} where
   pub catches : {w : World} {r : Evaluated} {q : FlatEvaluated} (e : ℕ) → Sim ps w r q → Sim ps w (caught e r) (flat.caught e q)
   catches e x = lands_on e (λ v landing z y b. given v b) x
 
-  pub cleans : {w : World} {r : Evaluated} {q : FlatEvaluated} (around : Surroundings) {cleanup : Act} {cleanup' : FlatAct} → Acts ps w cleanup cleanup'
+  pub cleans : {w : World} {r : Evaluated} {q : FlatEvaluated} (around : Surroundings) → AreFree w around → {cleanup : Act} {cleanup' : FlatAct} → Acts ps w cleanup cleanup'
       → Sim ps w r q → Sim ps w (cleaned cleanup around r) (flat.cleaned cleanup' around q)
-  cleans {w} {r} {q} around {cleanup} {cleanup'} c x = used (cleaned_from cleanup around) (flat.cleaned_from cleanup' around) at x
+  cleans {w} {r} {q} around free {cleanup} {cleanup'} c x = used (cleaned_from cleanup around) (flat.cleaned_from cleanup' around) at x
     where
       at : (o : Outcome) (z : State) (y : FlatState) → Beside ps w z y → Sim ps w (cleaned_from cleanup around o z) (flat.cleaned_from cleanup' around o y)
-      at (value v) z y b = on (c around z y b) (λ ignored after later a. given v a)
+      at (value v) z y b = on (c around free z y b) (λ ignored after later a. given v a)
       at (exit e v landing) z y b =
-          on (c (record around { exits = exits_from e around.exits }) z y b) (λ ignored after later a. ends (exit e v landing) a)
+          on (c (record around { exits = exits_from e around.exits }) free z y b) (λ ignored after later a. ends (exit e v landing) a)
       at (full asked left) z y b = ends (full asked left) b
       at more z y b = ends more b
 

@@ -11,7 +11,7 @@ use Rattle.isl_meaning.specs.Subforms.{Each}
 use Rattle.isl_meaning.specs.Values.{Value, nil}
 use Rattle.isl_meaning.specs.Objects.{Environment, count_up}
 use Rattle.isl_meaning.specs.State.{State, Surroundings, Evaluated, Act, Limit, request, charged}
-use Rattle.isl_meaning.specs.Lookup.{under_number, numbered, value_at, with_variables, with_values, with_exit}
+use Rattle.isl_meaning.specs.Lookup.{under_number, numbered, value_at, set_at, with_variables, with_values, with_exit}
 use Rattle.isl_meaning.specs.Signals.{with_cells}
 use Rattle.isl_closure.specs.declared.place.Home.{Home}
 use Rattle.isl_closure.specs.declared.place.Home.TheVariants as home
@@ -27,9 +27,9 @@ use Rattle.isl_closure.specs.FlatState as flat_state
 use Rattle.isl_closure.specs.FlatSignals as flat_signals
 use Rattle.isl_closure.specs.FlatMeaning as flat_meaning
 use Rattle.isl_closure.specs.Scope.{Known, Scope, home_of, homes_of, slot_at, in_slots, with_bound, with_around, known_or, known_of, exit_or, method_or, flat_part, flat_parts, captured_place, captured_known, captured_variables, captured_exits, captured_method, seen}
-use Rattle.isl_closure.proofs.Alike.{World, Later, Holds, PlaceAt, VariableAt, ExitAt, Matches, KeepsValue, CanBeCaptured, IsAround, IsInMethod, PartIsThere, Related, Beside, twin, Sim, Follows, Acts}
-use Rattle.isl_closure.proofs.Lists.{in_front, behind}
-use Rattle.isl_closure.proofs.Combined.{with_more, after_that, matches_later, at_twin, charges, sooner, tests, requests, more_values}
+use Rattle.isl_closure.proofs.Alike.{World, Later, AreFree, Holds, PlaceAt, VariableAt, ExitAt, Matches, KeepsValue, CanBeCaptured, IsAround, IsInMethod, PartIsThere, Related, Beside, twin, Sim, Follows, Acts}
+use Rattle.isl_closure.proofs.Lists.{in_front, behind, length-changed, other_place}
+use Rattle.isl_closure.proofs.Combined.{with_more, after_that, free_later, matches_later, at_twin, charges, sooner, tests, requests, more_values}
 
 -- what is known of new variables with these values: those that nothing sets keep theirs
 abbrev pub kept : List ℕ → Form → List Value → World
@@ -341,10 +341,10 @@ module _ {ps : List FlatProcedure} where
       → (ws : List Value) → length ws ≡ length vs
       → {run : Environment → Act} {run' : FlatEnvironment → FlatAct}
       → ((u : World) (inner : Environment) (inner' : FlatEnvironment) → Matches u (with_bound vs body s) inner inner' → Acts ps u (run inner) (run' inner'))
-      → (around : Surroundings) (z : State) (y : FlatState) → Beside ps w z y
+      → (around : Surroundings) → AreFree w around → (z : State) (y : FlatState) → Beside ps w z y
       → Sim ps w (with_cells limit vs body z (λ ready. run (with_variables vs ready env) around (with_values ws ready)))
           (flat_signals.with_cells limit hs y (λ ready. run' (flat_signals.with_slots hs ready e) around (flat_state.with_values ws ready)))
-  binds {w} limit {s} {env} {e} m vs body hs same ws len {run} {run'} r around z y b =
+  binds {w} limit {s} {env} {e} m vs body hs same ws len {run} {run'} r around free z y b =
       subst (λ gs. Sim ps w (with_cells limit vs body z (λ ready. run (with_variables vs ready env) around (with_values ws ready)))
           (flat_signals.with_cells limit gs y (λ ready. run' (flat_signals.with_slots gs ready e) around (flat_state.with_values ws ready))))
       (sym same)
@@ -357,7 +357,7 @@ module _ {ps : List FlatProcedure} where
       (sooner (after_that t.later (with_more t.world (kept vs body ws)))
       (r (t.world ++ kept vs body ws) _ _
       (bound_matches m vs body ws len t.world (length ready.variables) t.related.count t.later _ refl)
-      around _ _ (more_values ws (kept vs body ws) (length-kept vs body ws len) (λ i v h. are_kept vs body ws i v h) t))))))
+      around (free_later (after_that t.later (with_more t.world (kept vs body ws))) around.bindings free) _ _ (more_values ws (kept vs body ws) (length-kept vs body ws len) (λ i v h. are_kept vs body ws i v h) t))))))
 
   -- the value of a variable is that of its place
   pub value_same : {w : World} {z : State} {y : FlatState} (e : FlatEnvironment) (k : Known) (o : Option ℕ) → Beside ps w z y
@@ -373,3 +373,40 @@ module _ {ps : List FlatProcedure} where
       by t (CapturedValue n) fixed g =
           ap value_in g.1.0 ∙ sym (get_or_from_slice_get z.variables i g.0 nil (t.related.fixed i g.0 (t.later.kept i _ g.1.1)))
       by t (CapturedCell n) fixed g = ap (λ c. value_at (cell_in c) (record z { store = b.store })) g.0
+
+  -- a variable that may be set is set by its place
+  pub variable_set : {w : World} {z : State} {y : FlatState} (i : ℕ) (v : Value) → slice_get w i ≡ Some None → Beside ps w z y
+      → Beside ps w (set_at (Some i) v z) (flat_state.on_state (λ x. set_at (Some i) v x) y)
+  variable_set {w} {z} {y} i v h b = record {
+    world = b.world; later = b.later; store = b.store; captured = b.captured;
+    related = record {
+      count = b.related.count ∙ sym (length-changed z.variables i v);
+      fixed = λ j u g. other_place z.variables i j v
+          (λ e. absurd (let q : Some (Some u) ≡ Some None = sym g ∙ ap (λ n. slice_get b.world n) e ∙ b.later.kept i None h in cc q))
+          ∙ b.related.fixed j u g;
+      lengths = b.related.lengths;
+      objects = b.related.objects;
+    };
+    is = ap (λ (x : FlatState). flat_state.on_state (λ x. set_at (Some i) v x) x) b.is;
+  }
+
+  pub place_set : {w : World} {z : State} {y : FlatState} (e : FlatEnvironment) (k : Known) (o : Option ℕ) → k.fixed ≡ false → Beside ps w z y
+      → VariableAt w e k o → (v : Value) → Beside ps w (set_at o v z) (flat_state.set_to k.place v e y)
+  place_set e k None f b h v = absurd h
+  place_set {w} {z} {y} e k (Some i) f b h v = by k.place k.fixed f h
+    where
+      free : (fixed : Bool) → fixed ≡ false → Holds w fixed i → slice_get w i ≡ Some None
+      free true f h = absurd (cc f)
+      free false f h = h
+
+      by : (p : VariablePlace) (fixed : Bool) → fixed ≡ false → PlaceAt w e p fixed i → Beside ps w (set_at (Some i) v z) (flat_state.set_to p v e y)
+      by (Slot n) fixed f h =
+          subst (λ o. Beside ps w (set_at (Some i) v z) (flat_state.on_state (λ x. set_at o v x) y)) (sym h.0)
+          (variable_set i v (free fixed f h.1) b)
+      by (SlotCell n) fixed f h =
+          subst (λ o. Beside ps w (set_at (Some i) v z) (flat_state.on_state (λ x. set_at o v x) y)) (sym h.0)
+          (variable_set i v (free fixed f h.1) b)
+      by (CapturedValue n) fixed f h = absurd (let q : true ≡ false = sym h.1.2 ∙ f in cc q)
+      by (CapturedCell n) fixed f h =
+          subst (λ o. Beside ps w (set_at (Some i) v z) (flat_state.on_state (λ x. set_at (cell_in o) v x) y)) (sym h.0)
+          (variable_set i v (free fixed f h.1) b)
