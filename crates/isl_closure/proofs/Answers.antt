@@ -85,7 +85,7 @@ module _ (ps : List FlatProcedure) (w : World) (cs : List (ℕ × List Captured)
 
   module _ {z y : State} (t : Twins z y) where
     -- what tells no function from another is the same of both objects
-    observed : {X : Type 0} (h : Option Object → X)
+    pub observed : {X : Type 0} (h : Option Object → X)
         → ((required : List ℕ) (rest : Option ℕ) (body : Form) (env : Environment) (p : ℕ) → h (Some (function p)) ≡ h (Some (closure required rest body env)))
         → (v : Value) → h (fetch y v) ≡ h (fetch z v)
     observed h e v =

@@ -118,6 +118,9 @@ module _ {ps : List FlatProcedure} where
     same = x.same;
   }
 
+  pub now : {w : World} {z : State} {y : FlatState} (b : Beside ps w z y) → Beside ps b.world z y
+  now b = record { world = b.world; later = itself b.world; store = b.store; captured = b.captured; related = b.related; is = b.is }
+
   -- ends
   pub ends : {w : World} {z : State} {y : FlatState} (o : Outcome) → Beside ps w z y
       → Sim ps w (record { outcome = o; state = z }) (record { outcome = o; state = y })

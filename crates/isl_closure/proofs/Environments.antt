@@ -47,7 +47,7 @@ kept_value : (fixed : Bool) (x v : Value) → let o : Option Value = (if fixed t
 kept_value true x v h = cc h
 kept_value false x v h = absurd (cc h)
 
-some_same : {X : Type 0} {x y : X} → Some x ≡ Some y → x ≡ y
+pub some_same : {X : Type 0} {x y : X} → Some x ≡ Some y → x ≡ y
 some_same {X} {x} {y} h = cc h
 
 are_kept : (vs : List ℕ) (body : Form) (ws : List Value) (i : ℕ) (v : Value) → slice_get (kept vs body ws) i ≡ Some (Some v) → slice_get ws i ≡ Some v
@@ -106,7 +106,7 @@ method_exits e now method_place.Own = refl
 method_exits e now (method_place.Captured n) = refl
 
 -- a test on two numbers, with what it says
-equal_or_not : {C : Type 0} (m n : ℕ) → (m ≡ n → (m == n) ≡ true → C) → ((m == n) ≡ false → C) → C
+pub equal_or_not : {C : Type 0} (m n : ℕ) → (m ≡ n → (m == n) ≡ true → C) → ((m == n) ≡ false → C) → C
 equal_or_not {C} m n alike apart = by (m == n) refl
   where
     by : (b : Bool) → (m == n) ≡ b → C
@@ -114,10 +114,10 @@ equal_or_not {C} m n alike apart = by (m == n) refl
     by false h = apart h
 
 -- the first of a list under a number, and those after it
-under_first : {X : Type 0} (n m : ℕ) (x : X) (xs : List (ℕ × X)) → (n == m) ≡ true → under n ((m, x) ∷ xs) ≡ Some x
+pub under_first : {X : Type 0} (n m : ℕ) (x : X) (xs : List (ℕ × X)) → (n == m) ≡ true → under n ((m, x) ∷ xs) ≡ Some x
 under_first n m x xs h = ap (λ b. if b then Some x else under n xs) h
 
-under_after : {X : Type 0} (n m : ℕ) (x : X) (xs : List (ℕ × X)) → (n == m) ≡ false → under n ((m, x) ∷ xs) ≡ under n xs
+pub under_after : {X : Type 0} (n m : ℕ) (x : X) (xs : List (ℕ × X)) → (n == m) ≡ false → under n ((m, x) ∷ xs) ≡ under n xs
 under_after n m x xs h = ap (λ b. if b then Some x else under n xs) h
 
 number_first : (n m x : ℕ) (xs : List (ℕ × ℕ)) → (n == m) ≡ true → under_number n ((m, x) ∷ xs) ≡ Some x
@@ -154,7 +154,7 @@ found w e known around rest (u ∷ vs) body (x ∷ ws) len n i slots values v k 
     (λ j y g. let q : i + suc j ≡ (i + 1) + j = omega arith in subst (λ m. slice_get w m ≡ Some y) q (values (suc j) y g))
     v k (sym (under_after v u _ (in_slots vs body (n + 1) ++ known) f) ∙ h)))
 
-length-count : (i n : ℕ) → length (count_up i n) ≡ n
+pub length-count : (i n : ℕ) → length (count_up i n) ≡ n
 length-count i zero = refl
 length-count i (suc n) = ap suc (length-count (i + 1) n)
 

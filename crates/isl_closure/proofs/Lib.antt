@@ -5,3 +5,5 @@ pub mod Nodes
 pub mod Answers
 pub mod Environments
 pub mod Applied
+pub mod Forms
+pub mod Levels
