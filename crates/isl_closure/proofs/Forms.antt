@@ -47,7 +47,7 @@ applied_as context f list around y b s =
     else flat_signals.signal_domain_error context (flat_signals.signal context) list list_class around (flat_state.charged (length s.elements) y))
     else flat_signals.signal_domain_error context (flat_signals.signal context) f function_class around y
 
-other_number : (m n : ℕ) → (m == n) ≡ false → n ≡ m → ⊥
+pub other_number : (m n : ℕ) → (m == n) ≡ false → n ≡ m → ⊥
 other_number m n h e = subst T h (subst (λ i. T (m == i)) (sym e) (eqb_refl m))
 
 closure_later : {ps : List FlatProcedure} {w u : World} {required : List ℕ} {rest : Option ℕ} {body : Form} {env : Environment} {p : ℕ} {cs : List Captured} → Later w u

@@ -7,3 +7,6 @@ pub mod Environments
 pub mod Applied
 pub mod Forms
 pub mod Levels
+pub mod Numbers
+pub mod Fine
+pub mod Sounds
