@@ -44,7 +44,7 @@ none_alike lambdas = record {
 
 module _ (names : List (List ℕ)) (program : ProgramRows) (procedures lambdas : List FlatProcedure) (mains : List FlatForm) (limit : Limit)
     (all : (i : ℕ) → ProceduresMatch lambdas (slice_get program.procedures i) (slice_get procedures i)) where
-  abbrev rows_of : FlatRows
+  abbrev pub rows_of : FlatRows
   rows_of = record {
     literals = program.literals;
     procedures = procedures;
@@ -81,7 +81,7 @@ module _ (names : List (List ℕ)) (program : ProgramRows) (procedures lambdas :
       (sym (ap (λ (q : FlatState). q.state.stack) x.is))
       (given v (step (λ (q : State). record q { stack = z.stack }) b (λ q. refl) (λ q. refl) (λ q os. refl))))))
 
-  mains_alike : (k n : ℕ) (fs : List Form) → SoundMains lambdas n fs → (last : Value) (w : World) (z : State) (y : FlatState) → Beside lambdas w z y
+  pub mains_alike : (k n : ℕ) (fs : List Form) → SoundMains lambdas n fs → (last : Value) (w : World) (z : State) (y : FlatState) → Beside lambdas w z y
       → Sim lambdas w (mean_mains names program limit k fs last z) (flat_meaning.mean_mains names rows_of limit k (flat_mains n fs) last y)
   mains_alike k n [] t last w z y x = given last x
   mains_alike k n (f ∷ fs) t last w z y x =

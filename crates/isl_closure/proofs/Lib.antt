@@ -10,3 +10,5 @@ pub mod Levels
 pub mod Numbers
 pub mod Fine
 pub mod Sounds
+pub mod Start
+pub mod Law

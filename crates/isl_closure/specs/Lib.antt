@@ -5,3 +5,4 @@ pub mod FlatSignals
 pub mod FlatMeaning
 pub mod Scope
 pub mod Flatten
+pub mod Law

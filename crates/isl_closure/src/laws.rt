@@ -1,0 +1,13 @@
+// What is true of all programs that are made flat, as the contracts of functions that do nothing.
+
+ghost use Rattle.isl_closure.specs.Law.{LawOfClosures};
+
+use isl_meaning::laws::law_names;
+
+/// The law of closures: a program that is made flat has, for every input, with every number of levels and of
+/// words, the end, the bytes, the units and the peak that it had.
+pub fn law_closures()
+    ensures { LawOfClosures }
+{
+    law_names();
+}
