@@ -6,3 +6,4 @@ pub mod FlatMeaning
 pub mod Scope
 pub mod Flatten
 pub mod Law
+pub mod model

@@ -1,7 +1,12 @@
 // Closure conversion: programs whose functions stand side by side, with what they capture listed.
 #![tactic(auto)]
 
+pub mod flat_core;
 pub mod laws;
 pub mod place;
 
+pub use flat_core::{
+    FlatBinding, FlatBindingList, FlatClause, FlatClauseList, FlatCore, FlatCoreForm, FlatCoreList,
+    FlatDynBinding, FlatDynBindings, FlatPartList,
+};
 pub use place::{ExitPlace, FlatPart, Home, MethodPlace, VariablePlace};
