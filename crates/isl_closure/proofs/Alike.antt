@@ -17,7 +17,7 @@ use Rattle.isl_closure.specs.declared.place.VariablePlace.{VariablePlace}
 use Rattle.isl_closure.specs.declared.place.VariablePlace.TheVariants.{Slot, SlotCell, CapturedValue, CapturedCell}
 use Rattle.isl_closure.specs.declared.place.ExitPlace.{ExitPlace}
 use Rattle.isl_closure.specs.declared.place.MethodPlace.{MethodPlace}
-use Rattle.isl_closure.specs.FlatProgram.{FlatProcedure}
+use Rattle.isl_closure.specs.declared.program.FlatProcedure.{FlatProcedure}
 use Rattle.isl_closure.specs.FlatState.{Captured, of_value, of_cell, FlatEnvironment, FlatState, FlatEvaluated, FlatAct, under, exit_of, method_of}
 use Rattle.isl_closure.specs.FlatState as flat
 use Rattle.isl_closure.specs.Scope.{Known, Scope, with_bound, with_around, seen}

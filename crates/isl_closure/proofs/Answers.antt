@@ -13,7 +13,7 @@ use Rattle.isl_meaning.specs.Lookup.{passed, place_in}
 use Rattle.isl_meaning.specs.Classes.{fetch, class_of, class_of_object, precedence, slots, is_below, is_condition}
 use Rattle.isl_meaning.specs.Layout.{class_value}
 use Rattle.isl_meaning.specs.Primitives.{Answer, result, makes, makes_symbol, fails, domain_error, needs, as_integer, as_character, as_cons, as_string, as_vector, as_class, as_instance, as_stream, as_symbol, fresh_in, Spelt, is_function, is_generic, integer_result, floor_quotient, floor_remainder, division, index_of, length_of, byte_of, change, other_bytes, first_byte, is_fresh_line, can_be_made, is_slot, slot_place, slot_value, a_slot, of_none, of_one, of_two, of_three, of_integers, primitive}
-use Rattle.isl_closure.specs.FlatProgram.{FlatProcedure}
+use Rattle.isl_closure.specs.declared.program.FlatProcedure.{FlatProcedure}
 use Rattle.isl_closure.specs.FlatState.{Captured}
 use Rattle.isl_closure.proofs.Alike.{World, SameObject, SameFunction, ObjectsAlike, Related}
 use Rattle.isl_closure.proofs.Combined.{IsDatum, changed_related, stored_related}

@@ -28,8 +28,10 @@ use Rattle.isl_closure.specs.declared.place.Home.TheVariants as home
 use Rattle.isl_closure.specs.declared.place.ExitPlace.{ExitPlace}
 use Rattle.isl_closure.specs.declared.place.MethodPlace.TheVariants as method_place
 use Rattle.isl_closure.specs.FlatForm.{FlatForm, FlatForms}
-use Rattle.isl_closure.specs.FlatProgram as flat_nodes
-use Rattle.isl_closure.specs.FlatProgram.{FlatProcedure, FlatRows, homes}
+use Rattle.isl_closure.specs.FlatNodes as flat_nodes
+use Rattle.isl_closure.specs.declared.program.FlatProcedure.{FlatProcedure}
+use Rattle.isl_closure.specs.declared.program.FlatProgram.{FlatProgram}
+use Rattle.isl_closure.specs.FlatNodes.{homes}
 use Rattle.isl_closure.specs.FlatState.{Captured, FlatEnvironment, FlatState, FlatEvaluated, FlatAct, under, captured_by}
 use Rattle.isl_closure.specs.FlatState as flat_state
 use Rattle.isl_closure.specs.FlatSignals as flat_signals
@@ -209,7 +211,7 @@ pub record Both : Type 0 where
   pub alike : BelowAlike lambdas low low'
   pub all : (i : ℕ) → ProceduresMatch lambdas (slice_get program.procedures i) (slice_get procedures i)
 
-abbrev pub rows : Both → FlatRows
+abbrev pub rows : Both → FlatProgram
 rows r = record {
   literals = r.program.literals;
   procedures = r.procedures;

@@ -21,7 +21,7 @@ use Rattle.isl_closure.specs.declared.place.ExitPlace.{ExitPlace}
 use Rattle.isl_closure.specs.declared.place.ExitPlace.TheVariants as exit_place
 use Rattle.isl_closure.specs.declared.place.MethodPlace.{MethodPlace}
 use Rattle.isl_closure.specs.declared.place.MethodPlace.TheVariants as method_place
-use Rattle.isl_closure.specs.FlatProgram.{FlatProcedure}
+use Rattle.isl_closure.specs.declared.program.FlatProcedure.{FlatProcedure}
 use Rattle.isl_closure.specs.FlatState.{Captured, of_value, of_cell, of_exit, of_method, FlatEnvironment, FlatState, FlatEvaluated, FlatAct, under, exit_of, method_of, value_in, cell_in, exit_in, method_in, captured_part, captured_variable}
 use Rattle.isl_closure.specs.FlatState as flat_state
 use Rattle.isl_closure.specs.FlatSignals as flat_signals

@@ -23,7 +23,7 @@ use Rattle.isl_meaning.specs.Meaning.{Spread, mean_literal, mean_global, set_glo
 use Rattle.isl_closure.specs.FlatMeaning.{mean as flat_mean, mean_sequence as flat_sequence, mean_arguments as flat_arguments, mean_clauses as flat_clauses_mean, mean_body as flat_body_mean, mean_bindings as flat_bindings_mean, mean_dynamics as flat_dynamics_mean}
 use Rattle.isl_closure.specs.declared.place.Home.{Home}
 use Rattle.isl_closure.specs.FlatForm.{FlatForm, FlatForms}
-use Rattle.isl_closure.specs.FlatProgram.{FlatProcedure}
+use Rattle.isl_closure.specs.declared.program.FlatProcedure.{FlatProcedure}
 use Rattle.isl_closure.specs.FlatState.{Captured, FlatEnvironment, FlatState, FlatEvaluated, FlatAct, under, captured_part, method_of, exit_of, value_of, set_to}
 use Rattle.isl_closure.specs.FlatState as flat_state
 use Rattle.isl_closure.specs.FlatSignals.{FlatContext, FlatTask, FlatEvaluation}

@@ -13,7 +13,7 @@ use Rattle.isl_meaning.specs.Subforms.{Each}
 use Rattle.isl_meaning.specs.Values.{nil}
 use Rattle.isl_closure.specs.FlatMeaning.{flat_meaning}
 use Rattle.isl_closure.specs.FlatMeaning as flat
-use Rattle.isl_closure.specs.FlatProgram.{FlatProcedure}
+use Rattle.isl_closure.specs.declared.program.FlatProcedure.{FlatProcedure}
 use Rattle.isl_closure.specs.FlatState.{FlatState, FlatEvaluated}
 use Rattle.isl_closure.specs.Flatten.{functions, functions_of_procedures, flat_procedures, body_scope, inner_procedures, inner_of_procedures, inner_of_mains, flat_mains, flat_program}
 use Rattle.isl_closure.specs.Law.{SameRun, LawOfClosures}

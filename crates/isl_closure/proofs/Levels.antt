@@ -13,8 +13,10 @@ use Rattle.isl_meaning.specs.Layout.{objects_at_start}
 use Rattle.isl_meaning.specs.Signals.{Task, form, Evaluation}
 use Rattle.isl_meaning.specs.Meaning.{none_below, context_of, mean_task, meaning_at, mean_main, mean_mains, end_of, meant, Meant, meaning}
 use Rattle.isl_closure.specs.FlatForm.{FlatForm}
-use Rattle.isl_closure.specs.FlatProgram.{FlatProcedure, FlatRows, tables}
-use Rattle.isl_closure.specs.FlatProgram as flat_program
+use Rattle.isl_closure.specs.declared.program.FlatProcedure.{FlatProcedure}
+use Rattle.isl_closure.specs.declared.program.FlatProgram.{FlatProgram}
+use Rattle.isl_closure.specs.FlatNodes.{tables}
+use Rattle.isl_closure.specs.FlatNodes as flat_program
 use Rattle.isl_closure.specs.FlatState.{FlatState, FlatEvaluated}
 use Rattle.isl_closure.specs.FlatState as flat_state
 use Rattle.isl_closure.specs.FlatSignals.{FlatTask, FlatEvaluation}
@@ -44,7 +46,7 @@ none_alike lambdas = record {
 
 module _ (names : List (List ℕ)) (program : ProgramRows) (procedures lambdas : List FlatProcedure) (mains : List FlatForm) (limit : Limit)
     (all : (i : ℕ) → ProceduresMatch lambdas (slice_get program.procedures i) (slice_get procedures i)) where
-  abbrev pub rows_of : FlatRows
+  abbrev pub rows_of : FlatProgram
   rows_of = record {
     literals = program.literals;
     procedures = procedures;

@@ -8,7 +8,7 @@ use Rattle.isl_meaning.specs.Form as core
 use Rattle.isl_meaning.specs.Subforms.{fold, fold_forms, fold_clauses, fold_body, fold_values, fold_dynamics}
 use Rattle.isl_meaning.specs.Counts as core_counts
 use Rattle.isl_meaning.specs.Meaning.{bound_variables}
-use Rattle.isl_closure.specs.FlatProgram.{count_forms, count_clauses, count_bindings, count_dynamics, counted, nodes, nodes_of_forms, nodes_of_clauses, nodes_of_body, nodes_of_values, nodes_of_dynamics}
+use Rattle.isl_closure.specs.FlatNodes.{count_forms, count_clauses, count_bindings, count_dynamics, counted, nodes, nodes_of_forms, nodes_of_clauses, nodes_of_body, nodes_of_values, nodes_of_dynamics}
 use Rattle.isl_closure.specs.Scope.{Scope, with_bound, with_around, flat_parts}
 use Rattle.isl_closure.specs.Flatten.{functions, functions_of_values, functions_of_body, functions_of_dynamics, flat, flat_forms, flat_clauses, flat_body, flat_bindings, flat_dynamics}
 

@@ -15,7 +15,7 @@ use Rattle.isl_meaning.specs.Meaning.{bound_variables}
 use Rattle.isl_meaning.specs.Signals.{variables}
 use Rattle.isl_meaning.specs.Standing as standing
 use Rattle.isl_meaning.specs.Subforms.{Each, forms_list, clause_list, value_list, dynamic_value_list, body_list}
-use Rattle.isl_closure.specs.FlatProgram.{FlatProcedure}
+use Rattle.isl_closure.specs.declared.program.FlatProcedure.{FlatProcedure}
 use Rattle.isl_closure.specs.Scope.{Scope, no_scope, with_bound, with_around, seen}
 use Rattle.isl_closure.specs.Flatten.{functions, functions_of_values, functions_of_body, functions_of_dynamics, functions_of_forms, functions_of_procedures, flat_procedure, flat_procedures, body_scope, inner_procedures, procedures_of_forms, procedures_of_clauses, procedures_of_body, procedures_of_values, procedures_of_dynamics, inner_of_procedures, inner_of_mains}
 use Rattle.isl_closure.proofs.Alike.{Sound, SoundForms, SoundClauses, SoundBody, SoundValues, SoundDynamics, CanBeSet, IsKnown, IsInMethod}

@@ -16,7 +16,7 @@ use Rattle.isl_meaning.specs.Literals.{Laid, lay, lay_content, lay_items, lay_li
 use Rattle.isl_meaning.specs.Layout.{Key, class, function_of, literal, input, output, single, Keyed, Thing, keyed, laid_out, layout, things, objects_at_start, class_things, function_things, function_object, literal_things, literal_objects, initargs_list, initform_objects, slot_things}
 use Rattle.isl_meaning.specs.Objects.{Object, Environment, cons, string, vector, function, closure, generic_function, class_object, input_stream, output_stream, count_up, built_in_classes}
 use Rattle.isl_meaning.specs.Subforms.{Each}
-use Rattle.isl_closure.specs.FlatProgram.{FlatProcedure}
+use Rattle.isl_closure.specs.declared.program.FlatProcedure.{FlatProcedure}
 use Rattle.isl_closure.proofs.Alike.{Related}
 
 record NoClosure (o : Object) : Type 0 where

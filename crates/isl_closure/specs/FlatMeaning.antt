@@ -17,7 +17,8 @@ use Rattle.isl_closure.specs.declared.place.Home.{Home}
 use Rattle.isl_closure.specs.FlatForm.{FlatForm, literal, local, set_local, global, set_global, def_global, clauses, sequence, let_form, make_function, call, call_value, apply, prim, while_form, block, return_from, tagbody, go, catch_form, throw, unwind, dynamic_let, dynamic, set_dynamic, def_dynamic, with_handler, signal_form, continue_form, next_method, has_next, sited}
 use Rattle.isl_closure.specs.FlatForm.{FlatForms, no_form, form_and, FlatClauses, no_clause, clause_and, FlatBody, no_body, with_body}
 use Rattle.isl_closure.specs.FlatForm.{FlatBindings, no_binding, binding_and, FlatDynamics, no_dynamic, dynamic_and}
-use Rattle.isl_closure.specs.FlatProgram.{FlatRows, tables, own_nodes, nodes}
+use Rattle.isl_closure.specs.declared.program.FlatProgram.{FlatProgram}
+use Rattle.isl_closure.specs.FlatNodes.{tables, own_nodes, nodes}
 use Rattle.isl_closure.specs.FlatState.{FlatEnvironment, no_environment, FlatState, FlatEvaluated, FlatAct, on_state, value_of, set_to, exit_of, method_of, captured_part, gives, go_on, landed, caught, cleaned, charged, exit_made, with_values, request, make_closure}
 use Rattle.isl_closure.specs.FlatSignals.{FlatContext, FlatTask, nothing, form, turn, methods, FlatEvaluation, with_some, with_slots, inside, run_chain, apply_value, apply_row, undefined_function, unbound_variable, signal_domain_error, signal_under, signal, answered, search, transfer, throw_to, continue_with, with_cells}
 
@@ -253,23 +254,23 @@ module _ (context : FlatContext) where
 abbrev pub none_below : FlatTask → FlatEvaluation
 none_below task env around z = record { outcome = more; state = z }
 
-abbrev pub context_of : List (List ℕ) → FlatRows → Limit → (below : FlatTask → FlatEvaluation) → FlatContext
+abbrev pub context_of : List (List ℕ) → FlatProgram → Limit → (below : FlatTask → FlatEvaluation) → FlatContext
 context_of names program limit below = record { names = names; program = program; limit = limit; below = below }
 
 -- the meaning with so many levels
-unfoldable pub flat_meaning_at : List (List ℕ) → FlatRows → Limit → ℕ → FlatTask → FlatEvaluation
+unfoldable pub flat_meaning_at : List (List ℕ) → FlatProgram → Limit → ℕ → FlatTask → FlatEvaluation
 flat_meaning_at names program limit zero = mean_task (context_of names program limit none_below)
 flat_meaning_at names program limit (suc k) = mean_task (context_of names program limit (flat_meaning_at names program limit k))
 
 -- a main form is charged as the body of an application without arguments, and takes no level
-abbrev pub mean_main : List (List ℕ) → FlatRows → Limit → ℕ → FlatForm → FlatState → FlatEvaluated
+abbrev pub mean_main : List (List ℕ) → FlatProgram → Limit → ℕ → FlatForm → FlatState → FlatEvaluated
 mean_main names program limit k f z =
     request limit 0 (application_words (nodes f)) z (λ entered.
     go_on (flat_meaning_at names program limit k (form f) no_environment main_surroundings entered) (λ v after.
     gives v (on_state (λ (y : State). record y { stack = z.state.stack }) after)))
 
 -- the main forms in order, after a last value
-abbrev pub mean_mains : List (List ℕ) → FlatRows → Limit → ℕ → List FlatForm → Value → FlatState → FlatEvaluated
+abbrev pub mean_mains : List (List ℕ) → FlatProgram → Limit → ℕ → List FlatForm → Value → FlatState → FlatEvaluated
 mean_mains names program limit k [] last z = gives last z
 mean_mains names program limit k (f ∷ fs) last z =
     go_on (mean_main names program limit k f z) (λ v after. mean_mains names program limit k fs v after)
@@ -285,7 +286,7 @@ meant r = record {
 }
 
 -- the meaning of a flat program with an input, at k levels and with so many words
-unfoldable pub flat_meaning : List (List ℕ) → FlatRows → List ℕ → ℕ → Limit → Meant
+unfoldable pub flat_meaning : List (List ℕ) → FlatProgram → List ℕ → ℕ → Limit → Meant
 flat_meaning names program input k limit =
     meant (mean_mains names program limit k program.main nil
     (record { state = first_state (objects_at_start names (tables program)) input; captured = [] }))

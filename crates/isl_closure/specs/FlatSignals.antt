@@ -19,7 +19,9 @@ use Rattle.isl_meaning.specs.Signals.{takes, is_catch, is_signal, is_continuable
 use Rattle.isl_closure.specs.declared.place.Home.{Home}
 use Rattle.isl_closure.specs.declared.place.Home.TheVariants.{Slot, Cell}
 use Rattle.isl_closure.specs.FlatForm.{FlatForm, FlatForms}
-use Rattle.isl_closure.specs.FlatProgram.{FlatProcedure, FlatRows, tables, homes, nodes}
+use Rattle.isl_closure.specs.declared.program.FlatProcedure.{FlatProcedure}
+use Rattle.isl_closure.specs.declared.program.FlatProgram.{FlatProgram}
+use Rattle.isl_closure.specs.FlatNodes.{tables, homes, nodes}
 use Rattle.isl_closure.specs.FlatState.{Captured, FlatEnvironment, no_environment, FlatState, FlatEvaluated, FlatAct, on_state, captured_by, gives, leaves, go_on, caught, charged, exit_made, with_values, request, make, in_frame}
 
 -- what is evaluated one level below: nothing, to see that there is a level; a form; the segments of
@@ -37,7 +39,7 @@ FlatEvaluation = FlatEnvironment → FlatAct
 -- what a meaning depends on: the texts of names, the program, the words there are, and the meaning one level below
 pub record FlatContext : Type 0 where
   pub names : List (List ℕ)
-  pub program : FlatRows
+  pub program : FlatProgram
   pub limit : Limit
   pub below : FlatTask → FlatEvaluation
 

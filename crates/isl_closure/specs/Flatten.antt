@@ -13,7 +13,8 @@ use Rattle.isl_closure.specs.declared.place.Home.{Home}
 use Rattle.isl_closure.specs.FlatForm.{FlatForm, literal, local, set_local, global, set_global, def_global, clauses, sequence, let_form, make_function, call, call_value, apply, prim, while_form, block, return_from, tagbody, go, catch_form, throw, unwind, dynamic_let, dynamic, set_dynamic, def_dynamic, with_handler, signal_form, continue_form, next_method, has_next, sited}
 use Rattle.isl_closure.specs.FlatForm.{FlatForms, no_form, form_and, FlatClauses, no_clause, clause_and, FlatBody, no_body, with_body}
 use Rattle.isl_closure.specs.FlatForm.{FlatBindings, no_binding, binding_and, FlatDynamics, no_dynamic, dynamic_and}
-use Rattle.isl_closure.specs.FlatProgram.{FlatProcedure, FlatRows}
+use Rattle.isl_closure.specs.declared.program.FlatProcedure.{FlatProcedure}
+use Rattle.isl_closure.specs.declared.program.FlatProgram.{FlatProgram}
 use Rattle.isl_closure.specs.Scope.{Scope, no_scope, place_of, exit_place_of, method_place_of, home_of, homes_of, with_bound, with_around, flat_parts, seen}
 
 -- how many functions stand in a form, those inside functions too
@@ -242,7 +243,7 @@ inner_of_mains n [] = []
 inner_of_mains n (f ∷ fs) = inner_procedures no_scope n f ++ inner_of_mains (n + functions f) fs
 
 -- a program made flat: the functions in its procedures have the first numbers, and then come those in its main forms
-abbrev pub flat_program : ProgramRows → FlatRows
+abbrev pub flat_program : ProgramRows → FlatProgram
 flat_program rows = record {
   literals = rows.literals;
   procedures = flat_procedures 0 rows.procedures;

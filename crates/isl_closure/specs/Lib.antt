@@ -1,5 +1,5 @@
 pub mod FlatForm
-pub mod FlatProgram
+pub mod FlatNodes
 pub mod FlatState
 pub mod FlatSignals
 pub mod FlatMeaning

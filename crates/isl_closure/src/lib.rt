@@ -4,9 +4,11 @@
 pub mod flat_core;
 pub mod laws;
 pub mod place;
+pub mod program;
 
 pub use flat_core::{
     FlatBinding, FlatBindingList, FlatClause, FlatClauseList, FlatCore, FlatCoreForm, FlatCoreList,
     FlatDynBinding, FlatDynBindings, FlatPartList,
 };
 pub use place::{ExitPlace, FlatPart, Home, MethodPlace, VariablePlace};
+pub use program::{FlatProcedure, FlatProcedureList, FlatProgram, HomeList};

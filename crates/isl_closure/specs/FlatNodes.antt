@@ -1,6 +1,4 @@
--- Flat procedures and flat programs, and their nodes: a program whose functions stand side by side, beside the procedures
--- of the program that it was made from, which keep their numbers. A function has a number above that of a function in which
--- it stands.
+-- The nodes of flat forms, and what primitives see of flat programs.
 use Rattle.std.specs.Prelude.{ℕ, ◌+◌, ◌-◌, List, [], ◌∷◌, ◌++◌, Option, Bool, length, is_some, option_to_list}
 use Rattle.std.specs.List.{sum}
 use Rattle.isl_base.specs.declared.place.Place.{Place}
@@ -9,33 +7,19 @@ use Rattle.isl_meaning.specs.declared.program.ClassRow.{ClassRow}
 use Rattle.isl_meaning.specs.declared.program.GenericRow.{GenericRow}
 use Rattle.isl_meaning.specs.declared.program.FunctionRow.{FunctionRow}
 use Rattle.isl_meaning.specs.declared.program.ProgramRows.{ProgramRows}
+use Rattle.isl_closure.specs.declared.program.FlatProcedure.{FlatProcedure}
+use Rattle.isl_closure.specs.declared.program.FlatProgram.{FlatProgram}
 use Rattle.isl_closure.specs.declared.place.Home.{Home}
 use Rattle.isl_closure.specs.FlatForm.{FlatForm, literal, local, set_local, global, set_global, def_global, clauses, sequence, let_form, make_function, call, call_value, apply, prim, while_form, block, return_from, tagbody, go, catch_form, throw, unwind, dynamic_let, dynamic, set_dynamic, def_dynamic, with_handler, signal_form, continue_form, next_method, has_next, sited}
 use Rattle.isl_closure.specs.FlatForm.{FlatForms, no_form, form_and, FlatClauses, no_clause, clause_and, FlatBody, no_body, with_body}
 use Rattle.isl_closure.specs.FlatForm.{FlatBindings, no_binding, binding_and, FlatDynamics, no_dynamic, dynamic_and}
 
--- where its variables live, whether a function in it captures the arguments and the chain of its method, and its body
-pub record FlatProcedure : Type 0 where
-  pub required : List Home
-  pub rest : Option Home
-  pub keeps_method : Bool
-  pub body : FlatForm
-
+-- where all variables of a procedure live
 abbrev pub homes : FlatProcedure → List Home
 homes p = p.required ++ option_to_list p.rest
 
-pub record FlatRows : Type 0 where
-  pub literals : List LiteralRow
-  pub procedures : List FlatProcedure
-  pub lambdas : List FlatProcedure
-  pub classes : List ClassRow
-  pub generics : List GenericRow
-  pub functions : List FunctionRow
-  pub main : List FlatForm
-  pub sites : List Place
-
--- its rows without bodies: all that primitives, literals and chains see of a program
-abbrev pub tables : FlatRows → ProgramRows
+-- the rows of a program without its bodies: all that primitives, literals and chains see of a program
+abbrev pub tables : FlatProgram → ProgramRows
 tables program = record {
   literals = program.literals;
   procedures = [];
