@@ -1,6 +1,6 @@
 // What is true of all programs that are made flat, as the contracts of functions that do nothing.
 
-ghost use Rattle.isl_closure.specs.Law.{LawOfClosures};
+ghost use Rattle.isl_closure.specs.Law.{LawOfClosures, LawOfFlatNodes};
 
 use isl_meaning::laws::law_names;
 
@@ -11,3 +11,8 @@ pub fn law_closures()
 {
     law_names();
 }
+
+/// The law of flat nodes: a form that is made flat has as many nodes as it had.
+pub fn law_flat_nodes()
+    ensures { LawOfFlatNodes }
+{}
