@@ -13,6 +13,7 @@ use Rattle.isl_meaning.specs.Objects.{Object, Environment, cons, string, vector,
 use Rattle.isl_meaning.specs.State.{State, Surroundings, Landing, Outcome, Evaluated, Act}
 use Rattle.isl_meaning.specs.Lookup.{under_number}
 use Rattle.isl_meaning.specs.Meaning.{bound_variables}
+use Rattle.isl_closure.specs.declared.place.CapturedKind.{CapturedKind}
 use Rattle.isl_closure.specs.declared.place.VariablePlace.{VariablePlace}
 use Rattle.isl_closure.specs.declared.place.VariablePlace.TheVariants.{Slot, SlotCell, CapturedValue, CapturedCell}
 use Rattle.isl_closure.specs.declared.place.ExitPlace.{ExitPlace}
@@ -20,7 +21,7 @@ use Rattle.isl_closure.specs.declared.place.MethodPlace.{MethodPlace}
 use Rattle.isl_closure.specs.declared.program.FlatProcedure.{FlatProcedure}
 use Rattle.isl_closure.specs.FlatState.{Captured, of_value, of_cell, FlatEnvironment, FlatState, FlatEvaluated, FlatAct, under, exit_of, method_of}
 use Rattle.isl_closure.specs.FlatState as flat
-use Rattle.isl_closure.specs.Scope.{Known, Scope, with_bound, with_around, seen}
+use Rattle.isl_closure.specs.Scope.{Known, Scope, with_bound, with_around, kinds_of, seen}
 use Rattle.isl_closure.specs.Flatten.{functions, functions_of_values, functions_of_body, functions_of_dynamics, functions_of_forms, flat_procedure, body_scope}
 
 -- what is known of each variable of the state: the value that it keeps, or nothing
@@ -114,7 +115,7 @@ module _ (lambdas : List FlatProcedure) where
         SoundValues s n bs × Sound (with_bound (bound_variables bs) body s) (n + functions_of_values bs) body
     Sound s n (core.lambda required rest body parts) =
         Each (PartIsThere s) parts
-        × slice_get lambdas n ≡ Some (flat_procedure (seen s parts) (n + 1) required rest body)
+        × slice_get lambdas n ≡ Some (flat_procedure (seen s parts) (n + 1) (kinds_of s parts) required rest body)
         × Sound (body_scope required rest body (seen s parts)) (n + 1) body
     Sound s n (core.call name fs) = SoundForms s n fs
     Sound s n (core.call_value fs) = SoundForms s n fs
@@ -165,7 +166,8 @@ module _ (lambdas : List FlatProcedure) where
   pub record ClosureAlike (w : World) (required : List ℕ) (rest : Option ℕ) (body : Form) (env : Environment) (p : ℕ) (cs : List Captured) : Type 0 where
     pub scope : Scope
     pub first : ℕ
-    pub there : slice_get lambdas p ≡ Some (flat_procedure scope first required rest body)
+    pub kinds : List CapturedKind
+    pub there : slice_get lambdas p ≡ Some (flat_procedure scope first kinds required rest body)
     pub sound : Sound (body_scope required rest body scope) first body
     pub environment : Matches w scope env (record flat.no_environment { captured = cs })
 

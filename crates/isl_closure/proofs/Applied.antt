@@ -25,6 +25,7 @@ use Rattle.isl_meaning.specs.Primitives.{Answer, result, makes, makes_symbol, fa
 use Rattle.isl_meaning.specs.Meaning.{context_of}
 use Rattle.isl_closure.specs.declared.place.Home.{Home}
 use Rattle.isl_closure.specs.declared.place.Home.TheVariants as home
+use Rattle.isl_closure.specs.declared.place.CapturedKind.{CapturedKind}
 use Rattle.isl_closure.specs.declared.place.ExitPlace.{ExitPlace}
 use Rattle.isl_closure.specs.declared.place.MethodPlace.TheVariants as method_place
 use Rattle.isl_closure.specs.FlatForm.{FlatForm, FlatForms}
@@ -157,7 +158,7 @@ pub record BelowAlike (ps : List FlatProcedure) (low : Task → Evaluation) (low
 -- a procedure and what it was made
 pub record ProcedureMatch (ps : List FlatProcedure) (p : Procedure) (q : FlatProcedure) : Type 0 where
   pub first : ℕ
-  pub is : q ≡ flat_procedure no_scope first p.required p.rest p.body
+  pub is : q ≡ flat_procedure no_scope first [] p.required p.rest p.body
   pub sound : Sound ps (body_scope p.required p.rest p.body no_scope) first p.body
 
 abbrev pub ProceduresMatch : List FlatProcedure → Option Procedure → Option FlatProcedure → Type 0
@@ -241,12 +242,12 @@ module _ (r : Both) where
     pub domain_signals : (w : World) (v : Value) (expected : ℕ) → Acts r.lambdas w (signal_domain_error (one r) wrong v expected) (flat_signals.signal_domain_error (other r) wrong' v expected)
     domain_signals w v expected around free z y x = s w _ _ around free z y x
 
-    pub enters : (c : Scope) (first : ℕ) (required : List ℕ) (rest : Option ℕ) (body : Form) → Sound r.lambdas (body_scope required rest body c) first body
+    pub enters : (c : Scope) (first : ℕ) (kinds : List CapturedKind) (required : List ℕ) (rest : Option ℕ) (body : Form) → Sound r.lambdas (body_scope required rest body c) first body
         → (w : World) (env : Environment) (captured : List Captured) (called : Option Called) → Matches w c env (record flat_state.no_environment { captured = captured; method = called })
         → (vs : List Value)
-        → Acts r.lambdas w (enter (one r) wrong required rest body env called vs) (flat_signals.enter (other r) wrong' (flat_procedure c first required rest body) captured called vs)
-    enters c first required rest body sound w env captured called m vs around free z y x =
-        let p : FlatProcedure = flat_procedure c first required rest body in
+        → Acts r.lambdas w (enter (one r) wrong required rest body env called vs) (flat_signals.enter (other r) wrong' (flat_procedure c first kinds required rest body) captured called vs)
+    enters c first kinds required rest body sound w env captured called m vs around free z y x =
+        let p : FlatProcedure = flat_procedure c first kinds required rest body in
         let source : Evaluated = enter (one r) wrong required rest body env called vs around z in
         subst (λ n. Sim r.lambdas w source (entered_as (other r) p wrong' captured called vs around y n (is_some (home_of_rest rest body)) (flat_nodes.nodes (flat (body_scope required rest body c) first body))))
         (sym (length-homes required body))
@@ -276,7 +277,7 @@ module _ (r : Both) where
             (enter (one r) wrong p.required p.rest p.body (record no_environment { method = called }) called vs around z)
             (flat_signals.enter (other r) wrong' f [] called vs around y))
         (sym t.is)
-        (enters no_scope t.first p.required p.rest p.body t.sound w (record no_environment { method = called }) [] called (no_scope_matches w called) vs around free z y x)
+        (enters no_scope t.first [] p.required p.rest p.body t.sound w (record no_environment { method = called }) [] called (no_scope_matches w called) vs around free z y x)
 
     pub applies : (w : World) (i : ℕ) (called : Option Called) (vs : List Value)
         → Acts r.lambdas w (apply_procedure (one r) wrong i called vs) (flat_signals.apply_procedure (other r) wrong' i called vs)
@@ -294,7 +295,7 @@ module _ (r : Both) where
             (enter (one r) wrong required rest body env None vs around entered)
             (flat_signals.with_some o (λ c d. flat_state.gives nil d) (λ q. flat_signals.enter (other r) wrong' q cs None vs) around later))
         (sym alike.there)
-        (enters alike.scope alike.first required rest body alike.sound u env cs None alike.environment vs around free entered later a)))
+        (enters alike.scope alike.first alike.kinds required rest body alike.sound u env cs None alike.environment vs around free entered later a)))
 
     pub method_applies : (w : World) (i : ℕ) (called : Called)
         → Acts r.lambdas w (apply_method (one r) wrong i called) (flat_signals.apply_method (other r) wrong' i called)

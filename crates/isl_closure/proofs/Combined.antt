@@ -70,6 +70,7 @@ module _ {ps : List FlatProcedure} where
     alike = record {
       scope = f.alike.scope;
       first = f.alike.first;
+      kinds = f.alike.kinds;
       there = f.alike.there;
       sound = f.alike.sound;
       environment = matches_later l f.alike.environment;

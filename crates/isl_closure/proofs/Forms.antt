@@ -29,7 +29,7 @@ use Rattle.isl_closure.specs.FlatState as flat_state
 use Rattle.isl_closure.specs.FlatSignals.{FlatContext, FlatTask, FlatEvaluation}
 use Rattle.isl_closure.specs.FlatSignals as flat_signals
 use Rattle.isl_closure.specs.FlatMeaning as flat_meaning
-use Rattle.isl_closure.specs.Scope.{Known, Scope, homes_of, home_of, with_bound, with_around, known_or, exit_or, method_or, flat_parts, seen, method_place_of, exit_place_of, place_of}
+use Rattle.isl_closure.specs.Scope.{Known, Scope, homes_of, home_of, with_bound, with_around, known_or, exit_or, method_or, flat_parts, kinds_of, seen, method_place_of, exit_place_of, place_of}
 use Rattle.isl_closure.specs.Flatten.{functions, functions_of_values, functions_of_body, functions_of_dynamics, functions_of_forms, flat, flat_forms, flat_clauses, flat_body, flat_bindings, flat_dynamics, flat_procedure}
 use Rattle.isl_closure.proofs.Alike.{World, Later, AreFree, Matches, VariableAt, CanBeSet, IsAround, IsInMethod, PartIsThere, Sound, SoundForms, SoundClauses, SoundBody, SoundValues, SoundDynamics, ClosureAlike, SameObject, SameFunction, ObjectsAlike, Related, Beside, twin, Sim, Continues, Follows, Acts}
 use Rattle.isl_closure.proofs.Combined.{itself, now, free_later, with_more, more_values, after_that, matches_later, at_twin, step, charges, exits_made, sooner, ends, given, on, tests, lands_on, catches, cleans, some, requests, searches}
@@ -52,7 +52,7 @@ other_number m n h e = subst T h (subst (λ i. T (m == i)) (sym e) (eqb_refl m))
 
 closure_later : {ps : List FlatProcedure} {w u : World} {required : List ℕ} {rest : Option ℕ} {body : Form} {env : Environment} {p : ℕ} {cs : List Captured} → Later w u
     → ClosureAlike ps w required rest body env p cs → ClosureAlike ps u required rest body env p cs
-closure_later l a = record { scope = a.scope; first = a.first; there = a.there; sound = a.sound; environment = matches_later l a.environment }
+closure_later l a = record { scope = a.scope; first = a.first; kinds = a.kinds; there = a.there; sound = a.sound; environment = matches_later l a.environment }
 
 -- what is spread from a list is the same on both sides
 spread_alike : (others others' : ℕ → Value → Spread) → ((i : ℕ) (d : Value) → others' i d ≡ others i d) → (seen : List ℕ) (i : ℕ) (o : Option Object)
@@ -336,6 +336,7 @@ module _ (r : Both) where
   captures_alike {w} {z} {y} s n required rest body parts t env e m x = record {
     scope = seen s parts;
     first = n + 1;
+    kinds = kinds_of s parts;
     there = t.1;
     sound = t.2;
     environment = seen_matches (matches_later x.later m) z.variables x.related.fixed y (ap (λ (q : FlatState). q.state.variables) x.is) parts t.0;

@@ -16,7 +16,7 @@ use Rattle.isl_meaning.specs.Signals.{variables}
 use Rattle.isl_meaning.specs.Standing as standing
 use Rattle.isl_meaning.specs.Subforms.{Each, forms_list, clause_list, value_list, dynamic_value_list, body_list}
 use Rattle.isl_closure.specs.declared.program.FlatProcedure.{FlatProcedure}
-use Rattle.isl_closure.specs.Scope.{Scope, no_scope, with_bound, with_around, seen}
+use Rattle.isl_closure.specs.Scope.{Scope, no_scope, with_bound, with_around, kinds_of, seen}
 use Rattle.isl_closure.specs.Flatten.{functions, functions_of_values, functions_of_body, functions_of_dynamics, functions_of_forms, functions_of_procedures, flat_procedure, flat_procedures, body_scope, inner_procedures, procedures_of_forms, procedures_of_clauses, procedures_of_body, procedures_of_values, procedures_of_dynamics, inner_of_procedures, inner_of_mains}
 use Rattle.isl_closure.proofs.Alike.{Sound, SoundForms, SoundClauses, SoundBody, SoundValues, SoundDynamics, CanBeSet, IsKnown, IsInMethod}
 use Rattle.isl_closure.proofs.Applied.{ProceduresMatch}
@@ -98,7 +98,7 @@ module _ {lambdas : List FlatProcedure} where
         )
     sounds l s n (core.lambda required rest body parts) fit h p =
         let inside : Scope = body_scope required rest body (seen s parts) in
-        let one : FlatProcedure = flat_procedure (seen s parts) (n + 1) required rest body in (
+        let one : FlatProcedure = flat_procedure (seen s parts) (n + 1) (kinds_of s parts) required rest body in (
           lambda_parts l s fit required rest body parts h,
           placed_first one (inner_procedures inside (n + 1) body) p,
           sounds (standing.with_bound (parameters required rest) (standing.seen parts l)) inside (n + 1) body

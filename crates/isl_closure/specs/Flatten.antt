@@ -9,13 +9,14 @@ use Rattle.isl_meaning.specs.Captured.{captures}
 use Rattle.isl_meaning.specs.Form as core
 use Rattle.isl_meaning.specs.Form.{Form, Forms, ClauseForms, MaybeForm, BindingForms, DynamicForms, parameters}
 use Rattle.isl_meaning.specs.Meaning.{bound_variables}
+use Rattle.isl_closure.specs.declared.place.CapturedKind.{CapturedKind}
 use Rattle.isl_closure.specs.declared.place.Home.{Home}
 use Rattle.isl_closure.specs.FlatForm.{FlatForm, literal, local, set_local, global, set_global, def_global, clauses, sequence, let_form, make_function, call, call_value, apply, prim, while_form, block, return_from, tagbody, go, catch_form, throw, unwind, dynamic_let, dynamic, set_dynamic, def_dynamic, with_handler, signal_form, continue_form, next_method, has_next, sited}
 use Rattle.isl_closure.specs.FlatForm.{FlatForms, no_form, form_and, FlatClauses, no_clause, clause_and, FlatBody, no_body, with_body}
 use Rattle.isl_closure.specs.FlatForm.{FlatBindings, no_binding, binding_and, FlatDynamics, no_dynamic, dynamic_and}
 use Rattle.isl_closure.specs.declared.program.FlatProcedure.{FlatProcedure}
 use Rattle.isl_closure.specs.declared.program.FlatProgram.{FlatProgram}
-use Rattle.isl_closure.specs.Scope.{Scope, no_scope, place_of, exit_place_of, method_place_of, home_of, homes_of, with_bound, with_around, flat_parts, seen}
+use Rattle.isl_closure.specs.Scope.{Scope, no_scope, place_of, exit_place_of, method_place_of, home_of, homes_of, with_bound, with_around, flat_parts, kinds_of, seen}
 
 -- how many functions stand in a form, those inside functions too
 abbrev mutual
@@ -144,8 +145,9 @@ abbrev pub body_scope : List ℕ → Option ℕ → Form → Scope → Scope
 body_scope required rest body s = with_bound (parameters required rest) body s
 
 -- a procedure: the functions in its body have the numbers from a first one on
-abbrev pub flat_procedure : Scope → ℕ → (required : List ℕ) → (rest : Option ℕ) → (body : Form) → FlatProcedure
-flat_procedure s n required rest body = record {
+abbrev pub flat_procedure : Scope → ℕ → List CapturedKind → (required : List ℕ) → (rest : Option ℕ) → (body : Form) → FlatProcedure
+flat_procedure s n kinds required rest body = record {
+  captured = kinds;
   required = homes_of required body;
   rest = home_of_rest rest body;
   keeps_method = captures meant.Method body;
@@ -167,7 +169,7 @@ abbrev mutual
       procedures_of_values s n bs
       ++ inner_procedures (with_bound (bound_variables bs) body s) (n + functions_of_values bs) body
   inner_procedures s n (core.lambda required rest body parts) =
-      flat_procedure (seen s parts) (n + 1) required rest body
+      flat_procedure (seen s parts) (n + 1) (kinds_of s parts) required rest body
       ∷ inner_procedures (body_scope required rest body (seen s parts)) (n + 1) body
   inner_procedures s n (core.call name fs) = procedures_of_forms s n fs
   inner_procedures s n (core.call_value fs) = procedures_of_forms s n fs
@@ -227,7 +229,7 @@ functions_of_procedures (p ∷ ps) = functions p.body + functions_of_procedures 
 -- procedures one after another, with the functions in them, and main forms
 abbrev pub flat_procedures : ℕ → List Procedure → List FlatProcedure
 flat_procedures n [] = []
-flat_procedures n (p ∷ ps) = flat_procedure no_scope n p.required p.rest p.body ∷ flat_procedures (n + functions p.body) ps
+flat_procedures n (p ∷ ps) = flat_procedure no_scope n [] p.required p.rest p.body ∷ flat_procedures (n + functions p.body) ps
 
 abbrev pub inner_of_procedures : ℕ → List Procedure → List FlatProcedure
 inner_of_procedures n [] = []

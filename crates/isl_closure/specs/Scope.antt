@@ -4,6 +4,8 @@ use Rattle.isl_meaning.specs.declared.part.Part.{Part}
 use Rattle.isl_meaning.specs.declared.part.Part.TheVariants.{Variable, Exit, Method}
 use Rattle.isl_meaning.specs.Form.{Form}
 use Rattle.isl_meaning.specs.Captured.{has_cell, sets}
+use Rattle.isl_closure.specs.declared.place.CapturedKind.{CapturedKind}
+use Rattle.isl_closure.specs.declared.place.CapturedKind.TheVariants as kind
 use Rattle.isl_closure.specs.declared.place.Home.{Home}
 use Rattle.isl_closure.specs.declared.place.Home.TheVariants as home
 use Rattle.isl_closure.specs.declared.place.VariablePlace.{VariablePlace}
@@ -94,6 +96,21 @@ flat_part s Method = part.Method (method_place_of s)
 abbrev pub flat_parts : Scope → List Part → List FlatPart
 flat_parts s [] = []
 flat_parts s (p ∷ ps) = flat_part s p ∷ flat_parts s ps
+
+abbrev pub kind_at : VariablePlace → CapturedKind
+kind_at (Slot n) = kind.Value
+kind_at (SlotCell n) = kind.Cell
+kind_at (CapturedValue n) = kind.Value
+kind_at (CapturedCell n) = kind.Cell
+
+abbrev pub kind_of : Scope → Part → CapturedKind
+kind_of s (Variable v) = kind_at (place_of s v)
+kind_of s (Exit x) = kind.Exit
+kind_of s Method = kind.Method
+
+abbrev pub kinds_of : Scope → List Part → List CapturedKind
+kinds_of s [] = []
+kinds_of s (p ∷ ps) = kind_of s p ∷ kinds_of s ps
 
 -- and by its places inside, the captured ones from a number on
 abbrev pub captured_place : VariablePlace → ℕ → VariablePlace

@@ -33,6 +33,16 @@ pub enum MethodPlace {
     Captured(usize),
 }
 
+/// What a captured thing is: the value of a variable, its cell, an exit, or the arguments and the other methods of a
+/// method.
+#[derive(Clone, Copy)]
+pub enum CapturedKind {
+    Value,
+    Cell,
+    Exit,
+    Method,
+}
+
 /// What a function captures, by its place where the function is made.
 #[derive(Clone, Copy)]
 pub enum FlatPart {

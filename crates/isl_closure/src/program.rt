@@ -1,17 +1,21 @@
 // Flat programs: procedures, functions and main forms side by side.
 
 use crate::flat_core::{FlatCore, FlatCoreList};
-use crate::place::Home;
+use crate::place::{CapturedKind, Home};
 use isl_base::{ItemList, PlaceList};
 use isl_meaning::{ClassRows, FunctionRows, GenericRows, LiteralRows};
 
 /// Where variables live.
 pub type HomeList = ItemList<Home>;
 
-/// A flat procedure: where its required variables and its rest variable live, whether a function in it captures the
+/// Kinds of captured things.
+pub type CapturedKinds = ItemList<CapturedKind>;
+
+/// A flat procedure: what its function captures, where its required variables and its rest variable live, whether a function in it captures the
 /// arguments and the other methods of its method, and its body.
 #[derive(Drop)]
 pub struct FlatProcedure {
+    pub captured: CapturedKinds,
     pub required: HomeList,
     pub rest: Option<Home>,
     pub keeps_method: bool,

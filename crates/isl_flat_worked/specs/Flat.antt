@@ -5,6 +5,7 @@ use Rattle.isl_meaning.specs.declared.primitive.Primitive.TheVariants.{Add}
 use Rattle.isl_meaning.specs.State.{Limit, unlimited}
 use Rattle.isl_meaning.specs.Values.{integer, nil}
 use Rattle.isl_meaning.specs.Meaning.{Ending, ending_of, with_value}
+use Rattle.isl_closure.specs.declared.place.CapturedKind.TheVariants.{Cell}
 use Rattle.isl_closure.specs.declared.place.VariablePlace.TheVariants.{CapturedCell}
 use Rattle.isl_closure.specs.FlatForm.{set_local, prim, sequence, local, literal, no_form, form_and}
 use Rattle.isl_closure.specs.FlatMeaning.{flat_meaning}
@@ -55,6 +56,7 @@ abbrev pub CountingFlat : Type 0
 CountingFlat =
     (flat_program counting).lambdas
     ≡ record {
+      captured = Cell ∷ [];
       required = [];
       rest = None;
       keeps_method = false;
