@@ -62,7 +62,7 @@ rest_homes : (rest : Option ℕ) (body : Form) → option_to_list (home_of_rest 
 rest_homes None body = refl
 rest_homes (Some v) body = refl
 
-all_homes : (required : List ℕ) (rest : Option ℕ) (body : Form)
+pub all_homes : (required : List ℕ) (rest : Option ℕ) (body : Form)
     → homes_of required body ++ option_to_list (home_of_rest rest body) ≡ homes_of (parameters required rest) body
 all_homes required rest body =
     ap (λ hs. homes_of required body ++ hs) (rest_homes rest body) ∙ sym (homes_append required (option_to_list rest) body)

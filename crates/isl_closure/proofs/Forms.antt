@@ -101,7 +101,7 @@ unfolding flat
 names_same names s n core.no_dynamic = refl
 names_same names s n (core.dynamic_and name f ds) = ap (λ ns. text names name ∷ ns) (names_same names s (n + functions f) ds)
 
-homes_same : (s : Scope) (n : ℕ) (body : Form) (bs : BindingForms) → flat_meaning.binding_homes (flat_bindings s n body bs) ≡ homes_of (bound_variables bs) body
+pub homes_same : (s : Scope) (n : ℕ) (body : Form) (bs : BindingForms) → flat_meaning.binding_homes (flat_bindings s n body bs) ≡ homes_of (bound_variables bs) body
 unfolding flat
 homes_same s n body core.no_binding = refl
 homes_same s n body (core.binding_and v f bs) = ap (λ hs. home_of v body ∷ hs) (homes_same s (n + functions f) body bs)

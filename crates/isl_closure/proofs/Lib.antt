@@ -12,3 +12,4 @@ pub mod Fine
 pub mod Sounds
 pub mod Start
 pub mod Law
+pub mod Stands

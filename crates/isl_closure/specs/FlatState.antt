@@ -7,6 +7,8 @@ use Rattle.isl_meaning.specs.State.{State, Surroundings, Exit, ExitKind, Landing
 use Rattle.isl_meaning.specs.State as base
 use Rattle.isl_meaning.specs.Lookup.{value_at, set_at}
 use Rattle.isl_meaning.specs.Lookup as lookup
+use Rattle.isl_closure.specs.declared.place.CapturedKind.{CapturedKind}
+use Rattle.isl_closure.specs.declared.place.CapturedKind.TheVariants as kind
 use Rattle.isl_closure.specs.declared.place.VariablePlace.{VariablePlace}
 use Rattle.isl_closure.specs.declared.place.VariablePlace.TheVariants.{Slot, SlotCell, CapturedValue, CapturedCell}
 use Rattle.isl_closure.specs.declared.place.ExitPlace.{ExitPlace}
@@ -117,6 +119,13 @@ abbrev pub captured_part : FlatEnvironment → FlatState → FlatPart → Captur
 captured_part env z (part.Variable p) = captured_variable p env z
 captured_part env z (part.Exit p) = of_exit (exit_of p env)
 captured_part env z (part.Method p) = of_method (method_of p env)
+
+-- the kind of what is captured of a variable
+abbrev pub kind_of_place : VariablePlace → CapturedKind
+kind_of_place (Slot n) = kind.Value
+kind_of_place (SlotCell n) = kind.Cell
+kind_of_place (CapturedValue n) = kind.Value
+kind_of_place (CapturedCell n) = kind.Cell
 
 -- the combinators
 

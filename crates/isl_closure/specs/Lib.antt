@@ -5,5 +5,6 @@ pub mod FlatSignals
 pub mod FlatMeaning
 pub mod Scope
 pub mod Flatten
+pub mod FlatStanding
 pub mod Law
 pub mod model

@@ -16,7 +16,7 @@ use Rattle.isl_closure.specs.declared.place.MethodPlace.{MethodPlace}
 use Rattle.isl_closure.specs.declared.place.MethodPlace.TheVariants as method_place
 use Rattle.isl_closure.specs.declared.place.FlatPart.{FlatPart}
 use Rattle.isl_closure.specs.declared.place.FlatPart.TheVariants as part
-use Rattle.isl_closure.specs.FlatState.{under}
+use Rattle.isl_closure.specs.FlatState.{under, kind_of_place}
 
 -- what is known of a variable: its place, and whether it keeps its first value, since nothing sets it
 pub record Known : Type 0 where
@@ -97,14 +97,8 @@ abbrev pub flat_parts : Scope → List Part → List FlatPart
 flat_parts s [] = []
 flat_parts s (p ∷ ps) = flat_part s p ∷ flat_parts s ps
 
-abbrev pub kind_at : VariablePlace → CapturedKind
-kind_at (Slot n) = kind.Value
-kind_at (SlotCell n) = kind.Cell
-kind_at (CapturedValue n) = kind.Value
-kind_at (CapturedCell n) = kind.Cell
-
 abbrev pub kind_of : Scope → Part → CapturedKind
-kind_of s (Variable v) = kind_at (place_of s v)
+kind_of s (Variable v) = kind_of_place (place_of s v)
 kind_of s (Exit x) = kind.Exit
 kind_of s Method = kind.Method
 
