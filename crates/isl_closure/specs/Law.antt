@@ -8,6 +8,7 @@ use Rattle.isl_meaning.specs.Facts.{is_whole}
 use Rattle.isl_meaning.specs.Meaning.{Meant, meaning}
 use Rattle.isl_closure.specs.FlatMeaning.{flat_meaning}
 use Rattle.isl_closure.specs.FlatNodes as flat_nodes
+use Rattle.isl_closure.specs.FlatStanding.{ProgramStands}
 use Rattle.isl_closure.specs.Flatten.{flat, flat_program}
 use Rattle.isl_closure.specs.Scope.{Scope}
 
@@ -27,3 +28,7 @@ LawOfClosures =
 -- the law of flat nodes: a form that is made flat, in any scope and with any first number, has as many nodes as before
 abbrev pub LawOfFlatNodes : Type 0
 LawOfFlatNodes = (s : Scope) (n : ℕ) (f : Form) → flat_nodes.nodes (flat s n f) ≡ nodes f
+
+-- the law of flat programs: what code may rest on in a whole program that is made flat
+abbrev pub LawOfFlatPrograms : Type 0
+LawOfFlatPrograms = (program : ProgramRows) → is_whole program ≡ true → ProgramStands (flat_program program)

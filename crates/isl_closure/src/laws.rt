@@ -1,6 +1,6 @@
 // What is true of all programs that are made flat, as the contracts of functions that do nothing.
 
-ghost use Rattle.isl_closure.specs.Law.{LawOfClosures, LawOfFlatNodes};
+ghost use Rattle.isl_closure.specs.Law.{LawOfClosures, LawOfFlatNodes, LawOfFlatPrograms};
 
 use isl_meaning::laws::law_names;
 
@@ -16,3 +16,12 @@ pub fn law_closures()
 pub fn law_flat_nodes()
     ensures { LawOfFlatNodes }
 {}
+
+/// The law of flat programs: in a program that is made flat each place is there and of its kind where it is named, a
+/// captured value is never set, what a function captures is of the kinds that its procedure says, and a function has a
+/// number above that of the function in which it is made.
+pub fn law_flat_programs()
+    ensures { LawOfFlatPrograms }
+{
+    law_names();
+}
