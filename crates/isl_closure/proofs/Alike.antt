@@ -1,16 +1,15 @@
 -- A run of a program beside a run of it made flat: what is alike in the two states, in the two environments and in the
 -- two stores.
-use Rattle.std.proofs.Common.{◌≡◌, ℕ, zero, suc, ◌+◌, ◌==◌, Bool, true, false, List, [], ◌∷◌, ◌++◌, refl, sym, ap, subst, ◌∙◌, ◌⊎◌, inl, inr, ⊎_elim, Option, Some, None, length, arith}
-use Rattle.std.specs.Prelude.{⊤, slice_get, slice_set, slice_index_or, if◌then◌else◌}
-use Rattle.std.proofs.lemmas.Bool.{eqb-true}
+use Rattle.std.proofs.Common.{◌≡◌, ℕ, ◌+◌, Bool, true, false, List, ◌⊎◌, Option, Some, None, length}
+use Rattle.std.specs.Prelude.{⊤, slice_get}
 use Rattle.isl_meaning.specs.declared.part.Part.{Part}
 use Rattle.isl_meaning.specs.declared.part.Part.TheVariants.{Variable, Exit, Method}
 use Rattle.isl_meaning.specs.Form.{Form, Forms, ClauseForms, MaybeForm, BindingForms, DynamicForms}
 use Rattle.isl_meaning.specs.Form as core
 use Rattle.isl_meaning.specs.Subforms.{Each}
-use Rattle.isl_meaning.specs.Values.{Value, nil}
-use Rattle.isl_meaning.specs.Objects.{Object, Environment, cons, string, vector, instance, function, closure, generic_function, class_object, input_stream, output_stream, fresh_symbol}
-use Rattle.isl_meaning.specs.State.{State, Surroundings, Landing, Outcome, Evaluated, Act}
+use Rattle.isl_meaning.specs.Values.{Value}
+use Rattle.isl_meaning.specs.Objects.{Object, Environment, function, closure}
+use Rattle.isl_meaning.specs.State.{State, Surroundings, Landing, Evaluated, Act}
 use Rattle.isl_meaning.specs.Lookup.{under_number}
 use Rattle.isl_meaning.specs.Meaning.{bound_variables}
 use Rattle.isl_closure.specs.declared.place.CapturedKind.{CapturedKind}
@@ -22,7 +21,7 @@ use Rattle.isl_closure.specs.declared.program.FlatProcedure.{FlatProcedure}
 use Rattle.isl_closure.specs.FlatState.{Captured, of_value, of_cell, FlatEnvironment, FlatState, FlatEvaluated, FlatAct, under, exit_of, method_of}
 use Rattle.isl_closure.specs.FlatState as flat
 use Rattle.isl_closure.specs.Scope.{Known, Scope, with_bound, with_around, kinds_of, seen}
-use Rattle.isl_closure.specs.Flatten.{functions, functions_of_values, functions_of_body, functions_of_dynamics, functions_of_forms, flat_procedure, body_scope}
+use Rattle.isl_closure.specs.Flatten.{functions, functions_of_values, functions_of_body, functions_of_dynamics, flat_procedure, body_scope}
 
 -- what is known of each variable of the state: the value that it keeps, or nothing
 abbrev pub World : Type 0

@@ -1,22 +1,22 @@
 -- What the primitives answer in two states that are alike.
 use Rattle.std.proofs.Common.{◌≡◌, ℕ, ◌+◌, Bool, true, false, List, [], ◌∷◌, ◌++◌, refl, sym, ap, subst, ◌∙◌, ⊎_elim, Option, Some, None, length}
-use Rattle.std.specs.Prelude.{⊤, ℤ, pos, ◌+ℤ◌, ◌-ℤ◌, ◌*ℤ◌, int_lt, int_le, not, is_some, slice_get, slice_set, slice_index_or, replicate, if◌then◌else◌, ◌==◌}
+use Rattle.std.specs.Prelude.{⊤, ℤ, pos, ◌+ℤ◌, ◌-ℤ◌, ◌*ℤ◌, is_some, slice_get, slice_set, replicate, if◌then◌else◌, ◌==◌}
 use Rattle.isl_meaning.specs.declared.primitive.Primitive.{Primitive}
 use Rattle.isl_meaning.specs.declared.primitive.Primitive.TheVariants.{Add, Subtract, Multiply, Divide, Modulo, NumberEqual, NumberNotEqual, NumberLess, NumberAtMost, NumberGreater, NumberAtLeast, Same, IsNull, IsCons, IsInteger, IsSymbol, IsCharacter, IsString, IsVector, IsFunction, IsGeneric, Cons, Car, Cdr, SetCar, SetCdr, MakeString, MakeVector, StringLength, VectorLength, CharAt, VectorRef, SetCharAt, SetVectorRef, CharCode, CodeChar, SymbolName, SymbolSerial, Gensym, ClassOf, ClassName, IsSubclass, IsInstance, Allocate, SlotCount, SlotPlace, SlotRef, SlotSet, SlotBound, SlotInitargs, SlotInitform, Continuable, StandardInput, StandardOutput, PutChar, IsFreshLine, GetByte, PeekByte}
 use Rattle.isl_meaning.specs.declared.program.ProgramRows.{ProgramRows}
 use Rattle.isl_meaning.specs.declared.program.SlotRow.{SlotRow}
 use Rattle.isl_meaning.specs.Form.{Form}
-use Rattle.isl_meaning.specs.Values.{Value, integer, character, symbol, nil, object, truth, named, unnamed, SymbolValue, in_range, int_equal}
+use Rattle.isl_meaning.specs.Values.{Value, integer, character, symbol, nil, object, truth, named, unnamed, in_range, int_equal}
 use Rattle.isl_meaning.specs.Objects.{Object, Environment, cons, string, vector, instance, function, closure, fresh_symbol, serious_condition_class}
 use Rattle.isl_meaning.specs.State.{State, charged, changed}
 use Rattle.isl_meaning.specs.Lookup.{passed, place_in}
 use Rattle.isl_meaning.specs.Classes.{fetch, class_of, class_of_object, precedence, slots, is_below, is_condition}
 use Rattle.isl_meaning.specs.Layout.{class_value}
-use Rattle.isl_meaning.specs.Primitives.{Answer, result, makes, makes_symbol, fails, domain_error, needs, as_integer, as_character, as_cons, as_string, as_vector, as_class, as_instance, as_stream, as_symbol, fresh_in, Spelt, is_function, is_generic, integer_result, floor_quotient, floor_remainder, division, index_of, length_of, byte_of, change, other_bytes, first_byte, is_fresh_line, can_be_made, is_slot, slot_place, slot_value, a_slot, of_none, of_one, of_two, of_three, of_integers, primitive}
+use Rattle.isl_meaning.specs.Primitives.{Answer, result, makes, makes_symbol, fails, domain_error, needs, as_integer, as_character, as_cons, as_string, as_vector, as_class, as_instance, as_stream, as_symbol, fresh_in, is_function, is_generic, integer_result, floor_quotient, floor_remainder, division, index_of, length_of, byte_of, change, other_bytes, first_byte, is_fresh_line, can_be_made, is_slot, slot_place, slot_value, a_slot, of_none, of_one, of_two, of_three, of_integers, primitive}
 use Rattle.isl_closure.specs.declared.program.FlatProcedure.{FlatProcedure}
 use Rattle.isl_closure.specs.FlatState.{Captured}
-use Rattle.isl_closure.proofs.Alike.{World, SameObject, SameFunction, ObjectsAlike, Related}
-use Rattle.isl_closure.proofs.Combined.{IsDatum, changed_related, stored_related}
+use Rattle.isl_closure.proofs.Alike.{World, SameObject, SameFunction, Related}
+use Rattle.isl_closure.proofs.Combined.{IsDatum, changed_related}
 
 -- a program without its bodies
 abbrev pub bare : ProgramRows → ProgramRows
@@ -320,8 +320,8 @@ module _ (ps : List FlatProcedure) (w : World) (cs : List (ℕ × List Captured)
   row names program SlotInitform = two_alike (λ v u z y t. slot_alike v u z y t (λ i place. at t _))
   row names program Continuable = one_alike (λ v z y t.
       subst (λ c. AnswersAlike
-          (if is_condition program z v then needs (as_instance (fetch z v)) (domain_error v 17 z) (λ i. result i.2 z) else domain_error v 18 z)
-          (if c then needs (as_instance (fetch y v)) (domain_error v 17 y) (λ i. result i.2 y) else domain_error v 18 y))
+      (if is_condition program z v then needs (as_instance (fetch z v)) (domain_error v 17 z) (λ i. result i.2 z) else domain_error v 18 z)
+      (if c then needs (as_instance (fetch y v)) (domain_error v 17 y) (λ i. result i.2 y) else domain_error v 18 y))
       (sym (condition_same t program v))
       (either (is_condition program z v) (needed (as_instance (fetch z v)) _ (instance_same t v) (wrong t _ _) (λ i. at t _)) (wrong t _ _)))
   row names program StandardInput = none_alike (λ z y t. at t _)

@@ -1,9 +1,8 @@
 -- Applications, signals and transfers of a program and of it made flat, over the meanings one level below on both sides.
-use Rattle.std.proofs.Common.{◌≡◌, ℕ, zero, suc, ◌+◌, ◌≤◌, ◌==◌, Bool, true, false, List, [], ◌∷◌, ◌++◌, refl, sym, ap, subst, ◌∙◌, ◌⊎◌, inl, inr, ⊎_elim, Option, Some, None, length, map, take, drop, arith, length-append, min}
+use Rattle.std.proofs.Common.{◌≡◌, ℕ, ◌+◌, ◌≤◌, ◌==◌, Bool, true, List, [], ◌∷◌, ◌++◌, refl, sym, ap, subst, ◌∙◌, ⊎_elim, Option, Some, None, length, map, take, drop, arith, length-append}
 use Rattle.std.proofs.lemmas.List.{length-take-le}
-use Rattle.std.specs.Prelude.{⊤, is_some, not, slice_get, option_to_list, nat_le, nat_eq, if◌then◌else◌}
+use Rattle.std.specs.Prelude.{⊤, is_some, slice_get, option_to_list, nat_le, if◌then◌else◌}
 use Rattle.std.proofs.lemmas.Bool.{eqb-true, leb-true}
-use Rattle.isl_base.specs.declared.place.Place.{Place}
 use Rattle.isl_meaning.specs.declared.program.ProgramRows.{ProgramRows}
 use Rattle.isl_meaning.specs.declared.program.Procedure.{Procedure}
 use Rattle.isl_meaning.specs.declared.program.GenericRow.{GenericRow}
@@ -14,21 +13,18 @@ use Rattle.isl_meaning.specs.declared.part.Part.TheVariants.{Method}
 use Rattle.isl_meaning.specs.Form.{Form, Forms, parameters}
 use Rattle.isl_meaning.specs.Counts as core_counts
 use Rattle.isl_meaning.specs.Counts.{application_words}
-use Rattle.isl_meaning.specs.Captured.{captures, has_cell, sets}
+use Rattle.isl_meaning.specs.Captured.{captures}
 use Rattle.isl_meaning.specs.Values.{Value, integer, character, symbol, named, nil, object}
-use Rattle.isl_meaning.specs.Objects.{Chain, Called, Environment, no_environment, Object, cons, string, vector, instance, function, closure, generic_function, class_object, input_stream, output_stream, fresh_symbol, count_up, control_error_class, program_error_class, undefined_function_class}
-use Rattle.isl_meaning.specs.State.{State, gives, Surroundings, Exit, signal_exit, Landing, at_segment, at_site, exit, Evaluated, leaves, Act, inside, exit_made, Limit, request, charged, with_words, changed}
-use Rattle.isl_meaning.specs.Lookup.{text, under_number, numbered, with_variables, with_values}
-use Rattle.isl_meaning.specs.Classes.{class_of, fetch, chain}
-use Rattle.isl_meaning.specs.Signals.{Context, Task, nothing, form, turn, methods, Evaluation, Signals, takes, marked, marked_at, descend, make_list, gathered, with_cells, with_record, enter, apply_procedure, apply_closure, apply_method, apply_each, run_primary, run_around, run_chain, with_some, undefined_function, signal_domain_error, apply_chain, apply_generic_row, apply_generic, apply_object, apply_value, apply_callee, apply_row, new_condition, signal_under, signal, search, to_exit, transfer, throw_to, continue_with, answered, is_catch, is_signal, is_continuable}
+use Rattle.isl_meaning.specs.Objects.{Chain, Called, Environment, no_environment, Object, cons, string, vector, instance, function, closure, generic_function, class_object, input_stream, output_stream, fresh_symbol, control_error_class, program_error_class, undefined_function_class}
+use Rattle.isl_meaning.specs.State.{State, gives, Surroundings, Exit, signal_exit, Landing, at_segment, at_site, exit, Evaluated, Act, inside, Limit, charged}
+use Rattle.isl_meaning.specs.Lookup.{text}
+use Rattle.isl_meaning.specs.Classes.{class_of, chain}
+use Rattle.isl_meaning.specs.Signals.{Context, Task, nothing, form, turn, methods, Evaluation, Signals, takes, marked, marked_at, descend, make_list, gathered, with_record, enter, apply_procedure, apply_closure, apply_method, apply_each, run_primary, run_around, run_chain, with_some, undefined_function, signal_domain_error, apply_chain, apply_generic_row, apply_generic, apply_object, apply_value, apply_callee, apply_row, new_condition, signal_under, signal, to_exit, transfer, throw_to, continue_with, answered, is_catch, is_signal, is_continuable}
 use Rattle.isl_meaning.specs.Primitives.{Answer, result, makes, makes_symbol, fails, domain_error}
 use Rattle.isl_meaning.specs.Meaning.{context_of}
-use Rattle.isl_closure.specs.declared.place.Home.{Home}
-use Rattle.isl_closure.specs.declared.place.Home.TheVariants as home
 use Rattle.isl_closure.specs.declared.place.CapturedKind.{CapturedKind}
-use Rattle.isl_closure.specs.declared.place.ExitPlace.{ExitPlace}
 use Rattle.isl_closure.specs.declared.place.MethodPlace.TheVariants as method_place
-use Rattle.isl_closure.specs.FlatForm.{FlatForm, FlatForms}
+use Rattle.isl_closure.specs.FlatForm.{FlatForm}
 use Rattle.isl_closure.specs.FlatNodes as flat_nodes
 use Rattle.isl_closure.specs.declared.program.FlatProcedure.{FlatProcedure}
 use Rattle.isl_closure.specs.declared.program.FlatProgram.{FlatProgram}
@@ -38,10 +34,10 @@ use Rattle.isl_closure.specs.FlatState as flat_state
 use Rattle.isl_closure.specs.FlatSignals as flat_signals
 use Rattle.isl_closure.specs.FlatSignals.{FlatContext, FlatTask, FlatEvaluation, FlatSignals}
 use Rattle.isl_closure.specs.FlatMeaning as flat_meaning
-use Rattle.isl_closure.specs.Scope.{Known, Scope, home_of, homes_of, slot_at, in_slots, with_bound, no_scope}
+use Rattle.isl_closure.specs.Scope.{Scope, home_of, homes_of, no_scope}
 use Rattle.isl_closure.specs.Flatten.{flat, flat_forms, flat_procedure, body_scope, home_of_rest}
-use Rattle.isl_closure.proofs.Alike.{World, Later, AreFree, Matches, Sound, SoundForms, ClosureAlike, SameObject, SameFunction, ObjectsAlike, Related, Beside, twin, Sim, Continues, Follows, Acts, Lands}
-use Rattle.isl_closure.proofs.Combined.{itself, free_later, IsDatum, at_twin, step, charges, exits_made, sooner, ends, given, on, tests, chosen, catches, some, requests, made, framed, searches, one_changed, more_stored, more_values}
+use Rattle.isl_closure.proofs.Alike.{World, Later, AreFree, Matches, Sound, SoundForms, ClosureAlike, SameObject, SameFunction, Beside, twin, Sim, Continues, Follows, Acts}
+use Rattle.isl_closure.proofs.Combined.{itself, free_later, at_twin, step, charges, exits_made, sooner, ends, given, on, tests, chosen, catches, requests, made, framed, searches, one_changed}
 use Rattle.isl_closure.proofs.Environments.{binds, length-homes}
 use Rattle.isl_closure.proofs.Nodes.{nodes_same}
 use Rattle.isl_closure.proofs.Answers.{bare, cons_datum, instance_datum, symbol_datum, class_same, Twins, AnswersAlike, moved, state_of, MakesDatum}
@@ -140,7 +136,11 @@ twins_of x = record { store = x.store; is = ap (λ (q : FlatState). q.state) x.i
 of_twins : {ps : List FlatProcedure} {w u : World} {cs : List (ℕ × List Captured)} {z q : State} → Later w u → Twins ps u cs z q
     → (y : FlatState) → y.captured ≡ cs → Beside ps w z (record y { state = q })
 of_twins {ps} {w} {u} {cs} {z} {q} l t y e = record {
-  world = u; later = l; store = t.store; captured = cs; related = t.related;
+  world = u;
+  later = l;
+  store = t.store;
+  captured = cs;
+  related = t.related;
   is = ap (λ (x : State). record y { state = x }) t.is ∙ ap (λ c. record { state = record z { store = t.store }; captured = c }) e;
 }
 
@@ -267,15 +267,15 @@ module _ (r : Both) where
 
     procedure_enters : (o : Option Procedure) (q : Option FlatProcedure) → ProceduresMatch r.lambdas o q → (w : World) (called : Option Called) (vs : List Value)
         → Acts r.lambdas w
-            (with_some o (λ a z. gives nil z) (λ p. enter (one r) wrong p.required p.rest p.body (record no_environment { method = called }) called vs))
-            (flat_signals.with_some q (λ a y. flat_state.gives nil y) (λ p. flat_signals.enter (other r) wrong' p [] called vs))
+        (with_some o (λ a z. gives nil z) (λ p. enter (one r) wrong p.required p.rest p.body (record no_environment { method = called }) called vs))
+        (flat_signals.with_some q (λ a y. flat_state.gives nil y) (λ p. flat_signals.enter (other r) wrong' p [] called vs))
     procedure_enters None None t w called vs around free z y x = given nil x
     procedure_enters None (Some q) t w called vs around free z y x = absurd t
     procedure_enters (Some p) None t w called vs around free z y x = absurd t
     procedure_enters (Some p) (Some q) t w called vs around free z y x =
         subst (λ (f : FlatProcedure). Sim r.lambdas w
-            (enter (one r) wrong p.required p.rest p.body (record no_environment { method = called }) called vs around z)
-            (flat_signals.enter (other r) wrong' f [] called vs around y))
+        (enter (one r) wrong p.required p.rest p.body (record no_environment { method = called }) called vs around z)
+        (flat_signals.enter (other r) wrong' f [] called vs around y))
         (sym t.is)
         (enters no_scope t.first [] p.required p.rest p.body t.sound w (record no_environment { method = called }) [] called (no_scope_matches w called) vs around free z y x)
 
@@ -292,8 +292,8 @@ module _ (r : Both) where
     function_applies u required rest body env p cs alike w l vs around free z y x =
         sooner l (descends around free z y x (λ entered later a.
         subst (λ (o : Option FlatProcedure). Sim r.lambdas u
-            (enter (one r) wrong required rest body env None vs around entered)
-            (flat_signals.with_some o (λ c d. flat_state.gives nil d) (λ q. flat_signals.enter (other r) wrong' q cs None vs) around later))
+        (enter (one r) wrong required rest body env None vs around entered)
+        (flat_signals.with_some o (λ c d. flat_state.gives nil d) (λ q. flat_signals.enter (other r) wrong' q cs None vs) around later))
         (sym alike.there)
         (enters alike.scope alike.first alike.kinds required rest body alike.sound u env cs None alike.environment vs around free entered later a)))
 
@@ -343,12 +343,12 @@ module _ (r : Both) where
     generic_row_applies w (Some g) vs around free z y x =
         tests (takes g.required g.rest (length vs))
         (subst (λ cs. Sim r.lambdas w
-            (apply_chain (one r) wrong g (chain r.program g (map (class_of z) (take g.required vs))) vs around z)
-            (flat_signals.apply_chain (other r) wrong' g (chain (bare r.program) g cs) vs around y))
+        (apply_chain (one r) wrong g (chain r.program g (map (class_of z) (take g.required vs))) vs around z)
+        (flat_signals.apply_chain (other r) wrong' g (chain (bare r.program) g cs) vs around y))
         (sym (classes_same x (take g.required vs)))
         (subst (λ o. Sim r.lambdas w
-            (apply_chain (one r) wrong g (chain r.program g (map (class_of z) (take g.required vs))) vs around z)
-            (flat_signals.apply_chain (other r) wrong' g o vs around y))
+        (apply_chain (one r) wrong g (chain r.program g (map (class_of z) (take g.required vs))) vs around z)
+        (flat_signals.apply_chain (other r) wrong' g o vs around y))
         (sym (chain_same r.program g (map (class_of z) (take g.required vs))))
         (chain_applies w g (chain r.program g (map (class_of z) (take g.required vs))) vs around free z y x)))
         (s w program_error_class [] around free z y x)
@@ -388,22 +388,22 @@ module _ (r : Both) where
         ⊎_elim
         (λ (e : SameObject r.lambdas (slice_get z.store i) (slice_get x.store i) (under i x.captured)).
         subst (λ o. Sim r.lambdas w
-            (apply_object (one r) wrong (slice_get z.store i) (object i) vs around z)
-            (flat_signals.apply_object (other r) wrong' o (under i x.captured) (object i) vs around now))
+        (apply_object (one r) wrong (slice_get z.store i) (object i) vs around z)
+        (flat_signals.apply_object (other r) wrong' o (under i x.captured) (object i) vs around now))
         (sym e.same)
         (object_applies w (slice_get z.store i) (under i x.captured) e.plain e.bare (object i) vs around free z now t))
         (λ (e : SameFunction r.lambdas x.world (slice_get z.store i) (slice_get x.store i) (under i x.captured)).
         subst (λ o. Sim r.lambdas w
-            (apply_object (one r) wrong o (object i) vs around z)
-            (flat_signals.apply_object (other r) wrong' (slice_get x.store i) (under i x.captured) (object i) vs around now))
+        (apply_object (one r) wrong o (object i) vs around z)
+        (flat_signals.apply_object (other r) wrong' (slice_get x.store i) (under i x.captured) (object i) vs around now))
         (sym e.one)
         (subst (λ o. Sim r.lambdas w
-            (apply_closure (one r) wrong e.required e.rest e.body e.env vs around z)
-            (flat_signals.apply_object (other r) wrong' o (under i x.captured) (object i) vs around now))
+        (apply_closure (one r) wrong e.required e.rest e.body e.env vs around z)
+        (flat_signals.apply_object (other r) wrong' o (under i x.captured) (object i) vs around now))
         (sym e.other)
         (subst (λ o. Sim r.lambdas w
-            (apply_closure (one r) wrong e.required e.rest e.body e.env vs around z)
-            (flat_signals.apply_object (other r) wrong' (Some (function e.procedure)) o (object i) vs around now))
+        (apply_closure (one r) wrong e.required e.rest e.body e.env vs around z)
+        (flat_signals.apply_object (other r) wrong' (Some (function e.procedure)) o (object i) vs around now))
         (sym e.under)
         (function_applies x.world e.required e.rest e.body e.env e.procedure e.captured e.alike w x.later vs around (free_later x.later around.bindings free) z now (here t)))))
         (x.related.objects i))
@@ -458,7 +458,7 @@ module _ (r : Both) where
       made r.limit size besides o d a _ (of_twins l t y e) (λ v after later g. given v g)
   answers_as w u cs l (makes_symbol a) q t d around free z y e =
       subst (λ n. Sim r.lambdas w (answered (one r) (makes_symbol a) around z)
-          (flat_state.make r.limit 2 0 (fresh_symbol n) (record y { state = q }) (λ v after. flat_state.gives v (flat_state.on_state (λ (x : State). record x { symbols = x.symbols + 1 }) after))))
+      (flat_state.make r.limit 2 0 (fresh_symbol n) (record y { state = q }) (λ v after. flat_state.gives v (flat_state.on_state (λ (x : State). record x { symbols = x.symbols + 1 }) after))))
       (sym (ap (λ (x : State). x.symbols) t.is))
       (made r.limit 2 0 (fresh_symbol a.symbols) (symbol_datum a.symbols) a _ (of_twins l t y e)
       (λ v after later g. given v (step (λ (x : State). record x { symbols = x.symbols + 1 }) g (λ x. refl) (λ x. refl) (λ x os. refl))))

@@ -1,12 +1,11 @@
 -- Two evaluations that end alike: one lemma for each combinator.
-use Rattle.std.proofs.Common.{◌≡◌, ℕ, zero, suc, ◌+◌, ◌==◌, Bool, true, false, T, List, [], ◌∷◌, ◌++◌, refl, sym, ap, subst, ◌∙◌, ◌⊎◌, inl, inr, ⊎_elim, Option, Some, None, length, arith, length-append}
-use Rattle.std.proofs.Math.Dec.{eqb_refl}
-use Rattle.std.specs.Prelude.{⊤, slice_get, slice_set, if◌then◌else◌}
+use Rattle.std.proofs.Common.{◌≡◌, ℕ, ◌+◌, ◌==◌, Bool, true, false, List, [], ◌∷◌, ◌++◌, refl, sym, ap, subst, ◌∙◌, inl, inr, ⊎_elim, Option, Some, None, length, length-append}
+use Rattle.std.specs.Prelude.{slice_get, slice_set, if◌then◌else◌}
 use Rattle.isl_meaning.specs.Form.{Form}
 use Rattle.isl_meaning.specs.Subforms.{Each}
-use Rattle.isl_meaning.specs.Values.{Value, nil, object}
-use Rattle.isl_meaning.specs.Objects.{Object, Environment, cons, string, vector, instance, function, closure, fresh_symbol}
-use Rattle.isl_meaning.specs.State.{State, Surroundings, Landing, Outcome, value, exit, full, more, Evaluated, gives, leaves, Act, go_on, go_on_from, landed, landed_from, caught, cleaned, cleaned_from, exits_from, Limit, exit_made, has_room, room_left, request, with_words, charged, make, stored, changed, with_stack, in_frame}
+use Rattle.isl_meaning.specs.Values.{Value, object}
+use Rattle.isl_meaning.specs.Objects.{Object, Environment, function, closure}
+use Rattle.isl_meaning.specs.State.{State, Surroundings, Landing, Outcome, value, exit, full, more, Evaluated, gives, Act, go_on, go_on_from, landed, landed_from, caught, cleaned, cleaned_from, exits_from, Limit, exit_made, has_room, room_left, request, with_words, charged, make, stored, changed, with_stack, in_frame}
 use Rattle.isl_meaning.specs.Lookup.{under_number, with_values}
 use Rattle.isl_meaning.specs.Signals.{with_some, search}
 use Rattle.isl_closure.specs.declared.place.VariablePlace.{VariablePlace}
@@ -16,7 +15,7 @@ use Rattle.isl_closure.specs.FlatState.{Captured, FlatEnvironment, FlatState, Fl
 use Rattle.isl_closure.specs.FlatState as flat
 use Rattle.isl_closure.specs.FlatSignals as flat_signals
 use Rattle.isl_closure.specs.Scope.{Known, Scope}
-use Rattle.isl_closure.proofs.Alike.{World, Later, AreFree, Holds, PlaceAt, VariableAt, Matches, ClosureAlike, SameObject, SameFunction, ObjectsAlike, Related, Beside, twin, Sim, Continues, Follows, Acts, Lands}
+use Rattle.isl_closure.proofs.Alike.{World, Later, AreFree, Holds, PlaceAt, VariableAt, Matches, SameObject, ObjectsAlike, Related, Beside, twin, Sim, Continues, Follows, Acts, Lands}
 use Rattle.isl_closure.proofs.Lists.{pushed, changed_both, length-changed, in_front, behind, IsBehind, of_either}
 
 -- later worlds
@@ -65,8 +64,15 @@ pub record IsDatum (o : Object) : Type 0 where
 module _ {ps : List FlatProcedure} where
   pub objects_later : {w u : World} {o o' : Option Object} {t : Option (List Captured)} → Later w u → ObjectsAlike ps w o o' t → ObjectsAlike ps u o o' t
   objects_later l x = ⊎_elim (λ s. inl s) (λ f. inr (record {
-    required = f.required; rest = f.rest; body = f.body; env = f.env; procedure = f.procedure; captured = f.captured;
-    one = f.one; other = f.other; under = f.under;
+    required = f.required;
+    rest = f.rest;
+    body = f.body;
+    env = f.env;
+    procedure = f.procedure;
+    captured = f.captured;
+    one = f.one;
+    other = f.other;
+    under = f.under;
     alike = record {
       scope = f.alike.scope;
       first = f.alike.first;
@@ -81,7 +87,12 @@ module _ {ps : List FlatProcedure} where
   pub at_twin : {w : World} {z : State} {y : FlatState} (P : FlatState → Type 0) (b : Beside ps w z y)
       → (Beside ps w z (twin ps z b.store b.captured) → P (twin ps z b.store b.captured)) → P y
   at_twin P b h = subst P (sym b.is) (h (record {
-    world = b.world; later = b.later; store = b.store; captured = b.captured; related = b.related; is = refl;
+    world = b.world;
+    later = b.later;
+    store = b.store;
+    captured = b.captured;
+    related = b.related;
+    is = refl;
   }))
 
   -- a step that changes neither variables nor store
@@ -218,7 +229,10 @@ module _ {ps : List FlatProcedure} where
   pub more_stored : {w : World} {z : State} {y : FlatState} (o : Object) → IsDatum o → Beside ps w z y
       → Beside ps w (stored o z) (flat.on_state (λ x. stored o x) y)
   more_stored {w} {z} {y} o d b = record {
-    world = b.world; later = b.later; store = b.store ++ o ∷ []; captured = b.captured;
+    world = b.world;
+    later = b.later;
+    store = b.store ++ o ∷ [];
+    captured = b.captured;
     related = stored_related o d b.related;
     is = ap (λ (x : FlatState). flat.on_state (λ x. stored o x) x) b.is;
   }
@@ -237,7 +251,10 @@ module _ {ps : List FlatProcedure} where
   pub one_changed : {w : World} {z : State} {y : FlatState} (i : ℕ) (o : Object) → IsDatum o → Beside ps w z y
       → Beside ps w (changed i o z) (flat.on_state (λ x. changed i o x) y)
   one_changed i o d b = record {
-    world = b.world; later = b.later; store = slice_set b.store i o; captured = b.captured;
+    world = b.world;
+    later = b.later;
+    store = slice_set b.store i o;
+    captured = b.captured;
     related = changed_related i o d b.related;
     is = ap (λ (x : FlatState). flat.on_state (λ x. changed i o x) x) b.is;
   }
@@ -248,8 +265,8 @@ module _ {ps : List FlatProcedure} where
   made {w} limit size besides o d z y b {next} {next'} c =
       requests limit size 0 z y b (λ entered later a.
       subst (λ n. Sim ps w
-          (next (object (length entered.store)) (stored o (charged (size + besides) entered)))
-          (next' (object n) (flat.on_state (λ x. stored o (charged (size + besides) x)) later)))
+      (next (object (length entered.store)) (stored o (charged (size + besides) entered)))
+      (next' (object n) (flat.on_state (λ x. stored o (charged (size + besides) x)) later)))
       (sym (ap (λ (x : FlatState). length x.state.store) a.is ∙ a.related.lengths))
       (c (object (length entered.store)) (stored o (charged (size + besides) entered)) _
       (more_stored o d (charges (size + besides) a))))

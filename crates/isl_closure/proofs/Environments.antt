@@ -1,8 +1,8 @@
 -- Environments that match: with new variables, with a new exit, and those of functions.
-use Rattle.std.proofs.Common.{◌≡◌, ℕ, zero, suc, ◌+◌, ◌==◌, Bool, true, false, List, [], ◌∷◌, ◌++◌, refl, sym, ap, subst, ◌∙◌, ◌⊎◌, inl, inr, ⊎_elim, Option, Some, None, length, map, arith, length-append}
+use Rattle.std.proofs.Common.{◌≡◌, ℕ, zero, suc, ◌+◌, ◌==◌, Bool, true, false, List, [], ◌∷◌, ◌++◌, refl, sym, ap, subst, ◌∙◌, Option, Some, None, length, map, arith, length-append}
 use Rattle.std.proofs.lemmas.Bool.{eqb-true}
 use Rattle.std.proofs.lemmas.Option.{get_or_from_slice_get}
-use Rattle.std.specs.Prelude.{not, slice_get, slice_index_or, option_to_list, if◌then◌else◌}
+use Rattle.std.specs.Prelude.{not, slice_get, slice_index_or, if◌then◌else◌}
 use Rattle.isl_meaning.specs.declared.part.Part.{Part}
 use Rattle.isl_meaning.specs.declared.part.Part.TheVariants.{Variable, Exit, Method}
 use Rattle.isl_meaning.specs.Form.{Form}
@@ -27,9 +27,9 @@ use Rattle.isl_closure.specs.FlatState as flat_state
 use Rattle.isl_closure.specs.FlatSignals as flat_signals
 use Rattle.isl_closure.specs.FlatMeaning as flat_meaning
 use Rattle.isl_closure.specs.Scope.{Known, Scope, home_of, homes_of, slot_at, in_slots, with_bound, with_around, known_or, known_of, exit_or, method_or, flat_part, flat_parts, captured_place, captured_known, captured_variables, captured_exits, captured_method, seen}
-use Rattle.isl_closure.proofs.Alike.{World, Later, AreFree, Holds, PlaceAt, VariableAt, ExitAt, Matches, KeepsValue, CanBeCaptured, IsAround, IsInMethod, PartIsThere, Related, Beside, twin, Sim, Follows, Acts}
+use Rattle.isl_closure.proofs.Alike.{World, Later, AreFree, Holds, PlaceAt, VariableAt, ExitAt, Matches, KeepsValue, PartIsThere, Beside, twin, Sim, Follows, Acts}
 use Rattle.isl_closure.proofs.Lists.{in_front, behind, length-changed, other_place}
-use Rattle.isl_closure.proofs.Combined.{with_more, after_that, free_later, matches_later, at_twin, charges, sooner, tests, requests, more_values}
+use Rattle.isl_closure.proofs.Combined.{with_more, after_that, free_later, matches_later, at_twin, charges, sooner, requests, more_values}
 
 -- what is known of new variables with these values: those that nothing sets keep theirs
 abbrev pub kept : List ℕ → Form → List Value → World
@@ -166,7 +166,7 @@ bound_matches : {w : World} {s : Scope} {env : Environment} {e : FlatEnvironment
     → (vs : List ℕ) (body : Form) (ws : List Value) → length ws ≡ length vs → (u : World) (i : ℕ) → length u ≡ i → Later w u
     → (variables : List (ℕ × ℕ)) → variables ≡ numbered vs i ++ env.variables
     → Matches (u ++ kept vs body ws) (with_bound vs body s) (record env { variables = variables })
-        (record e { slots = e.slots ++ count_up i (length vs) })
+    (record e { slots = e.slots ++ count_up i (length vs) })
 bound_matches {w} {s} {env} {e} m vs body ws len u i count later variables is =
     let l : Later w (u ++ kept vs body ws) = after_that later (with_more u (kept vs body ws)) in
     let more : FlatEnvironment = record e { slots = e.slots ++ count_up i (length vs) } in record {
@@ -327,11 +327,11 @@ module _ {ps : List FlatProcedure} where
     where
       by : (h : Bool)
           → Sim ps w (request limit 1 0 z (λ entered. with_cells limit vs body (charged 1 entered) next))
-              (flat_signals.with_cells limit (home.Cell ∷ homes_of vs body) y next')
+          (flat_signals.with_cells limit (home.Cell ∷ homes_of vs body) y next')
           → Sim ps w (with_cells limit vs body z next) (flat_signals.with_cells limit (homes_of vs body) y next')
           → Sim ps w
-              (if h then request limit 1 0 z (λ entered. with_cells limit vs body (charged 1 entered) next) else with_cells limit vs body z next)
-              (flat_signals.with_cells limit ((if h then home.Cell else home.Slot) ∷ homes_of vs body) y next')
+          (if h then request limit 1 0 z (λ entered. with_cells limit vs body (charged 1 entered) next) else with_cells limit vs body z next)
+          (flat_signals.with_cells limit ((if h then home.Cell else home.Slot) ∷ homes_of vs body) y next')
       by true one other = one
       by false one other = other
 
@@ -343,16 +343,16 @@ module _ {ps : List FlatProcedure} where
       → ((u : World) (inner : Environment) (inner' : FlatEnvironment) → Matches u (with_bound vs body s) inner inner' → Acts ps u (run inner) (run' inner'))
       → (around : Surroundings) → AreFree w around → (z : State) (y : FlatState) → Beside ps w z y
       → Sim ps w (with_cells limit vs body z (λ ready. run (with_variables vs ready env) around (with_values ws ready)))
-          (flat_signals.with_cells limit hs y (λ ready. run' (flat_signals.with_slots hs ready e) around (flat_state.with_values ws ready)))
+      (flat_signals.with_cells limit hs y (λ ready. run' (flat_signals.with_slots hs ready e) around (flat_state.with_values ws ready)))
   binds {w} limit {s} {env} {e} m vs body hs same ws len {run} {run'} r around free z y b =
       subst (λ gs. Sim ps w (with_cells limit vs body z (λ ready. run (with_variables vs ready env) around (with_values ws ready)))
-          (flat_signals.with_cells limit gs y (λ ready. run' (flat_signals.with_slots gs ready e) around (flat_state.with_values ws ready))))
+      (flat_signals.with_cells limit gs y (λ ready. run' (flat_signals.with_slots gs ready e) around (flat_state.with_values ws ready))))
       (sym same)
       (cells limit vs body z y b (λ ready after a.
       at_twin (λ now. Sim ps w (run (with_variables vs ready env) around (with_values ws ready))
-          (run' (flat_signals.with_slots (homes_of vs body) now e) around (flat_state.with_values ws now))) a (λ t.
+      (run' (flat_signals.with_slots (homes_of vs body) now e) around (flat_state.with_values ws now))) a (λ t.
       subst (λ n. Sim ps w (run (with_variables vs ready env) around (with_values ws ready))
-          (run' (record e { slots = e.slots ++ count_up (length ready.variables) n }) around (flat_state.with_values ws (twin ps ready a.store a.captured))))
+      (run' (record e { slots = e.slots ++ count_up (length ready.variables) n }) around (flat_state.with_values ws (twin ps ready a.store a.captured))))
       (sym (length-homes vs body))
       (sooner (after_that t.later (with_more t.world (kept vs body ws)))
       (r (t.world ++ kept vs body ws) _ _
@@ -378,7 +378,10 @@ module _ {ps : List FlatProcedure} where
   pub variable_set : {w : World} {z : State} {y : FlatState} (i : ℕ) (v : Value) → slice_get w i ≡ Some None → Beside ps w z y
       → Beside ps w (set_at (Some i) v z) (flat_state.on_state (λ x. set_at (Some i) v x) y)
   variable_set {w} {z} {y} i v h b = record {
-    world = b.world; later = b.later; store = b.store; captured = b.captured;
+    world = b.world;
+    later = b.later;
+    store = b.store;
+    captured = b.captured;
     related = record {
       count = b.related.count ∙ sym (length-changed z.variables i v);
       fixed = λ j u g. other_place z.variables i j v

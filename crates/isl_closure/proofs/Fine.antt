@@ -1,14 +1,13 @@
 -- Forms that stand in a scope, and what is known of the variables there: what holds of a form holds of the forms right
 -- inside it.
-use Rattle.std.proofs.Common.{◌≡◌, ℕ, suc, ◌+◌, ◌==◌, Bool, true, false, not, ◌&&◌, ◌||◌, List, [], ◌∷◌, ◌++◌, refl, sym, ap, subst, ◌∙◌, Option, Some, None, length, map, append-nil}
-use Rattle.std.specs.Prelude.{⊤, filter, if◌then◌else◌}
+use Rattle.std.proofs.Common.{◌≡◌, ℕ, ◌+◌, ◌==◌, Bool, true, false, not, ◌&&◌, ◌||◌, List, [], ◌∷◌, ◌++◌, refl, sym, ap, subst, ◌∙◌, Option, Some, None, map, append-nil}
+use Rattle.std.specs.Prelude.{filter, if◌then◌else◌}
 use Rattle.std.specs.List.{list_all, list_any}
 use Rattle.std.proofs.lemmas.Bool.{eqb-true}
 use Rattle.std.proofs.lemmas.Map.Views.{any-filter_same}
 use Rattle.isl_meaning.specs.declared.part.Part.{Part}
 use Rattle.isl_meaning.specs.declared.part.Part.TheVariants.{Variable, Exit, Method}
 use Rattle.isl_meaning.specs.declared.scope.Around.{Around}
-use Rattle.isl_meaning.specs.declared.scope.Around.TheVariants as around
 use Rattle.isl_meaning.specs.declared.scope.ExitAround.{ExitAround}
 use Rattle.isl_meaning.specs.declared.scope.LexicalScope.{LexicalScope}
 use Rattle.isl_meaning.specs.Form.{Form, BindingForms, parameters}
@@ -17,19 +16,18 @@ use Rattle.isl_meaning.specs.Subforms.{Each, outer, inner}
 use Rattle.isl_meaning.specs.bridge.Walks.{folded}
 use Rattle.isl_meaning.specs.bridge.Judged.{stands_folded}
 use Rattle.isl_meaning.specs.Mentions.{same_part, owns, binds, some, in_order, variables_bound}
-use Rattle.isl_meaning.specs.Captured.{captures_inside, captures, sets_itself, sets, has_cell}
+use Rattle.isl_meaning.specs.Captured.{captures_inside, captures, sets_itself, sets}
 use Rattle.isl_meaning.specs.Meaning.{bound_variables}
 use Rattle.isl_meaning.specs.Standing as standing
 use Rattle.isl_meaning.specs.Standing.{is_variable, exit_around, is_block, is_segment, is_bound, is_free, around_inner, stands_itself, stands}
-use Rattle.isl_closure.specs.declared.place.Home.{Home}
 use Rattle.isl_closure.specs.declared.place.Home.TheVariants as home
 use Rattle.isl_closure.specs.declared.place.VariablePlace.{VariablePlace}
 use Rattle.isl_closure.specs.declared.place.VariablePlace.TheVariants.{Slot, SlotCell, CapturedValue, CapturedCell}
 use Rattle.isl_closure.specs.declared.place.ExitPlace.{ExitPlace}
 use Rattle.isl_closure.specs.declared.place.MethodPlace.{MethodPlace}
 use Rattle.isl_closure.specs.FlatState.{under}
-use Rattle.isl_closure.specs.Scope.{Known, Scope, no_scope, home_of, slot_at, in_slots, with_bound, with_around, known_or, known_of, captured_place, captured_known, captured_variables, captured_exits, captured_method, seen}
-use Rattle.isl_closure.proofs.Alike.{KeepsValue, CanBeSet, CanBeCaptured, IsKnown, IsAround, IsInMethod, PartIsThere}
+use Rattle.isl_closure.specs.Scope.{Known, Scope, no_scope, slot_at, in_slots, with_bound, with_around, known_or, captured_place, captured_known, captured_variables, captured_exits, captured_method, seen}
+use Rattle.isl_closure.proofs.Alike.{KeepsValue, IsKnown, IsAround, IsInMethod, PartIsThere}
 use Rattle.isl_closure.proofs.Environments.{equal_or_not, under_first, under_after, some_same}
 use Rattle.isl_closure.proofs.Forms.{other_number}
 
@@ -76,7 +74,7 @@ members (g ∷ gs) = (
   each_map (λ f a. record {
     any = λ P h. or_second (P g) (some (map P gs)) (a.any P h);
     all = λ P h. a.all P (second_true (P g) (list_all P gs) h);
-  }) gs (members gs)
+  }) gs (members gs),
 )
 
 -- what is set and captured in a form, by the forms right inside

@@ -1,43 +1,41 @@
 -- Forms, and tasks, of a program and of it made flat.
-use Rattle.std.proofs.Common.{◌≡◌, ℕ, zero, suc, ◌+◌, ◌-◌, ◌==◌, Bool, true, false, T, List, [], ◌∷◌, ◌++◌, refl, sym, ap, subst, ◌∙◌, ◌⊎◌, inl, inr, ⊎_elim, Option, Some, None, length, map, arith, length-append}
+use Rattle.std.proofs.Common.{◌≡◌, ℕ, zero, suc, ◌+◌, ◌-◌, ◌==◌, Bool, false, T, List, [], ◌∷◌, ◌++◌, refl, sym, ap, subst, ◌∙◌, inr, Option, Some, None, length, map, arith, length-append}
 use Rattle.std.proofs.Math.Dec.{eqb_refl}
-use Rattle.std.specs.Prelude.{⊤, slice_get, slice_set, if◌then◌else◌}
+use Rattle.std.specs.Prelude.{slice_get, if◌then◌else◌}
 use Rattle.isl_meaning.specs.declared.part.Part.{Part}
 use Rattle.isl_meaning.specs.declared.program.LiteralRow.{LiteralRow}
 use Rattle.isl_meaning.specs.declared.program.LiteralRow.TheVariants as row
-use Rattle.isl_meaning.specs.declared.program.ProgramRows.{ProgramRows}
 use Rattle.isl_meaning.specs.Form.{Form, Forms, ClauseForms, MaybeForm, BindingForms, DynamicForms}
 use Rattle.isl_meaning.specs.Form as core
 use Rattle.isl_meaning.specs.Counts as core_counts
 use Rattle.isl_meaning.specs.Subforms.{Each}
 use Rattle.isl_meaning.specs.Values.{Value, integer, character, symbol, named, nil, object, truth, is_true, same_text}
 use Rattle.isl_meaning.specs.Objects.{Called, Environment, no_environment, Object, cons, string, vector, instance, generic_function, class_object, input_stream, output_stream, fresh_symbol, closure, function, function_class, list_class, serious_condition_class, control_error_class, unbound_variable_class}
-use Rattle.isl_meaning.specs.State.{State, Surroundings, block_exit, tagbody_exit, catch_exit, Landing, at_segment, value, Evaluated, gives, Act, inside, exit_made, charged, go_on, caught, Limit, make, stored, request}
-use Rattle.isl_meaning.specs.Lookup.{text, is_in, under_text, under_number, value_at, set_at, numbered, with_variables, with_values, with_exit}
+use Rattle.isl_meaning.specs.State.{State, Surroundings, block_exit, catch_exit, Landing, at_segment, value, Evaluated, gives, Act, inside, exit_made, charged, caught, Limit, make, stored}
+use Rattle.isl_meaning.specs.Lookup.{text, is_in, under_text, under_number, value_at, set_at, numbered, with_values, with_exit}
 use Rattle.isl_meaning.specs.Classes.{fetch, is_condition}
 use Rattle.isl_meaning.specs.Literals.{function_row}
-use Rattle.isl_meaning.specs.Layout.{class_value, function_value, literal_value}
+use Rattle.isl_meaning.specs.Layout.{function_value}
 use Rattle.isl_meaning.specs.Primitives.{primitive, is_function}
-use Rattle.isl_meaning.specs.Signals.{Context, Task, nothing, form, turn, methods, Evaluation, unbound_variable, undefined_function, signal_domain_error, with_some, search, transfer, signal, apply_value}
+use Rattle.isl_meaning.specs.Signals.{nothing, turn, unbound_variable, signal_domain_error, with_some, search, transfer, signal, apply_value}
 use Rattle.isl_meaning.specs.Meaning.{Spread, mean_literal, mean_global, set_global_to, mean_dynamic, set_dynamic_to, mean_apply, mean_call_value, mean_signal, with_handler_value, mean_next, turned, unless_nil, from_segment, segment_of, with_turns, bound_variables, bound_names, spread, spread_at, place_of_site, mean, mean_sequence, mean_arguments, mean_clauses, mean_body, mean_bindings, mean_dynamics, mean_task, is_next}
 use Rattle.isl_closure.specs.FlatMeaning.{mean as flat_mean, mean_sequence as flat_sequence, mean_arguments as flat_arguments, mean_clauses as flat_clauses_mean, mean_body as flat_body_mean, mean_bindings as flat_bindings_mean, mean_dynamics as flat_dynamics_mean}
-use Rattle.isl_closure.specs.declared.place.Home.{Home}
-use Rattle.isl_closure.specs.FlatForm.{FlatForm, FlatForms}
+use Rattle.isl_closure.specs.FlatForm.{FlatForms}
 use Rattle.isl_closure.specs.declared.program.FlatProcedure.{FlatProcedure}
 use Rattle.isl_closure.specs.FlatState.{Captured, FlatEnvironment, FlatState, FlatEvaluated, FlatAct, under, captured_part, method_of, exit_of, value_of, set_to}
 use Rattle.isl_closure.specs.FlatState as flat_state
 use Rattle.isl_closure.specs.FlatSignals.{FlatContext, FlatTask, FlatEvaluation}
 use Rattle.isl_closure.specs.FlatSignals as flat_signals
 use Rattle.isl_closure.specs.FlatMeaning as flat_meaning
-use Rattle.isl_closure.specs.Scope.{Known, Scope, homes_of, home_of, with_bound, with_around, known_or, exit_or, method_or, flat_parts, kinds_of, seen, method_place_of, exit_place_of, place_of}
-use Rattle.isl_closure.specs.Flatten.{functions, functions_of_values, functions_of_body, functions_of_dynamics, functions_of_forms, flat, flat_forms, flat_clauses, flat_body, flat_bindings, flat_dynamics, flat_procedure}
-use Rattle.isl_closure.proofs.Alike.{World, Later, AreFree, Matches, VariableAt, CanBeSet, IsAround, IsInMethod, PartIsThere, Sound, SoundForms, SoundClauses, SoundBody, SoundValues, SoundDynamics, ClosureAlike, SameObject, SameFunction, ObjectsAlike, Related, Beside, twin, Sim, Continues, Follows, Acts}
-use Rattle.isl_closure.proofs.Combined.{itself, now, free_later, with_more, more_values, after_that, matches_later, at_twin, step, charges, exits_made, sooner, ends, given, on, tests, lands_on, catches, cleans, some, requests, searches}
+use Rattle.isl_closure.specs.Scope.{Scope, homes_of, home_of, with_bound, with_around, known_or, exit_or, method_or, flat_parts, kinds_of, seen, method_place_of, exit_place_of}
+use Rattle.isl_closure.specs.Flatten.{functions, functions_of_values, functions_of_body, functions_of_dynamics, flat, flat_forms, flat_clauses, flat_body, flat_bindings, flat_dynamics}
+use Rattle.isl_closure.proofs.Alike.{World, Later, AreFree, Matches, IsAround, IsInMethod, Sound, SoundForms, SoundClauses, SoundBody, SoundValues, SoundDynamics, ClosureAlike, ObjectsAlike, Beside, twin, Sim, Follows, Acts}
+use Rattle.isl_closure.proofs.Combined.{now, free_later, with_more, more_values, after_that, matches_later, at_twin, step, charges, exits_made, sooner, given, on, tests, lands_on, catches, cleans, some, requests, searches}
 use Rattle.isl_closure.proofs.Environments.{binds, around_matches, value_same, variable_set, place_set, seen_matches, equal_or_not, under_first, under_after}
 use Rattle.isl_closure.proofs.Lists.{pushed, behind}
 use Rattle.isl_closure.proofs.Nodes.{length-parts, forms_counted, clauses_counted, bindings_counted, dynamics_counted}
 use Rattle.isl_closure.proofs.Answers.{bare, observed, function_same, condition_same, primitives_alike}
-use Rattle.isl_closure.proofs.Applied.{Both, BelowAlike, one, other, rows, twins_of, exits_same, domain_signals, value_applies, signals_under, signals, answers, transfers, throws, continues, chain_runs, row_applies, undefined}
+use Rattle.isl_closure.proofs.Applied.{Both, BelowAlike, one, other, twins_of, domain_signals, value_applies, signals_under, signals, answers, transfers, throws, continues, chain_runs, row_applies, undefined}
 
 -- what `apply` does, by whether its function is one and by what is spread from its list
 abbrev applied_as : FlatContext → Value → Value → Surroundings → FlatState → Bool → Spread → FlatEvaluated
@@ -133,17 +131,18 @@ numbered_free : (w : World) (ns : List (List ℕ)) (vs : List Value) → length 
     → Each (λ (b : List ℕ × ℕ). slice_get w b.1 ≡ Some None) (numbered ns i ++ bs)
 numbered_free w [] vs len i h bs e = e
 numbered_free w (n ∷ ns) [] len i h bs e = absurd (cc len)
-numbered_free w (n ∷ ns) (v ∷ vs) len i h bs e =
-    ((let q : i + 0 ≡ i = omega arith in subst (λ m. slice_get w m ≡ Some None) q (h 0 None refl)),
-    numbered_free w ns vs (omega (arith, len)) (i + 1)
-    (λ j x g. let q : i + suc j ≡ (i + 1) + j = omega arith in subst (λ m. slice_get w m ≡ Some x) q (h (suc j) x g)) bs e)
+numbered_free w (n ∷ ns) (v ∷ vs) len i h bs e = (
+  (let q : i + 0 ≡ i = omega arith in subst (λ m. slice_get w m ≡ Some None) q (h 0 None refl)),
+  numbered_free w ns vs (omega (arith, len)) (i + 1)
+      (λ j x g. let q : i + suc j ≡ (i + 1) + j = omega arith in subst (λ m. slice_get w m ≡ Some x) q (h (suc j) x g)) bs e,
+)
 
 module _ {ps : List FlatProcedure} where
   -- a function is made
   with_function : {w : World} {z : State} {y : FlatState} (required : List ℕ) (rest : Option ℕ) (body : Form) (env : Environment) (p : ℕ) (cs : List Captured)
       → (b : Beside ps w z y) → ClosureAlike ps b.world required rest body env p cs
       → Beside ps w (stored (closure required rest body env) z)
-          (record { state = stored (function p) y.state; captured = (length y.state.store, cs) ∷ y.captured })
+      (record { state = stored (function p) y.state; captured = (length y.state.store, cs) ∷ y.captured })
   with_function {w} {z} {y} required rest body env p cs b alike = record {
     world = b.world;
     later = b.later;
@@ -156,8 +155,14 @@ module _ {ps : List FlatProcedure} where
       objects = λ i.
           pushed (λ o o'. ObjectsAlike ps b.world o o' (under i ((length b.store, cs) ∷ b.captured))) z.store b.store (closure required rest body env) (function p) i b.related.lengths
           (λ e. inr (record {
-            required = required; rest = rest; body = body; env = env; procedure = p; captured = cs;
-            one = refl; other = refl;
+            required = required;
+            rest = rest;
+            body = body;
+            env = env;
+            procedure = p;
+            captured = cs;
+            one = refl;
+            other = refl;
             under = equal_or_not i (length b.store)
                 (λ is t. under_first i (length b.store) cs b.captured t)
                 (λ f. absurd (unequal i (length b.store) f (e ∙ sym b.related.lengths)));
@@ -177,10 +182,10 @@ module _ {ps : List FlatProcedure} where
   function_made : {w : World} (limit : Limit) (required : List ℕ) (rest : Option ℕ) (body : Form) (env : Environment) (p : ℕ) (cs : List Captured)
       (k : ℕ) → length cs ≡ k → (z : State) (y : FlatState) → Beside ps w z y → ClosureAlike ps w required rest body env p cs
       → Sim ps w (make limit (2 + k) 0 (closure required rest body env) z (λ v after. gives v after))
-          (flat_state.make_closure limit p cs y (λ v after. flat_state.gives v after))
+      (flat_state.make_closure limit p cs y (λ v after. flat_state.gives v after))
   function_made {w} limit required rest body env p cs k len z y b alike =
       subst (λ l. Sim ps w (make limit (2 + l) 0 (closure required rest body env) z (λ v after. gives v after))
-          (flat_state.make_closure limit p cs y (λ v after. flat_state.gives v after))) len
+      (flat_state.make_closure limit p cs y (λ v after. flat_state.gives v after))) len
       (requests limit (2 + length cs) 0 z y b (λ entered later a.
       record {
         beside = with_function required rest body env p cs (charges (2 + length cs + 0) a) (closure_later (charges (2 + length cs + 0) a).later alike);
@@ -216,10 +221,10 @@ module _ (r : Both) where
   outermost : (w : World) (name : List ℕ) {next : Value → Act} {next' : Value → FlatAct} → ((v : Value) → Acts r.lambdas w (next v) (next' v))
       → (around : Surroundings) → AreFree w around → (z : State) (y : FlatState) → Beside r.lambdas w z y
       → Sim r.lambdas w (with_some (under_text name z.dynamics) (unbound_variable (signal (one r)) name) next around z)
-          (flat_signals.with_some (under_text name y.state.dynamics) (flat_signals.unbound_variable (flat_signals.signal (other r)) name) next' around y)
+      (flat_signals.with_some (under_text name y.state.dynamics) (flat_signals.unbound_variable (flat_signals.signal (other r)) name) next' around y)
   outermost w name {next} {next'} c around free z y x =
       at_twin (λ q. Sim r.lambdas w (with_some (under_text name z.dynamics) (unbound_variable (signal (one r)) name) next around z)
-          (flat_signals.with_some (under_text name q.state.dynamics) (flat_signals.unbound_variable (flat_signals.signal (other r)) name) next' around q)) x (λ t.
+      (flat_signals.with_some (under_text name q.state.dynamics) (flat_signals.unbound_variable (flat_signals.signal (other r)) name) next' around q)) x (λ t.
       some (under_text name z.dynamics) (unbound w name) c around free z _ t)
 
   dynamics : (w : World) (name : List ℕ) → Acts r.lambdas w (mean_dynamic (one r) name) (flat_meaning.mean_dynamic (other r) name)
@@ -275,8 +280,8 @@ module _ (r : Both) where
   condition_signals : (w : World) (c mark : Value) → Acts r.lambdas w (mean_signal (one r) c mark) (flat_meaning.mean_signal (other r) c mark)
   condition_signals w c mark around free z y x =
       subst (λ b. Sim r.lambdas w (mean_signal (one r) c mark around z)
-          (if b then flat_signals.signal_under (other r) around.handlers c mark around y
-          else flat_signals.signal_domain_error (other r) (flat_signals.signal (other r)) c serious_condition_class around y))
+      (if b then flat_signals.signal_under (other r) around.handlers c mark around y
+      else flat_signals.signal_domain_error (other r) (flat_signals.signal (other r)) c serious_condition_class around y))
       (sym (condition_same r.lambdas x.world x.captured (twins_of x) r.program c))
       (tests (is_condition r.program z c)
       (signals_under r w around.handlers c mark around free z y x)
@@ -287,8 +292,8 @@ module _ (r : Both) where
       → Sim r.lambdas w (with_handler_value (one r) h body around z) (flat_meaning.with_handler_value (other r) h body' around y)
   handlers w h around free z y x {body} {body'} c =
       subst (λ b. Sim r.lambdas w (with_handler_value (one r) h body around z)
-          (if b then body' (record around { handlers = h ∷ around.handlers }) y
-          else flat_signals.signal_domain_error (other r) (flat_signals.signal (other r)) h function_class around y))
+      (if b then body' (record around { handlers = h ∷ around.handlers }) y
+      else flat_signals.signal_domain_error (other r) (flat_signals.signal (other r)) h function_class around y))
       (sym (function_same r.lambdas x.world x.captured (twins_of x) h))
       (tests (is_function (fetch z h)) (c (record around { handlers = h ∷ around.handlers }) free z y x)
       (domains w h function_class around free z y x))
@@ -372,10 +377,10 @@ module _ (r : Both) where
     means s n (core.sequence fs) t w env e m around free z y x = sequence_means nil s n fs t w env e m around free _ _ (charges 1 x)
     means s n (core.let_form bs body) t w env e m around free z y x =
         subst (λ k. Sim r.lambdas w (mean (one r) (core.let_form bs body) env around z)
-            (flat_bindings_mean (other r) (flat_bindings s n body bs) [] e around (flat_state.charged (1 + k) y) (λ vs after.
-            flat_signals.with_cells r.limit (flat_meaning.binding_homes (flat_bindings s n body bs)) after (λ ready.
-            flat_mean (other r) (flat (with_bound (bound_variables bs) body s) (n + functions_of_values bs) body)
-            (flat_signals.with_slots (flat_meaning.binding_homes (flat_bindings s n body bs)) ready e) around (flat_state.with_values vs ready)))))
+        (flat_bindings_mean (other r) (flat_bindings s n body bs) [] e around (flat_state.charged (1 + k) y) (λ vs after.
+        flat_signals.with_cells r.limit (flat_meaning.binding_homes (flat_bindings s n body bs)) after (λ ready.
+        flat_mean (other r) (flat (with_bound (bound_variables bs) body s) (n + functions_of_values bs) body)
+        (flat_signals.with_slots (flat_meaning.binding_homes (flat_bindings s n body bs)) ready e) around (flat_state.with_values vs ready)))))
         (sym (bindings_counted s n body bs))
         (bindings_mean s n body bs t.0 [] w env e m around free _ _ (charges (1 + core_counts.count_bindings bs) x) (λ vs len after later a.
         binds r.limit m (bound_variables bs) body (flat_meaning.binding_homes (flat_bindings s n body bs)) (homes_same s n body bs) vs
@@ -385,7 +390,7 @@ module _ (r : Both) where
         around free after later a))
     means s n (core.lambda required rest body parts) t w env e m around free z y x =
         subst (λ k. Sim r.lambdas w (mean (one r) (core.lambda required rest body parts) env around z)
-            (flat_state.make_closure r.limit n (map (captured_part e y) (flat_parts s parts)) (flat_state.charged (1 + k) y) (λ v after. flat_state.gives v after)))
+        (flat_state.make_closure r.limit n (map (captured_part e y) (flat_parts s parts)) (flat_state.charged (1 + k) y) (λ v after. flat_state.gives v after)))
         (sym (length-parts s parts))
         (sooner x.later
         (function_made r.limit required rest body env n (map (captured_part e y) (flat_parts s parts)) (length parts)
@@ -394,14 +399,14 @@ module _ (r : Both) where
         (captures_alike s n required rest body parts t env e m x)))
     means s n (core.call name fs) t w env e m around free z y x =
         subst (λ k. Sim r.lambdas w (mean (one r) (core.call name fs) env around z)
-            (flat_arguments (other r) (flat_forms s n fs) [] e around (flat_state.charged (2 + k) y) (λ vs after.
-            flat_signals.apply_row (other r) (flat_signals.signal (other r)) (text r.names name) (function_row r.names r.program.functions (text r.names name)) vs around after)))
+        (flat_arguments (other r) (flat_forms s n fs) [] e around (flat_state.charged (2 + k) y) (λ vs after.
+        flat_signals.apply_row (other r) (flat_signals.signal (other r)) (text r.names name) (function_row r.names r.program.functions (text r.names name)) vs around after)))
         (sym (forms_counted s n fs))
         (arguments_mean s n fs t [] w env e m around free _ _ (charges (2 + core_counts.count_forms fs) x) (λ vs after later a.
         row_applies r (signal (one r)) (flat_signals.signal (other r)) (signals r) w (text r.names name) _ vs around free after later a))
     means s n (core.call_value fs) t w env e m around free z y x =
         subst (λ k. Sim r.lambdas w (mean (one r) (core.call_value fs) env around z)
-            (flat_arguments (other r) (flat_forms s n fs) [] e around (flat_state.charged (1 + (k - 1)) y) (λ vs after. flat_meaning.mean_call_value (other r) vs around after)))
+        (flat_arguments (other r) (flat_forms s n fs) [] e around (flat_state.charged (1 + (k - 1)) y) (λ vs after. flat_meaning.mean_call_value (other r) vs around after)))
         (sym (forms_counted s n fs))
         (arguments_mean s n fs t [] w env e m around free _ _ (charges (1 + (core_counts.count_forms fs - 1)) x) (λ vs after later a.
         calls w vs around free after later a))
@@ -410,8 +415,8 @@ module _ (r : Both) where
         on (means s (n + functions f) list t.1 w env e m around free after later a) (λ v ready ready' c. lists_apply w u v around free ready ready' c))
     means s n (core.prim which fs) t w env e m around free z y x =
         subst (λ k. Sim r.lambdas w (mean (one r) (core.prim which fs) env around z)
-            (flat_arguments (other r) (flat_forms s n fs) [] e around (flat_state.charged (1 + k) y) (λ vs after.
-            flat_signals.answered (other r) (primitive r.names (bare r.program) which vs after.state) around after)))
+        (flat_arguments (other r) (flat_forms s n fs) [] e around (flat_state.charged (1 + k) y) (λ vs after.
+        flat_signals.answered (other r) (primitive r.names (bare r.program) which vs after.state) around after)))
         (sym (forms_counted s n fs))
         (arguments_mean s n fs t [] w env e m around free _ _ (charges (1 + core_counts.count_forms fs) x) (λ vs after later a.
         answers r w a.world a.captured a.later (primitive r.names r.program which vs after) (primitive r.names (bare r.program) which vs later.state)
@@ -435,9 +440,9 @@ module _ (r : Both) where
         at_twin (λ q. Sim r.lambdas w (mean (one r) (core.tagbody v fs) env around z) (flat_mean (other r) (flat s n (core.tagbody v fs)) e around q)) x (λ a.
         let after_exit : FlatEnvironment = flat_meaning.with_exit (twin r.lambdas z x.store x.captured) e in
         subst (λ k. Sim r.lambdas w (mean (one r) (core.tagbody v fs) env around z)
-            (flat_meaning.turned (other r) z.exits (flat_forms (with_around v s) n fs) after_exit around
-            (flat_sequence (other r) nil (flat_forms (with_around v s) n fs) after_exit (with_turns z.exits around)
-            (flat_state.exit_made (flat_state.charged (1 + (k - 1)) (twin r.lambdas z x.store x.captured))))))
+        (flat_meaning.turned (other r) z.exits (flat_forms (with_around v s) n fs) after_exit around
+        (flat_sequence (other r) nil (flat_forms (with_around v s) n fs) after_exit (with_turns z.exits around)
+        (flat_state.exit_made (flat_state.charged (1 + (k - 1)) (twin r.lambdas z x.store x.captured))))))
         (sym (forms_counted (with_around v s) n fs))
         (turns (with_around v s) n z.exits fs t w (with_exit v z env) after_exit (around_matches m v z (twin r.lambdas z x.store x.captured) refl) around free
         (sequence_means nil (with_around v s) n fs t w (with_exit v z env) after_exit (around_matches m v z (twin r.lambdas z x.store x.captured) refl) (with_turns z.exits around) free
@@ -447,7 +452,7 @@ module _ (r : Both) where
     means s n (core.catch_form tag body) t w env e m around free z y x =
         on (means s n tag t.0 w env e m around free _ _ (charges 1 x)) (λ v after later a.
         at_twin (λ q. Sim r.lambdas w (caught after.exits (mean (one r) body env (inside (catch_exit v) around after) (exit_made after)))
-            (flat_state.caught q.state.exits (flat_mean (other r) (flat s (n + functions tag) body) e (flat_signals.inside (catch_exit v) around q) (flat_state.exit_made q)))) a (λ c.
+        (flat_state.caught q.state.exits (flat_mean (other r) (flat s (n + functions tag) body) e (flat_signals.inside (catch_exit v) around q) (flat_state.exit_made q)))) a (λ c.
         catches after.exits (means s (n + functions tag) body t.1 w env e m (inside (catch_exit v) around after) free _ _ (exits_made c))))
     means s n (core.throw tag f) t w env e m around free z y x =
         on (means s n tag t.0 w env e m around free _ _ (charges 1 x)) (λ v after later a.
@@ -458,23 +463,23 @@ module _ (r : Both) where
         (means s n f t.0 w env e m around free _ _ (charges 1 x))
     means s n (core.dynamic_let ds body) t w env e m around free z y x =
         subst (λ k. Sim r.lambdas w (mean (one r) (core.dynamic_let ds body) env around z)
-            (flat_dynamics_mean (other r) (flat_dynamics s n ds) [] e around (flat_state.charged (1 + k) y) (λ vs after.
-            flat_mean (other r) (flat s (n + functions_of_dynamics ds) body) e
-            (record around { bindings = numbered (flat_meaning.bound_names r.names (flat_dynamics s n ds)) (length after.state.variables) ++ around.bindings })
-            (flat_state.with_values vs after))))
+        (flat_dynamics_mean (other r) (flat_dynamics s n ds) [] e around (flat_state.charged (1 + k) y) (λ vs after.
+        flat_mean (other r) (flat s (n + functions_of_dynamics ds) body) e
+        (record around { bindings = numbered (flat_meaning.bound_names r.names (flat_dynamics s n ds)) (length after.state.variables) ++ around.bindings })
+        (flat_state.with_values vs after))))
         (sym (dynamics_counted s n ds))
         (dynamics_mean s n ds t.0 [] w env e m around free _ _ (charges (1 + core_counts.count_dynamics ds) x) (λ vs len after later a.
         subst (λ ns. Sim r.lambdas w
-            (mean (one r) body env (record around { bindings = numbered (bound_names r.names ds) (length after.variables) ++ around.bindings }) (with_values vs after))
-            (flat_mean (other r) (flat s (n + functions_of_dynamics ds) body) e
-            (record around { bindings = numbered ns (length later.state.variables) ++ around.bindings })
-            (flat_state.with_values vs later)))
+        (mean (one r) body env (record around { bindings = numbered (bound_names r.names ds) (length after.variables) ++ around.bindings }) (with_values vs after))
+        (flat_mean (other r) (flat s (n + functions_of_dynamics ds) body) e
+        (record around { bindings = numbered ns (length later.state.variables) ++ around.bindings })
+        (flat_state.with_values vs later)))
         (sym (names_same r.names s n ds))
         (at_twin (λ q. Sim r.lambdas w
-            (mean (one r) body env (record around { bindings = numbered (bound_names r.names ds) (length after.variables) ++ around.bindings }) (with_values vs after))
-            (flat_mean (other r) (flat s (n + functions_of_dynamics ds) body) e
-            (record around { bindings = numbered (bound_names r.names ds) (length q.state.variables) ++ around.bindings })
-            (flat_state.with_values vs q))) a (λ c.
+        (mean (one r) body env (record around { bindings = numbered (bound_names r.names ds) (length after.variables) ++ around.bindings }) (with_values vs after))
+        (flat_mean (other r) (flat s (n + functions_of_dynamics ds) body) e
+        (record around { bindings = numbered (bound_names r.names ds) (length q.state.variables) ++ around.bindings })
+        (flat_state.with_values vs q))) a (λ c.
         let u : World = c.world ++ frees vs in
         let l : Later w u = after_that c.later (with_more c.world (frees vs)) in
         sooner l

@@ -1,5 +1,5 @@
 -- The law of closures.
-use Rattle.std.proofs.Common.{◌≡◌, ℕ, zero, suc, ◌+◌, List, [], ◌∷◌, ◌++◌, refl, sym, ap, subst, ◌∙◌, Option, Some, None, length, arith}
+use Rattle.std.proofs.Common.{◌≡◌, ℕ, zero, suc, ◌+◌, List, [], ◌∷◌, ◌++◌, refl, ap, subst, ◌∙◌, length, arith}
 use Rattle.std.specs.Prelude.{⊤, true, false, slice_get}
 use Rattle.isl_meaning.specs.declared.program.Procedure.{Procedure}
 use Rattle.isl_meaning.specs.declared.program.ProgramRows.{ProgramRows}
@@ -7,8 +7,8 @@ use Rattle.isl_meaning.specs.BoundNames.{BodyIsBound, IsBoundIn, NamesAreBound, 
 use Rattle.isl_meaning.specs.Facts.{is_whole}
 use Rattle.isl_meaning.specs.Form.{Form, parameters}
 use Rattle.isl_meaning.specs.Layout.{objects_at_start}
-use Rattle.isl_meaning.specs.Meaning.{meaning, mean_mains, end_of, meant}
-use Rattle.isl_meaning.specs.State.{State, first_state, Evaluated, Limit}
+use Rattle.isl_meaning.specs.Meaning.{meaning, end_of, meant}
+use Rattle.isl_meaning.specs.State.{first_state, Evaluated}
 use Rattle.isl_meaning.specs.Standing as standing
 use Rattle.isl_meaning.specs.Subforms.{Each}
 use Rattle.isl_meaning.specs.Values.{nil}
@@ -20,7 +20,7 @@ use Rattle.isl_closure.specs.Flatten.{functions, functions_of_procedures, flat_p
 use Rattle.isl_closure.specs.Law.{SameRun, LawOfClosures, LawOfFlatPrograms}
 use Rattle.isl_closure.specs.FlatStanding.{FlatScope, with_homes, ProcedureStands, MainStands, LambdasStand}
 use Rattle.isl_closure.specs.Scope.{no_scope, homes_of}
-use Rattle.isl_closure.proofs.Alike.{World, Later, Sound, Beside, Sim}
+use Rattle.isl_closure.proofs.Alike.{World, Sound, Sim}
 use Rattle.isl_closure.proofs.Applied.{ProceduresMatch}
 use Rattle.isl_closure.proofs.Combined.{itself}
 use Rattle.isl_closure.proofs.Fine.{fit_alone, own_fine}

@@ -1,22 +1,18 @@
 -- Whole runs of a program and of it made flat: by induction on the levels.
-use Rattle.std.proofs.Common.{◌≡◌, ℕ, zero, suc, ◌+◌, List, [], ◌∷◌, ◌++◌, refl, sym, ap, subst, ◌∙◌, inl, Option, Some, None, length}
+use Rattle.std.proofs.Common.{ℕ, zero, suc, ◌+◌, List, [], ◌∷◌, refl, sym, ap, subst, None}
 use Rattle.std.specs.Prelude.{⊤, slice_get}
 use Rattle.isl_meaning.specs.declared.program.ProgramRows.{ProgramRows}
-use Rattle.isl_meaning.specs.declared.program.Procedure.{Procedure}
 use Rattle.isl_meaning.specs.Form.{Form}
 use Rattle.isl_meaning.specs.Counts as core_counts
 use Rattle.isl_meaning.specs.Counts.{application_words}
-use Rattle.isl_meaning.specs.Values.{Value, nil}
-use Rattle.isl_meaning.specs.Objects.{Object, no_environment, closure}
+use Rattle.isl_meaning.specs.Values.{Value}
+use Rattle.isl_meaning.specs.Objects.{no_environment}
 use Rattle.isl_meaning.specs.State.{State, first_state, main_surroundings, more, Evaluated, Limit}
-use Rattle.isl_meaning.specs.Layout.{objects_at_start}
-use Rattle.isl_meaning.specs.Signals.{Task, form, Evaluation}
-use Rattle.isl_meaning.specs.Meaning.{none_below, context_of, mean_task, meaning_at, mean_main, mean_mains, end_of, meant, Meant, meaning}
+use Rattle.isl_meaning.specs.Signals.{Task, Evaluation}
+use Rattle.isl_meaning.specs.Meaning.{none_below, meaning_at, mean_main, mean_mains}
 use Rattle.isl_closure.specs.FlatForm.{FlatForm}
 use Rattle.isl_closure.specs.declared.program.FlatProcedure.{FlatProcedure}
 use Rattle.isl_closure.specs.declared.program.FlatProgram.{FlatProgram}
-use Rattle.isl_closure.specs.FlatNodes.{tables}
-use Rattle.isl_closure.specs.FlatNodes as flat_program
 use Rattle.isl_closure.specs.FlatState.{FlatState, FlatEvaluated}
 use Rattle.isl_closure.specs.FlatState as flat_state
 use Rattle.isl_closure.specs.FlatSignals.{FlatTask, FlatEvaluation}
@@ -25,10 +21,10 @@ use Rattle.isl_closure.specs.FlatMeaning as flat_meaning
 use Rattle.isl_closure.specs.FlatMeaning.{flat_meaning_at}
 use Rattle.isl_closure.specs.Scope.{no_scope}
 use Rattle.isl_closure.specs.Flatten.{flat, functions, flat_mains}
-use Rattle.isl_closure.proofs.Alike.{World, Sound, ObjectsAlike, Related, Beside, Sim}
-use Rattle.isl_closure.proofs.Combined.{itself, step, ends, given, on, requests}
+use Rattle.isl_closure.proofs.Alike.{World, Sound, Beside, Sim}
+use Rattle.isl_closure.proofs.Combined.{step, ends, given, on, requests}
 use Rattle.isl_closure.proofs.Nodes.{nodes_same}
-use Rattle.isl_closure.proofs.Applied.{Both, BelowAlike, ProceduresMatch, one, other, no_scope_matches}
+use Rattle.isl_closure.proofs.Applied.{Both, BelowAlike, ProceduresMatch, no_scope_matches}
 use Rattle.isl_closure.proofs.Forms.{tasks_alike}
 
 -- main forms that can be made flat, one after another
@@ -60,8 +56,16 @@ module _ (names : List (List ℕ)) (program : ProgramRows) (procedures lambdas :
 
   both : (low : Task → Evaluation) (low' : FlatTask → FlatEvaluation) → BelowAlike lambdas low low' → Both
   both low low' alike = record {
-    names = names; program = program; procedures = procedures; lambdas = lambdas; main = mains; limit = limit;
-    low = low; low' = low'; alike = alike; all = all;
+    names = names;
+    program = program;
+    procedures = procedures;
+    lambdas = lambdas;
+    main = mains;
+    limit = limit;
+    low = low;
+    low' = low';
+    alike = alike;
+    all = all;
   }
 
   levels_alike : (k : ℕ) → BelowAlike lambdas (meaning_at names program limit k) (flat_meaning_at names rows_of limit k)
@@ -73,9 +77,9 @@ module _ (names : List (List ℕ)) (program : ProgramRows) (procedures lambdas :
       → Sim lambdas w (mean_main names program limit k f z) (flat_meaning.mean_main names rows_of limit k (flat no_scope n f) y)
   main_alike k n f t w z y x =
       subst (λ c. Sim lambdas w (mean_main names program limit k f z)
-          (flat_state.request limit 0 (application_words c) y (λ entered.
-          flat_state.go_on (flat_meaning_at names rows_of limit k (flat_signals.form (flat no_scope n f)) flat_state.no_environment main_surroundings entered) (λ v after.
-          flat_state.gives v (flat_state.on_state (λ (q : State). record q { stack = y.state.stack }) after)))))
+      (flat_state.request limit 0 (application_words c) y (λ entered.
+      flat_state.go_on (flat_meaning_at names rows_of limit k (flat_signals.form (flat no_scope n f)) flat_state.no_environment main_surroundings entered) (λ v after.
+      flat_state.gives v (flat_state.on_state (λ (q : State). record q { stack = y.state.stack }) after)))))
       (sym (nodes_same no_scope n f))
       (requests limit 0 (application_words (core_counts.nodes f)) z y x (λ entered later a.
       on ((levels_alike k).forms_alike no_scope n f t w no_environment flat_state.no_environment (no_scope_matches w None) main_surroundings tt entered later a) (λ v after after' b.

@@ -1,5 +1,5 @@
 -- Lists and what stands at a place of them: what a step adds or changes.
-use Rattle.std.proofs.Common.{◌≡◌, ℕ, zero, suc, ◌+◌, List, [], ◌∷◌, ◌++◌, refl, sym, ap, subst, ◌∙◌, ◌⊎◌, inl, inr, ⊎_elim, Option, Some, None, length, arith}
+use Rattle.std.proofs.Common.{◌≡◌, ℕ, zero, suc, ◌+◌, List, [], ◌∷◌, ◌++◌, refl, ap, ◌∙◌, ◌⊎◌, inl, inr, ⊎_elim, Option, Some, length, arith}
 use Rattle.std.specs.Prelude.{slice_get, slice_set}
 
 -- lists of one length, each with one more at its end

@@ -1,11 +1,11 @@
 -- A form that is made flat has as many nodes as before.
-use Rattle.std.proofs.Common.{◌≡◌, ℕ, suc, ◌+◌, ◌-◌, List, [], ◌∷◌, ◌++◌, refl, sym, ap, ◌∙◌, length}
+use Rattle.std.proofs.Common.{◌≡◌, ℕ, suc, ◌+◌, ◌-◌, List, [], ◌∷◌, ◌++◌, refl, ap, ◌∙◌, length}
 use Rattle.std.specs.List.{sum}
 use Rattle.std.specs.Prelude.{if◌then◌else◌}
 use Rattle.isl_meaning.specs.declared.part.Part.{Part}
 use Rattle.isl_meaning.specs.Form.{Form, Forms, ClauseForms, MaybeForm, BindingForms, DynamicForms}
 use Rattle.isl_meaning.specs.Form as core
-use Rattle.isl_meaning.specs.Subforms.{fold, fold_forms, fold_clauses, fold_body, fold_values, fold_dynamics}
+use Rattle.isl_meaning.specs.Subforms.{fold_forms, fold_clauses, fold_body, fold_values, fold_dynamics}
 use Rattle.isl_meaning.specs.Counts as core_counts
 use Rattle.isl_meaning.specs.Meaning.{bound_variables}
 use Rattle.isl_closure.specs.FlatNodes.{count_forms, count_clauses, count_bindings, count_dynamics, counted, nodes, nodes_of_forms, nodes_of_clauses, nodes_of_body, nodes_of_values, nodes_of_dynamics}

@@ -1,28 +1,19 @@
 -- Each form of a program can be made flat in its scope.
-use Rattle.std.proofs.Common.{◌≡◌, ℕ, suc, ◌+◌, ◌==◌, Bool, true, false, ◌&&◌, List, [], ◌∷◌, ◌++◌, refl, sym, ap, subst, ◌∙◌, Option, Some, None, length, append-nil}
-use Rattle.std.specs.Prelude.{⊤, slice_get}
-use Rattle.std.specs.List.{list_any}
-use Rattle.isl_meaning.specs.declared.part.Part.{Part}
-use Rattle.isl_meaning.specs.declared.program.Procedure.{Procedure}
-use Rattle.isl_meaning.specs.declared.program.ProgramRows.{ProgramRows}
+use Rattle.std.proofs.Common.{ℕ, ◌+◌, List, [], ◌++◌, refl}
 use Rattle.isl_meaning.specs.declared.scope.Around.TheVariants as around
 use Rattle.isl_meaning.specs.declared.scope.LexicalScope.{LexicalScope}
-use Rattle.isl_meaning.specs.BoundNames.{BodyIsBound, IsBoundIn, NamesAreBound}
 use Rattle.isl_meaning.specs.Counts as core_counts
 use Rattle.isl_meaning.specs.Form.{Form, Forms, ClauseForms, MaybeForm, BindingForms, DynamicForms, parameters}
 use Rattle.isl_meaning.specs.Form as core
 use Rattle.isl_meaning.specs.Meaning.{bound_variables}
-use Rattle.isl_meaning.specs.Signals.{variables}
 use Rattle.isl_meaning.specs.Standing as standing
-use Rattle.isl_meaning.specs.Subforms.{Each, forms_list, clause_list, value_list, dynamic_value_list, body_list}
+use Rattle.isl_meaning.specs.Subforms.{Each, forms_list, clause_list, value_list, dynamic_value_list}
 use Rattle.isl_closure.specs.declared.program.FlatProcedure.{FlatProcedure}
-use Rattle.isl_closure.specs.Scope.{Scope, no_scope, with_bound, with_around, kinds_of, seen}
-use Rattle.isl_closure.specs.Flatten.{functions, functions_of_values, functions_of_body, functions_of_dynamics, functions_of_forms, functions_of_procedures, flat_procedure, flat_procedures, body_scope, inner_procedures, procedures_of_forms, procedures_of_clauses, procedures_of_body, procedures_of_values, procedures_of_dynamics, inner_of_procedures, inner_of_mains}
-use Rattle.isl_closure.proofs.Alike.{Sound, SoundForms, SoundClauses, SoundBody, SoundValues, SoundDynamics, CanBeSet, IsKnown, IsInMethod}
-use Rattle.isl_closure.proofs.Applied.{ProceduresMatch}
-use Rattle.isl_closure.proofs.Fine.{ScopesFit, Fine, first_true, second_true, itself_true, outer_fine, inner_fine, block_around, segment_around, fit_bound, fit_around, fit_seen, let_fine, lambda_parts, lambda_fine, own_fine, fit_alone, sets_here}
-use Rattle.isl_closure.proofs.Levels.{SoundMains}
-use Rattle.isl_closure.proofs.Numbers.{joined, Placed, placed_left, placed_right, placed_first, placed_rest, all_counted, forms_counted, clauses_counted, body_counted, values_counted, dynamics_counted}
+use Rattle.isl_closure.specs.Scope.{Scope, with_bound, with_around, kinds_of, seen}
+use Rattle.isl_closure.specs.Flatten.{functions, functions_of_values, functions_of_dynamics, flat_procedure, body_scope, inner_procedures, procedures_of_forms, procedures_of_clauses, procedures_of_values, procedures_of_dynamics}
+use Rattle.isl_closure.proofs.Alike.{Sound, SoundForms, SoundClauses, SoundValues, SoundDynamics, CanBeSet, IsKnown}
+use Rattle.isl_closure.proofs.Fine.{ScopesFit, Fine, itself_true, outer_fine, inner_fine, block_around, segment_around, fit_bound, fit_around, fit_seen, let_fine, lambda_parts, lambda_fine, sets_here}
+use Rattle.isl_closure.proofs.Numbers.{joined, Placed, placed_left, placed_right, placed_first, placed_rest, all_counted, values_counted, dynamics_counted}
 
 settable : (l : LexicalScope) (s : Scope) (v : ℕ) (f : Form) → ScopesFit l s → Fine l s (core.set_local v f) → CanBeSet s v
 settable l s v f fit h =
@@ -161,6 +152,5 @@ module _ {lambdas : List FlatProcedure} where
               (placed_right first rest (functions test + functions f)
               (joined (inner_procedures s n test) bodies _ _ (all_counted s n test) (all_counted s (n + functions test) f)) p),
         )
-
 
 -- the procedures of a program and of it made flat

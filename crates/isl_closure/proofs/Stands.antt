@@ -1,15 +1,13 @@
 -- What a form is made stands where it stood.
-use Rattle.std.proofs.Common.{◌≡◌, ◌≤◌, ◌<◌, ℕ, zero, suc, ◌+◌, ◌==◌, Bool, true, false, not, List, [], ◌∷◌, ◌++◌, refl, sym, ap, subst, ◌∙◌, Option, Some, None, length, arith, length-append, le_refl}
-use Rattle.std.specs.Prelude.{⊤, slice_get, if◌then◌else◌}
+use Rattle.std.proofs.Common.{◌≡◌, ◌≤◌, ℕ, suc, ◌+◌, Bool, true, false, List, [], ◌∷◌, ◌++◌, refl, sym, ap, subst, ◌∙◌, Option, Some, length, arith, length-append, le_refl}
+use Rattle.std.specs.Prelude.{slice_get}
 use Rattle.isl_meaning.specs.declared.part.Part.{Part}
 use Rattle.isl_meaning.specs.declared.part.Part.TheVariants.{Variable, Exit, Method}
-use Rattle.isl_meaning.specs.Captured.{sets}
 use Rattle.isl_meaning.specs.Form.{Form, Forms, ClauseForms, MaybeForm, BindingForms, DynamicForms, parameters}
 use Rattle.isl_meaning.specs.Form as core
 use Rattle.isl_meaning.specs.Meaning.{bound_variables}
 use Rattle.isl_meaning.specs.Subforms.{Each}
 use Rattle.isl_closure.specs.declared.place.CapturedKind.{CapturedKind}
-use Rattle.isl_closure.specs.declared.place.CapturedKind.TheVariants as kind
 use Rattle.isl_closure.specs.declared.place.Home.{Home}
 use Rattle.isl_closure.specs.declared.place.Home.TheVariants as home
 use Rattle.isl_closure.specs.declared.place.VariablePlace.{VariablePlace}
@@ -19,18 +17,17 @@ use Rattle.isl_closure.specs.declared.place.ExitPlace.TheVariants as exit_place
 use Rattle.isl_closure.specs.declared.place.MethodPlace.{MethodPlace}
 use Rattle.isl_closure.specs.declared.place.MethodPlace.TheVariants as method_place
 use Rattle.isl_closure.specs.declared.program.FlatProcedure.{FlatProcedure}
-use Rattle.isl_closure.specs.FlatMeaning.{binding_homes}
 use Rattle.isl_closure.specs.FlatNodes.{homes}
 use Rattle.isl_closure.specs.FlatState.{under, kind_of_place}
-use Rattle.isl_closure.specs.FlatStanding.{FlatScope, with_homes, with_exit, VariableStands, IsNoCapturedValue, ExitStands, MethodStands, PartsStand, FunctionStands, Stands, StandForms, StandClauses, StandBody, StandValues, StandDynamics, LambdasStand}
-use Rattle.isl_closure.specs.Scope.{Known, Scope, no_scope, homes_of, home_of, slot_at, in_slots, with_bound, with_around, known_or, known_of, exit_or, method_or, flat_parts, kind_of, kinds_of, captured_place, captured_known, captured_variables, captured_exits, captured_method, seen, place_of}
-use Rattle.isl_closure.specs.Flatten.{functions, functions_of_values, functions_of_body, functions_of_dynamics, functions_of_forms, flat, flat_forms, flat_clauses, flat_body, flat_bindings, flat_dynamics, flat_procedure, body_scope, home_of_rest, inner_procedures, procedures_of_forms, procedures_of_clauses, procedures_of_body, procedures_of_values, procedures_of_dynamics}
-use Rattle.isl_closure.proofs.Alike.{KeepsValue, IsKnown, CanBeSet, CanBeCaptured, IsAround, IsInMethod, PartIsThere, Sound, SoundForms, SoundClauses, SoundBody, SoundValues, SoundDynamics}
+use Rattle.isl_closure.specs.FlatStanding.{FlatScope, with_homes, with_exit, VariableStands, IsNoCapturedValue, ExitStands, MethodStands, PartsStand, Stands, StandForms, StandClauses, StandBody, StandValues, StandDynamics, LambdasStand}
+use Rattle.isl_closure.specs.Scope.{Known, Scope, no_scope, homes_of, home_of, slot_at, in_slots, with_bound, with_around, known_or, known_of, exit_or, method_or, flat_parts, kind_of, kinds_of, captured_place, captured_known, captured_variables, captured_exits, captured_method, seen}
+use Rattle.isl_closure.specs.Flatten.{functions, functions_of_values, functions_of_body, functions_of_dynamics, flat, flat_forms, flat_clauses, flat_body, flat_bindings, flat_dynamics, flat_procedure, body_scope, inner_procedures, procedures_of_forms, procedures_of_clauses, procedures_of_body, procedures_of_values, procedures_of_dynamics}
+use Rattle.isl_closure.proofs.Alike.{KeepsValue, PartIsThere, Sound, SoundForms, SoundClauses, SoundBody, SoundValues, SoundDynamics}
 use Rattle.isl_closure.proofs.Applied.{all_homes}
 use Rattle.isl_closure.proofs.Environments.{equal_or_not, under_first, under_after, some_same, length-homes}
 use Rattle.isl_closure.proofs.Forms.{homes_same}
 use Rattle.isl_closure.proofs.Lists.{in_front, behind}
-use Rattle.isl_closure.proofs.Numbers.{joined, all_counted, forms_counted, clauses_counted, body_counted, values_counted, dynamics_counted}
+use Rattle.isl_closure.proofs.Numbers.{joined, all_counted, body_counted, values_counted, dynamics_counted}
 
 -- what is known of a variable in a scope is so where the flat form stands
 pub record KnownStands (t : FlatScope) (k : Known) : Type 0 where
@@ -134,7 +131,6 @@ captured_settable (SlotCell m) n fixed h g f = tt
 captured_settable (CapturedValue m) n fixed h g f = g f
 captured_settable (CapturedCell m) n fixed h g f = tt
 
-
 -- the kinds of these parts stand from the n-th on
 abbrev From : FlatScope → Scope → ℕ → List Part → Type 0
 From inside s n parts = (j : ℕ) (k : CapturedKind) → slice_get (kinds_of s parts) j ≡ Some k → slice_get inside.captured (n + j) ≡ Some k
@@ -200,8 +196,11 @@ seen_stands t s c parts e =
 parts_stand : (t : FlatScope) (s : Scope) → ScopeStands t s → (parts : List Part) → Each (PartIsThere s) parts → PartsStand t (flat_parts s parts) (kinds_of s parts)
 parts_stand t s c [] e = tt
 parts_stand t s c (Variable v ∷ ps) e = (
-  ((let there : under v s.variables ≡ Some e.0.known = e.0.there in
-    subst (λ o. VariableStands t (known_or o).place) (sym there) (c.variables v e.0.known there).stands), refl),
+  (
+    (let there : under v s.variables ≡ Some e.0.known = e.0.there in
+        subst (λ o. VariableStands t (known_or o).place) (sym there) (c.variables v e.0.known there).stands),
+    refl,
+  ),
   parts_stand t s c ps e.1,
 )
 parts_stand t s c (Exit x ∷ ps) e = (

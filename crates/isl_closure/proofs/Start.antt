@@ -1,5 +1,5 @@
 -- Before the first form there is no function that a form made.
-use Rattle.std.proofs.Common.{◌≡◌, ℕ, zero, suc, ◌+◌, ◌-◌, List, [], ◌∷◌, ◌++◌, refl, sym, ap, subst, inl, Option, Some, None, length, map}
+use Rattle.std.proofs.Common.{◌≡◌, ℕ, zero, suc, ◌+◌, ◌-◌, List, [], ◌∷◌, ◌++◌, refl, subst, inl, Option, Some, None, length, map}
 use Rattle.std.specs.Prelude.{slice_get, flat_map}
 use Rattle.isl_base.specs.Data as datum
 use Rattle.isl_meaning.specs.declared.program.ProgramRows.{ProgramRows}
@@ -14,7 +14,7 @@ use Rattle.isl_meaning.specs.declared.program.ClassRow.{ClassRow}
 use Rattle.isl_meaning.specs.Lookup.{text, numbered}
 use Rattle.isl_meaning.specs.Literals.{Laid, lay, lay_content, lay_items, lay_list, lay_tail}
 use Rattle.isl_meaning.specs.Layout.{Key, class, function_of, literal, input, output, single, Keyed, Thing, keyed, laid_out, layout, things, objects_at_start, class_things, function_things, function_object, literal_things, literal_objects, initargs_list, initform_objects, slot_things}
-use Rattle.isl_meaning.specs.Objects.{Object, Environment, cons, string, vector, function, closure, generic_function, class_object, input_stream, output_stream, count_up, built_in_classes}
+use Rattle.isl_meaning.specs.Objects.{Object, Environment, closure, class_object, input_stream, output_stream, count_up, built_in_classes}
 use Rattle.isl_meaning.specs.Subforms.{Each}
 use Rattle.isl_closure.specs.declared.program.FlatProcedure.{FlatProcedure}
 use Rattle.isl_closure.proofs.Alike.{Related}

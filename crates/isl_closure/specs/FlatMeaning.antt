@@ -1,12 +1,12 @@
 -- What flat forms and flat programs mean: a row for each form, as in the meaning of core forms, with the same levels, units
 -- and words.
-use Rattle.std.specs.Prelude.{ℕ, zero, suc, ◌+◌, ◌-◌, Bool, true, false, List, [], ◌∷◌, ◌++◌, Option, Some, None, length, map, slice_get, if◌then◌else◌}
+use Rattle.std.specs.Prelude.{ℕ, zero, suc, ◌+◌, List, [], ◌∷◌, ◌++◌, Option, Some, None, length, map, slice_get, if◌then◌else◌}
 use Rattle.isl_meaning.specs.declared.program.LiteralRow.{LiteralRow}
 use Rattle.isl_meaning.specs.declared.program.LiteralRow.TheVariants as row
 use Rattle.isl_meaning.specs.Counts.{application_words}
 use Rattle.isl_meaning.specs.Values.{Value, symbol, named, nil, truth, is_true, same_text}
-use Rattle.isl_meaning.specs.Objects.{Called, Object, function_class, list_class, serious_condition_class, control_error_class}
-use Rattle.isl_meaning.specs.State.{State, first_state, Surroundings, main_surroundings, block_exit, catch_exit, Landing, at_segment, more, Limit}
+use Rattle.isl_meaning.specs.Objects.{Called, function_class, list_class, serious_condition_class, control_error_class}
+use Rattle.isl_meaning.specs.State.{State, first_state, Surroundings, main_surroundings, block_exit, catch_exit, at_segment, more, Limit}
 use Rattle.isl_meaning.specs.Lookup.{text, under_text, value_at, set_at, numbered}
 use Rattle.isl_meaning.specs.Classes.{fetch, is_condition}
 use Rattle.isl_meaning.specs.Literals.{function_row}

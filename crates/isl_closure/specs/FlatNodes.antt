@@ -1,11 +1,6 @@
 -- The nodes of flat forms, and what primitives see of flat programs.
-use Rattle.std.specs.Prelude.{ℕ, ◌+◌, ◌-◌, List, [], ◌∷◌, ◌++◌, Option, Bool, length, is_some, option_to_list}
+use Rattle.std.specs.Prelude.{ℕ, ◌+◌, ◌-◌, List, [], ◌∷◌, ◌++◌, length, option_to_list}
 use Rattle.std.specs.List.{sum}
-use Rattle.isl_base.specs.declared.place.Place.{Place}
-use Rattle.isl_meaning.specs.declared.program.LiteralRow.{LiteralRow}
-use Rattle.isl_meaning.specs.declared.program.ClassRow.{ClassRow}
-use Rattle.isl_meaning.specs.declared.program.GenericRow.{GenericRow}
-use Rattle.isl_meaning.specs.declared.program.FunctionRow.{FunctionRow}
 use Rattle.isl_meaning.specs.declared.program.ProgramRows.{ProgramRows}
 use Rattle.isl_closure.specs.declared.program.FlatProcedure.{FlatProcedure}
 use Rattle.isl_closure.specs.declared.program.FlatProgram.{FlatProgram}

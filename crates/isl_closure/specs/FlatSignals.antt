@@ -6,7 +6,7 @@ use Rattle.isl_meaning.specs.declared.program.FunctionRow.{FunctionRow}
 use Rattle.isl_meaning.specs.declared.program.Callee.{Callee}
 use Rattle.isl_meaning.specs.declared.program.Callee.TheVariants as callee
 use Rattle.isl_meaning.specs.Counts.{application_words}
-use Rattle.isl_meaning.specs.Values.{Value, named, symbol, nil, object}
+use Rattle.isl_meaning.specs.Values.{Value, named, symbol, nil}
 use Rattle.isl_meaning.specs.Objects.{Chain, Called, Object, cons, instance, function, generic_function, fresh_symbol, count_up, function_class, control_error_class, program_error_class, domain_error_class, unbound_variable_class, undefined_function_class}
 use Rattle.isl_meaning.specs.State.{State, Surroundings, Exit, ExitKind, signal_exit, Landing, at_segment, at_site, Limit}
 use Rattle.isl_meaning.specs.State as base

@@ -1,6 +1,6 @@
 -- What an evaluation of flat forms changes and comes to: the state of the meaning, where a function is a number, and beside
 -- it what each function that a form made has captured: so it is known which functions those are. The combinators are those of the meaning.
-use Rattle.std.specs.Prelude.{ℕ, ◌+◌, ◌-◌, ◌==◌, List, [], ◌∷◌, ◌++◌, Option, Some, None, length, slice_get, slice_index_or, if◌then◌else◌}
+use Rattle.std.specs.Prelude.{ℕ, ◌+◌, ◌==◌, List, [], ◌∷◌, Option, Some, None, length, slice_get, if◌then◌else◌}
 use Rattle.isl_meaning.specs.Values.{Value, nil, object}
 use Rattle.isl_meaning.specs.Objects.{Called, Object, function}
 use Rattle.isl_meaning.specs.State.{State, Surroundings, Exit, ExitKind, Landing, Outcome, value, exit, full, more, Limit, exits_from, has_room, room_left, with_words, stored}

@@ -1,5 +1,5 @@
 -- The code of a flat form: a tree that gives it back. Forms of one shape stand at their places in one list.
-use Rattle.std.specs.Prelude.{◌≡◌, ℕ, zero, suc, List, [], ◌∷◌, Option, Some, None, get_or, refl}
+use Rattle.std.specs.Prelude.{◌≡◌, ℕ, zero, suc, List, [], ◌∷◌, get_or, refl}
 use Rattle.std.specs.Coded.{Coded, code_by}
 use Rattle.std.proofs.Common.{ap}
 use Rattle.isl_base.specs.model.CodedTree.{Tree, node, Trees, no_tree, tree_and, leaf, above_one, tree_code}
