@@ -18,12 +18,13 @@ use Rattle.isl_closure.specs.declared.program.FlatProcedure.{FlatProcedure}
 use Rattle.isl_closure.specs.FlatState.{FlatState, FlatEvaluated}
 use Rattle.isl_closure.specs.Flatten.{functions, functions_of_procedures, flat_procedures, body_scope, inner_procedures, inner_of_procedures, inner_of_mains, flat_mains, flat_program}
 use Rattle.isl_closure.specs.Law.{SameRun, LawOfClosures, LawOfFlatPrograms}
-use Rattle.isl_closure.specs.FlatStanding.{FlatScope, with_homes, ProcedureStands, MainStands, LambdasStand}
+use Rattle.isl_closure.specs.FlatStanding.{FlatScope, with_homes, ProgramStands, ProcedureStands, MainStands, LambdasStand}
 use Rattle.isl_closure.specs.Scope.{no_scope, homes_of}
 use Rattle.isl_closure.proofs.Alike.{World, Sound, Sim}
 use Rattle.isl_closure.proofs.Applied.{ProceduresMatch}
 use Rattle.isl_closure.proofs.Combined.{itself}
 use Rattle.isl_closure.proofs.Fine.{fit_alone, own_fine}
+use Rattle.isl_closure.proofs.Fitting.{whole_fits}
 use Rattle.isl_closure.proofs.Levels.{SoundMains, mains_alike}
 use Rattle.isl_closure.proofs.Numbers.{Placed, joined, placed_left, placed_right, all_counted}
 use Rattle.isl_closure.proofs.Sounds.{sounds}
@@ -151,8 +152,8 @@ law_of_closures law names program whole input k limit =
       is = refl;
     }))
 
-pub law_of_flat_programs : LawOfNames → LawOfFlatPrograms
-law_of_flat_programs law program whole =
+whole_stands : LawOfNames → (program : ProgramRows) → is_whole program ≡ true → ProgramStands (flat_program program)
+whole_stands law program whole =
     let can : CanBeMadeFlat program = whole_can law program whole in
     let lambdas : List FlatProcedure = (flat_program program).lambdas in
     record {
@@ -164,3 +165,6 @@ law_of_flat_programs law program whole =
           (inner_of_mains_stand lambdas (functions_of_procedures program.procedures) program.main can.main));
       main = mains_stand lambdas (functions_of_procedures program.procedures) program.main can.main;
     }
+
+pub law_of_flat_programs : LawOfNames → LawOfFlatPrograms
+law_of_flat_programs law program whole = (whole_stands law program whole, whole_fits program whole)

@@ -13,3 +13,4 @@ pub mod Sounds
 pub mod Start
 pub mod Law
 pub mod Stands
+pub mod Fitting

@@ -22,7 +22,7 @@ use Rattle.isl_closure.proofs.Alike.{Related}
 record NoClosure (o : Object) : Type 0 where
   never : (required : List ℕ) (rest : Option ℕ) (body : Form) (env : Environment) → o ≡ closure required rest body env → ⊥
 
-both : {X : Type 0} (P : X → Type 0) (xs ys : List X) → Each P xs → Each P ys → Each P (xs ++ ys)
+pub both : {X : Type 0} (P : X → Type 0) (xs ys : List X) → Each P xs → Each P ys → Each P (xs ++ ys)
 both P [] ys e f = f
 both P (x ∷ xs) ys e f = (e.0, both P xs ys e.1 f)
 

@@ -6,5 +6,6 @@ pub mod FlatMeaning
 pub mod Scope
 pub mod Flatten
 pub mod FlatStanding
+pub mod FlatFits
 pub mod Law
 pub mod model

@@ -19,7 +19,8 @@ pub fn law_flat_nodes()
 
 /// The law of flat programs: in a program that is made flat each place is there and of its kind where it is named, a
 /// captured value is never set, what a function captures is of the kinds that its procedure says, and a function has a
-/// number above that of the function in which it is made.
+/// number above that of the function in which it is made; literals and sites are there, and primitives have as many
+/// arguments as they take.
 pub fn law_flat_programs()
     ensures { LawOfFlatPrograms }
 {
