@@ -1,6 +1,6 @@
 -- What a form is made fits as the form did.
-use Rattle.std.proofs.Common.{◌≡◌, ◌≤◌, ◌<◌, ℕ, ◌+◌, Bool, true, false, ◌&&◌, List, [], ◌∷◌, ◌++◌, refl, sym, subst, ◌∙◌, length, leb-true}
-use Rattle.std.specs.Prelude.{⊤, nat_le, nat_lt, nat_eq}
+use Rattle.std.proofs.Common.{◌≡◌, ◌≤◌, ◌<◌, ℕ, ◌+◌, true, false, ◌&&◌, List, [], ◌∷◌, ◌++◌, refl, sym, subst, ◌∙◌, length, leb-true}
+use Rattle.std.specs.Prelude.{nat_le}
 use Rattle.std.specs.List.{list_all}
 use Rattle.std.proofs.lemmas.Bool.{eqb-true, ltb-true}
 use Rattle.isl_meaning.specs.declared.program.Procedure.{Procedure}
@@ -12,7 +12,7 @@ use Rattle.isl_meaning.specs.Fits.{fits_itself, fits}
 use Rattle.isl_meaning.specs.Form.{Form, Forms, ClauseForms, MaybeForm, BindingForms, DynamicForms, parameters}
 use Rattle.isl_meaning.specs.Form as core
 use Rattle.isl_meaning.specs.Meaning.{bound_variables}
-use Rattle.isl_meaning.specs.Subforms.{Each, outer, inner, forms_list, clause_list, body_list, value_list, dynamic_value_list}
+use Rattle.isl_meaning.specs.Subforms.{Each, outer, inner, forms_list, clause_list, value_list, dynamic_value_list}
 use Rattle.isl_meaning.specs.Cells.{program_cells}
 use Rattle.isl_meaning.specs.Lookup.{all_differ}
 use Rattle.isl_meaning.specs.ProgramCounts.{program_nodes}
@@ -20,10 +20,9 @@ use Rattle.isl_meaning.specs.Standing.{stands_alone}
 use Rattle.isl_meaning.specs.bridge.Judged.{fits_folded}
 use Rattle.isl_closure.specs.declared.program.FlatProcedure.{FlatProcedure}
 use Rattle.isl_closure.specs.declared.program.FlatProgram.{FlatProgram}
-use Rattle.isl_closure.specs.FlatFits.{Fits, FitForms, FitClauses, FitBody, FitValues, FitDynamics, ProgramFits}
-use Rattle.isl_closure.specs.FlatNodes.{count_forms}
-use Rattle.isl_closure.specs.Scope.{Scope, no_scope, with_bound, with_around, kinds_of, seen}
-use Rattle.isl_closure.specs.Flatten.{functions, functions_of_values, functions_of_body, functions_of_dynamics, flat, flat_forms, flat_clauses, flat_body, flat_bindings, flat_dynamics, body_scope, inner_procedures, procedures_of_forms, procedures_of_clauses, procedures_of_body, procedures_of_values, procedures_of_dynamics, functions_of_procedures, flat_procedures, inner_of_procedures, inner_of_mains, flat_mains, flat_program}
+use Rattle.isl_closure.specs.FlatFits.{Fits, FitForms, FitClauses, FitValues, FitDynamics, ProgramFits}
+use Rattle.isl_closure.specs.Scope.{Scope, no_scope, with_bound, with_around, seen}
+use Rattle.isl_closure.specs.Flatten.{functions, functions_of_values, functions_of_dynamics, flat, flat_forms, flat_clauses, flat_bindings, flat_dynamics, body_scope, inner_procedures, procedures_of_forms, procedures_of_clauses, procedures_of_values, procedures_of_dynamics, functions_of_procedures, flat_procedures, inner_of_procedures, inner_of_mains, flat_mains, flat_program}
 use Rattle.isl_closure.proofs.Fine.{first_true, second_true}
 use Rattle.isl_closure.proofs.Nodes.{forms_counted}
 use Rattle.isl_closure.proofs.Start.{both}

@@ -1,6 +1,6 @@
 -- What each flat form says of itself: literals and sites that are there, as many arguments as are taken, and a segment in a
 -- `tagbody`.
-use Rattle.std.specs.Prelude.{◌≡◌, ◌≤◌, ◌<◌, ⊤, ℕ, List, length}
+use Rattle.std.specs.Prelude.{◌≡◌, ◌≤◌, ◌<◌, ⊤, length}
 use Rattle.isl_meaning.specs.Arity.{arity}
 use Rattle.isl_meaning.specs.Subforms.{Each}
 use Rattle.isl_closure.specs.declared.program.FlatProgram.{FlatProgram}
