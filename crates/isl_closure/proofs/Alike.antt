@@ -1,0 +1,229 @@
+-- A run of a program beside a run of it made flat: what is alike in the two states, in the two environments and in the
+-- two stores.
+use Rattle.std.proofs.Common.{◌≡◌, ℕ, ◌+◌, Bool, true, false, List, ◌⊎◌, Option, Some, None, length}
+use Rattle.std.specs.Prelude.{⊤, slice_get}
+use Rattle.isl_meaning.specs.declared.part.Part.{Part}
+use Rattle.isl_meaning.specs.declared.part.Part.TheVariants.{Variable, Exit, Method}
+use Rattle.isl_meaning.specs.Form.{Form, Forms, ClauseForms, MaybeForm, BindingForms, DynamicForms}
+use Rattle.isl_meaning.specs.Form as core
+use Rattle.isl_meaning.specs.Subforms.{Each}
+use Rattle.isl_meaning.specs.Values.{Value}
+use Rattle.isl_meaning.specs.Objects.{Object, Environment, function, closure}
+use Rattle.isl_meaning.specs.State.{State, Surroundings, Landing, Evaluated, Act}
+use Rattle.isl_meaning.specs.Lookup.{under_number}
+use Rattle.isl_meaning.specs.Meaning.{bound_variables}
+use Rattle.isl_closure.specs.declared.place.CapturedKind.{CapturedKind}
+use Rattle.isl_closure.specs.declared.place.VariablePlace.{VariablePlace}
+use Rattle.isl_closure.specs.declared.place.VariablePlace.TheVariants.{Slot, SlotCell, CapturedValue, CapturedCell}
+use Rattle.isl_closure.specs.declared.place.ExitPlace.{ExitPlace}
+use Rattle.isl_closure.specs.declared.place.MethodPlace.{MethodPlace}
+use Rattle.isl_closure.specs.declared.program.FlatProcedure.{FlatProcedure}
+use Rattle.isl_closure.specs.FlatState.{Captured, of_value, of_cell, FlatEnvironment, FlatState, FlatEvaluated, FlatAct, under, exit_of, method_of}
+use Rattle.isl_closure.specs.FlatState as flat
+use Rattle.isl_closure.specs.Scope.{Known, Scope, with_bound, with_around, kinds_of, seen}
+use Rattle.isl_closure.specs.Flatten.{functions, functions_of_values, functions_of_body, functions_of_dynamics, flat_procedure, body_scope}
+
+-- what is known of each variable of the state: the value that it keeps, or nothing
+abbrev pub World : Type 0
+World = List (Option Value)
+
+pub record Later (w u : World) : Type 0 where
+  pub kept : (i : ℕ) (x : Option Value) → slice_get w i ≡ Some x → slice_get u i ≡ Some x
+
+abbrev pub Holds : World → Bool → ℕ → Type 0
+Holds w true i = (v : Value) × slice_get w i ≡ Some (Some v)
+Holds w false i = slice_get w i ≡ Some None
+
+-- the dynamic bindings of surroundings are of variables of which nothing is known
+abbrev pub AreFree : World → Surroundings → Type 0
+AreFree w around = Each (λ (b : List ℕ × ℕ). slice_get w b.1 ≡ Some None) around.bindings
+
+-- a place holds the variable of that number; a captured value is the one that the variable keeps
+abbrev pub PlaceAt : World → FlatEnvironment → VariablePlace → Bool → ℕ → Type 0
+PlaceAt w e (Slot n) fixed i = slice_get e.slots n ≡ Some i × Holds w fixed i
+PlaceAt w e (SlotCell n) fixed i = slice_get e.slots n ≡ Some i × Holds w fixed i
+PlaceAt w e (CapturedValue n) fixed i =
+    (v : Value) × (slice_get e.captured n ≡ Some (of_value v) × slice_get w i ≡ Some (Some v) × fixed ≡ true)
+PlaceAt w e (CapturedCell n) fixed i = slice_get e.captured n ≡ Some (of_cell (Some i)) × Holds w fixed i
+
+abbrev pub VariableAt : World → FlatEnvironment → Known → Option ℕ → Type 0
+VariableAt w e k None = ⊥
+VariableAt w e k (Some i) = PlaceAt w e k.place k.fixed i
+
+pub record ExitAt (e : FlatEnvironment) (p : ExitPlace) (o : Option ℕ) : Type 0 where
+  pub number : ℕ
+  pub one : o ≡ Some number
+  pub other : exit_of p e ≡ Some number
+
+-- two environments in a scope
+pub record Matches (w : World) (s : Scope) (env : Environment) (e : FlatEnvironment) : Type 0 where
+  pub variables : (v : ℕ) (k : Known) → under v s.variables ≡ Some k → VariableAt w e k (under_number v env.variables)
+  pub exits : (x : ℕ) (p : ExitPlace) → under x s.exits ≡ Some p → ExitAt e p (under_number x env.exits)
+  pub method : (p : MethodPlace) → s.method ≡ Some p → method_of p e ≡ env.method
+  pub slots : length e.slots ≡ s.slots
+  pub own : length e.exits ≡ s.own_exits
+
+-- what a form needs of its scope: what it names is bound there
+pub record IsKnown (s : Scope) (v : ℕ) : Type 0 where
+  pub known : Known
+  pub there : under v s.variables ≡ Some known
+
+pub record CanBeSet (s : Scope) (v : ℕ) : Type 0 where
+  pub known : Known
+  pub there : under v s.variables ≡ Some known
+  pub free : known.fixed ≡ false
+
+-- a variable in a slot without a cell is captured only where nothing sets it
+abbrev pub KeepsValue : VariablePlace → Bool → Type 0
+KeepsValue (Slot n) fixed = fixed ≡ true
+KeepsValue (SlotCell n) fixed = ⊤
+KeepsValue (CapturedValue n) fixed = ⊤
+KeepsValue (CapturedCell n) fixed = ⊤
+
+pub record CanBeCaptured (s : Scope) (v : ℕ) : Type 0 where
+  pub known : Known
+  pub there : under v s.variables ≡ Some known
+  pub keeps : KeepsValue known.place known.fixed
+
+pub record IsAround (s : Scope) (x : ℕ) : Type 0 where
+  pub place : ExitPlace
+  pub there : under x s.exits ≡ Some place
+
+pub record IsInMethod (s : Scope) : Type 0 where
+  pub place : MethodPlace
+  pub there : s.method ≡ Some place
+
+abbrev pub PartIsThere : Scope → Part → Type 0
+PartIsThere s (Variable v) = CanBeCaptured s v
+PartIsThere s (Exit x) = IsAround s x
+PartIsThere s Method = IsInMethod s
+
+-- a form that can be made flat in a scope, with the procedures of its functions where they have their numbers
+module _ (lambdas : List FlatProcedure) where
+  abbrev mutual
+    pub Sound : Scope → ℕ → Form → Type 0
+    Sound s n (core.literal i) = ⊤
+    Sound s n (core.local v) = IsKnown s v
+    Sound s n (core.set_local v f) = CanBeSet s v × Sound s n f
+    Sound s n (core.global name) = ⊤
+    Sound s n (core.set_global name f) = Sound s n f
+    Sound s n (core.def_global name f) = Sound s n f
+    Sound s n (core.clauses cs) = SoundClauses s n cs
+    Sound s n (core.sequence fs) = SoundForms s n fs
+    Sound s n (core.let_form bs body) =
+        SoundValues s n bs × Sound (with_bound (bound_variables bs) body s) (n + functions_of_values bs) body
+    Sound s n (core.lambda required rest body parts) =
+        Each (PartIsThere s) parts
+        × slice_get lambdas n ≡ Some (flat_procedure (seen s parts) (n + 1) (kinds_of s parts) required rest body)
+        × Sound (body_scope required rest body (seen s parts)) (n + 1) body
+    Sound s n (core.call name fs) = SoundForms s n fs
+    Sound s n (core.call_value fs) = SoundForms s n fs
+    Sound s n (core.apply f list) = Sound s n f × Sound s (n + functions f) list
+    Sound s n (core.prim which fs) = SoundForms s n fs
+    Sound s n (core.while_form test body) = Sound s n test × Sound s (n + functions test) body
+    Sound s n (core.block x body) = Sound (with_around x s) n body
+    Sound s n (core.return_from x f) = IsAround s x × Sound s n f
+    Sound s n (core.tagbody x segments) = SoundForms (with_around x s) n segments
+    Sound s n (core.go x segment) = IsAround s x
+    Sound s n (core.catch_form tag body) = Sound s n tag × Sound s (n + functions tag) body
+    Sound s n (core.throw tag f) = Sound s n tag × Sound s (n + functions tag) f
+    Sound s n (core.unwind f cleanup) = Sound s n f × Sound s (n + functions f) cleanup
+    Sound s n (core.dynamic_let ds body) = SoundDynamics s n ds × Sound s (n + functions_of_dynamics ds) body
+    Sound s n (core.dynamic name) = ⊤
+    Sound s n (core.set_dynamic name f) = Sound s n f
+    Sound s n (core.def_dynamic name f) = Sound s n f
+    Sound s n (core.with_handler handler body) = Sound s n handler × Sound s (n + functions handler) body
+    Sound s n (core.signal_form condition mark) = Sound s n condition × Sound s (n + functions condition) mark
+    Sound s n (core.continue_form condition f) = Sound s n condition × Sound s (n + functions condition) f
+    Sound s n core.next_method = IsInMethod s
+    Sound s n core.has_next = IsInMethod s
+    Sound s n (core.sited site f) = Sound s n f
+
+    pub SoundForms : Scope → ℕ → Forms → Type 0
+    SoundForms s n core.no_form = ⊤
+    SoundForms s n (core.form_and f fs) = Sound s n f × SoundForms s (n + functions f) fs
+
+    pub SoundClauses : Scope → ℕ → ClauseForms → Type 0
+    SoundClauses s n core.no_clause = ⊤
+    SoundClauses s n (core.clause_and test body cs) =
+        Sound s n test × SoundBody s (n + functions test) body
+        × SoundClauses s (n + (functions test + functions_of_body body)) cs
+
+    pub SoundBody : Scope → ℕ → MaybeForm → Type 0
+    SoundBody s n core.no_body = ⊤
+    SoundBody s n (core.with_body f) = Sound s n f
+
+    pub SoundValues : Scope → ℕ → BindingForms → Type 0
+    SoundValues s n core.no_binding = ⊤
+    SoundValues s n (core.binding_and v f bs) = Sound s n f × SoundValues s (n + functions f) bs
+
+    pub SoundDynamics : Scope → ℕ → DynamicForms → Type 0
+    SoundDynamics s n core.no_dynamic = ⊤
+    SoundDynamics s n (core.dynamic_and name f ds) = Sound s n f × SoundDynamics s (n + functions f) ds
+
+  -- a function that was made, and what its flat procedure captured
+  pub record ClosureAlike (w : World) (required : List ℕ) (rest : Option ℕ) (body : Form) (env : Environment) (p : ℕ) (cs : List Captured) : Type 0 where
+    pub scope : Scope
+    pub first : ℕ
+    pub kinds : List CapturedKind
+    pub there : slice_get lambdas p ≡ Some (flat_procedure scope first kinds required rest body)
+    pub sound : Sound (body_scope required rest body scope) first body
+    pub environment : Matches w scope env (record flat.no_environment { captured = cs })
+
+  -- an object that is the same in both stores, and no function that a form made
+  pub record SameObject (o o' : Option Object) (t : Option (List Captured)) : Type 0 where
+    pub same : o' ≡ o
+    pub plain : (required : List ℕ) (rest : Option ℕ) (body : Form) (env : Environment) → o ≡ Some (closure required rest body env) → ⊥
+    pub bare : (p : ℕ) → o ≡ Some (function p) → t ≡ None
+
+  pub record SameFunction (w : World) (o o' : Option Object) (t : Option (List Captured)) : Type 0 where
+    pub required : List ℕ
+    pub rest : Option ℕ
+    pub body : Form
+    pub env : Environment
+    pub procedure : ℕ
+    pub captured : List Captured
+    pub one : o ≡ Some (closure required rest body env)
+    pub other : o' ≡ Some (function procedure)
+    pub under : t ≡ Some captured
+    pub alike : ClosureAlike w required rest body env procedure captured
+
+  abbrev pub ObjectsAlike : World → Option Object → Option Object → Option (List Captured) → Type 0
+  ObjectsAlike w o o' t = SameObject o o' t ⊎ SameFunction w o o' t
+
+  pub record Related (w : World) (variables : List Value) (store flat_store : List Object) (captured : List (ℕ × List Captured)) : Type 0 where
+    pub count : length w ≡ length variables
+    pub fixed : (i : ℕ) (v : Value) → slice_get w i ≡ Some (Some v) → slice_get variables i ≡ Some v
+    pub lengths : length flat_store ≡ length store
+    pub objects : (i : ℕ) → ObjectsAlike w (slice_get store i) (slice_get flat_store i) (under i captured)
+
+  -- a flat state beside a state, in a world that is later than another
+  abbrev pub twin : State → List Object → List (ℕ × List Captured) → FlatState
+  twin z store captured = record { state = record z { store = store }; captured = captured }
+
+  pub record Beside (w : World) (z : State) (y : FlatState) : Type 0 where
+    pub world : World
+    pub later : Later w world
+    pub store : List Object
+    pub captured : List (ℕ × List Captured)
+    pub related : Related world z.variables z.store store captured
+    pub is : y ≡ twin z store captured
+
+  -- two evaluations that end alike, in states beside one another
+  pub record Sim (w : World) (r : Evaluated) (q : FlatEvaluated) : Type 0 where
+    pub beside : Beside w r.state q.state
+    pub same : q.outcome ≡ r.outcome
+
+  -- what goes on from values, from states, in all surroundings, and from transfers that arrive
+  abbrev pub Continues : World → (Value → State → Evaluated) → (Value → FlatState → FlatEvaluated) → Type 0
+  Continues w next next' = (v : Value) (z : State) (y : FlatState) → Beside w z y → Sim w (next v z) (next' v y)
+
+  abbrev pub Follows : World → (State → Evaluated) → (FlatState → FlatEvaluated) → Type 0
+  Follows w next next' = (z : State) (y : FlatState) → Beside w z y → Sim w (next z) (next' y)
+
+  abbrev pub Acts : World → Act → FlatAct → Type 0
+  Acts w act act' = (around : Surroundings) → AreFree w around → (z : State) (y : FlatState) → Beside w z y → Sim w (act around z) (act' around y)
+
+  abbrev pub Lands : World → (Value → Landing → State → Evaluated) → (Value → Landing → FlatState → FlatEvaluated) → Type 0
+  Lands w land land' =
+      (v : Value) (landing : Landing) (z : State) (y : FlatState) → Beside w z y → Sim w (land v landing z) (land' v landing y)

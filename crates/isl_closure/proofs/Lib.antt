@@ -1,0 +1,16 @@
+pub mod Alike
+pub mod Lists
+pub mod Combined
+pub mod Nodes
+pub mod Answers
+pub mod Environments
+pub mod Applied
+pub mod Forms
+pub mod Levels
+pub mod Numbers
+pub mod Fine
+pub mod Sounds
+pub mod Start
+pub mod Law
+pub mod Stands
+pub mod Fitting

@@ -1,0 +1,11 @@
+pub mod FlatForm
+pub mod FlatNodes
+pub mod FlatState
+pub mod FlatSignals
+pub mod FlatMeaning
+pub mod Scope
+pub mod Flatten
+pub mod FlatStanding
+pub mod FlatFits
+pub mod Law
+pub mod model

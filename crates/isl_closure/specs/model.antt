@@ -1,0 +1,3 @@
+pub mod FlatCode
+pub mod View
+pub mod Falls

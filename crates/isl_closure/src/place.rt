@@ -1,0 +1,52 @@
+// Where the code of a procedure finds what it names: in its own frame, or among what its function captured.
+
+/// Where a variable lives: in a slot of a frame, or, where a function captures it and a form sets it, in a cell.
+#[derive(Clone, Copy)]
+pub enum Home {
+    Slot,
+    Cell,
+}
+
+/// The place of a variable: a slot of the frame, a slot whose variable has a cell, a captured value, or a
+/// captured cell, each by its number from 0.
+#[derive(Clone, Copy)]
+pub enum VariablePlace {
+    Slot(usize),
+    SlotCell(usize),
+    CapturedValue(usize),
+    CapturedCell(usize),
+}
+
+/// The place of an exit: one of the blocks and tagbodies around in the same procedure, the outermost one first, or a
+/// captured exit.
+#[derive(Clone, Copy)]
+pub enum ExitPlace {
+    Own(usize),
+    Captured(usize),
+}
+
+/// The place of the arguments and the other methods of a method: the procedure is itself the method's, or its function
+/// captured them.
+#[derive(Clone, Copy)]
+pub enum MethodPlace {
+    Own,
+    Captured(usize),
+}
+
+/// What a captured thing is: the value of a variable, its cell, an exit, or the arguments and the other methods of a
+/// method.
+#[derive(Clone, Copy)]
+pub enum CapturedKind {
+    Value,
+    Cell,
+    Exit,
+    Method,
+}
+
+/// What a function captures, by its place where the function is made.
+#[derive(Clone, Copy)]
+pub enum FlatPart {
+    Variable(VariablePlace),
+    Exit(ExitPlace),
+    Method(MethodPlace),
+}
