@@ -219,7 +219,7 @@ apt_made n a s i p t xs k2 b m =
           m.nodes u rs (came_earlier (deeper 1 a) i (ground t) (ground t2) xs rs (ground u) e c) in
           subst (λ (h : Ground). Counted a.spot.sited (ground s) h (all_nodes (at_site (site_if a.spot.sited (length t.sites)) (make k2 rs)))) (sym (m.ends u rs))
           (made_counted a.spot.sited (ground s) (ground t) (ground t2) (ground u) (found_nodes rs) _
-              (omega (arith, here, with_site_nodes a.spot.sited (length t.sites) (make k2 rs))) m.start (site_counted a.spot.sited p t) k);
+          (omega (arith, here, with_site_nodes a.spot.sited (length t.sites) (make k2 rs))) m.start (site_counted a.spot.sited p t) k);
     }
 
 -- all parts stand where the form stands, one deeper, and nothing is added first

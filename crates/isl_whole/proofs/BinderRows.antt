@@ -102,10 +102,10 @@ apt_dynamics_as n a s p fs qs (Some ns) b g k e =
     (both_apt n (deeper 1 a) (values_of qs) (each_below fs) (values_apt n (deeper 1 a) qs k) (below_apt n (deeper 1 a) fs g))
     (λ u rs c. found_dynamics (ground u) a ns qs fs rs l (names_counted qs ns e) c.match) (λ u rs. refl)
     (λ u rs c.
-        enough_nodes _ _ _
-        (forms_counted (spots (ground u) (deeper 1 a) (deeper 1 a) rs) (values_of qs ++ each_below fs) rs c.match
-            (both_plain (values_of qs) (each_below fs) (values_plain qs) (below_plain fs)))
-        (dynamic_let_nodes ns (forms_found rs)))))
+    enough_nodes _ _ _
+    (forms_counted (spots (ground u) (deeper 1 a) (deeper 1 a) rs) (values_of qs ++ each_below fs) rs c.match
+    (both_plain (values_of qs) (each_below fs) (values_plain qs) (below_plain fs)))
+    (dynamic_let_nodes ns (forms_found rs)))))
 
 apt_dynamic_let_as : (n : ℕ) (a : Around) (s : Tables) (p : Place) (bs : Item) (fs : List Item) (qs : Option (List Pair)) → Stage a s → AllOf (Good n) fs
     → MaybePairs n qs → AptAt n a s (dynamic_let_as a s p bs fs qs)
@@ -162,7 +162,7 @@ apt_lambda_as n a s p d fs (Some ps) b g l = apt_made n a s (deeper 2 a) p s (ea
   nodes = λ u rs c.
       enough_nodes _ _ _
       (forms_counted (spots (ground u) (deeper 1 a) (deeper 2 a) rs) (each_parameter (all_symbols ps) ++ each_inner fs) rs c.match
-          (both_plain (each_parameter (all_symbols ps)) (each_inner fs) (parameters_plain (all_symbols ps)) (inner_plain fs)))
+      (both_plain (each_parameter (all_symbols ps)) (each_inner fs) (parameters_plain (all_symbols ps)) (inner_plain fs)))
       (lambda_nodes (take (length ps.required) (variables_found rs)) (rest_found (is_some ps.rest) (drop (length ps.required) (variables_found rs))) (forms_found rs) _);
 })
 

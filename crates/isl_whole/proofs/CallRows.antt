@@ -27,7 +27,7 @@ use Rattle.isl_profile.specs.CallRows.{all_parts, local_call, named_making, is_v
 use Rattle.isl_whole.specs.Ground.{Ground, ground}
 use Rattle.isl_whole.specs.Places.{scope_of}
 use Rattle.isl_whole.specs.Right.{RightIn, RightAt}
-use Rattle.isl_whole.proofs.Tests.{both}
+use Rattle.std.proofs.lemmas.Bool.{and_parts}
 use Rattle.isl_whole.proofs.Matches.{Spots, AllMatch, forms_match, forms_as_many}
 use Rattle.isl_whole.proofs.Nodes.{nodes_in, found_nodes, call_nodes, call_value_nodes, prim_nodes, two_nodes, local_call_nodes}
 use Rattle.isl_whole.proofs.FoundNodes.{forms_plain, forms_counted, enough_nodes}
@@ -114,11 +114,11 @@ one_of_two false count x y f h = h
 
 call_is : (n : Name) (text : List ℕ) (count : ℕ) → IsCall (call_making n text count) count
 call_is n text count =
-    one_of_two (is_value_call text count) count _ _ (λ e. of_value count (leb-true 1 count (both (bytes_eq text (codes "funcall")) (nat_le 1 count) e).1))
+    one_of_two (is_value_call text count) count _ _ (λ e. of_value count (leb-true 1 count (and_parts (bytes_eq text (codes "funcall")) (nat_le 1 count) e).1))
     (one_of_two (is_pair_call text (codes "signal-condition") count) count _ _
-    (λ e. of_two Signalling count (eqb-true count 2 (both (bytes_eq text (codes "signal-condition")) (nat_eq count 2) e).1))
+    (λ e. of_two Signalling count (eqb-true count 2 (and_parts (bytes_eq text (codes "signal-condition")) (nat_eq count 2) e).1))
     (one_of_two (is_pair_call text (codes "continue-condition") count) count _ _
-    (λ e. of_two Continuing count (eqb-true count 2 (both (bytes_eq text (codes "continue-condition")) (nat_eq count 2) e).1))
+    (λ e. of_two Continuing count (eqb-true count 2 (and_parts (bytes_eq text (codes "continue-condition")) (nat_eq count 2) e).1))
     (named_is_call n count (primitive_called text count) (primitive_taken (primitive_named text) count))))
 
 pub apt_named_call : (n : ℕ) (name : Name) (text : List ℕ) (a : Around) (s : Tables) (p : Place) (ds : List Item) → Stage a s → AllOf (Good n) ds
@@ -136,5 +136,5 @@ apt_local_call n v a s p ds b e g =
     (forms_match (spots (ground u) (deeper 1 a) (deeper 1 a) rs) ds rs x.match))
     (λ u rs. refl)
     (λ u rs x.
-        enough_nodes _ _ _ (forms_counted (spots (ground u) (deeper 1 a) (deeper 1 a) rs) (each_form ds) rs x.match (forms_plain ds))
-        (local_call_nodes v (forms_found rs)))))
+    enough_nodes _ _ _ (forms_counted (spots (ground u) (deeper 1 a) (deeper 1 a) rs) (each_form ds) rs x.match (forms_plain ds))
+    (local_call_nodes v (forms_found rs)))))

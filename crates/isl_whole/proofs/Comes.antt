@@ -1,13 +1,11 @@
 -- What a good datum comes to at a good place beside whole tables is right, and the tables behind it are whole.
-use Rattle.std.proofs.Common.{◌≡◌, ◌+◌, ◌==◌, ◌≤◌, ◌⊎◌, ⊎_elim, ℕ, Bool, true, false, ◌||◌, List, [], ◌∷◌, ◌++◌, length, Option, Some, None, refl, sym, ap, subst, ◌∙◌, arith}
+use Rattle.std.proofs.Common.{◌≡◌, ◌+◌, ◌==◌, ◌≤◌, ⊎_elim, ℕ, Bool, true, false, ◌||◌, List, [], ◌∷◌, ◌++◌, length, Option, Some, None, refl, sym, ap, subst, ◌∙◌, arith}
 use Rattle.std.specs.List.{list_any}
-use Rattle.std.proofs.lemmas.List.Folds.{list_any-append}
 use Rattle.isl_base.specs.declared.datum.Symbol.{Symbol}
 use Rattle.isl_base.specs.GoodData.{Good}
 use Rattle.isl_meaning.specs.declared.scope.LexicalScope.{LexicalScope}
 use Rattle.isl_meaning.specs.declared.part.Part.{Part as Captured}
 use Rattle.isl_meaning.specs.declared.part.Part.TheVariants as part
-use Rattle.isl_meaning.specs.Form.{Form}
 use Rattle.isl_meaning.specs.Subforms.{Each}
 use Rattle.isl_meaning.specs.Standing.{with_bound, exit_around}
 use Rattle.isl_derived.proofs.Kept.{step_formed, step_named}
@@ -22,15 +20,16 @@ use Rattle.isl_profile.specs.Judged.{with_fresh, with_variable, subject, AllFoun
 use Rattle.isl_whole.specs.Scopes.{Provides, Within}
 use Rattle.isl_whole.specs.Ground.{Ground, ground, Later, WholeGround}
 use Rattle.isl_whole.specs.Places.{variables_around, scope_of, GoodAround}
-use Rattle.isl_whole.specs.Right.{RightIn, RightAt, Behind, Counted}
+use Rattle.isl_whole.specs.Right.{Behind, Counted}
 use Rattle.isl_whole.proofs.Forms.{each_more, right_later, right_within}
 use Rattle.isl_whole.proofs.Grounds.{later_same, later_then, Entered, entered_same, entered_numbers, behind_same, behind_entered, behind_then, counted_same, counted_then, counted_more}
 use Rattle.isl_whole.proofs.Nodes.{nodes_of, found_nodes}
 use Rattle.isl_whole.proofs.FoundNodes.{none_found}
 use Rattle.isl_meaning.specs.Counts.{all_nodes}
 use Rattle.isl_whole.proofs.Good.{good_later, good_deeper, good_variable}
-use Rattle.isl_whole.proofs.Tests.{or_left, or_right, or_cases}
+use Rattle.std.proofs.lemmas.Bool.{or_left, or_right}
 use Rattle.isl_whole.proofs.Places.{any_front, any_behind, variables_append, exits_append}
+use Rattle.isl_whole.proofs.Captured.{any_cases}
 use Rattle.isl_whole.proofs.Matches.{new_variables, all_match_within}
 use Rattle.isl_whole.proofs.Apt.{spots, AllCame, AptPart, AllApt, Wanted, wanted_nodes, AptWhole, Apt, Stage}
 use Rattle.isl_whole.proofs.AllRows.{apt_node}
@@ -135,9 +134,6 @@ part_apt names n o i s (parameter x) w go gi same a =
     }
 
 -- a variable of a part is one of the variables that were found
-
-any_cases : {X : Type 0} (p : X → Bool) (xs ys : List X) → list_any p (xs ++ ys) ≡ true → (list_any p xs ≡ true) ⊎ (list_any p ys ≡ true)
-any_cases p xs ys h = or_cases (list_any p xs) (list_any p ys) (sym (list_any-append p xs ys) ∙ h)
 
 variable_moved : (w v : ℕ) (vs us ks : List ℕ) → ks ≡ us ++ v ∷ [] → list_any (λ k. w == k) (vs ++ ks) ≡ true → list_any (λ k. w == k) ((v ∷ vs) ++ us) ≡ true
 variable_moved w v vs us ks e h =
@@ -318,8 +314,8 @@ mutual
       (part_apt names (length names) o2 i2 s2 x b go gi e a.0) in
       one_more_came o2 i2 s2 x ys m w2 (length names) b e a.0 here
       (all_came names o2 (behind i2 s2 x) m.tables ys w2 g here.behind.whole
-          (good_later (ground s2) (ground m.tables) o2 (later_part s2 x (ground m.tables) b here.behind.later) go)
-          (good_behind i2 s2 x (length names) (ground m.tables) a.0 gi here.behind.later)
-          (ap (λ (t : Spot). t.sited) (sym (same_spot i2 s2 x)) ∙ e)
-          (elsewhere (length names) i2 (behind i2 s2 x) ys (same_spot i2 s2 x) a.1))
+      (good_later (ground s2) (ground m.tables) o2 (later_part s2 x (ground m.tables) b here.behind.later) go)
+      (good_behind i2 s2 x (length names) (ground m.tables) a.0 gi here.behind.later)
+      (ap (λ (t : Spot). t.sited) (sym (same_spot i2 s2 x)) ∙ e)
+      (elsewhere (length names) i2 (behind i2 s2 x) ys (same_spot i2 s2 x) a.1))
   all_came names o i s xs w (stops o2 i2 s2 x ys y c) b go gi e a = tt

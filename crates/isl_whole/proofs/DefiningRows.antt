@@ -32,7 +32,7 @@ use Rattle.isl_profile.specs.DefiningRows.{function_parts, named, is_that, has_g
 use Rattle.isl_whole.specs.Ground.{Ground, ground, Later, IsThere, procedure_fits, WholeGround}
 use Rattle.isl_whole.specs.Places.{variables_around, exits_around, scope_of, NothingAround}
 use Rattle.isl_whole.specs.Right.{RightIn, Counted}
-use Rattle.isl_whole.proofs.Tests.{both, and_true, not_true}
+use Rattle.std.proofs.lemmas.Bool.{and_parts, and_from, not-true, or_parts}
 use Rattle.isl_whole.proofs.Forms.{each_more}
 use Rattle.isl_whole.proofs.Grounds.{Entered, entered_same, entered_literal, later_then, literals_later, procedures_later, mains_later, all_push, counted_same, counted_then}
 use Rattle.isl_whole.proofs.Nodes.{nodes_in, found_nodes, body_nodes}
@@ -94,10 +94,6 @@ fresh_name true true true false false h k = absurd (cc k)
 other_way : (m n : ℕ) → (m == n) ≡ false → (n == m) ≡ false
 other_way m n h = ne_eqb n m (λ e. eqb-false m n h (sym e))
 
-apart : (b : Bool) (o : Bool) → (b || o) ≡ false → (b ≡ false) × (o ≡ false)
-apart true o h = absurd (cc h)
-apart false o h = (refl, h)
-
 none_more : (f y : FunctionRow) (fs : List FunctionRow) → some_of (same_name f) fs ≡ false → same_name f y ≡ false → some_of (same_name f) (fs ++ y ∷ []) ≡ false
 none_more f y [] h k = rw k refl
 none_more f y (x ∷ xs) h k = by_test (same_name f x) (some_of (same_name f) xs) (some_of (same_name f) (xs ++ y ∷ [])) (λ e. none_more f y xs e k) h
@@ -110,10 +106,10 @@ one_name_more : (name : Name) (c : Callee) (fs : List FunctionRow) → all_diffe
     → all_differ same_name (fs ++ (record { name = name; callee = c }) ∷ []) ≡ true
 one_name_more name c [] h k = refl
 one_name_more name c (f ∷ fs) h k =
-    let d : (not (some_of (same_name f) fs) ≡ true) × (all_differ same_name fs ≡ true) = both (not (some_of (same_name f) fs)) (all_differ same_name fs) h in
-    let o : (is_that name f.name ≡ false) × (list_any (λ f. is_that name f.name) fs ≡ false) = apart (is_that name f.name) (list_any (λ f. is_that name f.name) fs) k in
-    and_true (not (some_of (same_name f) (fs ++ (record { name = name; callee = c }) ∷ []))) _
-    (ap not (none_more f (record { name = name; callee = c }) fs (not_true (some_of (same_name f) fs) d.0) (other_way name.0 f.name.0 o.0)))
+    let d : (not (some_of (same_name f) fs) ≡ true) × (all_differ same_name fs ≡ true) = and_parts (not (some_of (same_name f) fs)) (all_differ same_name fs) h in
+    let o : (is_that name f.name ≡ false) × (list_any (λ f. is_that name f.name) fs ≡ false) = or_parts (is_that name f.name) (list_any (λ f. is_that name f.name) fs) k in
+    and_from (not (some_of (same_name f) (fs ++ (record { name = name; callee = c }) ∷ []))) _
+    (ap not (none_more f (record { name = name; callee = c }) fs (not-true (some_of (same_name f) fs) d.0) (other_way name.0 f.name.0 o.0)))
     (one_name_more name c fs d.1 o.1)
 
 -- with a function
@@ -166,7 +162,7 @@ found_function h a name ps fs rs nothing m e =
     let same : t ≡ u =
     ap (λ bs. scope_with (new_variables rs ++ variables_around bs) (exits_around bs) false) nothing.bound
     ∙ ap (λ vs. scope_with vs [] false) (append-nil (new_variables rs) ∙ sym e) in
-    and_true _ _ (and_true _ _ body.fits (le-leb (depth (body_of (forms_found rs))) 1000 (omega (arith, body.deep))))
+    and_from _ _ (and_from _ _ body.fits (le-leb (depth (body_of (forms_found rs))) 1000 (omega (arith, body.deep))))
     (subst (λ (v : LexicalScope). stands v (body_of (forms_found rs)) ≡ true) same body.stands)
 
 -- the name of a file's function is a literal

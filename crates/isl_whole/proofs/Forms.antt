@@ -15,7 +15,8 @@ use Rattle.isl_meaning.specs.bridge.Judged.{fits_folded, stands_folded}
 use Rattle.isl_whole.specs.Scopes.{Within}
 use Rattle.isl_whole.specs.Ground.{Ground, rows_of, Later}
 use Rattle.isl_whole.specs.Right.{RightIn}
-use Rattle.isl_whole.proofs.Tests.{both, and_true, all_more}
+use Rattle.isl_whole.proofs.Tests.{all_more}
+use Rattle.std.proofs.lemmas.Bool.{and_parts, and_from}
 use Rattle.isl_whole.proofs.Enough.{stands_within}
 
 -- ids in range stay so
@@ -30,8 +31,8 @@ itself_later : (r q : ProgramRows) → length r.literals ≤ length q.literals �
     → fits_itself r f ≡ true → fits_itself q f ≡ true
 itself_later r q l s (literal i) h = below_later i _ _ l h
 itself_later r q l s (sited site f) h =
-    let e : (nat_le 1 site ≡ true) × (nat_le site (length r.sites) ≡ true) = both _ _ h in
-    and_true _ _ e.0 (up_to_later site _ _ s e.1)
+    let e : (nat_le 1 site ≡ true) × (nat_le site (length r.sites) ≡ true) = and_parts _ _ h in
+    and_from _ _ e.0 (up_to_later site _ _ s e.1)
 itself_later r q l s f h = h
 
 pub fits_later : (r q : ProgramRows) → length r.literals ≤ length q.literals → length r.sites ≤ length q.sites → (f : Form)
@@ -59,11 +60,11 @@ each_more P Q f (x ∷ xs) e = (f x e.0, each_more P Q f xs e.1)
 
 all_stand : (g : Ground) (s : LexicalScope) (n : ℕ) (fs : List Form) → Each (RightIn g s n) fs → list_all (stands s) fs ≡ true
 all_stand g s n [] e = refl
-all_stand g s n (f ∷ fs) e = and_true _ _ e.0.stands (all_stand g s n fs e.1)
+all_stand g s n (f ∷ fs) e = and_from _ _ e.0.stands (all_stand g s n fs e.1)
 
 all_fit : (g : Ground) (s : LexicalScope) (n : ℕ) (fs : List Form) → Each (RightIn g s n) fs → list_all (fits (rows_of g)) fs ≡ true
 all_fit g s n [] e = refl
-all_fit g s n (f ∷ fs) e = and_true _ _ e.0.fits (all_fit g s n fs e.1)
+all_fit g s n (f ∷ fs) e = and_from _ _ e.0.fits (all_fit g s n fs e.1)
 
 pub all_deep : (g : Ground) (s : LexicalScope) (n : ℕ) (fs : List Form) → n ≤ 1000 → Each (RightIn g s n) fs → greatest (map depth fs) + n ≤ 1000
 all_deep g s n [] l e = omega arith
@@ -82,8 +83,8 @@ pub right_whole : (g : Ground) (s : LexicalScope) (n : ℕ) (f : Form) → own_d
     → stands_itself s f ≡ true → fits_itself (rows_of g) f ≡ true
     → Each (RightIn g s (n + 1)) (outer f) → Each (RightIn g (around_inner f s) (n + 1)) (inner f) → RightIn g s n f
 right_whole g s n f own function l here fit os is = record {
-  stands = stands_folded s f ∙ and_true _ _ (and_true _ _ here (all_stand g s (n + 1) (outer f) os)) (all_stand g (around_inner f s) (n + 1) (inner f) is);
-  fits = fits_folded (rows_of g) f ∙ and_true _ _ (and_true _ _ fit (all_fit g s (n + 1) (outer f) os)) (all_fit g (around_inner f s) (n + 1) (inner f) is);
+  stands = stands_folded s f ∙ and_from _ _ (and_from _ _ here (all_stand g s (n + 1) (outer f) os)) (all_stand g (around_inner f s) (n + 1) (inner f) is);
+  fits = fits_folded (rows_of g) f ∙ and_from _ _ (and_from _ _ fit (all_fit g s (n + 1) (outer f) os)) (all_fit g (around_inner f s) (n + 1) (inner f) is);
   deep = deep_enough (depth f) (greatest (map depth (outer f))) (greatest (map depth (inner f))) (own_depth f) n (is_function f)
       (depth_folded f) own function (all_deep g s (n + 1) (outer f) l os) (all_deep g (around_inner f s) (n + 1) (inner f) l is);
 }
@@ -91,9 +92,9 @@ right_whole g s n f own function l here fit os is = record {
 -- a form at a site that is there
 pub right_sited : (g : Ground) (s : LexicalScope) (n site : ℕ) (f : Form) → 1 ≤ site → site ≤ length g.sites → RightIn g s n f → RightIn g s n (sited site f)
 right_sited g s n site f l k r = record {
-  stands = stands_folded s (sited site f) ∙ and_true _ _ (and_true _ _ refl (and_true _ _ r.stands refl)) refl;
+  stands = stands_folded s (sited site f) ∙ and_from _ _ (and_from _ _ refl (and_from _ _ r.stands refl)) refl;
   fits = fits_folded (rows_of g) (sited site f)
-      ∙ and_true _ _ (and_true _ _ (and_true _ _ (le-leb 1 site l) (le-leb site (length g.sites) k)) (and_true _ _ r.fits refl)) refl;
+      ∙ and_from _ _ (and_from _ _ (and_from _ _ (le-leb 1 site l) (le-leb site (length g.sites) k)) (and_from _ _ r.fits refl)) refl;
   deep = deep_site (depth f) (depth (sited site f)) n (depth_folded (sited site f)) r.deep;
 }
   where

@@ -20,7 +20,8 @@ use Rattle.isl_meaning.specs.Standing.{stands_alone, is_alone}
 use Rattle.isl_meaning.specs.Facts.{body_fits, literal_fits, same_name}
 use Rattle.isl_whole.specs.Ground.{Ground, rows_of, Later, IsThere, procedure_fits, main_fits, WholeGround}
 use Rattle.isl_whole.specs.Right.{Behind, Counted}
-use Rattle.isl_whole.proofs.Tests.{both, and_true, all_more}
+use Rattle.isl_whole.proofs.Tests.{all_more}
+use Rattle.std.proofs.lemmas.Bool.{and_parts, and_from}
 use Rattle.isl_whole.proofs.Forms.{each_more, fits_later}
 
 pub later_same : (g : Ground) → Later g g
@@ -52,18 +53,18 @@ literal_fits_later r q e (row.Function n) h = h
 
 body_fits_later : (g h : Ground) → Later g h → (f : Form) → body_fits (rows_of g) f ≡ true → body_fits (rows_of h) f ≡ true
 body_fits_later g h l f e =
-    let k : (fits (rows_of g) f ≡ true) × (nat_le (depth f) 1000 ≡ true) = both _ _ e in
-    and_true _ _ (fits_later (rows_of g) (rows_of h) l.literals l.sites f k.0) k.1
+    let k : (fits (rows_of g) f ≡ true) × (nat_le (depth f) 1000 ≡ true) = and_parts _ _ e in
+    and_from _ _ (fits_later (rows_of g) (rows_of h) l.literals l.sites f k.0) k.1
 
 procedure_fits_later : (g h : Ground) → Later g h → (p : Procedure) → procedure_fits g p ≡ true → procedure_fits h p ≡ true
 procedure_fits_later g h l p e =
-    let k : (body_fits (rows_of g) p.body ≡ true) × (is_alone false (Some p) ≡ true) = both _ _ e in
-    and_true _ _ (body_fits_later g h l p.body k.0) k.1
+    let k : (body_fits (rows_of g) p.body ≡ true) × (is_alone false (Some p) ≡ true) = and_parts _ _ e in
+    and_from _ _ (body_fits_later g h l p.body k.0) k.1
 
 pub main_fits_later : (g h : Ground) → Later g h → (f : Form) → main_fits g f ≡ true → main_fits h f ≡ true
 main_fits_later g h l f e =
-    let k : (body_fits (rows_of g) f ≡ true) × (stands_alone false f ≡ true) = both _ _ e in
-    and_true _ _ (body_fits_later g h l f k.0) k.1
+    let k : (body_fits (rows_of g) f ≡ true) × (stands_alone false f ≡ true) = and_parts _ _ e in
+    and_from _ _ (body_fits_later g h l f k.0) k.1
 
 there_later : (ps qs : List Procedure) → length ps ≤ length qs → (c : Callee) → IsThere ps c → IsThere qs c
 there_later ps qs l (callee.Procedure i) h = omega (arith, l, h)
@@ -112,8 +113,8 @@ entered_then g h k e f = record {
 }
 
 pub all_push : {X : Type 0} (p : X → Bool) (xs : List X) (x : X) → list_all p xs ≡ true → p x ≡ true → list_all p (xs ++ x ∷ []) ≡ true
-all_push p [] x h k = and_true _ _ k refl
-all_push p (y ∷ ys) x h k = let e : (p y ≡ true) × (list_all p ys ≡ true) = both _ _ h in and_true _ _ e.0 (all_push p ys x e.1 k)
+all_push p [] x h k = and_from _ _ k refl
+all_push p (y ∷ ys) x h k = let e : (p y ≡ true) × (list_all p ys ≡ true) = and_parts _ _ h in and_from _ _ e.0 (all_push p ys x e.1 k)
 
 later_literal : (g : Ground) (x : LiteralRow) → Later g (record g { literals = g.literals ++ x ∷ [] })
 later_literal g x = record {

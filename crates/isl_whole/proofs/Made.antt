@@ -23,7 +23,7 @@ use Rattle.isl_profile.specs.declared.making.WithBody.TheVariants.{Repeating, Ca
 use Rattle.isl_profile.specs.Makings.{body_of, one_of, two_of, with_body_of, make_segments}
 use Rattle.isl_whole.specs.Ground.{Ground, rows_of}
 use Rattle.isl_whole.specs.Right.{RightIn}
-use Rattle.isl_whole.proofs.Tests.{and_true}
+use Rattle.std.proofs.lemmas.Bool.{and_from}
 use Rattle.isl_whole.proofs.Forms.{right_whole, depth_folded}
 use Rattle.isl_whole.proofs.Captured.{IsCaptured}
 
@@ -151,9 +151,9 @@ made_lambda g s n required rest parts fs t l c e =
     let f : Form = lambda required rest (body_of fs) parts in
     let body : RightIn g t (n + 1) (body_of fs) = made_body g t (n + 1) fs l e in
     record {
-      stands = stands_folded s f ∙ and_true _ _ (and_true _ _ c.captured refl) (and_true _ _ c.stands refl);
+      stands = stands_folded s f ∙ and_from _ _ (and_from _ _ c.captured refl) (and_from _ _ c.stands refl);
       fits = fits_folded (rows_of g) f
-          ∙ and_true _ _ (and_true _ _ (le-leb (depth (body_of fs)) 1000 (omega (arith, body.deep))) refl) (and_true _ _ body.fits refl);
+          ∙ and_from _ _ (and_from _ _ (le-leb (depth (body_of fs)) 1000 (omega (arith, body.deep))) refl) (and_from _ _ body.fits refl);
       deep = deep_function (depth f) 0 (greatest (map depth (inner f))) 1 n true (depth_folded f) refl refl refl (omega (arith, l));
     }
 

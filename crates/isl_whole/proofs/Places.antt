@@ -13,7 +13,7 @@ use Rattle.isl_profile.specs.declared.bound.Bound.TheVariants.{Variable, Functio
 use Rattle.isl_profile.specs.declared.bound.Target.{Target}
 use Rattle.isl_profile.specs.Names.{same_symbol, given_by, as_variable, as_function, as_block, as_tag, target_among, or_first, variable_of, function_of, block_of, tag_of}
 use Rattle.isl_whole.specs.Places.{variable_at, variables_around, exit_at, exit_numbers, exit_of, exits_around, Rises, FunctionThere}
-use Rattle.isl_whole.proofs.Tests.{or_left, or_right}
+use Rattle.std.proofs.lemmas.Bool.{or_left, or_right}
 
 -- numbers that rise
 

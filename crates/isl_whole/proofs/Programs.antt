@@ -30,7 +30,8 @@ use Rattle.isl_classes.specs.InheritedBuiltIn.{AreBuiltIn}
 use Rattle.isl_whole.specs.Places.{variables_around, exit_numbers, exits_around, scope_of, Rises, FunctionThere, NothingAround, GoodAround}
 use Rattle.isl_whole.specs.Right.{RightAt, Came, with_main, Counted}
 use Rattle.isl_whole.specs.Classes.{is_simple, SimpleClasses}
-use Rattle.isl_whole.proofs.Tests.{both, and_true, all_more}
+use Rattle.isl_whole.proofs.Tests.{all_more}
+use Rattle.std.proofs.lemmas.Bool.{and_parts, and_from}
 use Rattle.isl_whole.proofs.Grounds.{literals_later, procedures_later, mains_later, main_fits_later, all_push}
 use Rattle.isl_whole.proofs.Good.{scope_with}
 use Rattle.isl_whole.proofs.AllRows.{apt_node}
@@ -61,7 +62,7 @@ alone_there a n =
 
 fits_as_main : (g : Ground) (a : Around) (f : Form) → NothingAround a → RightAt g a f → main_fits g f ≡ true
 fits_as_main g a f n r =
-    and_true _ _ (and_true _ _ r.fits (le-leb (depth f) 1000 (omega (arith, r.deep))))
+    and_from _ _ (and_from _ _ r.fits (le-leb (depth f) 1000 (omega (arith, r.deep))))
     (subst (λ (s : LexicalScope). stands s f ≡ true) (alone_there a n) r.stands)
 
 later_main : (g : Ground) (fs : List Form) → Later g (record g { main = fs })
@@ -151,10 +152,10 @@ prelude_between a s m u r b = record {
 procedure_at : (g : Ground) (ps : List Procedure) (i : ℕ) → list_all (procedure_fits g) ps ≡ true → i < length ps → is_alone false (slice_get ps i) ≡ true
 procedure_at g [] i h l = absurd (omega (arith, l))
 procedure_at g (p ∷ ps) zero h l =
-    let e : (procedure_fits g p ≡ true) × (list_all (procedure_fits g) ps ≡ true) = both _ _ h in
-    (both (body_fits (rows_of g) p.body) (is_alone false (Some p)) e.0).1
+    let e : (procedure_fits g p ≡ true) × (list_all (procedure_fits g) ps ≡ true) = and_parts _ _ h in
+    (and_parts (body_fits (rows_of g) p.body) (is_alone false (Some p)) e.0).1
 procedure_at g (p ∷ ps) (suc i) h l =
-    let e : (procedure_fits g p ≡ true) × (list_all (procedure_fits g) ps ≡ true) = both _ _ h in
+    let e : (procedure_fits g p ≡ true) × (list_all (procedure_fits g) ps ≡ true) = and_parts _ _ h in
     procedure_at g ps i e.1 (omega (arith, l))
 
 callee_there : (g : Ground) (c : Callee) → list_all (procedure_fits g) g.procedures ≡ true → IsThere g.procedures c → callee_fits (rows_of g) c ≡ true
@@ -164,20 +165,20 @@ callee_there g (callee.Generic i) h l = absurd l
 functions_there : (g : Ground) (fs : List FunctionRow) → list_all (procedure_fits g) g.procedures ≡ true → Each (λ f. IsThere g.procedures f.callee) fs
     → list_all (λ f. callee_fits (rows_of g) f.callee) fs ≡ true
 functions_there g [] h e = refl
-functions_there g (f ∷ fs) h e = and_true _ _ (callee_there g f.callee h e.0) (functions_there g fs h e.1)
+functions_there g (f ∷ fs) h e = and_from _ _ (callee_there g f.callee h e.0) (functions_there g fs h e.1)
 
 procedures_alone : (g : Ground) (i : ℕ) (ps : List Procedure) → list_all (procedure_fits g) ps ≡ true → procedures_stand (rows_of g) i ps ≡ true
 procedures_alone g i [] h = refl
 procedures_alone g i (p ∷ ps) h =
-    let e : (procedure_fits g p ≡ true) × (list_all (procedure_fits g) ps ≡ true) = both _ _ h in
-    and_true _ _ (both (body_fits (rows_of g) p.body) (is_alone false (Some p)) e.0).1 (procedures_alone g (i + 1) ps e.1)
+    let e : (procedure_fits g p ≡ true) × (list_all (procedure_fits g) ps ≡ true) = and_parts _ _ h in
+    and_from _ _ (and_parts (body_fits (rows_of g) p.body) (is_alone false (Some p)) e.0).1 (procedures_alone g (i + 1) ps e.1)
 
 procedures_fit : (g : Ground) (ps : List Procedure) → list_all (procedure_fits g) ps ≡ true → list_all (λ p. body_fits (rows_of g) p.body) ps ≡ true
 procedures_fit g ps h =
-    all_more (procedure_fits g) (λ p. body_fits (rows_of g) p.body) (λ p e. (both (body_fits (rows_of g) p.body) (is_alone false (Some p)) e).0) ps h
+    all_more (procedure_fits g) (λ p. body_fits (rows_of g) p.body) (λ p e. (and_parts (body_fits (rows_of g) p.body) (is_alone false (Some p)) e).0) ps h
 
 plain_initform : (g : Ground) (s : SlotRow) → is_plain_slot s ≡ true → initform_fits (rows_of g) s.initform ≡ true
-plain_initform g s h = none s.initform (both (is_one s.name s.initargs) (not (is_some s.initform)) h).1
+plain_initform g s h = none s.initform (and_parts (is_one s.name s.initargs) (not (is_some s.initform)) h).1
   where
     none : (o : Option ℕ) → not (is_some o) ≡ true → initform_fits (rows_of g) o ≡ true
     none None e = refl
@@ -187,18 +188,18 @@ simple_fits : (g : Ground) (c : ClassRow) → is_simple g.classes c ≡ true →
 simple_fits g c h =
     let line : Bool = list_all (λ d. nat_lt d (length g.classes)) c.precedence in
     let slots : Bool = list_all is_plain_slot c.slots in
-    let e : ((line && slots) ≡ true) × (nat_le (length c.slots) 64 ≡ true) = both _ _ h in
-    let f : (line ≡ true) × (slots ≡ true) = both line slots e.0 in
-    and_true _ _ (and_true _ _ f.0 (all_more is_plain_slot (λ s. initform_fits (rows_of g) s.initform) (plain_initform g) c.slots f.1)) e.1
+    let e : ((line && slots) ≡ true) × (nat_le (length c.slots) 64 ≡ true) = and_parts _ _ h in
+    let f : (line ≡ true) × (slots ≡ true) = and_parts line slots e.0 in
+    and_from _ _ (and_from _ _ f.0 (all_more is_plain_slot (λ s. initform_fits (rows_of g) s.initform) (plain_initform g) c.slots f.1)) e.1
 
 rows_whole : (g : Ground) → WholeGround g → SimpleClasses g.classes → length g.sites ≤ 100000 → program_nodes (rows_of g) ≤ 100000
     → is_whole (rows_of g) ≡ true
 rows_whole g w c s n =
-    and_true _ _
-    (and_true (rows_fit (rows_of g)) (bodies_stand (rows_of g))
-    (and_true _ _ (and_true _ _ (and_true _ _ (and_true _ _ (and_true _ _ c.built_in w.literals) (procedures_fit g g.procedures w.procedures)) w.names)
+    and_from _ _
+    (and_from (rows_fit (rows_of g)) (bodies_stand (rows_of g))
+    (and_from _ _ (and_from _ _ (and_from _ _ (and_from _ _ (and_from _ _ c.built_in w.literals) (procedures_fit g g.procedures w.procedures)) w.names)
     (le-leb (length g.sites) 100000 s)) (le-leb (program_nodes (rows_of g)) 100000 n))
-    (and_true _ _ (and_true _ _ (and_true _ _ (and_true _ _ (all_more (is_simple g.classes) (class_fits (rows_of g)) (simple_fits g) g.classes c.simple) refl)
+    (and_from _ _ (and_from _ _ (and_from _ _ (and_from _ _ (all_more (is_simple g.classes) (class_fits (rows_of g)) (simple_fits g) g.classes c.simple) refl)
     (functions_there g g.functions w.procedures w.functions)) w.main) (procedures_alone g 0 g.procedures w.procedures)))
     refl
 

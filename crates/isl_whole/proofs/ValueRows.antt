@@ -138,8 +138,8 @@ apt_cond_as n a s p (Some cs) b g =
     (found_clauses (spots (ground u) (deeper 1 a) (deeper 1 a) rs) cs rs c.match))
     (λ u rs. refl)
     (λ u rs c.
-        enough_more _ _ _ _ (forms_counted (spots (ground u) (deeper 1 a) (deeper 1 a) rs) (clause_parts cs) rs c.match (clauses_plain cs))
-        (found_clauses_nodes (spots (ground u) (deeper 1 a) (deeper 1 a) rs) cs rs c.match) (clauses_nodes (make_clauses (clause_lengths cs) (forms_found rs))))))
+    enough_more _ _ _ _ (forms_counted (spots (ground u) (deeper 1 a) (deeper 1 a) rs) (clause_parts cs) rs c.match (clauses_plain cs))
+    (found_clauses_nodes (spots (ground u) (deeper 1 a) (deeper 1 a) rs) cs rs c.match) (clauses_nodes (make_clauses (clause_lengths cs) (forms_found rs))))))
 
 pub apt_cond : (n : ℕ) (a : Around) (s : Tables) (p : Place) (ds : List Item) → Stage a s → AllOf (Good n) ds → AptAt n a s (cond_row a s p ds)
 apt_cond n a s p ds b g = apt_cond_as n a s p (clauses_in ds) b (good_clauses n ds g)
