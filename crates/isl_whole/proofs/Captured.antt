@@ -5,6 +5,7 @@ use Rattle.std.specs.List.{list_all, list_any, filter_map}
 use Rattle.std.proofs.lemmas.Bool.{eqb-true, eq-eqb, ne_eqb, lt-ltb}
 use Rattle.std.proofs.lemmas.List.Folds.{list_any-append}
 use Rattle.std.proofs.lemmas.Map.Views.{any-filter_same}
+use Rattle.std.proofs.lemmas.Bool.{and_parts, and_from, or_left, or_right, or_cases}
 use Rattle.isl_meaning.specs.declared.part.Part.{Part}
 use Rattle.isl_meaning.specs.declared.part.Part.TheVariants as part
 use Rattle.isl_meaning.specs.declared.scope.LexicalScope.{LexicalScope}
@@ -17,10 +18,9 @@ use Rattle.isl_profile.specs.declared.bound.Bound.TheVariants.{Variable, Functio
 use Rattle.isl_profile.specs.Names.{variable_part, exit_part, method_part, parts_around}
 use Rattle.isl_profile.specs.Nodes.{Around}
 use Rattle.isl_whole.specs.Scopes.{Provides, MentionsWithin}
-use Rattle.isl_whole.specs.Ground.{Ground}
+use Rattle.isl_whole.specs.Definitions.{Definitions}
 use Rattle.isl_whole.specs.Places.{variables_around, exit_at, exit_numbers, exit_of, exits_around, scope_of, Rises, GoodAround}
 use Rattle.isl_whole.proofs.Tests.{all_more}
-use Rattle.std.proofs.lemmas.Bool.{and_parts, and_from, or_left, or_right, or_cases}
 use Rattle.isl_whole.proofs.Enough.{enough, seen_variables, exit_some, exit_kept, no_exit, no_method}
 use Rattle.isl_whole.proofs.Places.{any_front, any_behind, each_append}
 
@@ -289,7 +289,7 @@ no_method_owned : (vs : List ℕ) (m : Bool) → list_all (λ p. not (owns vs p)
 no_method_owned vs true = and_from _ _ (ap not (no_method vs)) refl
 no_method_owned vs false = refl
 
-none_owned : (g : Ground) (a : Around) (vs : List ℕ) → GoodAround g a → Each (λ v. g.variables ≤ v) vs → list_all (λ p. not (owns vs p)) (around_parts a) ≡ true
+none_owned : (g : Definitions) (a : Around) (vs : List ℕ) → GoodAround g a → Each (λ v. g.variables ≤ v) vs → list_all (λ p. not (owns vs p)) (around_parts a) ≡ true
 none_owned g a vs o e =
     ap (list_all (λ p. not (owns vs p))) (parts_numbered a.bound a.spot.in_method)
     ∙ all_append _ (map part.Variable (variables_around a.bound)) _ (not_owned vs (variables_around a.bound) 0 g.variables e o.variables)
@@ -313,7 +313,7 @@ pub record IsCaptured (s : LexicalScope) (vs : List ℕ) (body : Form) (parts : 
   pub captured : are_captured s vs body parts ≡ true
   pub stands : stands (with_bound vs (seen parts s)) body ≡ true
 
-pub is_captured : (g : Ground) (a : Around) (vs : List ℕ) (body : Form) → GoodAround g a → Each (λ v. g.variables ≤ v) vs
+pub is_captured : (g : Definitions) (a : Around) (vs : List ℕ) (body : Form) → GoodAround g a → Each (λ v. g.variables ≤ v) vs
     → stands (with_bound vs (scope_of a)) body ≡ true → IsCaptured (scope_of a) vs body (filter (λ p. mentions p body) (parts_around a.bound a.spot.in_method))
 is_captured g a vs body o e h = record {
   captured = and_from _ _

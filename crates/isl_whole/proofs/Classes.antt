@@ -5,6 +5,7 @@ use Rattle.std.specs.List.{list_all}
 use Rattle.std.proofs.lemmas.Bool.{lt-ltb, le-leb, eqb-true, eq-eqb}
 use Rattle.std.proofs.lemmas.List.Elements.{All-head, All-tail}
 use Rattle.std.proofs.lemmas.Option.{slice_get_within}
+use Rattle.std.proofs.lemmas.Bool.{and_from}
 use Rattle.isl_base.specs.declared.datum.Name.{Name}
 use Rattle.isl_meaning.specs.declared.program.ClassRow.{ClassRow}
 use Rattle.isl_meaning.specs.declared.program.SlotRow.{SlotRow}
@@ -17,7 +18,6 @@ use Rattle.isl_classes.specs.InheritedSlots.{same_name, without_name, each_first
 use Rattle.isl_classes.specs.InheritedClasses.{Hierarchy, IsRow, IsBuiltIn}
 use Rattle.isl_classes.specs.InheritedBuiltIn.{own_initarg, SaysSlots, AreBuiltIn, built_in_own}
 use Rattle.isl_whole.specs.Classes.{is_simple, SimpleClasses}
-use Rattle.std.proofs.lemmas.Bool.{and_from}
 use Rattle.isl_whole.proofs.Forms.{each_more}
 use Rattle.isl_whole.proofs.Places.{each_append}
 use Rattle.isl_whole.proofs.Captured.{each_kept}

@@ -3,6 +3,7 @@ use Rattle.std.proofs.Common.{◌≡◌, ◌==◌, ℕ, Bool, true, false, not, 
 use Rattle.std.specs.List.{list_all, list_any}
 use Rattle.std.proofs.lemmas.Bool.{eqb-true, eq-eqb}
 use Rattle.std.proofs.lemmas.Map.Views.{any-filter_same}
+use Rattle.std.proofs.lemmas.Bool.{and_parts, and_from, or_left, or_right, not-true, or_from}
 use Rattle.isl_meaning.specs.declared.part.Part.{Part}
 use Rattle.isl_meaning.specs.declared.part.Part.TheVariants.{Variable, Exit, Method}
 use Rattle.isl_meaning.specs.declared.scope.Around.{Around}
@@ -18,7 +19,6 @@ use Rattle.isl_meaning.specs.bridge.Walks.{by_subforms}
 use Rattle.isl_meaning.specs.bridge.Judged.{mentions_folded, stands_folded}
 use Rattle.isl_whole.specs.Scopes.{Provides, Within, MentionsWithin}
 use Rattle.isl_whole.proofs.Tests.{or_else}
-use Rattle.std.proofs.lemmas.Bool.{and_parts, and_from, or_left, or_right, not-true, or_from}
 
 pub same_number : (n : ℕ) → (n == n) ≡ true
 same_number n = eq-eqb n n refl

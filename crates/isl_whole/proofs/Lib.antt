@@ -4,7 +4,7 @@ pub mod Forms
 pub mod Places
 pub mod Good
 pub mod Captured
-pub mod Grounds
+pub mod Definitions
 pub mod Matches
 pub mod Made
 pub mod Apt

@@ -1,5 +1,5 @@
 pub mod Scopes
-pub mod Ground
+pub mod Definitions
 pub mod Places
 pub mod Right
 pub mod Classes
