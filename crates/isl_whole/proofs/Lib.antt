@@ -20,3 +20,4 @@ pub mod Programs
 pub mod Classes
 pub mod Nodes
 pub mod FoundNodes
+pub mod Numbers

@@ -4,3 +4,4 @@ pub mod Places
 pub mod Right
 pub mod Classes
 pub mod Between
+pub mod Numbers
