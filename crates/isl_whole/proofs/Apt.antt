@@ -28,11 +28,13 @@ use Rattle.isl_profile.specs.Shapes.{Pair}
 use Rattle.isl_profile.specs.RowWords.{deeper, with_site_if, site_if, within_depth, made_of, made_at_once, unsited, with_literal, literal_node, each_form, each_below, each_inner, each_bound, each_parameter}
 use Rattle.isl_profile.specs.bridge.GoodParts.{GoodPairs}
 use Rattle.isl_whole.specs.Definitions.{Definitions, defined, rows_of, Later, WholeDefinitions}
+use Rattle.isl_whole.specs.Numbers.{Numbered}
 use Rattle.isl_whole.specs.Places.{scope_of, GoodAround}
 use Rattle.isl_whole.specs.Right.{RightIn, RightAt, Behind, Counted}
 use Rattle.isl_whole.proofs.Forms.{each_more, right_sited}
-use Rattle.isl_whole.proofs.Definitions.{Entered, later_then, entered_same, entered_then, entered_site, entered_literal, behind_same, counted_same, counted_then, counted_more}
+use Rattle.isl_whole.proofs.Definitions.{Entered, later_same, later_then, entered_same, entered_then, entered_site, entered_literal, behind_same, counted_same, counted_then, counted_more}
 use Rattle.isl_whole.proofs.Nodes.{found_nodes, site_nodes}
+use Rattle.isl_whole.proofs.Numbers.{AllNumbered, OwnNumbers, make_numbered, site_numbered, all_numbered_wider}
 use Rattle.isl_whole.proofs.FoundNodes.{none_found}
 use Rattle.isl_whole.proofs.Good.{good_later, good_deeper}
 use Rattle.isl_whole.proofs.Matches.{new_variables, Spots, AllMatch}
@@ -98,6 +100,8 @@ pub record AptWhole (Q : Option Around) (spot : Spot) (n : ℕ) (g : Definitions
   pub ends : (t : Tables) (rs : List Found) → AllCame o i (defined s) xs rs (defined t) → Behind spot.top (defined t) (defined (finished m rs t))
   pub counted : (t : Tables) (rs : List Found) → AllCame o i (defined s) xs rs (defined t) → Counted spot.sited (defined s) (defined t) (found_nodes rs)
       → Counted spot.sited g (defined (finished m rs t)) (wanted_nodes Q (made_form m rs))
+  pub numbered : (t : Tables) (rs : List Found) → AllCame o i (defined s) xs rs (defined t) → AllNumbered (defined s) (defined t) rs
+      → Numbered g (defined (finished m rs t)) (made_form m rs)
 
 abbrev pub Apt : Option Around → Spot → ℕ → Definitions → Node → Type 0
 Apt Q spot n g (offends p r) = Unit {0}
@@ -129,8 +133,8 @@ apt_within n a s k p x h = where_true n a s (nat_le (a.spot.depth + k) 1000) p x
 -- nodes without parts, at no site
 
 pub apt_unsited : (n : ℕ) (a : Around) (s : Tables) (p : Place) (t : Tables) (f : Form) → Stage a s → Entered (defined s) (defined t) → Counted a.spot.sited (defined s) (defined t) 0
-    → ((h : Definitions) → Later (defined t) h → a.spot.depth + 1 ≤ 1000 → RightAt h a f) → AptAt n a s (unsited a p t f)
-apt_unsited n a s p t f b e start r = apt_within n a s 1 p _ (λ l. record {
+    → ((h k : Definitions) → Numbered h k f) → ((h : Definitions) → Later (defined t) h → a.spot.depth + 1 ≤ 1000 → RightAt h a f) → AptAt n a s (unsited a p t f)
+apt_unsited n a s p t f b e start num r = apt_within n a s 1 p _ (λ l. record {
   entered = e;
   outside = good_later (defined s) (defined t) a e.later b.good;
   inside = good_later (defined s) (defined t) a e.later b.good;
@@ -142,12 +146,13 @@ apt_unsited n a s p t f b e start r = apt_within n a s 1 p _ (λ l. record {
   counted = λ u rs c k.
       counted_more a.spot.sited (defined s) (defined u) (0 + found_nodes rs) (all_nodes f) (omega (arith, none_found (spots (defined u) a a rs) rs c.match))
       (counted_then a.spot.sited (defined s) (defined t) (defined u) 0 (found_nodes rs) start k);
+  numbered = λ u rs c k. num (defined s) (defined u);
 })
 
 pub apt_literal : (n : ℕ) (a : Around) (s : Tables) (p : Place) (x : LiteralRow) → Stage a s → literal_fits (rows_of (defined s)) x ≡ true
     → AptAt n a s (literal_node a p s x)
 apt_literal n a s p x b h =
-    apt_unsited n a s p (with_literal x s) (literal (length s.literals)) b (entered_literal (defined s) x b.whole h) (record { sites = (counted_same a.spot.sited (defined s)).sites })
+    apt_unsited n a s p (with_literal x s) (literal (length s.literals)) b (entered_literal (defined s) x b.whole h) (record { sites = (counted_same a.spot.sited (defined s)).sites }) (λ h k. record { numbers = refl })
     (λ k l d. made_literal k (scope_of a) a.spot.depth (length s.literals) d (omega (arith, l.literals, length-append s.literals (x ∷ []))))
 
 -- what a form at its site needs
@@ -162,6 +167,8 @@ pub record MadeParts (n : ℕ) (a : Around) (s : Tables) (i : Around) (t : Table
   pub right : (u : Tables) (rs : List Found) → AllCame (deeper 1 a) i (defined t) xs rs (defined u) → RightAt (defined u) a (make k rs)
   pub ends : (u : Tables) (rs : List Found) → defined (finish k rs u) ≡ defined u
   pub nodes : (u : Tables) (rs : List Found) → AllCame (deeper 1 a) i (defined t) xs rs (defined u) → found_nodes rs + 1 ≤ all_nodes (make k rs)
+  pub own : (u : Tables) (rs : List Found) → AllCame (deeper 1 a) i (defined t) xs rs (defined u) → AllNumbered (defined s) (defined u) rs
+      → OwnNumbers (defined s) (defined u) k rs
 
 -- with its site
 site_entered : (b : Bool) (p : Place) (t : Tables) → WholeDefinitions (defined t) → Entered (defined t) (defined (with_site_if b p t))
@@ -220,6 +227,13 @@ apt_made n a s i p t xs k2 b m =
           subst (λ (h : Definitions). Counted a.spot.sited (defined s) h (all_nodes (at_site (site_if a.spot.sited (length t.sites)) (make k2 rs)))) (sym (m.ends u rs))
           (made_counted a.spot.sited (defined s) (defined t) (defined t2) (defined u) (found_nodes rs) _
           (omega (arith, here, with_site_nodes a.spot.sited (length t.sites) (make k2 rs))) m.start (site_counted a.spot.sited p t) k);
+      numbered = λ u rs c k.
+          let found : AllNumbered (defined s) (defined u) rs =
+          all_numbered_wider (defined t2) (defined s) (defined u) (defined u) rs all.later (later_same (defined u)) k in
+          let here : Numbered (defined s) (defined u) (make k2 rs) =
+          make_numbered (defined s) (defined u) k2 rs found (m.own u rs (came_earlier (deeper 1 a) i (defined t) (defined t2) xs rs (defined u) e c) found) in
+          subst (λ (h : Definitions). Numbered (defined s) h (at_site (site_if a.spot.sited (length t.sites)) (make k2 rs))) (sym (m.ends u rs))
+          (site_numbered (defined s) (defined u) (site_if a.spot.sited (length t.sites)) (make k2 rs) here);
     }
 
 -- all parts stand where the form stands, one deeper, and nothing is added first
@@ -227,8 +241,9 @@ pub plain_parts : (n : ℕ) (a : Around) (s : Tables) (xs : List Part) (k : Maki
     → ((u : Tables) (rs : List Found) → AllCame (deeper 1 a) (deeper 1 a) (defined s) xs rs (defined u) → RightAt (defined u) a (make k rs))
     → ((u : Tables) (rs : List Found) → defined (finish k rs u) ≡ defined u)
     → ((u : Tables) (rs : List Found) → AllCame (deeper 1 a) (deeper 1 a) (defined s) xs rs (defined u) → found_nodes rs + 1 ≤ all_nodes (make k rs))
+    → ((u : Tables) (rs : List Found) → OwnNumbers (defined s) (defined u) k rs)
     → MadeParts n a s (deeper 1 a) s xs k
-plain_parts n a s xs k b x r e m = record {
+plain_parts n a s xs k b x r e m own = record {
   entered = entered_same (defined s) b.whole;
   inside = good_deeper (defined s) 1 a b.good;
   low = λ l. refl;
@@ -238,15 +253,18 @@ plain_parts n a s xs k b x r e m = record {
   right = r;
   ends = e;
   nodes = m;
+  own = λ u rs c w. own u rs;
 }
 
 -- a form that has no parts, at its site
-pub apt_at_once : (n : ℕ) (a : Around) (s : Tables) (p : Place) (f : Form) → Stage a s → 1 ≤ all_nodes f → ((h : Definitions) → a.spot.depth + 1 ≤ 1000 → RightAt h a f)
+pub apt_at_once : (n : ℕ) (a : Around) (s : Tables) (p : Place) (f : Form) → Stage a s → 1 ≤ all_nodes f → ((h k : Definitions) → Numbered h k f)
+    → ((h : Definitions) → a.spot.depth + 1 ≤ 1000 → RightAt h a f)
     → AptAt n a s (made_at_once a p s f)
-apt_at_once n a s p f b some r =
+apt_at_once n a s p f b some num r =
     apt_within n a s 1 p _ (λ l. apt_made n a s (deeper 1 a) p s [] (Ready f) b
     (plain_parts n a s [] (Ready f) b tt (λ u rs c. r (defined u) l) (λ u rs. refl)
-    (λ u rs c. omega (arith, some, none_found (spots (defined u) (deeper 1 a) (deeper 1 a) rs) rs c.match))))
+    (λ u rs c. omega (arith, some, none_found (spots (defined u) (deeper 1 a) (deeper 1 a) rs) rs c.match))
+    (λ u rs. num (defined s) (defined u))))
 
 -- lists of parts
 

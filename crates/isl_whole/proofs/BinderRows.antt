@@ -28,6 +28,8 @@ use Rattle.isl_whole.specs.Places.{variables_around, scope_of, GoodAround}
 use Rattle.isl_whole.specs.Right.{RightIn, RightAt}
 use Rattle.isl_whole.proofs.Definitions.{entered_same, counted_same}
 use Rattle.isl_whole.proofs.Nodes.{let_nodes, lambda_nodes, sequence_nodes, dynamic_let_nodes}
+use Rattle.isl_whole.specs.Numbers.{is_from}
+use Rattle.std.specs.List.{list_all}
 use Rattle.isl_whole.proofs.FoundNodes.{both_plain, below_plain, inner_plain, parameters_plain, values_plain, forms_counted, enough_nodes}
 use Rattle.isl_whole.proofs.Good.{good_deeper, good_functions, MaybeFunctions, are_functions, functions_scope}
 use Rattle.isl_whole.proofs.Captured.{IsCaptured, is_captured}
@@ -60,6 +62,9 @@ apt_let_as n a s p bs fs (Some qs) b g k l = apt_made n a s (deeper 2 a) p s (ea
   right = λ u rs c. found_let (defined u) a qs fs rs l c.match;
   ends = λ u rs. refl;
   nodes = λ u rs c. let_nodes rs;
+  own = λ u rs c m.
+      ap (list_all (is_from s.variables u.variables))
+      (bound_match (spots (defined u) (deeper 1 a) (deeper 2 a) rs) qs fs rs c.match).variables ∙ m.variables;
 })
 
 pub apt_let : (n : ℕ) (a : Around) (s : Tables) (p : Place) (ds : List Item) → Stage a s → AllOf (Good n) ds → AptAt n a s (let_row a s p ds)
@@ -105,7 +110,8 @@ apt_dynamics_as n a s p fs qs (Some ns) b g k e =
     enough_nodes _ _ _
     (forms_counted (spots (defined u) (deeper 1 a) (deeper 1 a) rs) (values_of qs ++ each_below fs) rs c.match
     (both_plain (values_of qs) (each_below fs) (values_plain qs) (below_plain fs)))
-    (dynamic_let_nodes ns (forms_found rs)))))
+    (dynamic_let_nodes ns (forms_found rs)))
+    (λ u rs. tt)))
 
 apt_dynamic_let_as : (n : ℕ) (a : Around) (s : Tables) (p : Place) (bs : Item) (fs : List Item) (qs : Option (List Pair)) → Stage a s → AllOf (Good n) fs
     → MaybePairs n qs → AptAt n a s (dynamic_let_as a s p bs fs qs)
@@ -164,6 +170,8 @@ apt_lambda_as n a s p d fs (Some ps) b g l = apt_made n a s (deeper 2 a) p s (ea
       (forms_counted (spots (defined u) (deeper 1 a) (deeper 2 a) rs) (each_parameter (all_symbols ps) ++ each_inner fs) rs c.match
       (both_plain (each_parameter (all_symbols ps)) (each_inner fs) (parameters_plain (all_symbols ps)) (inner_plain fs)))
       (lambda_nodes (take (length ps.required) (variables_found rs)) (rest_found (is_some ps.rest) (drop (length ps.required) (variables_found rs))) (forms_found rs) _);
+  own = λ u rs c m.
+      ap (list_all (is_from s.variables u.variables)) (found_parameters (defined u) (deeper 1 a) (deeper 2 a) ps fs rs c.match) ∙ m.variables;
 })
 
 pub apt_lambda : (n : ℕ) (a : Around) (s : Tables) (p : Place) (ds : List Item) → Stage a s → AllOf (Good n) ds → AptAt n a s (lambda_row a s p ds)
@@ -193,6 +201,7 @@ apt_functions_as n a s p fs false (Some bs) b g f =
       ends = λ u rs. refl;
       nodes = λ u rs c.
           enough_nodes _ _ _ (forms_counted (spots (defined u) (deeper 1 a) i rs) (each_inner fs) rs c.match (inner_plain fs)) (sequence_nodes (forms_found rs));
+      own = λ u rs c m. tt;
     }))
 
 apt_with_functions_as : (n : ℕ) (kept : Bool) (a : Around) (s : Tables) (p : Place) (bs : Item) (fs : List Item) (qs : Option (List Pair)) → Stage a s

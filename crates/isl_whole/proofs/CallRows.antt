@@ -31,6 +31,7 @@ use Rattle.isl_whole.specs.Places.{scope_of}
 use Rattle.isl_whole.specs.Right.{RightIn, RightAt}
 use Rattle.isl_whole.proofs.Matches.{Spots, AllMatch, forms_match, forms_as_many}
 use Rattle.isl_whole.proofs.Nodes.{nodes_in, found_nodes, call_nodes, call_value_nodes, prim_nodes, two_nodes, local_call_nodes}
+use Rattle.isl_whole.proofs.Numbers.{OwnNumbers}
 use Rattle.isl_whole.proofs.FoundNodes.{forms_plain, forms_counted, enough_nodes}
 use Rattle.isl_whole.proofs.Made.{made_two, made_call, made_call_value, made_prim, made_local_call}
 use Rattle.isl_whole.proofs.Apt.{spots, AptAt, Stage, apt_within, apt_made, plain_parts, forms_apt}
@@ -86,13 +87,20 @@ counted_call m count rs (of_primitive p k h) e = prim_nodes p (forms_found rs)
 call_counted : (p : Spots) (m : Making) (ds : List Item) (rs : List Found) → IsCall m (length ds) → AllMatch p (each_form ds) rs → found_nodes rs + 1 ≤ all_nodes (make m rs)
 call_counted p m ds rs c x = enough_nodes _ _ _ (forms_counted p (each_form ds) rs x (forms_plain ds)) (counted_call m (length ds) rs c (forms_as_many p ds rs x))
 
+call_own : (g h : Definitions) (m : Making) (count : ℕ) (rs : List Found) → IsCall m count → OwnNumbers g h m rs
+call_own g h m count rs (of_name n k) = tt
+call_own g h m count rs (of_value k l) = tt
+call_own g h m count rs (of_two t k l) = tt
+call_own g h m count rs (of_primitive p k l) = tt
+
 pub apt_all_parts : (n : ℕ) (m : Making) (a : Around) (s : Tables) (p : Place) (ds : List Item) → Stage a s → AllOf (Good n) ds → IsCall m (length ds)
     → AptAt n a s (all_parts m a s p ds)
 apt_all_parts n m a s p ds b g c =
     apt_within n a s 1 p _ (λ l. apt_made n a s (deeper 1 a) p s (each_form ds) m b
     (plain_parts n a s (each_form ds) m b (forms_apt n (deeper 1 a) ds g)
     (λ u rs x. found_call (defined u) a (deeper 1 a) m ds rs c l x.match) (call_ends m (length ds) c)
-    (λ u rs x. call_counted (spots (defined u) (deeper 1 a) (deeper 1 a) rs) m ds rs c x.match)))
+    (λ u rs x. call_counted (spots (defined u) (deeper 1 a) (deeper 1 a) rs) m ds rs c x.match)
+    (λ u rs. call_own (defined s) (defined u) m (length ds) rs c)))
 
 -- a call by name is one of these
 
@@ -137,4 +145,5 @@ apt_local_call n v a s p ds b e g =
     (λ u rs. refl)
     (λ u rs x.
     enough_nodes _ _ _ (forms_counted (spots (defined u) (deeper 1 a) (deeper 1 a) rs) (each_form ds) rs x.match (forms_plain ds))
-    (local_call_nodes v (forms_found rs)))))
+    (local_call_nodes v (forms_found rs)))
+    (λ u rs. tt)))

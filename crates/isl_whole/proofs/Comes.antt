@@ -1,7 +1,7 @@
 -- What a good datum comes to at a good place beside whole tables is right, and the tables behind it are whole.
 use Rattle.std.proofs.Common.{◌≡◌, ◌+◌, ◌==◌, ◌≤◌, ⊎_elim, ℕ, Bool, true, false, ◌||◌, List, [], ◌∷◌, ◌++◌, length, Option, Some, None, refl, sym, ap, subst, ◌∙◌, arith}
 use Rattle.std.specs.List.{list_any}
-use Rattle.std.proofs.lemmas.Bool.{or_left, or_right}
+use Rattle.std.proofs.lemmas.Bool.{or_left, or_right, and_from}
 use Rattle.isl_base.specs.declared.datum.Symbol.{Symbol}
 use Rattle.isl_base.specs.GoodData.{Good}
 use Rattle.isl_meaning.specs.declared.scope.LexicalScope.{LexicalScope}
@@ -26,6 +26,8 @@ use Rattle.isl_whole.specs.Right.{Behind, Counted}
 use Rattle.isl_whole.proofs.Forms.{each_more, right_later, right_within}
 use Rattle.isl_whole.proofs.Definitions.{later_same, later_then, Entered, entered_same, entered_numbers, behind_same, behind_entered, behind_then, counted_same, counted_then, counted_more}
 use Rattle.isl_whole.proofs.Nodes.{nodes_of, found_nodes}
+use Rattle.isl_whole.specs.Numbers.{Numbered}
+use Rattle.isl_whole.proofs.Numbers.{AllNumbered, numbered_wider, all_numbered_wider, next_number}
 use Rattle.isl_whole.proofs.FoundNodes.{none_found}
 use Rattle.isl_whole.proofs.Good.{good_later, good_deeper, good_variable}
 use Rattle.isl_whole.proofs.Places.{any_front, any_behind, variables_append, exits_append}
@@ -39,6 +41,7 @@ pub record CameAs (Q : Option Around) (spot : Spot) (g : Definitions) (m : Stand
   pub right : Wanted Q (defined m.tables) m.form
   pub behind : Behind spot.top g (defined m.tables)
   pub counted : Counted spot.sited g (defined m.tables) (wanted_nodes Q m.form)
+  pub numbered : Numbered g (defined m.tables) m.form
 
 abbrev pub CameTo : Option Around → Spot → Definitions → Verdict → Type 0
 CameTo Q spot g (comes_to m) = CameAs Q spot g m
@@ -46,6 +49,7 @@ CameTo Q spot g (ended e) = Unit {0}
 
 abbrev pub AllCameTo : Around → Around → Definitions → List Part → Verdicts → Type 0
 AllCameTo o i g xs (all_stand r) = AllCame o i g xs r.found (defined r.tables) × Counted o.spot.sited g (defined r.tables) (found_nodes r.found)
+    × AllNumbered g (defined r.tables) r.found
 AllCameTo o i g xs (one_ended e) = Unit {0}
 
 -- what a part has to come to, and where it stands
@@ -79,6 +83,7 @@ moved b g h (comes_to m) e n c = record {
   behind = behind_entered b.spot.top g h (defined m.tables) e c.behind;
   counted = counted_more b.spot.sited g (defined m.tables) (0 + all_nodes m.form) (all_nodes m.form) (omega arith)
       (counted_then b.spot.sited g h (defined m.tables) 0 (all_nodes m.form) n c.counted);
+  numbered = numbered_wider h g (defined m.tables) (defined m.tables) m.form e.later (later_same (defined m.tables)) c.numbered;
 }
 moved b g h (ended x) e n c = tt
 
@@ -102,6 +107,7 @@ whole_came Q spot n g o i s xs m (all_stand r) a c =
       behind = behind_entered spot.top g (defined s) _ a.entered (behind_then spot.top (defined s) (defined r.tables) _ b (a.ends r.tables r.found c.0));
       counted = a.counted r.tables r.found c.0
           (subst (λ (b : Bool). Counted b (defined s) (defined r.tables) (found_nodes r.found)) a.sited.0 c.1);
+      numbered = a.numbered r.tables r.found c.0 c.2;
     }
 whole_came Q spot n g o i s xs m (one_ended e) a c = tt
 
@@ -131,6 +137,7 @@ part_apt names n o i s (parameter x) w go gi same a =
       ends = λ t rs c. behind_same o.spot.top (defined t) c.whole;
       counted = λ t rs c k.
           counted_more o.spot.sited (defined (with_variable s)) (defined t) (found_nodes rs) 0 (omega (arith, none_found (spots (defined t) o i rs) rs c.match)) k;
+      numbered = λ t rs c k. record { numbers = refl };
     }
 
 -- a variable of a part is one of the variables that were found
@@ -246,19 +253,52 @@ part_counted o i s (parameter x) m k n e c t =
     let here : Counted o.spot.sited (defined s) (defined m.tables) 0 = record { sites = c.sites } in
     counted_then o.spot.sited (defined s) (defined m.tables) k 0 n here t
 
-one_more_came : (o i : Around) (s : Tables) (x : Part) (xs : List Part) (m : Standing) (w : Verdicts) (n : ℕ) → WholeDefinitions (defined s) → i.spot.sited ≡ o.spot.sited
-    → AptPart n i x → CameAs (part_place o i x) (part_spot o i x) (defined (part_tables s x)) m → AllCameTo o (behind i s x) (defined m.tables) xs w
-    → AllCameTo o i (defined s) (x ∷ xs) (in_front (recorded s x m.form) w)
-one_more_came o i s x xs m (all_stand r) n w e a c b =
-    (part_more o i s x xs m r n w a c b.0, part_counted o i s x m (defined r.tables) (found_nodes r.found) e c.counted b.1)
-one_more_came o i s x xs m (one_ended y) n w e a c b = tt
-
 later_part : (s : Tables) (x : Part) (h : Definitions) → WholeDefinitions (defined s) → Later (defined (part_tables s x)) h → Later (defined s) h
 later_part s (form d) h w l = l
 later_part s (below d) h w l = l
 later_part s (inner d) h w l = l
 later_part s (bind x d) h w l = later_then (defined s) (defined (with_variable s)) h (variable_entered s w).later l
 later_part s (parameter x) h w l = later_then (defined s) (defined (with_variable s)) h (variable_entered s w).later l
+
+later_tables : (s : Tables) (x : Part) → WholeDefinitions (defined s) → Later (defined s) (defined (part_tables s x))
+later_tables s (form d) w = later_same (defined s)
+later_tables s (below d) w = later_same (defined s)
+later_tables s (inner d) w = later_same (defined s)
+later_tables s (bind x d) w = (variable_entered s w).later
+later_tables s (parameter x) w = (variable_entered s w).later
+
+-- the numbers of a part, and of those behind it
+part_numbered : (s : Tables) (x : Part) (m : Standing) (r : AllFound) → Later (defined s) (defined m.tables) → Later (defined (part_tables s x)) (defined m.tables)
+    → Later (defined m.tables) (defined r.tables) → Numbered (defined s) (defined r.tables) m.form → AllNumbered (defined s) (defined r.tables) r.found
+    → AllNumbered (defined s) (defined r.tables) (recorded s x m.form ∷ r.found)
+part_numbered s (form d) m r l k e n a = record { forms = (n, a.forms); values = a.values; variables = a.variables }
+part_numbered s (below d) m r l k e n a = record { forms = (n, a.forms); values = a.values; variables = a.variables }
+part_numbered s (inner d) m r l k e n a = record { forms = (n, a.forms); values = a.values; variables = a.variables }
+part_numbered s (bind x d) m r l k e n a = record {
+  forms = a.forms;
+  values = (n, a.values);
+  variables = and_from _ _ (next_number s.variables r.tables.variables s.variables (omega arith) (omega (arith, k.variables, e.variables))) a.variables;
+}
+part_numbered s (parameter x) m r l k e n a = record {
+  forms = a.forms;
+  values = a.values;
+  variables = and_from _ _ (next_number s.variables r.tables.variables s.variables (omega arith) (omega (arith, k.variables, e.variables))) a.variables;
+}
+
+one_more_came : (o i : Around) (s : Tables) (x : Part) (xs : List Part) (m : Standing) (w : Verdicts) (n : ℕ) → WholeDefinitions (defined s) → i.spot.sited ≡ o.spot.sited
+    → AptPart n i x → CameAs (part_place o i x) (part_spot o i x) (defined (part_tables s x)) m → AllCameTo o (behind i s x) (defined m.tables) xs w
+    → AllCameTo o i (defined s) (x ∷ xs) (in_front (recorded s x m.form) w)
+one_more_came o i s x xs m (all_stand r) n w e a c b =
+    let part : Later (defined s) (defined m.tables) = later_part s x (defined m.tables) w c.behind.later in
+    let all : Later (defined m.tables) (defined r.tables) = b.0.later in
+    (
+      part_more o i s x xs m r n w a c b.0,
+      part_counted o i s x m (defined r.tables) (found_nodes r.found) e c.counted b.1,
+      part_numbered s x m r part c.behind.later all
+          (numbered_wider (defined (part_tables s x)) (defined s) (defined m.tables) (defined r.tables) m.form (later_tables s x w) all c.numbered)
+          (all_numbered_wider (defined m.tables) (defined s) (defined r.tables) (defined r.tables) r.found part (later_same (defined r.tables)) b.2),
+    )
+one_more_came o i s x xs m (one_ended y) n w e a c b = tt
 
 good_behind : (i : Around) (s : Tables) (x : Part) (n : ℕ) (h : Definitions) → AptPart n i x → GoodAround (defined s) i → Later (defined (part_tables s x)) h
     → GoodAround h (behind i s x)
@@ -307,7 +347,8 @@ mutual
   all_came : (names : List (List ℕ)) (o i : Around) (s : Tables) (xs : List Part) (w : Verdicts) → Goes names o i s xs w → WholeDefinitions (defined s)
       → GoodAround (defined s) o → GoodAround (defined s) i → i.spot.sited ≡ o.spot.sited → AllApt (length names) i xs → AllCameTo o i (defined s) xs w
   all_came names o i s xs w (ends o2 i2 s2) b go gi e a =
-      (record { whole = b; later = later_same (defined s2); main = refl; functions = λ x y. refl; newer = tt; match = tt }, counted_same o2.spot.sited (defined s2))
+      (record { whole = b; later = later_same (defined s2); main = refl; functions = λ x y. refl; newer = tt; match = tt }, counted_same o2.spot.sited (defined s2),
+        record { forms = tt; values = tt; variables = refl })
   all_came names o i s xs w (goes o2 i2 s2 x ys m w2 c g) b go gi e a =
       let here : CameAs (part_place o2 i2 x) (part_spot o2 i2 x) (defined (part_tables s2 x)) m =
       node_came names (subject names o2 i2 s2 x) (comes_to m) c (part_place o2 i2 x) (part_spot o2 i2 x) (defined (part_tables s2 x))

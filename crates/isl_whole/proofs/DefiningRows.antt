@@ -37,6 +37,7 @@ use Rattle.isl_whole.specs.Right.{RightIn, Counted}
 use Rattle.isl_whole.proofs.Forms.{each_more}
 use Rattle.isl_whole.proofs.Definitions.{Entered, entered_same, entered_literal, later_then, literals_later, procedures_later, mains_later, all_push, counted_same, counted_then}
 use Rattle.isl_whole.proofs.Nodes.{nodes_in, found_nodes, body_nodes}
+use Rattle.isl_whole.specs.Numbers.{Numbered}
 use Rattle.isl_whole.proofs.FoundNodes.{both_plain, inner_plain, parameters_plain, forms_counted}
 use Rattle.isl_whole.proofs.Good.{good_later, good_alone, scope_with}
 use Rattle.isl_whole.proofs.Places.{each_append}
@@ -191,6 +192,10 @@ name_counted : (b sited : Bool) (d : Item) (s : Tables) → Counted b (defined s
 name_counted b true d s = record { sites = (counted_same b (defined s)).sites }
 name_counted b false d s = record { sites = (counted_same b (defined s)).sites }
 
+name_numbered : (sited : Bool) (s : Tables) (h k : Definitions) → Numbered h k (named_form sited s)
+name_numbered true s h k = record { numbers = refl }
+name_numbered false s h k = record { numbers = refl }
+
 apt_defun_of : (n : ℕ) (a : Around) (s : Tables) (name : Name) (d : Item) (fs : List Item) (ps : Parameters) → Stage a s → Good n d → AllOf (Good n) fs
     → a.spot.top ≡ true → has_function s name ≡ false → a.spot.depth + 1 ≤ 1000 → AptAt n a s (defun_of a s name d fs ps)
 apt_defun_of n a s name d fs ps b h g top fresh l =
@@ -225,6 +230,7 @@ apt_defun_of n a s name d fs ps b h g top fresh l =
           (both_plain (each_parameter (all_symbols ps)) (each_inner fs) (parameters_plain (all_symbols ps)) (inner_plain fs)) in
           function_counted a.spot.sited (defined s) (defined u) name p (0 + found_nodes rs) _ (omega (arith, forms, body_nodes (forms_found rs)))
           (counted_then a.spot.sited (defined s) (defined t) (defined u) 0 (found_nodes rs) (name_counted a.spot.sited a.spot.sited d s) k);
+      numbered = λ u rs c m. name_numbered a.spot.sited s _ _;
     }
 
 apt_defun_with : (n : ℕ) (a : Around) (s : Tables) (name : Name) (d l : Item) (fs : List Item) (ps : Option Parameters) → Stage a s → Good n d → AllOf (Good n) fs

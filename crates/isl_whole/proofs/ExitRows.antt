@@ -29,6 +29,7 @@ use Rattle.isl_whole.specs.Places.{scope_of}
 use Rattle.isl_whole.specs.Right.{RightIn}
 use Rattle.isl_whole.proofs.Definitions.{entered_numbers, counted_same}
 use Rattle.isl_whole.proofs.Nodes.{block_nodes, tagbody_nodes}
+use Rattle.isl_whole.proofs.Numbers.{next_number}
 use Rattle.isl_whole.proofs.FoundNodes.{inner_plain, forms_counted, inner_as_many, lengths_added, enough_nodes}
 use Rattle.isl_whole.proofs.Good.{good_deeper, good_block, good_tags, block_scope, tags_scope}
 use Rattle.isl_whole.proofs.Places.{block_there, tag_there}
@@ -69,6 +70,8 @@ apt_block_as n a s p (Some x) fs b g =
       ends = λ u rs. refl;
       nodes = λ u rs c.
           enough_nodes _ _ _ (forms_counted (spots (defined u) (deeper 1 a) i rs) (each_inner fs) rs c.match (inner_plain fs)) (block_nodes s.exits (forms_found rs));
+      own = λ u rs c m.
+          next_number s.exits u.exits s.exits (omega arith) (omega (arith, c.later.exits));
     }))
 
 pub apt_block : (n : ℕ) (a : Around) (s : Tables) (p : Place) (ds : List Item) → Stage a s → AllOf (Good n) ds → AptAt n a s (block_row a s p ds)
@@ -127,13 +130,15 @@ apt_tagbody n a s p ds b g =
           let many : length (forms_found rs) ≡ length (forms_in ds) = inner_as_many (spots (defined u) (deeper 1 a) i rs) (forms_in ds) rs c.match in
           enough_nodes _ _ _ (forms_counted (spots (defined u) (deeper 1 a) i rs) (each_inner (forms_in ds)) rs c.match (inner_plain (forms_in ds)))
           (tagbody_nodes s.exits (lengths_in ds) (forms_found rs) (omega (arith, many, lengths_added ds)));
+      own = λ u rs c m.
+          next_number s.exits u.exits s.exits (omega arith) (omega (arith, c.later.exits));
     })))
     tt
 
 apt_go_to : (n : ℕ) (a : Around) (s : Tables) (p : Place) (x : Symbol) (target : Option Target) → Stage a s → tag_of a.bound x ≡ target → AptAt n a s (go_to a s p x target)
 apt_go_to n a s p x None b h = apt_no_such n a s p _ (name_of x)
 apt_go_to n a s p x (Some t) b h =
-    apt_at_once n a s p (go t.exit t.segment) b (omega arith) (λ k l. made_go k (scope_of a) a.spot.depth t.exit t.segment l (tag_there x a.bound 0 s.exits t b.good.exits h))
+    apt_at_once n a s p (go t.exit t.segment) b (omega arith) (λ h k. record { numbers = refl }) (λ k l. made_go k (scope_of a) a.spot.depth t.exit t.segment l (tag_there x a.bound 0 s.exits t b.good.exits h))
 
 apt_go_as : (n : ℕ) (a : Around) (s : Tables) (p : Place) (x : Option Symbol) → Stage a s → AptAt n a s (go_as a s p x)
 apt_go_as n a s p None b = tt

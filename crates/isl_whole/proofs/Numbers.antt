@@ -153,3 +153,10 @@ site_numbered g h (Some site) f n = numbered_whole g h (sited site f) refl (n, t
 -- a number that is taken next is from there on
 pub next_number : (low high n : ℕ) → low ≤ n → n < high → is_from low high n ≡ true
 next_number low high n l k = and_from _ _ (le-leb low n l) (lt-ltb n high k)
+
+pub all_numbered_wider : (g g2 h h2 : Definitions) (rs : List Found) → Later g2 g → Later h h2 → AllNumbered g h rs → AllNumbered g2 h2 rs
+all_numbered_wider g g2 h h2 rs l k a = record {
+  forms = each_more (Numbered g h) (Numbered g2 h2) (λ f n. numbered_wider g g2 h h2 f l k n) (forms_found rs) a.forms;
+  values = each_more (Numbered g h) (Numbered g2 h2) (λ f n. numbered_wider g g2 h h2 f l k n) (value_list (bindings_found rs)) a.values;
+  variables = all_wider g.variables g2.variables h.variables h2.variables (new_variables rs) l.variables k.variables a.variables;
+}

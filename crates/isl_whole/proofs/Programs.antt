@@ -43,7 +43,7 @@ pub form_came : (names : List (List ℕ)) (a : Around) (s : Tables) (d : Item) (
 form_came names a s d m g o w c =
     let r : CameAs (Some a) a.spot (defined s) m =
     node_came names (node names a s d) (comes_to m) c (Some a) a.spot (defined s) (apt_node names (length names) a s d (record { good = o; whole = w }) g) in
-    record { right = r.right; behind = r.behind; counted = r.counted }
+    record { right = r.right; behind = r.behind; counted = r.counted; numbered = r.numbered }
 
 -- where nothing is bound, all is good
 pub nothing_good : (g : Definitions) (a : Around) → NothingAround a → GoodAround g a

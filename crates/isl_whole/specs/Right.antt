@@ -8,6 +8,7 @@ use Rattle.isl_meaning.specs.Counts.{depth, all_nodes}
 use Rattle.isl_profile.specs.Nodes.{Around, Standing}
 use Rattle.isl_profile.specs.declared.tables.Tables.{Tables}
 use Rattle.isl_whole.specs.Definitions.{Definitions, defined, rows_of, Later, procedure_count, WholeDefinitions}
+use Rattle.isl_whole.specs.Numbers.{Numbered}
 use Rattle.isl_whole.specs.Places.{scope_of}
 
 -- a form that stands in that scope, inside so many others
@@ -36,6 +37,7 @@ pub record Came (a : Around) (s : Tables) (m : Standing) : Type 0 where
   pub right : RightAt (defined m.tables) a m.form
   pub behind : Behind a.spot.top (defined s) (defined m.tables)
   pub counted : Counted a.spot.sited (defined s) (defined m.tables) (all_nodes m.form)
+  pub numbered : Numbered (defined s) (defined m.tables) m.form
 
 -- with a main form more
 abbrev pub with_main : Form → Tables → Tables
