@@ -290,8 +290,7 @@ one_more_came : (o i : Around) (s : Tables) (x : Part) (xs : List Part) (m : Sta
     → AllCameTo o i (defined s) (x ∷ xs) (in_front (recorded s x m.form) w)
 one_more_came o i s x xs m (all_stand r) n w e a c b =
     let part : Later (defined s) (defined m.tables) = later_part s x (defined m.tables) w c.behind.later in
-    let all : Later (defined m.tables) (defined r.tables) = b.0.later in
-    (
+    let all : Later (defined m.tables) (defined r.tables) = b.0.later in (
       part_more o i s x xs m r n w a c b.0,
       part_counted o i s x m (defined r.tables) (found_nodes r.found) e c.counted b.1,
       part_numbered s x m r part c.behind.later all
@@ -346,9 +345,11 @@ mutual
 
   all_came : (names : List (List ℕ)) (o i : Around) (s : Tables) (xs : List Part) (w : Verdicts) → Goes names o i s xs w → WholeDefinitions (defined s)
       → GoodAround (defined s) o → GoodAround (defined s) i → i.spot.sited ≡ o.spot.sited → AllApt (length names) i xs → AllCameTo o i (defined s) xs w
-  all_came names o i s xs w (ends o2 i2 s2) b go gi e a =
-      (record { whole = b; later = later_same (defined s2); main = refl; functions = λ x y. refl; newer = tt; match = tt }, counted_same o2.spot.sited (defined s2),
-        record { forms = tt; values = tt; variables = refl })
+  all_came names o i s xs w (ends o2 i2 s2) b go gi e a = (
+    record { whole = b; later = later_same (defined s2); main = refl; functions = λ x y. refl; newer = tt; match = tt },
+    counted_same o2.spot.sited (defined s2),
+    record { forms = tt; values = tt; variables = refl },
+  )
   all_came names o i s xs w (goes o2 i2 s2 x ys m w2 c g) b go gi e a =
       let here : CameAs (part_place o2 i2 x) (part_spot o2 i2 x) (defined (part_tables s2 x)) m =
       node_came names (subject names o2 i2 s2 x) (comes_to m) c (part_place o2 i2 x) (part_spot o2 i2 x) (defined (part_tables s2 x))

@@ -21,3 +21,5 @@ pub mod Classes
 pub mod Nodes
 pub mod FoundNodes
 pub mod Numbers
+pub mod Growing
+pub mod Grown

@@ -1,13 +1,12 @@
 -- Forms that are made of forms with numbers from there on have such numbers.
-use Rattle.std.proofs.Common.{◌≡◌, ◌+◌, ◌≤◌, ◌<◌, ℕ, nat_le, nat_lt, Bool, true, false, ◌&&◌, List, [], ◌∷◌, ◌++◌, take, drop, filter, Option, Some, None, refl, sym, ap, subst, ◌∙◌, arith}
+use Rattle.std.proofs.Common.{◌≡◌, ◌≤◌, ◌<◌, ℕ, nat_le, nat_lt, true, List, [], ◌∷◌, take, drop, Option, Some, None, refl, ◌∙◌, arith}
 use Rattle.std.specs.List.{list_all}
 use Rattle.std.proofs.lemmas.Bool.{and_parts, and_from, leb-true, ltb-true, le-leb, lt-ltb}
 use Rattle.isl_base.specs.declared.datum.Name.{Name}
-use Rattle.isl_meaning.specs.Form.{Form, form_and, ClauseForms, literal, local, let_form, lambda, call, call_value, prim, clauses, block, tagbody, dynamic_let, sited, parameters}
+use Rattle.isl_meaning.specs.Form.{Form, sited, parameters}
 use Rattle.isl_meaning.specs.Subforms.{Each, forms_list, clause_list, value_list, dynamic_value_list, outer, inner}
 use Rattle.isl_meaning.specs.Inside.{inside_form}
 use Rattle.isl_meaning.specs.Mentions.{variables_bound}
-use Rattle.isl_meaning.specs.model.View.{forms}
 use Rattle.isl_meaning.specs.bridge.Judged.{all_inside}
 use Rattle.isl_profile.specs.declared.making.Found.{Found}
 use Rattle.isl_profile.specs.declared.making.One.{One}
@@ -18,7 +17,7 @@ use Rattle.isl_profile.specs.declared.making.WithBody.{WithBody}
 use Rattle.isl_profile.specs.declared.making.WithBody.TheVariants.{Repeating, Catching, Unwinding, Handling}
 use Rattle.isl_profile.specs.declared.making.Making.{Making}
 use Rattle.isl_profile.specs.declared.making.Making.TheVariants.{Ready, OfOne, OfTwo, OfBody, InSequence, CallOf, CallOfValue, CallOfLocal, CallOfPrimitive, OfClauses, OfVariables, OfDynamics, OfFunction, OfBlock, OfSegments, OfFunctionNamed}
-use Rattle.isl_profile.specs.Makings.{forms_found, variables_found, bindings_found, body_of, one_of, two_of, with_body_of, make_one, make_two, make_with_body, clause_body, behind_clause, make_clauses, make_segments, make_dynamics, behind_dynamics, rest_found, make_function, make, at_site}
+use Rattle.isl_profile.specs.Makings.{forms_found, variables_found, bindings_found, body_of, make_one, make_two, make_with_body, make_clauses, make_segments, make_dynamics, behind_dynamics, rest_found, make, at_site}
 use Rattle.isl_whole.specs.Definitions.{Definitions, Later}
 use Rattle.isl_whole.specs.Numbers.{is_from, numbers_fit, Numbered}
 use Rattle.isl_whole.proofs.Tests.{all_more}
@@ -42,9 +41,9 @@ pub numbered_wider : (g g2 h h2 : Definitions) (f : Form) → Later g2 g → Lat
 numbered_wider g g2 h h2 f l k n = record {
   numbers = all_more (numbers_fit g h) (numbers_fit g2 h2)
       (λ x e.
-          let p : (list_all (is_from g.variables h.variables) _ ≡ true) × (list_all (is_from g.exits h.exits) _ ≡ true) = and_parts _ _ e in
-          and_from _ _ (all_wider g.variables g2.variables h.variables h2.variables _ l.variables k.variables p.0)
-              (all_wider g.exits g2.exits h.exits h2.exits _ l.exits k.exits p.1))
+      let p : (list_all (is_from g.variables h.variables) _ ≡ true) × (list_all (is_from g.exits h.exits) _ ≡ true) = and_parts _ _ e in
+      and_from _ _ (all_wider g.variables g2.variables h.variables h2.variables _ l.variables k.variables p.0)
+      (all_wider g.exits g2.exits h.exits h2.exits _ l.exits k.exits p.1))
       (inside_form f) n.numbers;
 }
 

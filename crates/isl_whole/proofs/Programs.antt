@@ -35,6 +35,8 @@ use Rattle.isl_whole.proofs.Tests.{all_more}
 use Rattle.isl_whole.proofs.Definitions.{literals_later, procedures_later, mains_later, main_fits_later, all_push}
 use Rattle.isl_whole.proofs.Good.{scope_with}
 use Rattle.isl_whole.proofs.AllRows.{apt_node}
+use Rattle.isl_whole.proofs.Growing.{begins_node}
+use Rattle.isl_whole.proofs.Grown.{node_grows}
 use Rattle.isl_whole.proofs.Comes.{CameAs, node_came}
 
 -- a datum at a good place beside whole tables
@@ -43,7 +45,7 @@ pub form_came : (names : List (List ℕ)) (a : Around) (s : Tables) (d : Item) (
 form_came names a s d m g o w c =
     let r : CameAs (Some a) a.spot (defined s) m =
     node_came names (node names a s d) (comes_to m) c (Some a) a.spot (defined s) (apt_node names (length names) a s d (record { good = o; whole = w }) g) in
-    record { right = r.right; behind = r.behind; counted = r.counted; numbered = r.numbered }
+    record { right = r.right; behind = r.behind; counted = r.counted; numbered = r.numbered; grown = node_grows names (node names a s d) (comes_to m) c s (begins_node names s a d) }
 
 -- where nothing is bound, all is good
 pub nothing_good : (g : Definitions) (a : Around) → NothingAround a → GoodAround g a

@@ -5,6 +5,7 @@ use Rattle.isl_meaning.specs.Form.{Form}
 use Rattle.isl_meaning.specs.Fits.{fits}
 use Rattle.isl_meaning.specs.Standing.{stands}
 use Rattle.isl_meaning.specs.Counts.{depth, all_nodes}
+use Rattle.isl_profile.specs.Marks.{Grows}
 use Rattle.isl_profile.specs.Nodes.{Around, Standing}
 use Rattle.isl_profile.specs.declared.tables.Tables.{Tables}
 use Rattle.isl_whole.specs.Definitions.{Definitions, defined, rows_of, Later, procedure_count, WholeDefinitions}
@@ -38,6 +39,7 @@ pub record Came (a : Around) (s : Tables) (m : Standing) : Type 0 where
   pub behind : Behind a.spot.top (defined s) (defined m.tables)
   pub counted : Counted a.spot.sited (defined s) (defined m.tables) (all_nodes m.form)
   pub numbered : Numbered (defined s) (defined m.tables) m.form
+  pub grown : Grows s m.tables
 
 -- with a main form more
 abbrev pub with_main : Form → Tables → Tables

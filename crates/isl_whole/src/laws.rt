@@ -24,8 +24,9 @@ pub fn law_scopes()
     ensures { (s t : LexicalScope) (f : Form) → Within s t → stands s f ≡ true → stands t f ≡ true }
 {}
 
-/// A datum in form, at a good place beside whole tables, comes to a form that stands there, fits and is
-/// not too deep, and the tables behind it are whole.
+/// A datum in form, at a good place beside whole tables, comes to a form that stands there, fits, is not too
+/// deep, and binds numbers between those of the tables in front and behind; and the tables behind it have
+/// grown and are whole.
 pub fn law_forms()
     ensures { (names : List (List ℕ)) (a : Around) (s : Tables) (d : Item) (m : Standing) → Good (length names) d → GoodAround (defined s) a →
         WholeTables s → Comes names (node names a s d) (comes_to m) → Came a s m }
