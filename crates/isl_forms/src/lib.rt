@@ -6,10 +6,10 @@ pub mod here;
 pub mod plan;
 mod primitives;
 mod rows;
-pub mod settle;
+pub mod steps;
 mod shapes;
 
 pub use here::{Here, deeper};
 pub use plan::{Inner, Part, Parts, Plan, Work};
 pub use rows::forms::plain_plan;
-pub use settle::settle;
+pub use steps::settle;

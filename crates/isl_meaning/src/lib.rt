@@ -16,7 +16,7 @@ pub use core_form::{
     Binding, BindingList, Clause, ClauseList, Core, CoreForm, CoreList, DynBinding, DynBindings,
     SegmentList, Subforms,
 };
-pub use nodes::frame_words;
+pub use nodes::{class_list_nodes, form_nodes, frame_words, procedure_nodes, row_nodes};
 pub use part::{ExitVar, Part, PartList, Var};
 pub use primitive::Primitive;
 pub use program::{

@@ -4,7 +4,7 @@ ghost use Rattle.std.specs.Prelude.{◌≡◌, min, length};
 ghost use Rattle.isl_meaning.specs.Counts.{all_nodes};
 ghost use Rattle.isl_meaning.specs.ProgramCounts.{total, row_nodes, procedure_nodes, slot_nodes, class_nodes, program_nodes, frame_words};
 
-use crate::core_form::CoreList;
+use crate::core_form::{Core, CoreList};
 use crate::program::{
     ClassRow, ClassRows, LiteralRow, LiteralRows, Procedure, ProcedureList, ProgramRows, SlotRows,
 };
@@ -42,14 +42,29 @@ pub fn frame_words(procedure: &Procedure) -> u64
         .saturating_add(16)
 }
 
-// A literal's nodes: the size of its datum, or one.
-fn row_nodes(row: &LiteralRow) -> u64
+/// The nodes of a literal: the size of its datum, or one; 2^64 - 1 where that is more. Takes no memory.
+pub fn row_nodes(row: &LiteralRow) -> u64
     ensures { result ≡ min (row_nodes row.now) 18446744073709551615 }
 {
     match row {
         LiteralRow::Datum(datum) => datum.size(),
         LiteralRow::Class(_) | LiteralRow::Function(_) => 1,
     }
+}
+
+/// The nodes of a procedure: those of its body with the functions inside, and four; 2^64 - 1 where that
+/// is more. Takes no memory.
+pub fn procedure_nodes(procedure: &Procedure) -> u64
+    ensures { result ≡ min (procedure_nodes procedure.now) 18446744073709551615 }
+{
+    form_nodes(&procedure.body).saturating_add(4)
+}
+
+/// The nodes of a form with the functions inside it; 2^64 - 1 where that is more. Takes no memory.
+pub fn form_nodes(form: &Core) -> u64
+    ensures { result ≡ min (all_nodes form.now) 18446744073709551615 }
+{
+    form.nodes(Bodies::Inside)
 }
 
 // A class's nodes: its precedence list, its slots and their initargs.
@@ -82,7 +97,7 @@ fn procedure_list_nodes(list: &ProcedureList) -> u64
         let Some(procedure) = list.get(at) else {
             unreachable!()
         };
-        total = total.saturating_add(procedure.body.nodes(Bodies::Inside).saturating_add(4));
+        total = total.saturating_add(procedure_nodes(procedure));
     }
     total
 }
@@ -101,8 +116,10 @@ fn slot_list_nodes(list: &SlotRows) -> u64
     total
 }
 
+/// The nodes of classes: their precedence lists, slots and initargs; 2^64 - 1 where that is more. Takes
+/// no memory.
 #[tactic(auto, using(crate::specs::bridge::Totals::none_counted, crate::specs::bridge::Totals::one_more, crate::specs::bridge::Totals::all_there))]
-fn class_list_nodes(list: &ClassRows) -> u64
+pub fn class_list_nodes(list: &ClassRows) -> u64
     ensures { result ≡ min (total class_nodes list.now) 18446744073709551615 }
 {
     let mut total: u64 = 0;
@@ -124,7 +141,7 @@ fn main_nodes(list: &CoreList) -> u64
         let Some(form) = list.get(at) else {
             unreachable!()
         };
-        total = total.saturating_add(form.nodes(Bodies::Inside));
+        total = total.saturating_add(form_nodes(form));
     }
     total
 }

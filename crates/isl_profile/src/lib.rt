@@ -12,6 +12,6 @@ pub mod tables;
 pub use bound::{Bound, BoundList, Target};
 pub use making::{BodyLengths, Found, FoundList, Lengths, Made, Making, One, Two, WithBody};
 pub use parameters::Parameters;
-pub use special::{Special, special_named};
+pub use special::{Special, is_special_name, special_named};
 pub use spot::Spot;
 pub use tables::{GlobalRow, ReservedWords, Tables};

@@ -1,4 +1,10 @@
 // Judging top-level forms: the profile's verdict on each, with what it gives.
 #![tactic(auto)]
 
+mod counts;
+mod first;
 mod judge;
+mod mark;
+pub mod scope;
+
+pub use scope::Scope;

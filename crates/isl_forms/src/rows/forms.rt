@@ -5,7 +5,7 @@ ghost use Rattle.std.specs.List.{list_any};
 ghost use Rattle.isl_base.specs.model.DataView.{tail_of};
 ghost use Rattle.isl_base.specs.DataNames.{symbol_text, text_of};
 ghost use Rattle.isl_base.specs.Data.{place_of};
-ghost use Rattle.isl_derived.specs.Asked.{list_items};
+ghost use Rattle.isl_derived.specs.Asked.{list_items, is_word};
 ghost use Rattle.isl_meaning.specs.declared.program.LiteralRow.TheVariants as literal;
 ghost use Rattle.isl_profile.specs.Words as kept;
 ghost use Rattle.isl_profile.specs.Names.{function_of};
@@ -55,6 +55,16 @@ fn text_of<'n>(names: &'n Names, datum: &Datum) -> Option<&'n [u8]>
         Kind::Vector(_) => None,
         Kind::Nil => None,
         Kind::List { .. } => None,
+    }
+}
+
+/// Whether the datum is the symbol of that name.
+pub(crate) fn is_word(names: &Names, text: &[u8], datum: &Datum) -> bool
+    ensures { result ≡ is_word names.now text.now datum.now }
+{
+    match text_of(names, datum) {
+        Some(other) => other == text,
+        None => false,
     }
 }
 

@@ -3,10 +3,14 @@
 ghost use Rattle.std.specs.Prelude.{◌≡◌, length, IfOk, IfErr};
 ghost use Rattle.isl_base.specs.GoodData.{Good};
 ghost use Rattle.isl_base.specs.Names.{Extends};
+ghost use Rattle.isl_derived.specs.Asked.{list_items};
 ghost use Rattle.isl_profile.specs.Marks.{Grows};
+ghost use Rattle.isl_profile.specs.Rows as row;
 ghost use Rattle.isl_profile.specs.Promises.{Settles, StepsStop, settled_datum};
 
-use isl_base::{Datum, Names, Stop};
+use crate::rows::forms::is_word;
+use crate::shapes::{list_items, symbol_of};
+use isl_base::{Datum, Names, Reason, Refusal, Stop, Symbol};
 use isl_derived::{Step, derive};
 use isl_profile::Tables;
 use std::alloc::Global;
@@ -21,9 +25,41 @@ fn last_datum<'a>(found: &'a Option<Datum>, datum: &'a Datum) -> &'a Datum
     }
 }
 
+// The reason that the class of `(the c x)` gives, which has to be one that is defined earlier.
+fn class_offence(tables: &Tables, class: Option<Symbol>) -> Option<Reason>
+    ensures { result ≡ row.class_offence tables.now class }
+{
+    let Some(Symbol::Named(name)) = class else {
+        return Some(Reason::BadShape);
+    };
+    match tables.classes.find(name) {
+        Some(_) => None,
+        None => Some(Reason::UnknownClass),
+    }
+}
+
+// The refusal by the class of `(the c x)`, which is judged in front of the step.
+#[tactic(auto, using(crate::proofs::Lists::shown_items))]
+fn class_in_front(names: &Names, tables: &Tables, datum: &Datum) -> Option<Refusal>
+    ensures { result ≡ row.class_in_front names.now tables.now (list_items datum.now) }
+{
+    let Some([head, class, _form]) = list_items(datum) else {
+        return None;
+    };
+    if !is_word(names, b"the", head) {
+        return None;
+    }
+    let reason = class_offence(tables, symbol_of(class))?;
+    Some(Refusal {
+        place: class.place,
+        reason,
+    })
+}
+
 /// The datum that a form's steps lead to, one after another; none where it is no derived form. It is
-/// refused where a step's form fits no row of the table of derived forms. The new symbols of the
-/// steps are appended to the tables, also where a later step stops.
+/// refused where a step's form fits no row of the table of derived forms, and where the class of
+/// `(the c x)` is none that is defined earlier. The new symbols of the steps are appended to the
+/// tables, also where a later step stops.
 pub fn settle(
     alloc: Global,
     names: &mut Names,
@@ -40,6 +76,9 @@ pub fn settle(
     let mut found = None;
     loop {
         let last = last_datum(&found, datum);
+        if let Some(refusal) = class_in_front(names, tables, last) {
+            return Err(Stop::Refused(refusal));
+        }
         match derive(alloc, last, names, &mut tables.fresh)? {
             Step::Plain => return Ok(found),
             Step::Derived(next) => found = Some(next),

@@ -1,0 +1,175 @@
+// The scope: what the top-level forms so far have defined, and the verdict on the next one.
+
+ghost use Rattle.std.specs.Prelude.{◌≡◌, length, min, OnOk, OnErr, IfOk, IfErr};
+ghost use Rattle.isl_base.specs.GoodData.{Good};
+ghost use Rattle.isl_base.specs.Names.{Extends};
+ghost use Rattle.isl_profile.specs.Marks.{Grows};
+ghost use Rattle.isl_scope.specs.Scopes.{top_spot, with_main, nodes_of, Given, IsTaken, IsStopped, IsFirst};
+
+use crate::counts::with_added;
+use crate::first::{first_tables, reserved_words};
+use crate::judge::judge;
+use crate::mark::{cut_to, mark_of};
+use isl_base::{Datum, Names, NoMemory, Origin, Reason, Refusal, Stop};
+use isl_classes::Classes;
+use isl_meaning::{Core, class_list_nodes};
+use isl_profile::{BoundList, Spot, Tables};
+use std::alloc::Global;
+use std::marker::Model;
+
+/// The most nodes that a program may have.
+const MOST_NODES: u64 = 100_000;
+
+/// What the top-level forms so far have defined. Contracts see it as the tables of the profile.
+#[derive(Drop)]
+pub struct Scope {
+    alloc: Global,
+    tables: Tables,
+    nodes: u64,
+}
+
+impl Model for Scope {
+    ghost use Rattle.isl_profile.specs.declared.tables.Tables.{Tables};
+
+    ghost Value = { Tables };
+
+    ghost use Rattle.isl_base.specs.contracts.datum.Datum as datum;
+    ghost use Rattle.isl_meaning.specs.contracts.core_form.Core as core;
+    ghost use Rattle.std.specs.Coded.{codes};
+
+    ghost coded = { Prim.hlevel (codes, datum.the_row.coded, core.the_row.coded) };
+
+    ghost view = { λ s. s.tables };
+
+    ghost use Rattle.std.specs.Prelude.{◌≡◌, min};
+    ghost use Rattle.isl_scope.specs.Scopes.{nodes_of};
+
+    ghost invariant = { λ s. s.nodes ≡ min (nodes_of s.tables) 18446744073709551615 };
+}
+
+// Where a top-level form stands: a form of a file has a site.
+fn top_spot(origin: Origin) -> Spot
+    ensures { result ≡ top_spot origin }
+{
+    let sited = match origin {
+        Origin::Prelude => false,
+        Origin::File => true,
+    };
+    Spot {
+        depth: 0,
+        top: true,
+        in_method: false,
+        sited,
+    }
+}
+
+// A form of a file is a main form.
+fn add_main(origin: Origin, form: Core, tables: &mut Tables) -> Result<(), NoMemory>
+    ensures ok { OnOk result (tables.new ≡ with_main origin form tables.old) }
+    ensures grows { Grows tables.old tables.new }
+{
+    match origin {
+        Origin::Prelude => Ok(()),
+        Origin::File => tables.main.push(form),
+    }
+}
+
+// Judges a top-level form, which is a main form then where it stands in a file.
+fn judge_top(
+    alloc: Global,
+    names: &mut Names,
+    tables: &mut Tables,
+    datum: &Datum,
+    origin: Origin,
+) -> Result<(), Stop>
+    requires good { Good (length names.old) datum.now }
+    ensures given { OnOk result (Given names.new origin tables.old datum.now tables.new) }
+    ensures stop { IfErr result (IsStopped names.new origin tables.old datum.now) }
+    ensures names { Extends names.old names.new }
+    ensures grows { Grows tables.old tables.new }
+{
+    let mut bound = BoundList::new(alloc);
+    let form = judge(alloc, names, tables, &mut bound, top_spot(origin), datum)?;
+    add_main(origin, form, tables)?;
+    Ok(())
+}
+
+// The same, with the nodes of the program then, which are within their limit.
+fn take_form(
+    alloc: Global,
+    names: &mut Names,
+    tables: &mut Tables,
+    nodes: u64,
+    datum: &Datum,
+    origin: Origin,
+) -> Result<u64, Stop>
+    requires good { Good (length names.old) datum.now }
+    requires nodes { nodes ≡ min (nodes_of tables.old) 18446744073709551615 }
+    ensures taken { OnOk result (IsTaken names.new origin tables.old datum.now tables.new) }
+    ensures nodes { IfOk result (λ nodes. nodes ≡ min (nodes_of tables.new) 18446744073709551615) }
+    ensures stop { IfErr result (IsStopped names.new origin tables.old datum.now) }
+    ensures names { Extends names.old names.new }
+    ensures grows { Grows tables.old tables.new }
+{
+    let mark = mark_of(tables);
+    judge_top(alloc, names, tables, datum, origin)?;
+    let nodes = with_added(tables, mark, nodes);
+    if nodes > MOST_NODES {
+        return Err(Stop::Refused(Refusal {
+            place: datum.place,
+            reason: Reason::ProgramTooLarge,
+        }));
+    }
+    Ok(nodes)
+}
+
+impl Scope {
+    /// The scope in front of all forms: the built-in classes and no definition. The table of names
+    /// keeps its names and may have gained some, after `NoMemory` too.
+    pub fn new(alloc: Global, names: &mut Names) -> Result<Scope, NoMemory>
+        ensures first { IfOk result (IsFirst names.new) }
+        ensures names { Extends names.old names.new }
+    {
+        let words = reserved_words(names)?;
+        let classes = Classes::builtin(alloc, names)?;
+        let nodes = class_list_nodes(classes.rows());
+        let tables = first_tables(alloc, words, classes);
+        Ok(Scope {
+            alloc,
+            tables,
+            nodes,
+        })
+    }
+
+    /// Judges a top-level form of the prelude or of a file, and takes what it defines
+    /// (ISO/IEC 13816:2007, 11 and 12). It is refused by its first offence in preorder, with the place
+    /// and the lowest reason there; else by `ProgramTooLarge` at the form where the program has more than
+    /// 100,000 nodes with it. The scope is unchanged after a stop; the table of names keeps its names
+    /// and may have gained some. Condition: the datum is in form, and its names are in the table.
+    pub fn form(&mut self, names: &mut Names, datum: &Datum, origin: Origin) -> Result<(), Stop>
+        requires good { Good (length names.old) datum.now }
+        ensures taken { OnOk result (IsTaken names.new origin self.old datum.now self.new) }
+        ensures stop { IfErr result (IsStopped names.new origin self.old datum.now) }
+        ensures unchanged { OnErr result (self.new ≡ self.old) }
+        ensures names { Extends names.old names.new }
+    {
+        let mark = mark_of(&self.tables);
+        match take_form(
+            self.alloc,
+            names,
+            &mut self.tables,
+            self.nodes,
+            datum,
+            origin,
+        ) {
+            Ok(nodes) => {
+                self.nodes = nodes;
+                Ok(())
+            }
+            Err(stop) => {
+                cut_to(&mut self.tables, mark);
+                Err(stop)
+            }
+        }
+    }
+}
