@@ -73,11 +73,11 @@ apt_let n a s p (bs ∷ fs) b g = apt_within n a s 2 p _ (apt_let_as n a s p bs 
 
 -- dynamic-let: as many names as bindings
 
-one_name_more : (n : Option Name) (ms ns : Option (List Name)) (k : ℕ) → ((ks : List Name) → ms ≡ Some ks → length ks ≡ k) → (ks : List Name) → name_and n ms ≡ Some ks
+one_name_more : (n : Option Name) (ms : Option (List Name)) (k : ℕ) → ((ks : List Name) → ms ≡ Some ks → length ks ≡ k) → (ks : List Name) → name_and n ms ≡ Some ks
     → length ks ≡ k + 1
-one_name_more None ms ns k h ks e = absurd (cc e)
-one_name_more (Some n) None ns k h ks e = absurd (cc e)
-one_name_more (Some n) (Some ms) ns k h ks e =
+one_name_more None ms k h ks e = absurd (cc e)
+one_name_more (Some n) None k h ks e = absurd (cc e)
+one_name_more (Some n) (Some ms) k h ks e =
     let same : (n ∷ ms) ≡ ks = cc e in
     let many : length ms ≡ k = h ms refl in
     let all : length (n ∷ ms) ≡ length ks = ap length same in
@@ -86,7 +86,7 @@ one_name_more (Some n) (Some ms) ns k h ks e =
 names_counted : (qs : List Pair) (ns : List Name) → names_of qs ≡ Some ns → length ns ≡ length qs
 names_counted [] ns e = let same : [] ≡ ns = cc e in sym (ap length same)
 names_counted (q ∷ qs) ns e =
-    let more : length ns ≡ length qs + 1 = one_name_more (name_of q.name) (names_of qs) None (length qs) (names_counted qs) ns e in omega (arith, more)
+    let more : length ns ≡ length qs + 1 = one_name_more (name_of q.name) (names_of qs) (length qs) (names_counted qs) ns e in omega (arith, more)
 
 values_apt : (n : ℕ) (i : Around) (qs : List Pair) → GoodPairs n qs → AllApt n i (values_of qs)
 values_apt n i [] g = tt

@@ -131,9 +131,9 @@ later_function g name p = record {
   classes = refl;
 }
 
-still_there : (g : Definitions) (name : Name) (p : Procedure) (c : Callee) → IsThere g.procedures c → IsThere (g.procedures ++ p ∷ []) c
-still_there g name p (callee.Procedure i) h = omega (arith, h, length-append g.procedures (p ∷ []))
-still_there g name p (callee.Generic i) h = h
+still_there : (g : Definitions) (p : Procedure) (c : Callee) → IsThere g.procedures c → IsThere (g.procedures ++ p ∷ []) c
+still_there g p (callee.Procedure i) h = omega (arith, h, length-append g.procedures (p ∷ []))
+still_there g p (callee.Generic i) h = h
 
 -- literals, procedures and main forms fit under rows that have as many literals and sites
 whole_function : (g : Definitions) (name : Name) (p : Procedure) → WholeDefinitions g → procedure_fits g p ≡ true → list_any (λ f. is_that name f.name) g.functions ≡ false
@@ -144,7 +144,7 @@ whole_function g name p w f k =
       literals = literals_later g h (later_function g name p) g.literals w.literals;
       procedures = procedures_later g h (later_function g name p) (g.procedures ++ p ∷ []) (all_push (procedure_fits g) g.procedures p w.procedures f);
       functions = each_append (λ f. IsThere h.procedures f.callee) g.functions _
-          (each_more (λ f. IsThere g.procedures f.callee) (λ f. IsThere h.procedures f.callee) (λ f e. still_there g name p f.callee e) g.functions w.functions)
+          (each_more (λ f. IsThere g.procedures f.callee) (λ f. IsThere h.procedures f.callee) (λ f e. still_there g p f.callee e) g.functions w.functions)
           (omega (arith, length-append g.procedures (p ∷ [])), tt);
       names = one_name_more name (callee.Procedure (length g.procedures)) g.functions w.names k;
       main = mains_later g h (later_function g name p) g.main w.main;

@@ -170,13 +170,13 @@ bound_there s t (Variable v) h k = h k
 bound_there s t (Exit x) h k = let e : (a : Around) × (exit_around x s.exits ≡ Some a) = some_exit x s.exits k in exit_some x t.exits e.0 (h e.0 e.1)
 bound_there s t Method h k = h k
 
-all_bound_there : (f : Form) (vs : List ℕ) (body : Form) (s t : LexicalScope) (parts : List Part) → ((p : Part) → is_free vs body p ≡ true → Provides s t p)
+all_bound_there : (vs : List ℕ) (body : Form) (s t : LexicalScope) (parts : List Part) → ((p : Part) → is_free vs body p ≡ true → Provides s t p)
     → list_all (is_bound s) parts ≡ true → list_all (is_free vs body) parts ≡ true → list_all (is_bound t) parts ≡ true
-all_bound_there f vs body s t [] h k g = refl
-all_bound_there f vs body s t (p ∷ ps) h k g =
+all_bound_there vs body s t [] h k g = refl
+all_bound_there vs body s t (p ∷ ps) h k g =
     let a : (is_bound s p ≡ true) × (list_all (is_bound s) ps ≡ true) = and_parts _ _ k in
     let b : (is_free vs body p ≡ true) × (list_all (is_free vs body) ps ≡ true) = and_parts _ _ g in
-    and_from _ _ (bound_there s t p (h p b.0) a.0) (all_bound_there f vs body s t ps h a.1 b.1)
+    and_from _ _ (bound_there s t p (h p b.0) a.0) (all_bound_there vs body s t ps h a.1 b.1)
 
 segment_there : (segment : ℕ) (o u : Option Around) → ((a : Around) → o ≡ Some a → u ≡ Some a) → is_segment segment o ≡ true → is_segment segment u ≡ true
 segment_there segment None u h k = absurd (cc k)
@@ -189,7 +189,7 @@ itself (lambda required rest body parts) s t m h =
     let a : ((in_order parts && list_all (is_bound s) parts) ≡ true) × (list_all (is_free (parameters required rest) body) parts ≡ true) = and_parts _ _ h in
     let b : (in_order parts ≡ true) × (list_all (is_bound s) parts ≡ true) = and_parts _ _ a.0 in
     let f : Form = lambda required rest body parts in
-    and_from _ _ (and_from _ _ b.0 (all_bound_there f (parameters required rest) body s t parts
+    and_from _ _ (and_from _ _ b.0 (all_bound_there (parameters required rest) body s t parts
     (λ p k.
     let c : (not (owns (parameters required rest) p) ≡ true) × (mentions p body ≡ true) = and_parts _ _ k in
     m.provides p (inner_mentioned p f (not-true _ c.0) (or_left (mentions p body) false c.1)))

@@ -25,7 +25,7 @@ use Rattle.isl_profile.specs.declared.making.Making.TheVariants.{OfOne, OfTwo, O
 use Rattle.isl_profile.specs.Names.{variable_of, function_of}
 use Rattle.isl_profile.specs.Nodes.{Around}
 use Rattle.isl_profile.specs.Shapes.{symbol_of, is_true, ClauseParts, clauses_in}
-use Rattle.isl_profile.specs.RowWords.{deeper, deeper_at_top, made_at_once, each_below, each_inner, bad_shape}
+use Rattle.isl_profile.specs.RowWords.{unsited, deeper, deeper_at_top, made_at_once, each_below, each_inner, bad_shape}
 use Rattle.isl_profile.specs.ValueRows.{free_symbol, symbol_as, symbol_node, quote_row, is_constant, with_set, one_part, set_free, set_as, set_datum, setq_row, progn_row, clause_lengths, clause_parts, own_depth, cond_as, cond_row, two_row, body_row, dynamic_name, dynamic_as, dynamic_row, set_dynamic_as, set_dynamic_row, function_named, function_as, function_symbol, function_row, method_row, class_of, class_symbol, class_datum, class_row}
 use Rattle.isl_profile.specs.bridge.GoodParts.{GoodClauses, MaybeClauses, good_clauses}
 use Rattle.isl_profile.specs.Makings.{forms_found, make_clauses}
@@ -51,7 +51,7 @@ apt_free_symbol n a p s (Fresh e serial) b = tt
 
 -- the value of a variable around
 pub apt_local : (n : ℕ) (a : Around) (p : Place) (s : Tables) (v : ℕ) → Stage a s → is_variable (scope_of a) v ≡ true
-    → AptAt n a s (symbol_as a p s (Named (record { 0 = 0 })) (Some v))
+    → AptAt n a s (unsited a p s (local v))
 apt_local n a p s v b e = apt_unsited n a s p s (local v) b (entered_same (defined s) b.whole) (counted_same a.spot.sited (defined s)) (λ h k. record { numbers = refl }) (λ h l d. made_local h (scope_of a) a.spot.depth v d e)
 
 apt_symbol_as : (n : ℕ) (a : Around) (p : Place) (s : Tables) (x : Symbol) (v : Option ℕ) → Stage a s → variable_of a.bound x ≡ v → AptAt n a s (symbol_as a p s x v)
