@@ -26,10 +26,10 @@ use Rattle.isl_profile.specs.Nodes.{Around, Node}
 use Rattle.isl_profile.specs.Shapes.{symbol_of}
 use Rattle.isl_profile.specs.Rows.{first_reserved, functions_kept, special_row, special_node, without_dot, call_symbol, call_as, special_of, headed_as, is_lambda, headed_by_form, headed_by, list_node, plain_node, class_in_front, unless_refused, derived_as, node}
 use Rattle.isl_profile.specs.bridge.GoodParts.{good_list}
-use Rattle.isl_whole.specs.Ground.{ground}
+use Rattle.isl_whole.specs.Definitions.{defined}
 use Rattle.isl_whole.specs.Places.{scope_of}
 use Rattle.isl_whole.proofs.Places.{function_there}
-use Rattle.isl_whole.proofs.Grounds.{entered_same, counted_same}
+use Rattle.isl_whole.proofs.Definitions.{entered_same, counted_same}
 use Rattle.isl_whole.proofs.Apt.{AptAt, Stage, apt_if, apt_literal}
 use Rattle.isl_whole.proofs.ValueRows.{apt_symbol, apt_quote, apt_setq, apt_progn, apt_cond, apt_two, apt_body, apt_dynamic, apt_set_dynamic, apt_function, apt_method, next_of_methods, has_of_methods, apt_class}
 use Rattle.isl_whole.proofs.ExitRows.{apt_block, apt_return_from, apt_tagbody, apt_go}
@@ -137,12 +137,12 @@ apt_derived : (names : List (List ℕ)) (n : ℕ) (x : Derivation) (a : Around) 
 apt_derived names n plain a s d b g = apt_plain names n a s d b g
 apt_derived names n unfit a s d b g = tt
 apt_derived names n (becomes r) a s d b g = record {
-  entered = entered_same (ground s) b.whole;
+  entered = entered_same (defined s) b.whole;
   good = b.good;
   datum = g;
   wanted = refl;
   same_spot = refl;
-  start = counted_same a.spot.sited (ground s);
+  start = counted_same a.spot.sited (defined s);
 }
 
 apt_unless : (n : ℕ) (a : Around) (s : Tables) (r : Option Refusal) (x : Node) → AptAt n a s x → AptAt n a s (unless_refused r x)

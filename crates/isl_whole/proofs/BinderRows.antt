@@ -23,11 +23,13 @@ use Rattle.isl_profile.specs.Shapes.{Pair, pairs_in, parameters_in, all_symbols,
 use Rattle.isl_profile.specs.RowWords.{deeper, with_all, each_below, each_inner, each_bound, each_parameter}
 use Rattle.isl_profile.specs.BindingRows.{let_as, let_row, name_and, names_of, values_of, dynamics_as, dynamic_let_as, dynamic_let_row, lambda_as, lambda_row, functions_of, functions_as, with_functions_as, with_functions_row}
 use Rattle.isl_profile.specs.bridge.GoodParts.{GoodPairs, MaybePairs, good_pairs}
-use Rattle.isl_whole.specs.Ground.{Ground, ground}
+use Rattle.isl_whole.specs.Definitions.{Definitions, defined}
 use Rattle.isl_whole.specs.Places.{variables_around, scope_of, GoodAround}
 use Rattle.isl_whole.specs.Right.{RightIn, RightAt}
-use Rattle.isl_whole.proofs.Grounds.{entered_same, counted_same}
+use Rattle.isl_whole.proofs.Definitions.{entered_same, counted_same}
 use Rattle.isl_whole.proofs.Nodes.{let_nodes, lambda_nodes, sequence_nodes, dynamic_let_nodes}
+use Rattle.isl_whole.specs.Numbers.{is_from}
+use Rattle.std.specs.List.{list_all}
 use Rattle.isl_whole.proofs.FoundNodes.{both_plain, below_plain, inner_plain, parameters_plain, values_plain, forms_counted, enough_nodes}
 use Rattle.isl_whole.proofs.Good.{good_deeper, good_functions, MaybeFunctions, are_functions, functions_scope}
 use Rattle.isl_whole.proofs.Captured.{IsCaptured, is_captured}
@@ -39,7 +41,7 @@ use Rattle.isl_whole.proofs.ExitRows.{two_deeper}
 
 -- let
 
-found_let : (h : Ground) (a : Around) (qs : List Pair) (fs : List Item) (rs : List Found) → a.spot.depth + 2 ≤ 1000
+found_let : (h : Definitions) (a : Around) (qs : List Pair) (fs : List Item) (rs : List Found) → a.spot.depth + 2 ≤ 1000
     → AllMatch (spots h (deeper 1 a) (deeper 2 a) rs) (each_bound qs ++ each_inner fs) rs → RightAt h a (make OfVariables rs)
 found_let h a qs fs rs l x =
     let m : BoundMatch (spots h (deeper 1 a) (deeper 2 a) rs) rs = bound_match (spots h (deeper 1 a) (deeper 2 a) rs) qs fs rs x in
@@ -51,15 +53,18 @@ apt_let_as : (n : ℕ) (a : Around) (s : Tables) (p : Place) (bs : Item) (fs : L
     → a.spot.depth + 2 ≤ 1000 → AptAt n a s (let_as a s p bs fs qs)
 apt_let_as n a s p bs fs None b g k l = tt
 apt_let_as n a s p bs fs (Some qs) b g k l = apt_made n a s (deeper 2 a) p s (each_bound qs ++ each_inner fs) OfVariables b (record {
-  entered = entered_same (ground s) b.whole;
-  inside = good_deeper (ground s) 2 a b.good;
+  entered = entered_same (defined s) b.whole;
+  inside = good_deeper (defined s) 2 a b.good;
   low = λ e. refl;
   sited = refl;
-  start = counted_same a.spot.sited (ground s);
+  start = counted_same a.spot.sited (defined s);
   parts = both_apt n (deeper 2 a) (each_bound qs) (each_inner fs) (bound_apt n (deeper 2 a) qs refl k) (inner_apt n (deeper 2 a) fs g);
-  right = λ u rs c. found_let (ground u) a qs fs rs l c.match;
+  right = λ u rs c. found_let (defined u) a qs fs rs l c.match;
   ends = λ u rs. refl;
   nodes = λ u rs c. let_nodes rs;
+  own = λ u rs c m.
+      ap (list_all (is_from s.variables u.variables))
+      (bound_match (spots (defined u) (deeper 1 a) (deeper 2 a) rs) qs fs rs c.match).variables ∙ m.variables;
 })
 
 pub apt_let : (n : ℕ) (a : Around) (s : Tables) (p : Place) (ds : List Item) → Stage a s → AllOf (Good n) ds → AptAt n a s (let_row a s p ds)
@@ -68,11 +73,11 @@ apt_let n a s p (bs ∷ fs) b g = apt_within n a s 2 p _ (apt_let_as n a s p bs 
 
 -- dynamic-let: as many names as bindings
 
-one_name_more : (n : Option Name) (ms ns : Option (List Name)) (k : ℕ) → ((ks : List Name) → ms ≡ Some ks → length ks ≡ k) → (ks : List Name) → name_and n ms ≡ Some ks
+one_name_more : (n : Option Name) (ms : Option (List Name)) (k : ℕ) → ((ks : List Name) → ms ≡ Some ks → length ks ≡ k) → (ks : List Name) → name_and n ms ≡ Some ks
     → length ks ≡ k + 1
-one_name_more None ms ns k h ks e = absurd (cc e)
-one_name_more (Some n) None ns k h ks e = absurd (cc e)
-one_name_more (Some n) (Some ms) ns k h ks e =
+one_name_more None ms k h ks e = absurd (cc e)
+one_name_more (Some n) None k h ks e = absurd (cc e)
+one_name_more (Some n) (Some ms) k h ks e =
     let same : (n ∷ ms) ≡ ks = cc e in
     let many : length ms ≡ k = h ms refl in
     let all : length (n ∷ ms) ≡ length ks = ap length same in
@@ -81,13 +86,13 @@ one_name_more (Some n) (Some ms) ns k h ks e =
 names_counted : (qs : List Pair) (ns : List Name) → names_of qs ≡ Some ns → length ns ≡ length qs
 names_counted [] ns e = let same : [] ≡ ns = cc e in sym (ap length same)
 names_counted (q ∷ qs) ns e =
-    let more : length ns ≡ length qs + 1 = one_name_more (name_of q.name) (names_of qs) None (length qs) (names_counted qs) ns e in omega (arith, more)
+    let more : length ns ≡ length qs + 1 = one_name_more (name_of q.name) (names_of qs) (length qs) (names_counted qs) ns e in omega (arith, more)
 
 values_apt : (n : ℕ) (i : Around) (qs : List Pair) → GoodPairs n qs → AllApt n i (values_of qs)
 values_apt n i [] g = tt
 values_apt n i (q ∷ qs) g = (g.0, values_apt n i qs g.1)
 
-found_dynamics : (h : Ground) (a : Around) (ns : List Name) (qs : List Pair) (fs : List Item) (rs : List Found) → a.spot.depth + 2 ≤ 1000 → length ns ≡ length qs
+found_dynamics : (h : Definitions) (a : Around) (ns : List Name) (qs : List Pair) (fs : List Item) (rs : List Found) → a.spot.depth + 2 ≤ 1000 → length ns ≡ length qs
     → AllMatch (spots h (deeper 1 a) (deeper 1 a) rs) (values_of qs ++ each_below fs) rs → RightAt h a (make (OfDynamics ns) rs)
 found_dynamics h a ns qs fs rs l e x =
     let m : DynamicsMatch (spots h (deeper 1 a) (deeper 1 a) rs) ns rs = dynamics_match (spots h (deeper 1 a) (deeper 1 a) rs) ns qs fs rs e x in
@@ -100,12 +105,13 @@ apt_dynamics_as n a s p fs qs (Some ns) b g k e =
     apt_within n a s 2 p _ (λ l. apt_made n a s (deeper 1 a) p s (values_of qs ++ each_below fs) (OfDynamics ns) b
     (plain_parts n a s (values_of qs ++ each_below fs) (OfDynamics ns) b
     (both_apt n (deeper 1 a) (values_of qs) (each_below fs) (values_apt n (deeper 1 a) qs k) (below_apt n (deeper 1 a) fs g))
-    (λ u rs c. found_dynamics (ground u) a ns qs fs rs l (names_counted qs ns e) c.match) (λ u rs. refl)
+    (λ u rs c. found_dynamics (defined u) a ns qs fs rs l (names_counted qs ns e) c.match) (λ u rs. refl)
     (λ u rs c.
-        enough_nodes _ _ _
-        (forms_counted (spots (ground u) (deeper 1 a) (deeper 1 a) rs) (values_of qs ++ each_below fs) rs c.match
-            (both_plain (values_of qs) (each_below fs) (values_plain qs) (below_plain fs)))
-        (dynamic_let_nodes ns (forms_found rs)))))
+    enough_nodes _ _ _
+    (forms_counted (spots (defined u) (deeper 1 a) (deeper 1 a) rs) (values_of qs ++ each_below fs) rs c.match
+    (both_plain (values_of qs) (each_below fs) (values_plain qs) (below_plain fs)))
+    (dynamic_let_nodes ns (forms_found rs)))
+    (λ u rs. tt)))
 
 apt_dynamic_let_as : (n : ℕ) (a : Around) (s : Tables) (p : Place) (bs : Item) (fs : List Item) (qs : Option (List Pair)) → Stage a s → AllOf (Good n) fs
     → MaybePairs n qs → AptAt n a s (dynamic_let_as a s p bs fs qs)
@@ -119,14 +125,14 @@ apt_dynamic_let n a s p (bs ∷ fs) b g = apt_dynamic_let_as n a s p bs fs (pair
 -- lambda
 
 -- the numbers that are stored are those that were found
-pub found_parameters : (h : Ground) (o i : Around) (ps : Parameters) (fs : List Item) (rs : List Found)
+pub found_parameters : (h : Definitions) (o i : Around) (ps : Parameters) (fs : List Item) (rs : List Found)
     → AllMatch (spots h o i rs) (each_parameter (all_symbols ps) ++ each_inner fs) rs
     → parameters (take (length ps.required) (variables_found rs)) (rest_found (is_some ps.rest) (drop (length ps.required) (variables_found rs))) ≡ new_variables rs
 found_parameters h o i ps fs rs x =
     let m : ParametersMatch (spots h o i rs) (length (all_symbols ps)) rs = parameters_match (spots h o i rs) (all_symbols ps) fs rs x in
     parameters_are (length ps.required) (is_some ps.rest) (variables_found rs) (m.count ∙ symbols_counted ps) ∙ m.variables
 
-found_lambda : (g h : Ground) (a : Around) (ps : Parameters) (fs : List Item) (rs : List Found) → a.spot.depth + 2 ≤ 1000 → GoodAround g a
+found_lambda : (g h : Definitions) (a : Around) (ps : Parameters) (fs : List Item) (rs : List Found) → a.spot.depth + 2 ≤ 1000 → GoodAround g a
     → AllCame (deeper 1 a) (deeper 2 a) g (each_parameter (all_symbols ps) ++ each_inner fs) rs h
     → RightAt h a (make (OfFunction (length ps.required) (is_some ps.rest) (parts_around a.bound a.spot.in_method)) rs)
 found_lambda g h a ps fs rs l o c =
@@ -151,19 +157,21 @@ apt_lambda_as : (n : ℕ) (a : Around) (s : Tables) (p : Place) (d : Item) (fs :
     → a.spot.depth + 2 ≤ 1000 → AptAt n a s (lambda_as a s p d fs ps)
 apt_lambda_as n a s p d fs None b g l = tt
 apt_lambda_as n a s p d fs (Some ps) b g l = apt_made n a s (deeper 2 a) p s (each_parameter (all_symbols ps) ++ each_inner fs) _ b (record {
-  entered = entered_same (ground s) b.whole;
-  inside = good_deeper (ground s) 2 a b.good;
+  entered = entered_same (defined s) b.whole;
+  inside = good_deeper (defined s) 2 a b.good;
   low = λ e. refl;
   sited = refl;
-  start = counted_same a.spot.sited (ground s);
+  start = counted_same a.spot.sited (defined s);
   parts = function_apt n (deeper 2 a) ps fs refl g;
-  right = λ u rs c. found_lambda (ground s) (ground u) a ps fs rs l b.good c;
+  right = λ u rs c. found_lambda (defined s) (defined u) a ps fs rs l b.good c;
   ends = λ u rs. refl;
   nodes = λ u rs c.
       enough_nodes _ _ _
-      (forms_counted (spots (ground u) (deeper 1 a) (deeper 2 a) rs) (each_parameter (all_symbols ps) ++ each_inner fs) rs c.match
-          (both_plain (each_parameter (all_symbols ps)) (each_inner fs) (parameters_plain (all_symbols ps)) (inner_plain fs)))
+      (forms_counted (spots (defined u) (deeper 1 a) (deeper 2 a) rs) (each_parameter (all_symbols ps) ++ each_inner fs) rs c.match
+      (both_plain (each_parameter (all_symbols ps)) (each_inner fs) (parameters_plain (all_symbols ps)) (inner_plain fs)))
       (lambda_nodes (take (length ps.required) (variables_found rs)) (rest_found (is_some ps.rest) (drop (length ps.required) (variables_found rs))) (forms_found rs) _);
+  own = λ u rs c m.
+      ap (list_all (is_from s.variables u.variables)) (found_parameters (defined u) (deeper 1 a) (deeper 2 a) ps fs rs c.match) ∙ m.variables;
 })
 
 pub apt_lambda : (n : ℕ) (a : Around) (s : Tables) (p : Place) (ds : List Item) → Stage a s → AllOf (Good n) ds → AptAt n a s (lambda_row a s p ds)
@@ -180,19 +188,20 @@ apt_functions_as n a s p fs true (Some bs) b g f = tt
 apt_functions_as n a s p fs false (Some bs) b g f =
     let i : Around = with_all bs (deeper 1 a) in
     apt_within n a s 1 p _ (λ l. apt_made n a s i p s (each_inner fs) InSequence b (record {
-      entered = entered_same (ground s) b.whole;
-      inside = good_functions (ground s) bs (deeper 1 a) refl f (good_deeper (ground s) 1 a b.good);
+      entered = entered_same (defined s) b.whole;
+      inside = good_functions (defined s) bs (deeper 1 a) refl f (good_deeper (defined s) 1 a b.good);
       low = λ e. refl;
       sited = refl;
-      start = counted_same a.spot.sited (ground s);
+      start = counted_same a.spot.sited (defined s);
       parts = inner_apt n i fs g;
       right = λ u rs c.
-          made_body (ground u) (scope_of a) a.spot.depth (forms_found rs) l
-          (subst (λ (t : LexicalScope). Each (RightIn (ground u) t (a.spot.depth + 1)) (forms_found rs)) (functions_scope bs (deeper 1 a) f)
-          (found_inner (ground u) (deeper 1 a) i fs rs c.match));
+          made_body (defined u) (scope_of a) a.spot.depth (forms_found rs) l
+          (subst (λ (t : LexicalScope). Each (RightIn (defined u) t (a.spot.depth + 1)) (forms_found rs)) (functions_scope bs (deeper 1 a) f)
+          (found_inner (defined u) (deeper 1 a) i fs rs c.match));
       ends = λ u rs. refl;
       nodes = λ u rs c.
-          enough_nodes _ _ _ (forms_counted (spots (ground u) (deeper 1 a) i rs) (each_inner fs) rs c.match (inner_plain fs)) (sequence_nodes (forms_found rs));
+          enough_nodes _ _ _ (forms_counted (spots (defined u) (deeper 1 a) i rs) (each_inner fs) rs c.match (inner_plain fs)) (sequence_nodes (forms_found rs));
+      own = λ u rs c m. tt;
     }))
 
 apt_with_functions_as : (n : ℕ) (kept : Bool) (a : Around) (s : Tables) (p : Place) (bs : Item) (fs : List Item) (qs : Option (List Pair)) → Stage a s

@@ -3,6 +3,7 @@ use Rattle.std.proofs.Common.{◌≡◌, ◌+◌, ◌≤◌, ℕ, nat_le, nat_eq
 use Rattle.std.specs.Prelude.{codes}
 use Rattle.std.specs.Str.{bytes_eq}
 use Rattle.std.proofs.lemmas.Bool.{leb-true, eqb-true}
+use Rattle.std.proofs.lemmas.Bool.{and_parts}
 use Rattle.isl_base.specs.declared.place.Place.{Place}
 use Rattle.isl_base.specs.declared.datum.Name.{Name}
 use Rattle.isl_base.specs.Data.{Item}
@@ -13,6 +14,7 @@ use Rattle.isl_meaning.specs.Arity.{arity}
 use Rattle.isl_meaning.specs.Form.{Form}
 use Rattle.isl_meaning.specs.Subforms.{Each}
 use Rattle.isl_meaning.specs.Standing.{is_variable}
+use Rattle.isl_meaning.specs.Counts.{all_nodes}
 use Rattle.isl_profile.specs.declared.tables.Tables.{Tables}
 use Rattle.isl_profile.specs.declared.making.Found.{Found}
 use Rattle.isl_profile.specs.declared.making.Two.{Two}
@@ -24,14 +26,13 @@ use Rattle.isl_profile.specs.Nodes.{Around}
 use Rattle.isl_profile.specs.Makings.{forms_found, make_two, make, finish}
 use Rattle.isl_profile.specs.RowWords.{deeper, each_form}
 use Rattle.isl_profile.specs.CallRows.{all_parts, local_call, named_making, is_value_call, is_pair_call, call_making, named_call}
-use Rattle.isl_whole.specs.Ground.{Ground, ground}
+use Rattle.isl_whole.specs.Definitions.{Definitions, defined}
 use Rattle.isl_whole.specs.Places.{scope_of}
 use Rattle.isl_whole.specs.Right.{RightIn, RightAt}
-use Rattle.isl_whole.proofs.Tests.{both}
 use Rattle.isl_whole.proofs.Matches.{Spots, AllMatch, forms_match, forms_as_many}
 use Rattle.isl_whole.proofs.Nodes.{nodes_in, found_nodes, call_nodes, call_value_nodes, prim_nodes, two_nodes, local_call_nodes}
+use Rattle.isl_whole.proofs.Numbers.{OwnNumbers}
 use Rattle.isl_whole.proofs.FoundNodes.{forms_plain, forms_counted, enough_nodes}
-use Rattle.isl_meaning.specs.Counts.{all_nodes}
 use Rattle.isl_whole.proofs.Made.{made_two, made_call, made_call_value, made_prim, made_local_call}
 use Rattle.isl_whole.proofs.Apt.{spots, AptAt, Stage, apt_within, apt_made, plain_parts, forms_apt}
 
@@ -42,13 +43,13 @@ pub data IsCall : Making → ℕ → Type 0 where
   of_two : (k : Two) (count : ℕ) → count ≡ 2 → IsCall (OfTwo k) count
   of_primitive : (p : Primitive) (count : ℕ) → count ≡ arity p → IsCall (CallOfPrimitive p) count
 
-made_of_two : (g : Ground) (a : Around) (k : Two) (fs : List Form) → a.spot.depth + 1 ≤ 1000 → length fs ≡ 2 → Each (RightIn g (scope_of a) (a.spot.depth + 1)) fs
+made_of_two : (g : Definitions) (a : Around) (k : Two) (fs : List Form) → a.spot.depth + 1 ≤ 1000 → length fs ≡ 2 → Each (RightIn g (scope_of a) (a.spot.depth + 1)) fs
     → RightAt g a (make_two k fs)
 made_of_two g a k [] l e r = absurd (omega (arith, e))
 made_of_two g a k (f ∷ []) l e r = absurd (omega (arith, e))
 made_of_two g a k (f ∷ h ∷ fs) l e r = made_two g (scope_of a) a.spot.depth k f h l r.0 r.1.0
 
-found_call : (g : Ground) (a i : Around) (m : Making) (ds : List Item) (rs : List Found) → IsCall m (length ds) → a.spot.depth + 1 ≤ 1000
+found_call : (g : Definitions) (a i : Around) (m : Making) (ds : List Item) (rs : List Found) → IsCall m (length ds) → a.spot.depth + 1 ≤ 1000
     → AllMatch (spots g (deeper 1 a) i rs) (each_form ds) rs → RightAt g a (make m rs)
 found_call g a i m ds rs c l x =
     let right : Each (RightIn g (scope_of a) (a.spot.depth + 1)) (forms_found rs) = forms_match (spots g (deeper 1 a) i rs) ds rs x in
@@ -62,7 +63,7 @@ found_call g a i m ds rs c l x =
     by_call m count (of_two t k h) r e = made_of_two g a t (forms_found rs) l (e ∙ h) r
     by_call m count (of_primitive p k h) r e = made_prim g (scope_of a) a.spot.depth p (forms_found rs) l (e ∙ h) r
 
-call_ends : (m : Making) (count : ℕ) → IsCall m count → (u : Tables) (rs : List Found) → ground (finish m rs u) ≡ ground u
+call_ends : (m : Making) (count : ℕ) → IsCall m count → (u : Tables) (rs : List Found) → defined (finish m rs u) ≡ defined u
 call_ends m count (of_name n k) u rs = refl
 call_ends m count (of_value k h) u rs = refl
 call_ends m count (of_two t k h) u rs = refl
@@ -86,13 +87,20 @@ counted_call m count rs (of_primitive p k h) e = prim_nodes p (forms_found rs)
 call_counted : (p : Spots) (m : Making) (ds : List Item) (rs : List Found) → IsCall m (length ds) → AllMatch p (each_form ds) rs → found_nodes rs + 1 ≤ all_nodes (make m rs)
 call_counted p m ds rs c x = enough_nodes _ _ _ (forms_counted p (each_form ds) rs x (forms_plain ds)) (counted_call m (length ds) rs c (forms_as_many p ds rs x))
 
+call_own : (g h : Definitions) (m : Making) (count : ℕ) (rs : List Found) → IsCall m count → OwnNumbers g h m rs
+call_own g h m count rs (of_name n k) = tt
+call_own g h m count rs (of_value k l) = tt
+call_own g h m count rs (of_two t k l) = tt
+call_own g h m count rs (of_primitive p k l) = tt
+
 pub apt_all_parts : (n : ℕ) (m : Making) (a : Around) (s : Tables) (p : Place) (ds : List Item) → Stage a s → AllOf (Good n) ds → IsCall m (length ds)
     → AptAt n a s (all_parts m a s p ds)
 apt_all_parts n m a s p ds b g c =
     apt_within n a s 1 p _ (λ l. apt_made n a s (deeper 1 a) p s (each_form ds) m b
     (plain_parts n a s (each_form ds) m b (forms_apt n (deeper 1 a) ds g)
-    (λ u rs x. found_call (ground u) a (deeper 1 a) m ds rs c l x.match) (call_ends m (length ds) c)
-    (λ u rs x. call_counted (spots (ground u) (deeper 1 a) (deeper 1 a) rs) m ds rs c x.match)))
+    (λ u rs x. found_call (defined u) a (deeper 1 a) m ds rs c l x.match) (call_ends m (length ds) c)
+    (λ u rs x. call_counted (spots (defined u) (deeper 1 a) (deeper 1 a) rs) m ds rs c x.match)
+    (λ u rs. call_own (defined s) (defined u) m (length ds) rs c)))
 
 -- a call by name is one of these
 
@@ -114,11 +122,11 @@ one_of_two false count x y f h = h
 
 call_is : (n : Name) (text : List ℕ) (count : ℕ) → IsCall (call_making n text count) count
 call_is n text count =
-    one_of_two (is_value_call text count) count _ _ (λ e. of_value count (leb-true 1 count (both (bytes_eq text (codes "funcall")) (nat_le 1 count) e).1))
+    one_of_two (is_value_call text count) count _ _ (λ e. of_value count (leb-true 1 count (and_parts (bytes_eq text (codes "funcall")) (nat_le 1 count) e).1))
     (one_of_two (is_pair_call text (codes "signal-condition") count) count _ _
-    (λ e. of_two Signalling count (eqb-true count 2 (both (bytes_eq text (codes "signal-condition")) (nat_eq count 2) e).1))
+    (λ e. of_two Signalling count (eqb-true count 2 (and_parts (bytes_eq text (codes "signal-condition")) (nat_eq count 2) e).1))
     (one_of_two (is_pair_call text (codes "continue-condition") count) count _ _
-    (λ e. of_two Continuing count (eqb-true count 2 (both (bytes_eq text (codes "continue-condition")) (nat_eq count 2) e).1))
+    (λ e. of_two Continuing count (eqb-true count 2 (and_parts (bytes_eq text (codes "continue-condition")) (nat_eq count 2) e).1))
     (named_is_call n count (primitive_called text count) (primitive_taken (primitive_named text) count))))
 
 pub apt_named_call : (n : ℕ) (name : Name) (text : List ℕ) (a : Around) (s : Tables) (p : Place) (ds : List Item) → Stage a s → AllOf (Good n) ds
@@ -132,9 +140,10 @@ pub apt_local_call : (n v : ℕ) (a : Around) (s : Tables) (p : Place) (ds : Lis
 apt_local_call n v a s p ds b e g =
     apt_within n a s 2 p _ (λ l. apt_made n a s (deeper 1 a) p s (each_form ds) (CallOfLocal v) b
     (plain_parts n a s (each_form ds) (CallOfLocal v) b (forms_apt n (deeper 1 a) ds g)
-    (λ u rs x. made_local_call (ground u) (scope_of a) a.spot.depth v (forms_found rs) (omega (arith, l)) e
-    (forms_match (spots (ground u) (deeper 1 a) (deeper 1 a) rs) ds rs x.match))
+    (λ u rs x. made_local_call (defined u) (scope_of a) a.spot.depth v (forms_found rs) (omega (arith, l)) e
+    (forms_match (spots (defined u) (deeper 1 a) (deeper 1 a) rs) ds rs x.match))
     (λ u rs. refl)
     (λ u rs x.
-        enough_nodes _ _ _ (forms_counted (spots (ground u) (deeper 1 a) (deeper 1 a) rs) (each_form ds) rs x.match (forms_plain ds))
-        (local_call_nodes v (forms_found rs)))))
+    enough_nodes _ _ _ (forms_counted (spots (defined u) (deeper 1 a) (deeper 1 a) rs) (each_form ds) rs x.match (forms_plain ds))
+    (local_call_nodes v (forms_found rs)))
+    (λ u rs. tt)))

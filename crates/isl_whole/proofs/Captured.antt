@@ -5,6 +5,7 @@ use Rattle.std.specs.List.{list_all, list_any, filter_map}
 use Rattle.std.proofs.lemmas.Bool.{eqb-true, eq-eqb, ne_eqb, lt-ltb}
 use Rattle.std.proofs.lemmas.List.Folds.{list_any-append}
 use Rattle.std.proofs.lemmas.Map.Views.{any-filter_same}
+use Rattle.std.proofs.lemmas.Bool.{and_parts, and_from, or_left, or_right, or_cases}
 use Rattle.isl_meaning.specs.declared.part.Part.{Part}
 use Rattle.isl_meaning.specs.declared.part.Part.TheVariants as part
 use Rattle.isl_meaning.specs.declared.scope.LexicalScope.{LexicalScope}
@@ -17,9 +18,9 @@ use Rattle.isl_profile.specs.declared.bound.Bound.TheVariants.{Variable, Functio
 use Rattle.isl_profile.specs.Names.{variable_part, exit_part, method_part, parts_around}
 use Rattle.isl_profile.specs.Nodes.{Around}
 use Rattle.isl_whole.specs.Scopes.{Provides, MentionsWithin}
-use Rattle.isl_whole.specs.Ground.{Ground}
+use Rattle.isl_whole.specs.Definitions.{Definitions}
 use Rattle.isl_whole.specs.Places.{variables_around, exit_at, exit_numbers, exit_of, exits_around, scope_of, Rises, GoodAround}
-use Rattle.isl_whole.proofs.Tests.{both, and_true, or_left, or_right, or_cases, all_more}
+use Rattle.isl_whole.proofs.Tests.{all_more}
 use Rattle.isl_whole.proofs.Enough.{enough, seen_variables, exit_some, exit_kept, no_exit, no_method}
 use Rattle.isl_whole.proofs.Places.{any_front, any_behind, each_append}
 
@@ -38,7 +39,7 @@ next_after p (q ∷ qs) h = h.0
 
 ordered_in_order : (ps : List Part) → Ordered ps → in_order ps ≡ true
 ordered_in_order [] h = refl
-ordered_in_order (p ∷ ps) h = and_true _ _ (next_after p ps h.0) (ordered_in_order ps h.1)
+ordered_in_order (p ∷ ps) h = and_from _ _ (next_after p ps h.0) (ordered_in_order ps h.1)
 
 -- what is kept of a list
 
@@ -138,21 +139,21 @@ all_variables_bound : (s : LexicalScope) (vs : List ℕ) → ((v : ℕ) → list
     → list_all (is_bound s) (map part.Variable vs) ≡ true
 all_variables_bound s [] f = refl
 all_variables_bound s (v ∷ vs) f =
-    and_true _ _ (f v (or_left (v == v) _ (eq-eqb v v refl))) (all_variables_bound s vs (λ w h. f w (or_right (w == v) _ h)))
+    and_from _ _ (f v (or_left (v == v) _ (eq-eqb v v refl))) (all_variables_bound s vs (λ w h. f w (or_right (w == v) _ h)))
 
 all_exits_bound : (s : LexicalScope) (es : List ℕ) → ((e : ℕ) → list_any (λ w. e == w) es ≡ true → is_bound s (part.Exit e) ≡ true)
     → list_all (is_bound s) (map part.Exit es) ≡ true
 all_exits_bound s [] f = refl
 all_exits_bound s (v ∷ vs) f =
-    and_true _ _ (f v (or_left (v == v) _ (eq-eqb v v refl))) (all_exits_bound s vs (λ w h. f w (or_right (w == v) _ h)))
+    and_from _ _ (f v (or_left (v == v) _ (eq-eqb v v refl))) (all_exits_bound s vs (λ w h. f w (or_right (w == v) _ h)))
 
 method_bound : (s : LexicalScope) (m : Bool) → s.in_method ≡ m → list_all (is_bound s) (method_part m) ≡ true
-method_bound s true e = and_true _ _ e refl
+method_bound s true e = and_from _ _ e refl
 method_bound s false e = refl
 
 all_append : {X : Type 0} (p : X → Bool) (xs ys : List X) → list_all p xs ≡ true → list_all p ys ≡ true → list_all p (xs ++ ys) ≡ true
 all_append p [] ys h k = k
-all_append p (x ∷ xs) ys h k = let e : (p x ≡ true) × (list_all p xs ≡ true) = both _ _ h in and_true _ _ e.0 (all_append p xs ys e.1 k)
+all_append p (x ∷ xs) ys h k = let e : (p x ≡ true) × (list_all p xs ≡ true) = and_parts _ _ h in and_from _ _ e.0 (all_append p xs ys e.1 k)
 
 exit_number_there : (e : ℕ) (bs : List Bound) → list_any (λ w. e == w) (exit_numbers bs) ≡ true → list_any (λ x. e == x.exit) (exits_around bs) ≡ true
 exit_number_there e [] h = absurd (cc h)
@@ -171,7 +172,7 @@ exit_number_at e (Function x v) h = absurd (cc h)
 exit_number_at e (Block x n) h = h
 exit_number_at e (Tags xs n) h = h
 
-any_cases : {X : Type 0} (p : X → Bool) (xs ys : List X) → list_any p (xs ++ ys) ≡ true → (list_any p xs ≡ true) ⊎ (list_any p ys ≡ true)
+pub any_cases : {X : Type 0} (p : X → Bool) (xs ys : List X) → list_any p (xs ++ ys) ≡ true → (list_any p xs ≡ true) ⊎ (list_any p ys ≡ true)
 any_cases p xs ys h = or_cases (list_any p xs) (list_any p ys) (sym (list_any-append p xs ys) ∙ h)
 
 number_of_exit : (e : ℕ) (bs : List Bound) → list_any (λ x. e == x.exit) (exits_around bs) ≡ true → list_any (λ w. e == w) (exit_numbers bs) ≡ true
@@ -244,7 +245,7 @@ captured_among : (body : Form) (a : Around) (p : Part) → mentions p body ≡ t
 captured_among body a p m h =
     any-filter_same (same_part p) (λ q. mentions q body) (mentions p body)
     (λ q e. ap (λ r. mentions r body) (sym (equal_parts p q e))) (around_parts a)
-    ∙ and_true _ _ m h
+    ∙ and_from _ _ m h
 
 -- the body stands where just these are seen
 
@@ -259,11 +260,11 @@ seen_enough body a vs = record { provides = provides }
     provides : (p : Part) → mentions p body ≡ true → Provides (with_bound vs (scope_of a)) (with_bound vs (seen (captured body a) (scope_of a))) p
     provides (part.Variable v) m =
         kept_variable v vs (variables_around a.bound) (seen (captured body a) (scope_of a)).variables
-        (λ h. seen_variables (captured body a) (scope_of a) v ∙ and_true _ _ (captured_among body a (part.Variable v) m (variable_around a v h)) h)
+        (λ h. seen_variables (captured body a) (scope_of a) v ∙ and_from _ _ (captured_among body a (part.Variable v) m (variable_around a v h)) h)
     provides (part.Exit x) m = λ kind h.
         exit_kept (λ y. list_any (same_part (part.Exit y)) (captured body a)) x (exits_around a.bound) kind
         (captured_among body a (part.Exit x) m (exit_around_part a x (exit_some x (exits_around a.bound) kind h))) h
-    provides part.Method m = λ h. and_true _ _ h (captured_among body a part.Method m (method_around a h))
+    provides part.Method m = λ h. and_from _ _ h (captured_among body a part.Method m (method_around a h))
 
 -- none is one of the function's own variables, which are newer
 
@@ -274,7 +275,7 @@ newer_apart n low (v ∷ vs) l e = rw (ne_eqb n v (λ k. omega (arith, k, l, e.0
 not_owned : (vs ns : List ℕ) (low high : ℕ) → Each (λ v. high ≤ v) vs → Rises low ns high → list_all (λ p. not (owns vs p)) (map part.Variable ns) ≡ true
 not_owned vs [] low high e h = refl
 not_owned vs (n ∷ ns) low high e h =
-    and_true _ _ (ap not (newer_apart n high vs (below n ns high h.1) e)) (not_owned vs ns (n + 1) high e h.1)
+    and_from _ _ (ap not (newer_apart n high vs (below n ns high h.1) e)) (not_owned vs ns (n + 1) high e h.1)
   where
     below : (n : ℕ) (ns : List ℕ) (high : ℕ) → Rises (n + 1) ns high → n < high
     below n [] high h = omega (arith, h)
@@ -282,13 +283,13 @@ not_owned vs (n ∷ ns) low high e h =
 
 no_exit_owned : (vs es : List ℕ) → list_all (λ p. not (owns vs p)) (map part.Exit es) ≡ true
 no_exit_owned vs [] = refl
-no_exit_owned vs (e ∷ es) = and_true _ _ (ap not (no_exit vs e)) (no_exit_owned vs es)
+no_exit_owned vs (e ∷ es) = and_from _ _ (ap not (no_exit vs e)) (no_exit_owned vs es)
 
 no_method_owned : (vs : List ℕ) (m : Bool) → list_all (λ p. not (owns vs p)) (method_part m) ≡ true
-no_method_owned vs true = and_true _ _ (ap not (no_method vs)) refl
+no_method_owned vs true = and_from _ _ (ap not (no_method vs)) refl
 no_method_owned vs false = refl
 
-none_owned : (g : Ground) (a : Around) (vs : List ℕ) → GoodAround g a → Each (λ v. g.variables ≤ v) vs → list_all (λ p. not (owns vs p)) (around_parts a) ≡ true
+none_owned : (g : Definitions) (a : Around) (vs : List ℕ) → GoodAround g a → Each (λ v. g.variables ≤ v) vs → list_all (λ p. not (owns vs p)) (around_parts a) ≡ true
 none_owned g a vs o e =
     ap (list_all (λ p. not (owns vs p))) (parts_numbered a.bound a.spot.in_method)
     ∙ all_append _ (map part.Variable (variables_around a.bound)) _ (not_owned vs (variables_around a.bound) 0 g.variables e o.variables)
@@ -296,27 +297,27 @@ none_owned g a vs o e =
 
 all_if : {X : Type 0} (r q : X → Bool) (b : Bool) (x : X) (xs : List X) → q x ≡ b → r x ≡ true → list_all (λ y. r y && q y) xs ≡ true
     → list_all (λ y. r y && q y) (if b then x ∷ xs else xs) ≡ true
-all_if r q true x xs e h k = and_true _ _ (and_true _ _ h e) k
+all_if r q true x xs e h k = and_from _ _ (and_from _ _ h e) k
 all_if r q false x xs e h k = k
 
 all_kept : {X : Type 0} (r q : X → Bool) (xs : List X) → list_all r xs ≡ true → list_all (λ y. r y && q y) (filter q xs) ≡ true
 all_kept r q [] h = refl
 all_kept r q (x ∷ xs) h =
-    let e : (r x ≡ true) × (list_all r xs ≡ true) = both _ _ h in all_if r q (q x) x (filter q xs) refl e.0 (all_kept r q xs e.1)
+    let e : (r x ≡ true) × (list_all r xs ≡ true) = and_parts _ _ h in all_if r q (q x) x (filter q xs) refl e.0 (all_kept r q xs e.1)
 
 also_kept : {X : Type 0} (r q : X → Bool) (xs : List X) → list_all r xs ≡ true → list_all r (filter q xs) ≡ true
-also_kept r q xs h = all_more (λ y. r y && q y) r (λ y e. (both (r y) (q y) e).0) (filter q xs) (all_kept r q xs h)
+also_kept r q xs h = all_more (λ y. r y && q y) r (λ y e. (and_parts (r y) (q y) e).0) (filter q xs) (all_kept r q xs h)
 
 -- a function captures what it has to
 pub record IsCaptured (s : LexicalScope) (vs : List ℕ) (body : Form) (parts : List Part) : Type 0 where
   pub captured : are_captured s vs body parts ≡ true
   pub stands : stands (with_bound vs (seen parts s)) body ≡ true
 
-pub is_captured : (g : Ground) (a : Around) (vs : List ℕ) (body : Form) → GoodAround g a → Each (λ v. g.variables ≤ v) vs
+pub is_captured : (g : Definitions) (a : Around) (vs : List ℕ) (body : Form) → GoodAround g a → Each (λ v. g.variables ≤ v) vs
     → stands (with_bound vs (scope_of a)) body ≡ true → IsCaptured (scope_of a) vs body (filter (λ p. mentions p body) (parts_around a.bound a.spot.in_method))
 is_captured g a vs body o e h = record {
-  captured = and_true _ _
-      (and_true _ _
+  captured = and_from _ _
+      (and_from _ _
       (ordered_in_order (captured body a) (ordered_kept (λ p. mentions p body) (around_parts a)
       (subst Ordered (sym (parts_numbered a.bound a.spot.in_method))
       (parts_ordered (variables_around a.bound) (exit_numbers a.bound) a.spot.in_method g.variables g.exits o.variables o.exits))))

@@ -5,6 +5,7 @@ use Rattle.std.specs.List.{list_all}
 use Rattle.std.proofs.lemmas.Bool.{lt-ltb, le-leb, eqb-true, eq-eqb}
 use Rattle.std.proofs.lemmas.List.Elements.{All-head, All-tail}
 use Rattle.std.proofs.lemmas.Option.{slice_get_within}
+use Rattle.std.proofs.lemmas.Bool.{and_from}
 use Rattle.isl_base.specs.declared.datum.Name.{Name}
 use Rattle.isl_meaning.specs.declared.program.ClassRow.{ClassRow}
 use Rattle.isl_meaning.specs.declared.program.SlotRow.{SlotRow}
@@ -17,7 +18,6 @@ use Rattle.isl_classes.specs.InheritedSlots.{same_name, without_name, each_first
 use Rattle.isl_classes.specs.InheritedClasses.{Hierarchy, IsRow, IsBuiltIn}
 use Rattle.isl_classes.specs.InheritedBuiltIn.{own_initarg, SaysSlots, AreBuiltIn, built_in_own}
 use Rattle.isl_whole.specs.Classes.{is_simple, SimpleClasses}
-use Rattle.isl_whole.proofs.Tests.{and_true}
 use Rattle.isl_whole.proofs.Forms.{each_more}
 use Rattle.isl_whole.proofs.Places.{each_append}
 use Rattle.isl_whole.proofs.Captured.{each_kept}
@@ -102,7 +102,7 @@ slot_plain said n e l =
     let of : Each (λ s. IsOwn s × (same_name n s.name ≡ true)) (of_name n said) = of_that n said e in
     let none : last_initform (of_name n said) ≡ None =
     no_initform (of_name n said) (each_more (λ s. IsOwn s × (same_name n s.name ≡ true)) IsOwn (λ s k. k.0) (of_name n said) of) in
-    and_true _ _ (one_of_first n (of_name n said) of l) (ap (λ (o : Option ℕ). not (is_some o)) none)
+    and_from _ _ (one_of_first n (of_name n said) of l) (ap (λ (o : Option ℕ). not (is_some o)) none)
 
 -- each name of these is the name of one
 abbrev Occurs : List SlotRow → Name → Type 0
@@ -128,7 +128,7 @@ first_of_each P (n ∷ ns) e = (e.0, each_kept P (λ m. not (same_name n m)) (ea
 
 slots_plain : (said : List SlotRow) (ns : List Name) → Each IsOwn said → Each (Occurs said) ns → list_all is_plain_slot (slots_of said ns) ≡ true
 slots_plain said [] e o = refl
-slots_plain said (n ∷ ns) e o = and_true _ _ (slot_plain said n e o.0) (slots_plain said ns e o.1)
+slots_plain said (n ∷ ns) e o = and_from _ _ (slot_plain said n e o.0) (slots_plain said ns e o.1)
 
 united_plain : (said : List SlotRow) → Each IsOwn said → list_all is_plain_slot (united said) ≡ true
 unfolding united
@@ -151,21 +151,21 @@ line_below : (n : ℕ) (ds : List ℕ) (c : ℕ) → All (λ d. d ≤ c) ds → 
 line_below n [] c h l = refl
 line_below n (d ∷ ds) c h l =
     let here : d ≤ c = All-head (λ d. d ≤ c) d ds h in
-    and_true _ _ (lt-ltb d n (omega (arith, here, l))) (line_below n ds c (All-tail (λ d. d ≤ c) d ds h) l)
+    and_from _ _ (lt-ltb d n (omega (arith, here, l))) (line_below n ds c (All-tail (λ d. d ≤ c) d ds h) l)
 
 -- what holds of each row holds of all
 rows_all : (p : ClassRow → Bool) (cs : List ClassRow) → ((c : ℕ) (row : ClassRow) → slice_get cs c ≡ Some row → p row ≡ true) → list_all p cs ≡ true
 rows_all p [] h = refl
-rows_all p (c ∷ cs) h = and_true _ _ (h 0 c refl) (rows_all p cs (λ k row e. h (suc k) row e))
+rows_all p (c ∷ cs) h = and_from _ _ (h 0 c refl) (rows_all p cs (λ k row e. h (suc k) row e))
 
 same_line : (ds : List ℕ) → same_text ds ds ≡ true
 same_line [] = refl
-same_line (d ∷ ds) = and_true _ _ (eq-eqb d d refl) (same_line ds)
+same_line (d ∷ ds) = and_from _ _ (eq-eqb d d refl) (same_line ds)
 
 built_in_row : (row : ClassRow) (p : List ℕ) (n : ℕ) → p ≡ row.precedence → n ≡ length row.slots → row.abstract_class ≡ false → list_all is_plain_slot row.slots ≡ true
     → is_row row p n ≡ true
 built_in_row row p n e f a s =
-    and_true _ _ (and_true _ _ (and_true _ _ (ap (same_text row.precedence) e ∙ same_line row.precedence) (eq-eqb (length row.slots) n (sym f))) s) (ap not a)
+    and_from _ _ (and_from _ _ (and_from _ _ (ap (same_text row.precedence) e ∙ same_line row.precedence) (eq-eqb (length row.slots) n (sym f))) s) (ap not a)
 
 -- the rows stand as the lists of built-in classes have them
 pub record RowsAre (cs : List ClassRow) (ps : List (List ℕ)) (ns : List ℕ) : Type 0 where
@@ -181,7 +181,7 @@ begins (c ∷ cs) (p ∷ ps) [] l r = absurd (cc (r.count 0 c refl))
 begins (c ∷ cs) (p ∷ ps) (n ∷ ns) l r =
     let a : Some p ≡ Some c.precedence = r.precedence 0 c refl in
     let b : Some n ≡ Some (length c.slots) = r.count 0 c refl in
-    and_true _ _ (built_in_row c p n (cc a) (cc b) (r.concrete 0 c refl) (r.plain 0 c refl))
+    and_from _ _ (built_in_row c p n (cc a) (cc b) (r.concrete 0 c refl) (r.plain 0 c refl))
     (begins cs ps ns (omega (arith, l)) (record {
       precedence = λ k row e. r.precedence (suc k) row e;
       count = λ k row e. r.count (suc k) row e;
@@ -203,6 +203,6 @@ built_in_simple texts h b =
       });
       simple = rows_all (is_simple h.rows) h.rows (λ c row e.
           let r : IsRow (take c h.rows) (take (c + 1) h.own) c row = b.hierarchy.classes.right c row e in
-          and_true _ _ (and_true _ _ (line_below (length h.rows) row.precedence c r.in_range (slice_get_within h.rows c row e)) (row_plain texts h b c row e))
+          and_from _ _ (and_from _ _ (line_below (length h.rows) row.precedence c r.in_range (slice_get_within h.rows c row e)) (row_plain texts h b c row e))
           (le-leb (length row.slots) 64 r.few));
     }

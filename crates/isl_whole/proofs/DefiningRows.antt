@@ -3,6 +3,7 @@ use Rattle.std.proofs.Common.{◌≡◌, ◌+◌, ◌==◌, ◌≤◌, ℕ, Bool
 use Rattle.std.specs.List.{list_any}
 use Rattle.std.proofs.lemmas.Bool.{eqb-false, ne_eqb, le-leb}
 use Rattle.std.proofs.lemmas.List.{length-append}
+use Rattle.std.proofs.lemmas.Bool.{and_parts, and_from, not-true, or_parts}
 use Rattle.isl_base.specs.declared.place.Place.{Place}
 use Rattle.isl_base.specs.declared.datum.Name.{Name}
 use Rattle.isl_base.specs.Data.{Item}
@@ -20,6 +21,7 @@ use Rattle.isl_meaning.specs.Counts.{depth}
 use Rattle.isl_meaning.specs.Lookup.{some_of, all_differ}
 use Rattle.isl_meaning.specs.Standing.{alone as alone_in, with_bound, stands}
 use Rattle.isl_meaning.specs.Facts.{same_name}
+use Rattle.isl_meaning.specs.ProgramCounts.{total, procedure_nodes}
 use Rattle.isl_profile.specs.declared.tables.Tables.{Tables}
 use Rattle.isl_profile.specs.declared.parameters.Parameters.{Parameters}
 use Rattle.isl_profile.specs.declared.making.Found.{Found}
@@ -29,15 +31,14 @@ use Rattle.isl_profile.specs.Makings.{nothing, forms_found, variables_found, bod
 use Rattle.isl_profile.specs.Shapes.{symbol_of, parameters_in, all_symbols}
 use Rattle.isl_profile.specs.RowWords.{each_parameter, each_inner, alone}
 use Rattle.isl_profile.specs.DefiningRows.{function_parts, named, is_that, has_global, has_dynamic, is_set, is_of_prelude, has_function, is_taken, is_truth, is_reserved, defining_offence, unless_offending, global_as, global_row, defdynamic_as, defdynamic_row, with_name, named_form, defun_of, defun_with, defun_as, defun_row}
-use Rattle.isl_whole.specs.Ground.{Ground, ground, Later, IsThere, procedure_fits, WholeGround}
+use Rattle.isl_whole.specs.Definitions.{Definitions, defined, Later, IsThere, procedure_fits, WholeDefinitions}
 use Rattle.isl_whole.specs.Places.{variables_around, exits_around, scope_of, NothingAround}
 use Rattle.isl_whole.specs.Right.{RightIn, Counted}
-use Rattle.isl_whole.proofs.Tests.{both, and_true, not_true}
 use Rattle.isl_whole.proofs.Forms.{each_more}
-use Rattle.isl_whole.proofs.Grounds.{Entered, entered_same, entered_literal, later_then, literals_later, procedures_later, mains_later, all_push, counted_same, counted_then}
+use Rattle.isl_whole.proofs.Definitions.{Entered, entered_same, entered_literal, later_then, literals_later, procedures_later, mains_later, all_push, counted_same, counted_then}
 use Rattle.isl_whole.proofs.Nodes.{nodes_in, found_nodes, body_nodes}
+use Rattle.isl_whole.specs.Numbers.{Numbered}
 use Rattle.isl_whole.proofs.FoundNodes.{both_plain, inner_plain, parameters_plain, forms_counted}
-use Rattle.isl_meaning.specs.ProgramCounts.{total, procedure_nodes}
 use Rattle.isl_whole.proofs.Good.{good_later, good_alone, scope_with}
 use Rattle.isl_whole.proofs.Places.{each_append}
 use Rattle.isl_whole.proofs.Matches.{new_variables, ParametersMatch, parameters_match}
@@ -94,10 +95,6 @@ fresh_name true true true false false h k = absurd (cc k)
 other_way : (m n : ℕ) → (m == n) ≡ false → (n == m) ≡ false
 other_way m n h = ne_eqb n m (λ e. eqb-false m n h (sym e))
 
-apart : (b : Bool) (o : Bool) → (b || o) ≡ false → (b ≡ false) × (o ≡ false)
-apart true o h = absurd (cc h)
-apart false o h = (refl, h)
-
 none_more : (f y : FunctionRow) (fs : List FunctionRow) → some_of (same_name f) fs ≡ false → same_name f y ≡ false → some_of (same_name f) (fs ++ y ∷ []) ≡ false
 none_more f y [] h k = rw k refl
 none_more f y (x ∷ xs) h k = by_test (same_name f x) (some_of (same_name f) xs) (some_of (same_name f) (xs ++ y ∷ [])) (λ e. none_more f y xs e k) h
@@ -110,21 +107,21 @@ one_name_more : (name : Name) (c : Callee) (fs : List FunctionRow) → all_diffe
     → all_differ same_name (fs ++ (record { name = name; callee = c }) ∷ []) ≡ true
 one_name_more name c [] h k = refl
 one_name_more name c (f ∷ fs) h k =
-    let d : (not (some_of (same_name f) fs) ≡ true) × (all_differ same_name fs ≡ true) = both (not (some_of (same_name f) fs)) (all_differ same_name fs) h in
-    let o : (is_that name f.name ≡ false) × (list_any (λ f. is_that name f.name) fs ≡ false) = apart (is_that name f.name) (list_any (λ f. is_that name f.name) fs) k in
-    and_true (not (some_of (same_name f) (fs ++ (record { name = name; callee = c }) ∷ []))) _
-    (ap not (none_more f (record { name = name; callee = c }) fs (not_true (some_of (same_name f) fs) d.0) (other_way name.0 f.name.0 o.0)))
+    let d : (not (some_of (same_name f) fs) ≡ true) × (all_differ same_name fs ≡ true) = and_parts (not (some_of (same_name f) fs)) (all_differ same_name fs) h in
+    let o : (is_that name f.name ≡ false) × (list_any (λ f. is_that name f.name) fs ≡ false) = or_parts (is_that name f.name) (list_any (λ f. is_that name f.name) fs) k in
+    and_from (not (some_of (same_name f) (fs ++ (record { name = name; callee = c }) ∷ []))) _
+    (ap not (none_more f (record { name = name; callee = c }) fs (not-true (some_of (same_name f) fs) d.0) (other_way name.0 f.name.0 o.0)))
     (one_name_more name c fs d.1 o.1)
 
 -- with a function
 
-abbrev one_more : Ground → Name → Procedure → Ground
+abbrev one_more : Definitions → Name → Procedure → Definitions
 one_more g name p = record g {
   procedures = g.procedures ++ p ∷ [];
   functions = g.functions ++ (record { name = name; callee = callee.Procedure (length g.procedures) }) ∷ [];
 }
 
-later_function : (g : Ground) (name : Name) (p : Procedure) → Later g (one_more g name p)
+later_function : (g : Definitions) (name : Name) (p : Procedure) → Later g (one_more g name p)
 later_function g name p = record {
   literals = omega arith;
   procedures = omega (arith, length-append g.procedures (p ∷ []));
@@ -134,20 +131,20 @@ later_function g name p = record {
   classes = refl;
 }
 
-still_there : (g : Ground) (name : Name) (p : Procedure) (c : Callee) → IsThere g.procedures c → IsThere (g.procedures ++ p ∷ []) c
-still_there g name p (callee.Procedure i) h = omega (arith, h, length-append g.procedures (p ∷ []))
-still_there g name p (callee.Generic i) h = h
+still_there : (g : Definitions) (p : Procedure) (c : Callee) → IsThere g.procedures c → IsThere (g.procedures ++ p ∷ []) c
+still_there g p (callee.Procedure i) h = omega (arith, h, length-append g.procedures (p ∷ []))
+still_there g p (callee.Generic i) h = h
 
 -- literals, procedures and main forms fit under rows that have as many literals and sites
-whole_function : (g : Ground) (name : Name) (p : Procedure) → WholeGround g → procedure_fits g p ≡ true → list_any (λ f. is_that name f.name) g.functions ≡ false
-    → WholeGround (one_more g name p)
+whole_function : (g : Definitions) (name : Name) (p : Procedure) → WholeDefinitions g → procedure_fits g p ≡ true → list_any (λ f. is_that name f.name) g.functions ≡ false
+    → WholeDefinitions (one_more g name p)
 whole_function g name p w f k =
-    let h : Ground = one_more g name p in
+    let h : Definitions = one_more g name p in
     record {
       literals = literals_later g h (later_function g name p) g.literals w.literals;
       procedures = procedures_later g h (later_function g name p) (g.procedures ++ p ∷ []) (all_push (procedure_fits g) g.procedures p w.procedures f);
       functions = each_append (λ f. IsThere h.procedures f.callee) g.functions _
-          (each_more (λ f. IsThere g.procedures f.callee) (λ f. IsThere h.procedures f.callee) (λ f e. still_there g name p f.callee e) g.functions w.functions)
+          (each_more (λ f. IsThere g.procedures f.callee) (λ f. IsThere h.procedures f.callee) (λ f e. still_there g p f.callee e) g.functions w.functions)
           (omega (arith, length-append g.procedures (p ∷ [])), tt);
       names = one_name_more name (callee.Procedure (length g.procedures)) g.functions w.names k;
       main = mains_later g h (later_function g name p) g.main w.main;
@@ -155,7 +152,7 @@ whole_function g name p w f k =
 
 -- a definition leaves such tables
 
-found_function : (h : Ground) (a : Around) (name : Name) (ps : Parameters) (fs : List Item) (rs : List Found) → NothingAround a
+found_function : (h : Definitions) (a : Around) (name : Name) (ps : Parameters) (fs : List Item) (rs : List Found) → NothingAround a
     → ParametersMatch (spots h (alone false a) (alone false a) rs) (length (all_symbols ps)) rs
     → parameters (take (length ps.required) (variables_found rs)) (rest_found (is_some ps.rest) (drop (length ps.required) (variables_found rs))) ≡ new_variables rs
     → procedure_fits h (procedure_found name (length ps.required) (is_some ps.rest) rs) ≡ true
@@ -166,15 +163,15 @@ found_function h a name ps fs rs nothing m e =
     let same : t ≡ u =
     ap (λ bs. scope_with (new_variables rs ++ variables_around bs) (exits_around bs) false) nothing.bound
     ∙ ap (λ vs. scope_with vs [] false) (append-nil (new_variables rs) ∙ sym e) in
-    and_true _ _ (and_true _ _ body.fits (le-leb (depth (body_of (forms_found rs))) 1000 (omega (arith, body.deep))))
+    and_from _ _ (and_from _ _ body.fits (le-leb (depth (body_of (forms_found rs))) 1000 (omega (arith, body.deep))))
     (subst (λ (v : LexicalScope). stands v (body_of (forms_found rs)) ≡ true) same body.stands)
 
 -- the name of a file's function is a literal
-name_entered : (n : ℕ) (sited : Bool) (d : Item) (s : Tables) → WholeGround (ground s) → Good n d → Entered (ground s) (ground (with_name sited d s))
-name_entered n true d s w g = entered_literal (ground s) (row.Datum d) w (formed_tells d g.formed)
-name_entered n false d s w g = entered_same (ground s) w
+name_entered : (n : ℕ) (sited : Bool) (d : Item) (s : Tables) → WholeDefinitions (defined s) → Good n d → Entered (defined s) (defined (with_name sited d s))
+name_entered n true d s w g = entered_literal (defined s) (row.Datum d) w (formed_tells d g.formed)
+name_entered n false d s w g = entered_same (defined s) w
 
-name_right : (sited : Bool) (d : Item) (s : Tables) (h : Ground) (t : LexicalScope) (k : ℕ) → k + 1 ≤ 1000 → Later (ground (with_name sited d s)) h
+name_right : (sited : Bool) (d : Item) (s : Tables) (h : Definitions) (t : LexicalScope) (k : ℕ) → k + 1 ≤ 1000 → Later (defined (with_name sited d s)) h
     → RightIn h t k (named_form sited s)
 name_right true d s h t k l e = made_literal h t k (length s.literals) l (omega (arith, e.literals, length-append s.literals (row.Datum d ∷ [])))
 name_right false d s h t k l e = made_body h t k [] l tt
@@ -187,37 +184,41 @@ procedures_then (q ∷ qs) p = more (procedure_nodes q) (total procedure_nodes (
     more a n m k e = omega (arith, e)
 
 -- the sites of a body are counted by its procedure
-function_counted : (b : Bool) (x g : Ground) (name : Name) (p : Procedure) (n k : ℕ) → n ≤ procedure_nodes p → Counted b x g n → Counted b x (one_more g name p) k
+function_counted : (b : Bool) (x g : Definitions) (name : Name) (p : Procedure) (n k : ℕ) → n ≤ procedure_nodes p → Counted b x g n → Counted b x (one_more g name p) k
 function_counted true x g name p n k l c = record { sites = omega (arith, c.sites, l, procedures_then g.procedures p) }
 function_counted false x g name p n k l c = record { sites = omega (arith, c.sites, procedures_then g.procedures p) }
 
-name_counted : (b sited : Bool) (d : Item) (s : Tables) → Counted b (ground s) (ground (with_name sited d s)) 0
-name_counted b true d s = record { sites = (counted_same b (ground s)).sites }
-name_counted b false d s = record { sites = (counted_same b (ground s)).sites }
+name_counted : (b sited : Bool) (d : Item) (s : Tables) → Counted b (defined s) (defined (with_name sited d s)) 0
+name_counted b true d s = record { sites = (counted_same b (defined s)).sites }
+name_counted b false d s = record { sites = (counted_same b (defined s)).sites }
+
+name_numbered : (sited : Bool) (s : Tables) (h k : Definitions) → Numbered h k (named_form sited s)
+name_numbered true s h k = record { numbers = refl }
+name_numbered false s h k = record { numbers = refl }
 
 apt_defun_of : (n : ℕ) (a : Around) (s : Tables) (name : Name) (d : Item) (fs : List Item) (ps : Parameters) → Stage a s → Good n d → AllOf (Good n) fs
     → a.spot.top ≡ true → has_function s name ≡ false → a.spot.depth + 1 ≤ 1000 → AptAt n a s (defun_of a s name d fs ps)
 apt_defun_of n a s name d fs ps b h g top fresh l =
     let i : Around = alone false a in
     let t : Tables = with_name a.spot.sited d s in
-    let e : Entered (ground s) (ground t) = name_entered n a.spot.sited d s b.whole h in
+    let e : Entered (defined s) (defined t) = name_entered n a.spot.sited d s b.whole h in
     record {
       entered = e;
-      outside = good_later (ground s) (ground t) i e.later (good_alone (ground s) a b.good);
-      inside = good_later (ground s) (ground t) i e.later (good_alone (ground s) a b.good);
+      outside = good_later (defined s) (defined t) i e.later (good_alone (defined s) a b.good);
+      inside = good_later (defined s) (defined t) i e.later (good_alone (defined s) a b.good);
       low = λ k. (refl, refl);
       sited = (refl, refl);
       parts = function_apt n i ps fs refl g;
-      right = λ u rs c. name_right a.spot.sited d s _ (scope_of a) a.spot.depth l (later_then (ground t) (ground u) _ c.later (later_function (ground u) name _));
+      right = λ u rs c. name_right a.spot.sited d s _ (scope_of a) a.spot.depth l (later_then (defined t) (defined u) _ c.later (later_function (defined u) name _));
       ends = λ u rs c.
           let p : Procedure = procedure_found name (length ps.required) (is_some ps.rest) rs in
-          let fits : procedure_fits (ground u) p ≡ true =
-          found_function (ground u) a name ps fs rs (b.good.top top) (parameters_match (spots (ground u) i i rs) (all_symbols ps) fs rs c.match)
-          (found_parameters (ground u) i i ps fs rs c.match) in
+          let fits : procedure_fits (defined u) p ≡ true =
+          found_function (defined u) a name ps fs rs (b.good.top top) (parameters_match (spots (defined u) i i rs) (all_symbols ps) fs rs c.match)
+          (found_parameters (defined u) i i ps fs rs c.match) in
           let same : u.functions ≡ s.functions = c.functions refl refl ∙ e.functions in
           record {
-            later = later_function (ground u) name p;
-            whole = whole_function (ground u) name p c.whole fits
+            later = later_function (defined u) name p;
+            whole = whole_function (defined u) name p c.whole fits
                 (subst (λ (fs : List FunctionRow). list_any (λ f. is_that name f.name) fs ≡ false) (sym same) fresh);
             main = refl;
             inside = λ k. absurd (cc (top, k));
@@ -225,10 +226,11 @@ apt_defun_of n a s name d fs ps b h g top fresh l =
       counted = λ u rs c k.
           let p : Procedure = procedure_found name (length ps.required) (is_some ps.rest) rs in
           let forms : found_nodes rs ≡ nodes_in (forms_found rs) =
-          forms_counted (spots (ground u) i i rs) (function_parts ps fs) rs c.match
+          forms_counted (spots (defined u) i i rs) (function_parts ps fs) rs c.match
           (both_plain (each_parameter (all_symbols ps)) (each_inner fs) (parameters_plain (all_symbols ps)) (inner_plain fs)) in
-          function_counted a.spot.sited (ground s) (ground u) name p (0 + found_nodes rs) _ (omega (arith, forms, body_nodes (forms_found rs)))
-          (counted_then a.spot.sited (ground s) (ground t) (ground u) 0 (found_nodes rs) (name_counted a.spot.sited a.spot.sited d s) k);
+          function_counted a.spot.sited (defined s) (defined u) name p (0 + found_nodes rs) _ (omega (arith, forms, body_nodes (forms_found rs)))
+          (counted_then a.spot.sited (defined s) (defined t) (defined u) 0 (found_nodes rs) (name_counted a.spot.sited a.spot.sited d s) k);
+      numbered = λ u rs c m. name_numbered a.spot.sited s _ _;
     }
 
 apt_defun_with : (n : ℕ) (a : Around) (s : Tables) (name : Name) (d l : Item) (fs : List Item) (ps : Option Parameters) → Stage a s → Good n d → AllOf (Good n) fs

@@ -3,6 +3,7 @@ use Rattle.std.proofs.Common.{◌≡◌, ◌==◌, ℕ, Bool, true, false, not, 
 use Rattle.std.specs.List.{list_all, list_any}
 use Rattle.std.proofs.lemmas.Bool.{eqb-true, eq-eqb}
 use Rattle.std.proofs.lemmas.Map.Views.{any-filter_same}
+use Rattle.std.proofs.lemmas.Bool.{and_parts, and_from, or_left, or_right, not-true, or_from}
 use Rattle.isl_meaning.specs.declared.part.Part.{Part}
 use Rattle.isl_meaning.specs.declared.part.Part.TheVariants.{Variable, Exit, Method}
 use Rattle.isl_meaning.specs.declared.scope.Around.{Around}
@@ -17,7 +18,7 @@ use Rattle.isl_meaning.specs.Standing.{with_bound, with_around, is_variable, exi
 use Rattle.isl_meaning.specs.bridge.Walks.{by_subforms}
 use Rattle.isl_meaning.specs.bridge.Judged.{mentions_folded, stands_folded}
 use Rattle.isl_whole.specs.Scopes.{Provides, Within, MentionsWithin}
-use Rattle.isl_whole.proofs.Tests.{both, and_true, or_left, or_right, not_true, or_else}
+use Rattle.isl_whole.proofs.Tests.{or_else}
 
 pub same_number : (n : ℕ) → (n == n) ≡ true
 same_number n = eq-eqb n n refl
@@ -32,7 +33,7 @@ outer_mentioned p f h = mentions_folded p f ∙ or_left _ _ (or_right (names_par
 
 pub inner_mentioned : (p : Part) (f : Form) → binds p f ≡ false → list_any (mentions p) (inner f) ≡ true → mentions p f ≡ true
 inner_mentioned p f b h =
-    mentions_folded p f ∙ or_right (names_part p f || list_any (mentions p) (outer f)) _ (and_true (not (binds p f)) _ (ap not b) h)
+    mentions_folded p f ∙ or_right (names_part p f || list_any (mentions p) (outer f)) _ (and_from (not (binds p f)) _ (ap not b) h)
 
 -- variables and exits among others
 
@@ -40,11 +41,7 @@ under : (v : ℕ) (vs ws us : List ℕ) → (list_any (λ w. v == w) vs ≡ fals
     → list_any (λ w. v == w) (vs ++ ws) ≡ true → list_any (λ w. v == w) (vs ++ us) ≡ true
 under v [] ws us f h = f refl h
 under v (w ∷ vs) ws us f h =
-    or_else (v == w) _ _ (λ e. under v vs ws us (λ g. f (or_both (v == w) (list_any (λ w. v == w) vs) e g))) h
-  where
-    or_both : (a b : Bool) → a ≡ false → b ≡ false → (a || b) ≡ false
-    or_both true b h k = absurd (cc h)
-    or_both false b h k = k
+    or_else (v == w) _ _ (λ e. under v vs ws us (λ g. f (or_from (v == w) (list_any (λ w. v == w) vs) e g))) h
 
 pub no_exit : (vs : List ℕ) (x : ℕ) → owns vs (Exit x) ≡ false
 no_exit [] x = refl
@@ -107,14 +104,14 @@ exit_kept q x (e ∷ es) a g h = front_kept q x e es a (q e.exit) (x == e.exit) 
 
 seen_provides : (parts : List Part) (s t : LexicalScope) (p : Part) → Provides s t p → Provides (seen parts s) (seen parts t) p
 seen_provides parts s t (Variable v) h = λ k.
-    let e : (list_any (same_part (Variable v)) parts ≡ true) × (is_variable s v ≡ true) = both _ _ (sym (seen_variables parts s v) ∙ k) in
-    seen_variables parts t v ∙ and_true _ _ e.0 (h e.1)
+    let e : (list_any (same_part (Variable v)) parts ≡ true) × (is_variable s v ≡ true) = and_parts _ _ (sym (seen_variables parts s v) ∙ k) in
+    seen_variables parts t v ∙ and_from _ _ e.0 (h e.1)
 seen_provides parts s t (Exit x) h = λ a k.
     let e : (seen_exit parts x ≡ true) × (exit_around x s.exits ≡ Some a) = kept_exit (seen_exit parts) x s.exits a k in
     exit_kept (seen_exit parts) x t.exits a e.0 (h a e.1)
 seen_provides parts s t Method h = λ k.
-    let e : (s.in_method ≡ true) × (list_any (same_part Method) parts ≡ true) = both _ _ k in
-    and_true _ _ (h e.0) e.1
+    let e : (s.in_method ≡ true) × (list_any (same_part Method) parts ≡ true) = and_parts _ _ k in
+    and_from _ _ (h e.0) e.1
 
 bound_provides : (vs : List ℕ) (s t : LexicalScope) (p : Part) → (owns vs p ≡ false → Provides s t p) → Provides (with_bound vs s) (with_bound vs t) p
 bound_provides vs s t (Variable v) h = under v vs s.variables t.variables h
@@ -173,13 +170,13 @@ bound_there s t (Variable v) h k = h k
 bound_there s t (Exit x) h k = let e : (a : Around) × (exit_around x s.exits ≡ Some a) = some_exit x s.exits k in exit_some x t.exits e.0 (h e.0 e.1)
 bound_there s t Method h k = h k
 
-all_bound_there : (f : Form) (vs : List ℕ) (body : Form) (s t : LexicalScope) (parts : List Part) → ((p : Part) → is_free vs body p ≡ true → Provides s t p)
+all_bound_there : (vs : List ℕ) (body : Form) (s t : LexicalScope) (parts : List Part) → ((p : Part) → is_free vs body p ≡ true → Provides s t p)
     → list_all (is_bound s) parts ≡ true → list_all (is_free vs body) parts ≡ true → list_all (is_bound t) parts ≡ true
-all_bound_there f vs body s t [] h k g = refl
-all_bound_there f vs body s t (p ∷ ps) h k g =
-    let a : (is_bound s p ≡ true) × (list_all (is_bound s) ps ≡ true) = both _ _ k in
-    let b : (is_free vs body p ≡ true) × (list_all (is_free vs body) ps ≡ true) = both _ _ g in
-    and_true _ _ (bound_there s t p (h p b.0) a.0) (all_bound_there f vs body s t ps h a.1 b.1)
+all_bound_there vs body s t [] h k g = refl
+all_bound_there vs body s t (p ∷ ps) h k g =
+    let a : (is_bound s p ≡ true) × (list_all (is_bound s) ps ≡ true) = and_parts _ _ k in
+    let b : (is_free vs body p ≡ true) × (list_all (is_free vs body) ps ≡ true) = and_parts _ _ g in
+    and_from _ _ (bound_there s t p (h p b.0) a.0) (all_bound_there vs body s t ps h a.1 b.1)
 
 segment_there : (segment : ℕ) (o u : Option Around) → ((a : Around) → o ≡ Some a → u ≡ Some a) → is_segment segment o ≡ true → is_segment segment u ≡ true
 segment_there segment None u h k = absurd (cc k)
@@ -189,13 +186,13 @@ itself : (f : Form) (s t : LexicalScope) → MentionsWithin f s t → stands_its
 itself (local v) s t m h = m.provides (Variable v) (names_mentioned (Variable v) (local v) (same_number v)) h
 itself (set_local v f) s t m h = m.provides (Variable v) (names_mentioned (Variable v) (set_local v f) (same_number v)) h
 itself (lambda required rest body parts) s t m h =
-    let a : ((in_order parts && list_all (is_bound s) parts) ≡ true) × (list_all (is_free (parameters required rest) body) parts ≡ true) = both _ _ h in
-    let b : (in_order parts ≡ true) × (list_all (is_bound s) parts ≡ true) = both _ _ a.0 in
+    let a : ((in_order parts && list_all (is_bound s) parts) ≡ true) × (list_all (is_free (parameters required rest) body) parts ≡ true) = and_parts _ _ h in
+    let b : (in_order parts ≡ true) × (list_all (is_bound s) parts ≡ true) = and_parts _ _ a.0 in
     let f : Form = lambda required rest body parts in
-    and_true _ _ (and_true _ _ b.0 (all_bound_there f (parameters required rest) body s t parts
+    and_from _ _ (and_from _ _ b.0 (all_bound_there (parameters required rest) body s t parts
     (λ p k.
-    let c : (not (owns (parameters required rest) p) ≡ true) × (mentions p body ≡ true) = both _ _ k in
-    m.provides p (inner_mentioned p f (not_true _ c.0) (or_left (mentions p body) false c.1)))
+    let c : (not (owns (parameters required rest) p) ≡ true) × (mentions p body ≡ true) = and_parts _ _ k in
+    m.provides p (inner_mentioned p f (not-true _ c.0) (or_left (mentions p body) false c.1)))
     b.1 a.1)) a.1
 itself (return_from x f) s t m h =
     let there : exit_around x s.exits ≡ Some Block = block_there _ h in
@@ -214,17 +211,17 @@ each_enough : (s t : LexicalScope) (fs : List Form) → Each Enough fs → ((p :
     → list_all (stands s) fs ≡ true → list_all (stands t) fs ≡ true
 each_enough s t [] e m h = refl
 each_enough s t (f ∷ fs) e m h =
-    let a : (stands s f ≡ true) × (list_all (stands s) fs ≡ true) = both _ _ h in
-    and_true _ _ (e.0 s t (record { provides = λ p k. m p (or_left _ _ k) }) a.0)
+    let a : (stands s f ≡ true) × (list_all (stands s) fs ≡ true) = and_parts _ _ h in
+    and_from _ _ (e.0 s t (record { provides = λ p k. m p (or_left _ _ k) }) a.0)
     (each_enough s t fs e.1 (λ p k. m p (or_right (mentions p f) _ k)) a.1)
 
 one_step : (f : Form) → Each Enough (outer f) → Each Enough (inner f) → Enough f
 one_step f os is s t m h =
     let a : ((stands_itself s f && list_all (stands s) (outer f)) ≡ true) × (list_all (stands (around_inner f s)) (inner f) ≡ true) =
-    both _ _ (sym (stands_folded s f) ∙ h) in
-    let b : (stands_itself s f ≡ true) × (list_all (stands s) (outer f) ≡ true) = both _ _ a.0 in
-    stands_folded t f ∙ and_true _ _
-    (and_true _ _ (itself f s t m b.0) (each_enough s t (outer f) os (λ p k. m.provides p (outer_mentioned p f k)) b.1))
+    and_parts _ _ (sym (stands_folded s f) ∙ h) in
+    let b : (stands_itself s f ≡ true) × (list_all (stands s) (outer f) ≡ true) = and_parts _ _ a.0 in
+    stands_folded t f ∙ and_from _ _
+    (and_from _ _ (itself f s t m b.0) (each_enough s t (outer f) os (λ p k. m.provides p (outer_mentioned p f k)) b.1))
     (each_enough (around_inner f s) (around_inner f t) (inner f) is
     (λ p k. inner_provides f s t p (λ e. m.provides p (inner_mentioned p f e k))) a.1)
 

@@ -24,11 +24,12 @@ use Rattle.isl_profile.specs.Shapes.{symbol_of, name_of, all_differ, tags_in, fo
 use Rattle.isl_profile.specs.RowWords.{deeper, no_such, each_inner}
 use Rattle.isl_profile.specs.ExitRows.{with_exit, block_as, block_row, return_to_exit, return_as, return_from_row, tagbody_row, go_to, go_as, go_row}
 use Rattle.isl_profile.specs.bridge.GoodParts.{good_forms}
-use Rattle.isl_whole.specs.Ground.{Ground, ground}
+use Rattle.isl_whole.specs.Definitions.{Definitions, defined}
 use Rattle.isl_whole.specs.Places.{scope_of}
 use Rattle.isl_whole.specs.Right.{RightIn}
-use Rattle.isl_whole.proofs.Grounds.{entered_numbers, counted_same}
+use Rattle.isl_whole.proofs.Definitions.{entered_numbers, counted_same}
 use Rattle.isl_whole.proofs.Nodes.{block_nodes, tagbody_nodes}
+use Rattle.isl_whole.proofs.Numbers.{next_number}
 use Rattle.isl_whole.proofs.FoundNodes.{inner_plain, forms_counted, inner_as_many, lengths_added, enough_nodes}
 use Rattle.isl_whole.proofs.Good.{good_deeper, good_block, good_tags, block_scope, tags_scope}
 use Rattle.isl_whole.proofs.Places.{block_there, tag_there}
@@ -42,10 +43,10 @@ apt_no_such n a s p r None = tt
 apt_no_such n a s p r (Some name) = tt
 
 -- two deeper is one deeper twice
-pub two_deeper : (g : Ground) (s : LexicalScope) (n : ℕ) (fs : List Form) → Each (RightIn g s (n + 2)) fs → Each (RightIn g s (n + 1 + 1)) fs
+pub two_deeper : (g : Definitions) (s : LexicalScope) (n : ℕ) (fs : List Form) → Each (RightIn g s (n + 2)) fs → Each (RightIn g s (n + 1 + 1)) fs
 two_deeper g s n fs e = let same : n + 2 ≡ n + 1 + 1 = omega arith in subst (λ k. Each (RightIn g s k) fs) same e
 
-in_scope : (g : Ground) (s t : LexicalScope) (n : ℕ) (fs : List Form) → s ≡ t → Each (RightIn g s n) fs → Each (RightIn g t n) fs
+in_scope : (g : Definitions) (s t : LexicalScope) (n : ℕ) (fs : List Form) → s ≡ t → Each (RightIn g s n) fs → Each (RightIn g t n) fs
 in_scope g s t n fs e r = subst (λ (u : LexicalScope). Each (RightIn g u n) fs) e r
 
 -- block and return-from
@@ -55,20 +56,22 @@ apt_block_as n a s p None fs b g = tt
 apt_block_as n a s p (Some x) fs b g =
     let i : Around = with_bound (Block x s.exits) (deeper 2 a) in
     apt_within n a s 2 p _ (λ l. apt_made n a s i p (with_exit s) (each_inner fs) (OfBlock s.exits) b (record {
-      entered = entered_numbers (ground s) s.variables (s.exits + 1) (omega arith) (omega arith) b.whole;
-      inside = good_block (ground s) x (deeper 2 a) refl (good_deeper (ground s) 2 a b.good);
+      entered = entered_numbers (defined s) s.variables (s.exits + 1) (omega arith) (omega arith) b.whole;
+      inside = good_block (defined s) x (deeper 2 a) refl (good_deeper (defined s) 2 a b.good);
       low = λ k. refl;
       sited = refl;
-      start = record { sites = (counted_same a.spot.sited (ground s)).sites };
+      start = record { sites = (counted_same a.spot.sited (defined s)).sites };
       parts = inner_apt n i fs g;
       right = λ u rs c.
-          made_block (ground u) (scope_of a) a.spot.depth s.exits (forms_found rs) (omega (arith, l))
-          (two_deeper (ground u) (with_around s.exits exit.Block (scope_of a)) a.spot.depth (forms_found rs)
-          (in_scope (ground u) (scope_of i) (with_around s.exits exit.Block (scope_of a)) (a.spot.depth + 2) (forms_found rs)
-          (block_scope x s.exits (deeper 2 a)) (found_inner (ground u) (deeper 1 a) i fs rs c.match)));
+          made_block (defined u) (scope_of a) a.spot.depth s.exits (forms_found rs) (omega (arith, l))
+          (two_deeper (defined u) (with_around s.exits exit.Block (scope_of a)) a.spot.depth (forms_found rs)
+          (in_scope (defined u) (scope_of i) (with_around s.exits exit.Block (scope_of a)) (a.spot.depth + 2) (forms_found rs)
+          (block_scope x s.exits (deeper 2 a)) (found_inner (defined u) (deeper 1 a) i fs rs c.match)));
       ends = λ u rs. refl;
       nodes = λ u rs c.
-          enough_nodes _ _ _ (forms_counted (spots (ground u) (deeper 1 a) i rs) (each_inner fs) rs c.match (inner_plain fs)) (block_nodes s.exits (forms_found rs));
+          enough_nodes _ _ _ (forms_counted (spots (defined u) (deeper 1 a) i rs) (each_inner fs) rs c.match (inner_plain fs)) (block_nodes s.exits (forms_found rs));
+      own = λ u rs c m.
+          next_number s.exits u.exits s.exits (omega arith) (omega (arith, c.later.exits));
     }))
 
 pub apt_block : (n : ℕ) (a : Around) (s : Tables) (p : Place) (ds : List Item) → Stage a s → AllOf (Good n) ds → AptAt n a s (block_row a s p ds)
@@ -111,29 +114,31 @@ apt_tagbody n a s p ds b g =
     let t : LexicalScope = with_around s.exits (exit.Tagbody (length (tags_in ds) + 1)) (scope_of a) in
     apt_if n a s (all_differ (tags_in ds)) _ _
     (apt_within n a s 2 p _ (λ l. apt_made n a s i p (with_exit s) (each_inner (forms_in ds)) (OfSegments s.exits (lengths_in ds)) b (record {
-      entered = entered_numbers (ground s) s.variables (s.exits + 1) (omega arith) (omega arith) b.whole;
-      inside = good_tags (ground s) (tags_in ds) (deeper 2 a) refl (good_deeper (ground s) 2 a b.good);
+      entered = entered_numbers (defined s) s.variables (s.exits + 1) (omega arith) (omega arith) b.whole;
+      inside = good_tags (defined s) (tags_in ds) (deeper 2 a) refl (good_deeper (defined s) 2 a b.good);
       low = λ k. refl;
       sited = refl;
-      start = record { sites = (counted_same a.spot.sited (ground s)).sites };
+      start = record { sites = (counted_same a.spot.sited (defined s)).sites };
       parts = inner_apt n i (forms_in ds) (good_forms n ds g);
       right = λ u rs c.
-          made_tagbody (ground u) (scope_of a) a.spot.depth s.exits (length (tags_in ds)) (lengths_in ds) (forms_found rs) (omega (arith, l)) (lengths_counted ds)
-          (two_deeper (ground u) t a.spot.depth (forms_found rs)
-          (in_scope (ground u) (scope_of i) t (a.spot.depth + 2) (forms_found rs)
-          (tags_scope (tags_in ds) s.exits (deeper 2 a)) (found_inner (ground u) (deeper 1 a) i (forms_in ds) rs c.match)));
+          made_tagbody (defined u) (scope_of a) a.spot.depth s.exits (length (tags_in ds)) (lengths_in ds) (forms_found rs) (omega (arith, l)) (lengths_counted ds)
+          (two_deeper (defined u) t a.spot.depth (forms_found rs)
+          (in_scope (defined u) (scope_of i) t (a.spot.depth + 2) (forms_found rs)
+          (tags_scope (tags_in ds) s.exits (deeper 2 a)) (found_inner (defined u) (deeper 1 a) i (forms_in ds) rs c.match)));
       ends = λ u rs. refl;
       nodes = λ u rs c.
-          let many : length (forms_found rs) ≡ length (forms_in ds) = inner_as_many (spots (ground u) (deeper 1 a) i rs) (forms_in ds) rs c.match in
-          enough_nodes _ _ _ (forms_counted (spots (ground u) (deeper 1 a) i rs) (each_inner (forms_in ds)) rs c.match (inner_plain (forms_in ds)))
+          let many : length (forms_found rs) ≡ length (forms_in ds) = inner_as_many (spots (defined u) (deeper 1 a) i rs) (forms_in ds) rs c.match in
+          enough_nodes _ _ _ (forms_counted (spots (defined u) (deeper 1 a) i rs) (each_inner (forms_in ds)) rs c.match (inner_plain (forms_in ds)))
           (tagbody_nodes s.exits (lengths_in ds) (forms_found rs) (omega (arith, many, lengths_added ds)));
+      own = λ u rs c m.
+          next_number s.exits u.exits s.exits (omega arith) (omega (arith, c.later.exits));
     })))
     tt
 
 apt_go_to : (n : ℕ) (a : Around) (s : Tables) (p : Place) (x : Symbol) (target : Option Target) → Stage a s → tag_of a.bound x ≡ target → AptAt n a s (go_to a s p x target)
 apt_go_to n a s p x None b h = apt_no_such n a s p _ (name_of x)
 apt_go_to n a s p x (Some t) b h =
-    apt_at_once n a s p (go t.exit t.segment) b (omega arith) (λ k l. made_go k (scope_of a) a.spot.depth t.exit t.segment l (tag_there x a.bound 0 s.exits t b.good.exits h))
+    apt_at_once n a s p (go t.exit t.segment) b (omega arith) (λ h k. record { numbers = refl }) (λ k l. made_go k (scope_of a) a.spot.depth t.exit t.segment l (tag_there x a.bound 0 s.exits t b.good.exits h))
 
 apt_go_as : (n : ℕ) (a : Around) (s : Tables) (p : Place) (x : Option Symbol) → Stage a s → AptAt n a s (go_as a s p x)
 apt_go_as n a s p None b = tt

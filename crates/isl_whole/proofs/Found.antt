@@ -19,7 +19,7 @@ use Rattle.isl_profile.specs.Shapes.{ClauseParts, all_symbols, symbols_of_rest}
 use Rattle.isl_profile.specs.declared.parameters.Parameters.{Parameters}
 use Rattle.isl_profile.specs.RowWords.{deeper, each_below, each_inner}
 use Rattle.isl_profile.specs.ValueRows.{length_if, clause_lengths, clause_parts}
-use Rattle.isl_whole.specs.Ground.{Ground, ground}
+use Rattle.isl_whole.specs.Definitions.{Definitions, defined}
 use Rattle.isl_whole.specs.Places.{scope_of}
 use Rattle.isl_whole.specs.Right.{RightIn, RightAt}
 use Rattle.isl_whole.proofs.Matches.{new_variables, Spots, RightOutside, RightBelow, AllMatch, taken_front, dropped_front, below_match, inner_match, BodyThen, body_then}
@@ -28,14 +28,14 @@ use Rattle.isl_whole.proofs.Apt.{spots}
 
 -- one form, two, and a form with a body
 
-pub found_one : (h : Ground) (a i : Around) (k : One) (d : Item) (rs : List Found) → a.spot.depth + 1 ≤ 1000 → OneStands (scope_of a) k
+pub found_one : (h : Definitions) (a i : Around) (k : One) (d : Item) (rs : List Found) → a.spot.depth + 1 ≤ 1000 → OneStands (scope_of a) k
     → AllMatch (spots h (deeper 1 a) i rs) (form d ∷ []) rs → RightAt h a (make_one k (forms_found rs))
 found_one h a i k d [] l o m = absurd m
 found_one h a i k d (Value f ∷ rs) l o m = made_one h (scope_of a) a.spot.depth k f l o m.0
 found_one h a i k d (Binding v f ∷ rs) l o m = absurd m.0
 found_one h a i k d (Parameter v ∷ rs) l o m = absurd m.0
 
-pub one_ends : (k : One) (t : Tables) → ground (finish_one k t) ≡ ground t
+pub one_ends : (k : One) (t : Tables) → defined (finish_one k t) ≡ defined t
 one_ends (SetVariable v) t = refl
 one_ends (SetGlobal n) t = refl
 one_ends (DefineGlobal n constant) t = refl
@@ -43,7 +43,7 @@ one_ends (SetDynamic n) t = refl
 one_ends (DefineDynamic n) t = refl
 one_ends (ReturnTo x) t = refl
 
-pub found_two : (h : Ground) (a i : Around) (k : Two) (d e : Item) (rs : List Found) → a.spot.depth + 1 ≤ 1000
+pub found_two : (h : Definitions) (a i : Around) (k : Two) (d e : Item) (rs : List Found) → a.spot.depth + 1 ≤ 1000
     → AllMatch (spots h (deeper 1 a) i rs) (form d ∷ form e ∷ []) rs → RightAt h a (make_two k (forms_found rs))
 found_two h a i k d e [] l m = absurd m
 found_two h a i k d e (Value f ∷ []) l m = absurd m.1
@@ -53,7 +53,7 @@ found_two h a i k d e (Value f ∷ Parameter v ∷ rs) l m = absurd m.1.0
 found_two h a i k d e (Binding v f ∷ rs) l m = absurd m.0
 found_two h a i k d e (Parameter v ∷ rs) l m = absurd m.0
 
-pub found_with_body : (h : Ground) (a i : Around) (k : WithBody) (d : Item) (ds : List Item) (rs : List Found) → a.spot.depth + 2 ≤ 1000
+pub found_with_body : (h : Definitions) (a i : Around) (k : WithBody) (d : Item) (ds : List Item) (rs : List Found) → a.spot.depth + 2 ≤ 1000
     → AllMatch (spots h (deeper 1 a) i rs) (form d ∷ each_below ds) rs → RightAt h a (make_with_body k (forms_found rs))
 found_with_body h a i k d ds [] l m = absurd m
 found_with_body h a i k d ds (Value f ∷ rs) l m =
@@ -72,7 +72,7 @@ no_new p (d ∷ ds) (Value f ∷ rs) m = no_new p ds rs m.1
 no_new p (d ∷ ds) (Binding v f ∷ rs) m = absurd m.0
 no_new p (d ∷ ds) (Parameter v ∷ rs) m = absurd m.0
 
-pub found_inner : (h : Ground) (o i : Around) (ds : List Item) (rs : List Found) → AllMatch (spots h o i rs) (each_inner ds) rs
+pub found_inner : (h : Definitions) (o i : Around) (ds : List Item) (rs : List Found) → AllMatch (spots h o i rs) (each_inner ds) rs
     → Each (RightIn h (scope_of i) i.spot.depth) (forms_found rs)
 found_inner h o i ds rs m =
     subst (λ (vs : List ℕ). Each (RightIn h (with_bound vs (scope_of i)) i.spot.depth) (forms_found rs)) (no_new (spots h o i rs) ds rs m)
@@ -80,7 +80,7 @@ found_inner h o i ds rs m =
 
 -- clauses
 
-some_deep : (g : Ground) (s : LexicalScope) (n : ℕ) (fs : List Form) → Each (RightIn g s n) fs → 1 ≤ length fs → n ≤ 1000
+some_deep : (g : Definitions) (s : LexicalScope) (n : ℕ) (fs : List Form) → Each (RightIn g s n) fs → 1 ≤ length fs → n ≤ 1000
 some_deep g s n [] e l = absurd (omega (arith, l))
 some_deep g s n (f ∷ fs) e l = omega (arith, e.0.deep)
 
@@ -99,10 +99,10 @@ behind_test p f (d ∷ ds) cs rs r b more =
     ap (take (length ds + 1)) b.found ∙ taken_front (length ds + 1) b.body (forms_found b.rest) count in
     let rest : drop (length ds + 1) (forms_found rs) ≡ forms_found b.rest =
     ap (drop (length ds + 1)) b.found ∙ dropped_front (length ds + 1) b.body (forms_found b.rest) count in
-    let deep : p.depth + 1 ≤ 1000 = some_deep p.ground p.outside (p.depth + 1) b.body b.right (omega (arith, count)) in (
+    let deep : p.depth + 1 ≤ 1000 = some_deep p.defined p.outside (p.depth + 1) b.body b.right (omega (arith, count)) in (
       r,
       (
-        made_body p.ground p.outside p.depth (take (length ds + 1) (forms_found rs)) deep (subst (Each (RightBelow p)) (sym front) b.right),
+        made_body p.defined p.outside p.depth (take (length ds + 1) (forms_found rs)) deep (subst (Each (RightBelow p)) (sym front) b.right),
         subst (ClausesRight p (clause_lengths cs)) (sym rest) more,
       ),
     )

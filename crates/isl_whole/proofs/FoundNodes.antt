@@ -11,13 +11,13 @@ use Rattle.isl_profile.specs.declared.making.One.{One}
 use Rattle.isl_profile.specs.declared.making.Two.{Two}
 use Rattle.isl_profile.specs.declared.making.WithBody.{WithBody}
 use Rattle.isl_profile.specs.Nodes.{Part, form, below, inner, bind, parameter}
-use Rattle.isl_profile.specs.Makings.{forms_found, body_of, make_one, make_two, make_with_body, make_clauses}
+use Rattle.isl_profile.specs.Makings.{forms_found, make_one, make_two, make_with_body, make_clauses}
 use Rattle.isl_profile.specs.Shapes.{Pair, ClauseParts, symbol_of, forms_in, form_unless, lengths_in, one_longer, before}
 use Rattle.isl_profile.specs.RowWords.{each_form, each_below, each_inner, each_parameter}
 use Rattle.isl_profile.specs.ValueRows.{length_if, clause_lengths, clause_parts}
 use Rattle.isl_profile.specs.BindingRows.{values_of}
 use Rattle.isl_whole.proofs.Matches.{Spots, AllMatch, BodyThen, body_then, dropped_front}
-use Rattle.isl_whole.proofs.Nodes.{nodes_in, added, nodes_of, found_nodes, body_nodes, one_nodes, two_nodes, with_body_nodes, split_nodes}
+use Rattle.isl_whole.proofs.Nodes.{nodes_in, added, found_nodes, body_nodes, one_nodes, two_nodes, with_body_nodes, split_nodes}
 
 -- parts that bind no variable with a value
 

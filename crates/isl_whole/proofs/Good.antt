@@ -14,14 +14,14 @@ use Rattle.isl_profile.specs.Nodes.{Around, with_bound}
 use Rattle.isl_profile.specs.Shapes.{Pair, symbol_of}
 use Rattle.isl_profile.specs.RowWords.{deeper, deeper_at_top, with_all, alone}
 use Rattle.isl_profile.specs.BindingRows.{function_and, variable_that_is, functions_of}
-use Rattle.isl_whole.specs.Ground.{Ground, Later}
+use Rattle.isl_whole.specs.Definitions.{Definitions, Later}
 use Rattle.isl_whole.specs.Places.{variables_around, exit_numbers, exits_around, scope_of, FunctionThere, NothingAround, GoodAround}
 use Rattle.isl_whole.proofs.Places.{rises_longer, rises_push, variables_append, exit_numbers_append, exits_append, each_append, function_there_more, any_front, variable_there}
 use Rattle.isl_whole.proofs.Forms.{each_more}
 
 -- later, deeper, alone
 
-pub good_later : (g h : Ground) (a : Around) → Later g h → GoodAround g a → GoodAround h a
+pub good_later : (g h : Definitions) (a : Around) → Later g h → GoodAround g a → GoodAround h a
 good_later g h a l o = record {
   variables = rises_longer 0 (variables_around a.bound) g.variables h.variables l.variables o.variables;
   exits = rises_longer 0 (exit_numbers a.bound) g.exits h.exits l.exits o.exits;
@@ -29,10 +29,10 @@ good_later g h a l o = record {
   top = o.top;
 }
 
-pub good_deeper : (g : Ground) (n : ℕ) (a : Around) → GoodAround g a → GoodAround g (deeper n a)
+pub good_deeper : (g : Definitions) (n : ℕ) (a : Around) → GoodAround g a → GoodAround g (deeper n a)
 good_deeper g n a o = record { variables = o.variables; exits = o.exits; functions = o.functions; top = λ e. absurd (cc e) }
 
-pub good_at_top : (g : Ground) (a : Around) → GoodAround g a → GoodAround g (deeper_at_top a)
+pub good_at_top : (g : Definitions) (a : Around) → GoodAround g a → GoodAround g (deeper_at_top a)
 good_at_top g a o = record {
   variables = o.variables;
   exits = o.exits;
@@ -40,13 +40,13 @@ good_at_top g a o = record {
   top = λ e. let n : NothingAround a = o.top e in record { bound = n.bound; method = n.method };
 }
 
-pub good_alone : (g : Ground) (a : Around) → GoodAround g a → GoodAround g (alone false a)
+pub good_alone : (g : Definitions) (a : Around) → GoodAround g a → GoodAround g (alone false a)
 good_alone g a o = record { variables = o.variables; exits = o.exits; functions = o.functions; top = λ e. absurd (cc e) }
 
 -- with one more bound, below top level
 
 -- the same tables, behind which the next variable and the next exit have those numbers
-abbrev pub counted : ℕ → ℕ → Ground → Ground
+abbrev pub counted : ℕ → ℕ → Definitions → Definitions
 counted v e g = record g { variables = v; exits = e }
 
 functions_still : (bs cs : List Bound) → Each (FunctionThere (variables_around bs)) bs
@@ -57,7 +57,7 @@ functions_still bs cs f =
     (λ v e. rw (variables_append bs cs) (any_front (λ w. v == w) (variables_around bs) (variables_around cs) e)))
     bs f
 
-pub good_variable : (g : Ground) (x : Symbol) (a : Around) → a.spot.top ≡ false → GoodAround g a
+pub good_variable : (g : Definitions) (x : Symbol) (a : Around) → a.spot.top ≡ false → GoodAround g a
     → GoodAround (counted (g.variables + 1) g.exits g) (with_bound (Variable x g.variables) a)
 good_variable g x a low o =
     let b : List Bound = Variable x g.variables ∷ [] in
@@ -68,7 +68,7 @@ good_variable g x a low o =
       top = λ e. absurd (cc (low, e));
     }
 
-pub good_block : (g : Ground) (x : Symbol) (a : Around) → a.spot.top ≡ false → GoodAround g a
+pub good_block : (g : Definitions) (x : Symbol) (a : Around) → a.spot.top ≡ false → GoodAround g a
     → GoodAround (counted g.variables (g.exits + 1) g) (with_bound (Block x g.exits) a)
 good_block g x a low o =
     let b : List Bound = Block x g.exits ∷ [] in
@@ -79,7 +79,7 @@ good_block g x a low o =
       top = λ e. absurd (cc (low, e));
     }
 
-pub good_tags : (g : Ground) (xs : List Symbol) (a : Around) → a.spot.top ≡ false → GoodAround g a
+pub good_tags : (g : Definitions) (xs : List Symbol) (a : Around) → a.spot.top ≡ false → GoodAround g a
     → GoodAround (counted g.variables (g.exits + 1) g) (with_bound (Tags xs g.exits) a)
 good_tags g xs a low o =
     let b : List Bound = Tags xs g.exits ∷ [] in
@@ -134,7 +134,7 @@ are_functions a (q ∷ qs) =
 pub same_variables : (bs cs : List Bound) → variables_around cs ≡ [] → variables_around (bs ++ cs) ≡ variables_around bs
 same_variables bs cs e = variables_append bs cs ∙ ap (λ ns. variables_around bs ++ ns) e ∙ append-nil (variables_around bs)
 
-pub good_functions : (g : Ground) (bs : List Bound) (a : Around) → a.spot.top ≡ false → AreFunctions (variables_around a.bound) bs → GoodAround g a
+pub good_functions : (g : Definitions) (bs : List Bound) (a : Around) → a.spot.top ≡ false → AreFunctions (variables_around a.bound) bs → GoodAround g a
     → GoodAround g (with_all bs a)
 good_functions g bs a low f o = record {
   variables = rw (same_variables a.bound bs f.variables) o.variables;

@@ -4,7 +4,7 @@ pub mod Forms
 pub mod Places
 pub mod Good
 pub mod Captured
-pub mod Grounds
+pub mod Definitions
 pub mod Matches
 pub mod Made
 pub mod Apt
@@ -20,3 +20,6 @@ pub mod Programs
 pub mod Classes
 pub mod Nodes
 pub mod FoundNodes
+pub mod Numbers
+pub mod Growing
+pub mod Grown

@@ -1,6 +1,7 @@
 -- Forms that are made of right forms are right.
 use Rattle.std.proofs.Common.{◌≡◌, ◌+◌, ◌≤◌, ◌<◌, ℕ, zero, suc, max, if◌then◌else◌, Bool, true, false, List, [], ◌∷◌, map, length, take, drop, Option, Some, refl, sym, ap, subst, ◌∙◌, arith}
 use Rattle.std.proofs.lemmas.Bool.{le-leb, lt-ltb, eq-eqb}
+use Rattle.std.proofs.lemmas.Bool.{and_from}
 use Rattle.isl_meaning.specs.declared.primitive.Primitive.{Primitive}
 use Rattle.isl_meaning.specs.declared.part.Part.{Part as Captured}
 use Rattle.isl_meaning.specs.declared.scope.Around.TheVariants as exit
@@ -21,9 +22,8 @@ use Rattle.isl_profile.specs.declared.making.Two.TheVariants.{Applying, Throwing
 use Rattle.isl_profile.specs.declared.making.WithBody.{WithBody}
 use Rattle.isl_profile.specs.declared.making.WithBody.TheVariants.{Repeating, Catching, Unwinding, Handling}
 use Rattle.isl_profile.specs.Makings.{body_of, one_of, two_of, with_body_of, make_segments}
-use Rattle.isl_whole.specs.Ground.{Ground, rows_of}
+use Rattle.isl_whole.specs.Definitions.{Definitions, rows_of}
 use Rattle.isl_whole.specs.Right.{RightIn}
-use Rattle.isl_whole.proofs.Tests.{and_true}
 use Rattle.isl_whole.proofs.Forms.{right_whole, depth_folded}
 use Rattle.isl_whole.proofs.Captured.{IsCaptured}
 
@@ -52,7 +52,7 @@ OneStands s (DefineGlobal n constant) = Unit {0}
 OneStands s (SetDynamic n) = Unit {0}
 OneStands s (DefineDynamic n) = Unit {0}
 
-pub made_one : (g : Ground) (s : LexicalScope) (n : ℕ) (k : One) (f : Form) → n + 1 ≤ 1000 → OneStands s k → RightIn g s (n + 1) f → RightIn g s n (one_of k f)
+pub made_one : (g : Definitions) (s : LexicalScope) (n : ℕ) (k : One) (f : Form) → n + 1 ≤ 1000 → OneStands s k → RightIn g s (n + 1) f → RightIn g s n (one_of k f)
 made_one g s n (SetVariable v) f l h r = right_whole g s n _ refl refl l h refl (r, tt) tt
 made_one g s n (ReturnTo x) f l h r = right_whole g s n _ refl refl l (ap is_block h) refl (r, tt) tt
 made_one g s n (SetGlobal name) f l h r = right_whole g s n _ refl refl l refl refl (r, tt) tt
@@ -60,16 +60,16 @@ made_one g s n (DefineGlobal name constant) f l h r = right_whole g s n _ refl r
 made_one g s n (SetDynamic name) f l h r = right_whole g s n _ refl refl l refl refl (r, tt) tt
 made_one g s n (DefineDynamic name) f l h r = right_whole g s n _ refl refl l refl refl (r, tt) tt
 
-pub made_two : (g : Ground) (s : LexicalScope) (n : ℕ) (k : Two) (f h : Form) → n + 1 ≤ 1000 → RightIn g s (n + 1) f → RightIn g s (n + 1) h → RightIn g s n (two_of k f h)
+pub made_two : (g : Definitions) (s : LexicalScope) (n : ℕ) (k : Two) (f h : Form) → n + 1 ≤ 1000 → RightIn g s (n + 1) f → RightIn g s (n + 1) h → RightIn g s n (two_of k f h)
 made_two g s n Applying f h l r q = right_whole g s n _ refl refl l refl refl (r, (q, tt)) tt
 made_two g s n Throwing f h l r q = right_whole g s n _ refl refl l refl refl (r, (q, tt)) tt
 made_two g s n Signalling f h l r q = right_whole g s n _ refl refl l refl refl (r, (q, tt)) tt
 made_two g s n Continuing f h l r q = right_whole g s n _ refl refl l refl refl (r, (q, tt)) tt
 
-pub made_body : (g : Ground) (s : LexicalScope) (n : ℕ) (fs : List Form) → n + 1 ≤ 1000 → Each (RightIn g s (n + 1)) fs → RightIn g s n (body_of fs)
+pub made_body : (g : Definitions) (s : LexicalScope) (n : ℕ) (fs : List Form) → n + 1 ≤ 1000 → Each (RightIn g s (n + 1)) fs → RightIn g s n (body_of fs)
 made_body g s n fs l e = right_whole g s n _ refl refl l refl refl (listed _ fs e) tt
 
-pub made_with_body : (g : Ground) (s : LexicalScope) (n : ℕ) (k : WithBody) (f : Form) (fs : List Form) → n + 1 + 1 ≤ 1000 → RightIn g s (n + 1) f
+pub made_with_body : (g : Definitions) (s : LexicalScope) (n : ℕ) (k : WithBody) (f : Form) (fs : List Form) → n + 1 + 1 ≤ 1000 → RightIn g s (n + 1) f
     → Each (RightIn g s (n + 1 + 1)) fs → RightIn g s n (with_body_of k f (body_of fs))
 made_with_body g s n Repeating f fs l r e = right_whole g s n _ refl refl (omega (arith, l)) refl refl (r, (made_body g s (n + 1) fs l e, tt)) tt
 made_with_body g s n Catching f fs l r e = right_whole g s n _ refl refl (omega (arith, l)) refl refl (r, (made_body g s (n + 1) fs l e, tt)) tt
@@ -78,20 +78,20 @@ made_with_body g s n Handling f fs l r e = right_whole g s n _ refl refl (omega 
 
 -- calls
 
-pub made_call : (g : Ground) (s : LexicalScope) (n name : ℕ) (fs : List Form) → n + 1 ≤ 1000 → Each (RightIn g s (n + 1)) fs → RightIn g s n (call name (forms fs))
+pub made_call : (g : Definitions) (s : LexicalScope) (n name : ℕ) (fs : List Form) → n + 1 ≤ 1000 → Each (RightIn g s (n + 1)) fs → RightIn g s n (call name (forms fs))
 made_call g s n name fs l e = right_whole g s n _ refl refl l refl refl (listed _ fs e) tt
 
-pub made_call_value : (g : Ground) (s : LexicalScope) (n : ℕ) (fs : List Form) → n + 1 ≤ 1000 → 1 ≤ length fs → Each (RightIn g s (n + 1)) fs
+pub made_call_value : (g : Definitions) (s : LexicalScope) (n : ℕ) (fs : List Form) → n + 1 ≤ 1000 → 1 ≤ length fs → Each (RightIn g s (n + 1)) fs
     → RightIn g s n (call_value (forms fs))
 made_call_value g s n fs l k e =
     right_whole g s n _ refl refl l refl (le-leb 1 (count_forms (forms fs)) (omega (arith, k, forms_counted fs))) (listed _ fs e) tt
 
-pub made_prim : (g : Ground) (s : LexicalScope) (n : ℕ) (p : Primitive) (fs : List Form) → n + 1 ≤ 1000 → length fs ≡ arity p → Each (RightIn g s (n + 1)) fs
+pub made_prim : (g : Definitions) (s : LexicalScope) (n : ℕ) (p : Primitive) (fs : List Form) → n + 1 ≤ 1000 → length fs ≡ arity p → Each (RightIn g s (n + 1)) fs
     → RightIn g s n (prim p (forms fs))
 made_prim g s n p fs l k e =
     right_whole g s n _ refl refl l refl (eq-eqb (count_forms (forms fs)) (arity p) (forms_counted fs ∙ k)) (listed _ fs e) tt
 
-pub made_local_call : (g : Ground) (s : LexicalScope) (n v : ℕ) (fs : List Form) → n + 1 + 1 ≤ 1000 → is_variable s v ≡ true → Each (RightIn g s (n + 1)) fs
+pub made_local_call : (g : Definitions) (s : LexicalScope) (n v : ℕ) (fs : List Form) → n + 1 + 1 ≤ 1000 → is_variable s v ≡ true → Each (RightIn g s (n + 1)) fs
     → RightIn g s n (call_value (form_and (local v) (forms fs)))
 made_local_call g s n v fs l h e =
     right_whole g s n _ refl refl (omega (arith, l)) refl
@@ -100,27 +100,27 @@ made_local_call g s n v fs l h e =
 
 -- clauses
 
-pub made_clauses : (g : Ground) (s : LexicalScope) (n : ℕ) (cs : ClauseForms) → n + 1 ≤ 1000 → Each (RightIn g s (n + 1)) (clause_list cs) → RightIn g s n (clauses cs)
+pub made_clauses : (g : Definitions) (s : LexicalScope) (n : ℕ) (cs : ClauseForms) → n + 1 ≤ 1000 → Each (RightIn g s (n + 1)) (clause_list cs) → RightIn g s n (clauses cs)
 made_clauses g s n cs l e = right_whole g s n _ refl refl l refl refl e tt
 
 -- forms that bind
 
-pub made_let : (g : Ground) (s : LexicalScope) (n : ℕ) (bs : BindingForms) (fs : List Form) → n + 1 + 1 ≤ 1000 → Each (RightIn g s (n + 1)) (value_list bs)
+pub made_let : (g : Definitions) (s : LexicalScope) (n : ℕ) (bs : BindingForms) (fs : List Form) → n + 1 + 1 ≤ 1000 → Each (RightIn g s (n + 1)) (value_list bs)
     → Each (RightIn g (with_bound (variables_bound bs) s) (n + 1 + 1)) fs → RightIn g s n (let_form bs (body_of fs))
 made_let g s n bs fs l e h =
     right_whole g s n _ refl refl (omega (arith, l)) refl refl e (made_body g (with_bound (variables_bound bs) s) (n + 1) fs l h, tt)
 
-pub made_dynamic_let : (g : Ground) (s : LexicalScope) (n : ℕ) (ds : DynamicForms) (fs : List Form) → n + 1 + 1 ≤ 1000 → Each (RightIn g s (n + 1)) (dynamic_value_list ds)
+pub made_dynamic_let : (g : Definitions) (s : LexicalScope) (n : ℕ) (ds : DynamicForms) (fs : List Form) → n + 1 + 1 ≤ 1000 → Each (RightIn g s (n + 1)) (dynamic_value_list ds)
     → Each (RightIn g s (n + 1 + 1)) fs → RightIn g s n (dynamic_let ds (body_of fs))
 made_dynamic_let g s n ds fs l e h =
     right_whole g s n _ refl refl (omega (arith, l)) refl refl e (made_body g s (n + 1) fs l h, tt)
 
-pub made_block : (g : Ground) (s : LexicalScope) (n x : ℕ) (fs : List Form) → n + 1 + 1 ≤ 1000 → Each (RightIn g (with_around x exit.Block s) (n + 1 + 1)) fs
+pub made_block : (g : Definitions) (s : LexicalScope) (n x : ℕ) (fs : List Form) → n + 1 + 1 ≤ 1000 → Each (RightIn g (with_around x exit.Block s) (n + 1 + 1)) fs
     → RightIn g s n (block x (body_of fs))
 made_block g s n x fs l h =
     right_whole g s n _ refl refl (omega (arith, l)) refl refl tt (made_body g (with_around x exit.Block s) (n + 1) fs l h, tt)
 
-segments_right : (g : Ground) (s : LexicalScope) (n : ℕ) (ns : List ℕ) (fs : List Form) → n + 1 ≤ 1000 → Each (RightIn g s (n + 1)) fs
+segments_right : (g : Definitions) (s : LexicalScope) (n : ℕ) (ns : List ℕ) (fs : List Form) → n + 1 ≤ 1000 → Each (RightIn g s (n + 1)) fs
     → Each (RightIn g s n) (forms_list (make_segments ns fs))
 segments_right g s n [] fs l e = tt
 segments_right g s n (k ∷ ks) fs l e =
@@ -130,7 +130,7 @@ segments_counted : (ns : List ℕ) (fs : List Form) → count_forms (make_segmen
 segments_counted [] fs = refl
 segments_counted (n ∷ ns) fs = omega (arith, segments_counted ns (drop n fs))
 
-pub made_tagbody : (g : Ground) (s : LexicalScope) (n x tags : ℕ) (ns : List ℕ) (fs : List Form) → n + 1 + 1 ≤ 1000 → length ns ≡ tags + 1
+pub made_tagbody : (g : Definitions) (s : LexicalScope) (n x tags : ℕ) (ns : List ℕ) (fs : List Form) → n + 1 + 1 ≤ 1000 → length ns ≡ tags + 1
     → Each (RightIn g (with_around x (exit.Tagbody (tags + 1)) s) (n + 1 + 1)) fs → RightIn g s n (tagbody x (make_segments ns fs))
 made_tagbody g s n x tags ns fs l c h =
     let same : count_forms (make_segments ns fs) ≡ tags + 1 = segments_counted ns fs ∙ c in
@@ -144,26 +144,26 @@ deep_function : (d a b o n : ℕ) (function : Bool) → d ≡ max a (if function
 deep_function d a b o n true e p q k l = omega arith
 deep_function d a b o n false e p q k l = absurd (cc k)
 
-pub made_lambda : (g : Ground) (s : LexicalScope) (n : ℕ) (required : List ℕ) (rest : Option ℕ) (parts : List Captured) (fs : List Form) (t : LexicalScope) → n + 1 + 1 ≤ 1000
+pub made_lambda : (g : Definitions) (s : LexicalScope) (n : ℕ) (required : List ℕ) (rest : Option ℕ) (parts : List Captured) (fs : List Form) (t : LexicalScope) → n + 1 + 1 ≤ 1000
     → IsCaptured s (parameters required rest) (body_of fs) parts → Each (RightIn g t (n + 1 + 1)) fs
     → RightIn g s n (lambda required rest (body_of fs) parts)
 made_lambda g s n required rest parts fs t l c e =
     let f : Form = lambda required rest (body_of fs) parts in
     let body : RightIn g t (n + 1) (body_of fs) = made_body g t (n + 1) fs l e in
     record {
-      stands = stands_folded s f ∙ and_true _ _ (and_true _ _ c.captured refl) (and_true _ _ c.stands refl);
+      stands = stands_folded s f ∙ and_from _ _ (and_from _ _ c.captured refl) (and_from _ _ c.stands refl);
       fits = fits_folded (rows_of g) f
-          ∙ and_true _ _ (and_true _ _ (le-leb (depth (body_of fs)) 1000 (omega (arith, body.deep))) refl) (and_true _ _ body.fits refl);
+          ∙ and_from _ _ (and_from _ _ (le-leb (depth (body_of fs)) 1000 (omega (arith, body.deep))) refl) (and_from _ _ body.fits refl);
       deep = deep_function (depth f) 0 (greatest (map depth (inner f))) 1 n true (depth_folded f) refl refl refl (omega (arith, l));
     }
 
 -- forms without parts
 
-pub made_local : (g : Ground) (s : LexicalScope) (n v : ℕ) → n + 1 ≤ 1000 → is_variable s v ≡ true → RightIn g s n (local v)
+pub made_local : (g : Definitions) (s : LexicalScope) (n v : ℕ) → n + 1 ≤ 1000 → is_variable s v ≡ true → RightIn g s n (local v)
 made_local g s n v l h = right_whole g s n (local v) refl refl l h refl tt tt
 
-pub made_literal : (g : Ground) (s : LexicalScope) (n i : ℕ) → n + 1 ≤ 1000 → i < length g.literals → RightIn g s n (literal i)
+pub made_literal : (g : Definitions) (s : LexicalScope) (n i : ℕ) → n + 1 ≤ 1000 → i < length g.literals → RightIn g s n (literal i)
 made_literal g s n i l h = right_whole g s n (literal i) refl refl l refl (lt-ltb i (length g.literals) h) tt tt
 
-pub made_go : (g : Ground) (s : LexicalScope) (n x i : ℕ) → n + 1 ≤ 1000 → is_segment i (exit_around x s.exits) ≡ true → RightIn g s n (go x i)
+pub made_go : (g : Definitions) (s : LexicalScope) (n x i : ℕ) → n + 1 ≤ 1000 → is_segment i (exit_around x s.exits) ≡ true → RightIn g s n (go x i)
 made_go g s n x i l h = right_whole g s n (go x i) refl refl l h refl tt tt

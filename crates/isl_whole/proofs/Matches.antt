@@ -15,7 +15,7 @@ use Rattle.isl_profile.specs.Shapes.{Pair}
 use Rattle.isl_profile.specs.RowWords.{each_form, each_below, each_inner, each_bound, each_parameter}
 use Rattle.isl_profile.specs.BindingRows.{values_of}
 use Rattle.isl_whole.specs.Scopes.{Within}
-use Rattle.isl_whole.specs.Ground.{Ground}
+use Rattle.isl_whole.specs.Definitions.{Definitions}
 use Rattle.isl_whole.specs.Right.{RightIn}
 use Rattle.isl_whole.proofs.Forms.{right_within}
 
@@ -31,20 +31,20 @@ new_variables (r ∷ rs) = new_variable r ++ new_variables rs
 
 -- outside, in a scope and inside so many forms, and inside
 pub record Spots : Type 0 where
-  pub ground : Ground
+  pub defined : Definitions
   pub outside : LexicalScope
   pub depth : ℕ
   pub inside : LexicalScope
   pub inner_depth : ℕ
 
 abbrev pub RightOutside : Spots → Form → Type 0
-RightOutside p f = RightIn p.ground p.outside p.depth f
+RightOutside p f = RightIn p.defined p.outside p.depth f
 
 abbrev pub RightBelow : Spots → Form → Type 0
-RightBelow p f = RightIn p.ground p.outside (p.depth + 1) f
+RightBelow p f = RightIn p.defined p.outside (p.depth + 1) f
 
 abbrev pub RightInside : Spots → Form → Type 0
-RightInside p f = RightIn p.ground p.inside p.inner_depth f
+RightInside p f = RightIn p.defined p.inside p.inner_depth f
 
 abbrev pub Matches : Spots → Part → Found → Type 0
 Matches p (form d) (Value f) = RightOutside p f
@@ -78,7 +78,7 @@ match_within p s (form d) (Parameter v) w h = h
 match_within p s (below d) (Value f) w h = h
 match_within p s (below d) (Binding v f) w h = h
 match_within p s (below d) (Parameter v) w h = h
-match_within p s (inner d) (Value f) w h = right_within p.ground p.inside s p.inner_depth f w h
+match_within p s (inner d) (Value f) w h = right_within p.defined p.inside s p.inner_depth f w h
 match_within p s (inner d) (Binding v f) w h = h
 match_within p s (inner d) (Parameter v) w h = h
 match_within p s (bind x d) (Value f) w h = h

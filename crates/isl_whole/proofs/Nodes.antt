@@ -1,11 +1,11 @@
 -- Nodes of forms by the forms inside them: a form counts at least one, and the forms that it is made of.
-use Rattle.std.proofs.Common.{◌≡◌, ◌+◌, ◌-◌, ◌≤◌, ℕ, zero, suc, if◌then◌else◌, Bool, true, false, List, [], ◌∷◌, ◌++◌, take, drop, map, length, Option, Some, None, refl, sym, ap, subst, ◌∙◌, arith}
+use Rattle.std.proofs.Common.{◌≡◌, ◌+◌, ◌≤◌, ℕ, zero, suc, if◌then◌else◌, List, [], ◌∷◌, take, drop, map, length, Option, refl, ap, ◌∙◌, arith}
 use Rattle.std.specs.List.{sum, fold}
 use Rattle.isl_base.specs.declared.datum.Name.{Name}
 use Rattle.isl_meaning.specs.declared.primitive.Primitive.{Primitive}
 use Rattle.isl_meaning.specs.declared.part.Part.{Part as Captured}
 use Rattle.isl_meaning.specs.Form.{Form, form_and, ClauseForms, local, clauses, let_form, lambda, call, call_value, prim, block, tagbody, dynamic_let, sited}
-use Rattle.isl_meaning.specs.Subforms.{Each, forms_list, clause_list, value_list, dynamic_value_list, outer, inner}
+use Rattle.isl_meaning.specs.Subforms.{forms_list, clause_list, value_list, dynamic_value_list, outer, inner}
 use Rattle.isl_meaning.specs.Counts.{own_nodes, is_function, all_nodes}
 use Rattle.isl_meaning.specs.model.View.{forms, forms_back}
 use Rattle.isl_meaning.specs.bridge.Walks.{folded}

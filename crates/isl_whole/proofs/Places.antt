@@ -2,6 +2,7 @@
 use Rattle.std.proofs.Common.{◌≡◌, ◌+◌, ◌==◌, ◌≤◌, ◌<◌, ℕ, Bool, true, false, ◌||◌, List, [], ◌∷◌, ◌++◌, length, Option, Some, None, if◌then◌else◌, refl, sym, ap, subst, ◌∙◌, arith, append_assoc, append-nil}
 use Rattle.std.specs.List.{list_any}
 use Rattle.std.proofs.lemmas.Bool.{eq-eqb, ne_eqb, lt-ltb}
+use Rattle.std.proofs.lemmas.Bool.{or_left, or_right}
 use Rattle.isl_base.specs.declared.datum.Symbol.{Symbol}
 use Rattle.isl_meaning.specs.declared.scope.Around.{Around as Kind}
 use Rattle.isl_meaning.specs.declared.scope.Around.TheVariants as exit
@@ -13,7 +14,6 @@ use Rattle.isl_profile.specs.declared.bound.Bound.TheVariants.{Variable, Functio
 use Rattle.isl_profile.specs.declared.bound.Target.{Target}
 use Rattle.isl_profile.specs.Names.{same_symbol, given_by, as_variable, as_function, as_block, as_tag, target_among, or_first, variable_of, function_of, block_of, tag_of}
 use Rattle.isl_whole.specs.Places.{variable_at, variables_around, exit_at, exit_numbers, exit_of, exits_around, Rises, FunctionThere}
-use Rattle.isl_whole.proofs.Tests.{or_left, or_right}
 
 -- numbers that rise
 

@@ -13,6 +13,7 @@ use Rattle.isl_meaning.specs.declared.program.ClassRow.{ClassRow}
 use Rattle.isl_meaning.specs.declared.program.LiteralRow.TheVariants as row
 use Rattle.isl_meaning.specs.Form.{Form, local, global, dynamic, next_method, has_next}
 use Rattle.isl_meaning.specs.Standing.{is_variable}
+use Rattle.isl_meaning.specs.Counts.{all_nodes}
 use Rattle.isl_classes.specs.InheritedClasses.{class_named}
 use Rattle.isl_classes.specs.InheritedSlots.{same_name}
 use Rattle.isl_profile.specs.declared.tables.Tables.{Tables}
@@ -24,18 +25,18 @@ use Rattle.isl_profile.specs.declared.making.Making.TheVariants.{OfOne, OfTwo, O
 use Rattle.isl_profile.specs.Names.{variable_of, function_of}
 use Rattle.isl_profile.specs.Nodes.{Around}
 use Rattle.isl_profile.specs.Shapes.{symbol_of, is_true, ClauseParts, clauses_in}
-use Rattle.isl_profile.specs.RowWords.{deeper, deeper_at_top, made_at_once, each_below, each_inner, bad_shape}
+use Rattle.isl_profile.specs.RowWords.{unsited, deeper, deeper_at_top, made_at_once, each_below, each_inner, bad_shape}
 use Rattle.isl_profile.specs.ValueRows.{free_symbol, symbol_as, symbol_node, quote_row, is_constant, with_set, one_part, set_free, set_as, set_datum, setq_row, progn_row, clause_lengths, clause_parts, own_depth, cond_as, cond_row, two_row, body_row, dynamic_name, dynamic_as, dynamic_row, set_dynamic_as, set_dynamic_row, function_named, function_as, function_symbol, function_row, method_row, class_of, class_symbol, class_datum, class_row}
 use Rattle.isl_profile.specs.bridge.GoodParts.{GoodClauses, MaybeClauses, good_clauses}
-use Rattle.isl_whole.specs.Ground.{Ground, ground}
+use Rattle.isl_profile.specs.Makings.{forms_found, make_clauses}
+use Rattle.isl_whole.specs.Definitions.{Definitions, defined}
+use Rattle.isl_whole.specs.Numbers.{Numbered}
 use Rattle.isl_whole.specs.Places.{scope_of}
 use Rattle.isl_whole.specs.Right.{RightAt}
 use Rattle.isl_whole.proofs.Forms.{right_whole}
-use Rattle.isl_whole.proofs.Grounds.{entered_same, counted_same}
+use Rattle.isl_whole.proofs.Definitions.{entered_same, counted_same}
 use Rattle.isl_whole.proofs.Nodes.{sequence_nodes, clauses_nodes}
 use Rattle.isl_whole.proofs.FoundNodes.{inner_plain, clauses_plain, forms_counted, found_one_nodes, found_two_nodes, found_with_body_nodes, found_clauses_nodes, enough_nodes, enough_more}
-use Rattle.isl_profile.specs.Makings.{forms_found, make_clauses}
-use Rattle.isl_meaning.specs.Counts.{all_nodes}
 use Rattle.isl_whole.proofs.Good.{good_at_top}
 use Rattle.isl_whole.proofs.Places.{variable_there, function_there}
 use Rattle.isl_whole.proofs.Made.{OneStands, made_local, made_clauses, made_body}
@@ -45,13 +46,13 @@ use Rattle.isl_whole.proofs.Found.{found_one, one_ends, found_two, found_with_bo
 -- a symbol
 
 apt_free_symbol : (n : ℕ) (a : Around) (p : Place) (s : Tables) (x : Symbol) → Stage a s → AptAt n a s (free_symbol a p s x)
-apt_free_symbol n a p s (Named name) b = apt_at_once n a s p (global name.0) b (omega arith) (λ h l. right_whole h (scope_of a) a.spot.depth (global name.0) refl refl l refl refl tt tt)
+apt_free_symbol n a p s (Named name) b = apt_at_once n a s p (global name.0) b (omega arith) (λ h k. record { numbers = refl }) (λ h l. right_whole h (scope_of a) a.spot.depth (global name.0) refl refl l refl refl tt tt)
 apt_free_symbol n a p s (Fresh e serial) b = tt
 
 -- the value of a variable around
 pub apt_local : (n : ℕ) (a : Around) (p : Place) (s : Tables) (v : ℕ) → Stage a s → is_variable (scope_of a) v ≡ true
-    → AptAt n a s (symbol_as a p s (Named (record { 0 = 0 })) (Some v))
-apt_local n a p s v b e = apt_unsited n a s p s (local v) b (entered_same (ground s) b.whole) (counted_same a.spot.sited (ground s)) (λ h l d. made_local h (scope_of a) a.spot.depth v d e)
+    → AptAt n a s (unsited a p s (local v))
+apt_local n a p s v b e = apt_unsited n a s p s (local v) b (entered_same (defined s) b.whole) (counted_same a.spot.sited (defined s)) (λ h k. record { numbers = refl }) (λ h l d. made_local h (scope_of a) a.spot.depth v d e)
 
 apt_symbol_as : (n : ℕ) (a : Around) (p : Place) (s : Tables) (x : Symbol) (v : Option ℕ) → Stage a s → variable_of a.bound x ≡ v → AptAt n a s (symbol_as a p s x v)
 apt_symbol_as n a p s x (Some v) b e = apt_local n a p s v b (variable_there x a.bound v e)
@@ -72,8 +73,9 @@ apt_quote n a s p (d ∷ e ∷ ds) b g = tt
 pub apt_one : (n : ℕ) (a : Around) (p : Place) (s : Tables) (k : One) (d : Item) → Stage a s → OneStands (scope_of a) k → Good n d → AptAt n a s (one_part a p s k d)
 apt_one n a p s k d b o g =
     apt_within n a s 1 p _ (λ l. apt_made n a s (deeper 1 a) p s _ (OfOne k) b
-    (plain_parts n a s _ (OfOne k) b (g, tt) (λ u rs c. found_one (ground u) a (deeper 1 a) k d rs l o c.match) (λ u rs. one_ends k u)
-    (λ u rs c. found_one_nodes (spots (ground u) (deeper 1 a) (deeper 1 a) rs) k d rs c.match)))
+    (plain_parts n a s _ (OfOne k) b (g, tt) (λ u rs c. found_one (defined u) a (deeper 1 a) k d rs l o c.match) (λ u rs. one_ends k u)
+    (λ u rs c. found_one_nodes (spots (defined u) (deeper 1 a) (deeper 1 a) rs) k d rs c.match)
+    (λ u rs. tt)))
 
 -- setq
 
@@ -107,16 +109,17 @@ apt_setq n a s p (d ∷ e ∷ f ∷ ds) b g = tt
 
 pub apt_progn : (n : ℕ) (a : Around) (s : Tables) (p : Place) (ds : List Item) → Stage a s → AllOf (Good n) ds → AptAt n a s (progn_row a s p ds)
 apt_progn n a s p ds b g = apt_within n a s 1 p _ (λ l. apt_made n a s (deeper_at_top a) p s (each_inner ds) InSequence b (record {
-  entered = entered_same (ground s) b.whole;
-  inside = good_at_top (ground s) a b.good;
+  entered = entered_same (defined s) b.whole;
+  inside = good_at_top (defined s) a b.good;
   low = λ k. k;
   sited = refl;
-  start = counted_same a.spot.sited (ground s);
+  start = counted_same a.spot.sited (defined s);
   parts = inner_apt n (deeper_at_top a) ds g;
-  right = λ u rs c. made_body (ground u) (scope_of a) a.spot.depth _ l (found_inner (ground u) (deeper 1 a) (deeper_at_top a) ds rs c.match);
+  right = λ u rs c. made_body (defined u) (scope_of a) a.spot.depth _ l (found_inner (defined u) (deeper 1 a) (deeper_at_top a) ds rs c.match);
   ends = λ u rs. refl;
   nodes = λ u rs c.
-      enough_nodes _ _ _ (forms_counted (spots (ground u) (deeper 1 a) (deeper_at_top a) rs) (each_inner ds) rs c.match (inner_plain ds)) (sequence_nodes (forms_found rs));
+      enough_nodes _ _ _ (forms_counted (spots (defined u) (deeper 1 a) (deeper_at_top a) rs) (each_inner ds) rs c.match (inner_plain ds)) (sequence_nodes (forms_found rs));
+  own = λ u rs c m. tt;
 }))
 
 -- cond
@@ -134,12 +137,13 @@ apt_cond_as n a s p None b g = tt
 apt_cond_as n a s p (Some cs) b g =
     apt_within n a s (own_depth cs) p _ (λ l. apt_made n a s (deeper 1 a) p s (clause_parts cs) (OfClauses (clause_lengths cs)) b
     (plain_parts n a s (clause_parts cs) (OfClauses (clause_lengths cs)) b (clauses_apt n (deeper 1 a) cs g)
-    (λ u rs c. made_clauses (ground u) (scope_of a) a.spot.depth _ (deep_enough a.spot.depth _ l)
-    (found_clauses (spots (ground u) (deeper 1 a) (deeper 1 a) rs) cs rs c.match))
+    (λ u rs c. made_clauses (defined u) (scope_of a) a.spot.depth _ (deep_enough a.spot.depth _ l)
+    (found_clauses (spots (defined u) (deeper 1 a) (deeper 1 a) rs) cs rs c.match))
     (λ u rs. refl)
     (λ u rs c.
-        enough_more _ _ _ _ (forms_counted (spots (ground u) (deeper 1 a) (deeper 1 a) rs) (clause_parts cs) rs c.match (clauses_plain cs))
-        (found_clauses_nodes (spots (ground u) (deeper 1 a) (deeper 1 a) rs) cs rs c.match) (clauses_nodes (make_clauses (clause_lengths cs) (forms_found rs))))))
+    enough_more _ _ _ _ (forms_counted (spots (defined u) (deeper 1 a) (deeper 1 a) rs) (clause_parts cs) rs c.match (clauses_plain cs))
+    (found_clauses_nodes (spots (defined u) (deeper 1 a) (deeper 1 a) rs) cs rs c.match) (clauses_nodes (make_clauses (clause_lengths cs) (forms_found rs))))
+    (λ u rs. tt)))
 
 pub apt_cond : (n : ℕ) (a : Around) (s : Tables) (p : Place) (ds : List Item) → Stage a s → AllOf (Good n) ds → AptAt n a s (cond_row a s p ds)
 apt_cond n a s p ds b g = apt_cond_as n a s p (clauses_in ds) b (good_clauses n ds g)
@@ -149,8 +153,9 @@ apt_cond n a s p ds b g = apt_cond_as n a s p (clauses_in ds) b (good_clauses n 
 pub apt_two : (n : ℕ) (k : Two) (a : Around) (s : Tables) (p : Place) (ds : List Item) → Stage a s → AllOf (Good n) ds → AptAt n a s (two_row k a s p ds)
 apt_two n k a s p (d ∷ e ∷ []) b g =
     apt_within n a s 1 p _ (λ l. apt_made n a s (deeper 1 a) p s _ (OfTwo k) b
-    (plain_parts n a s _ (OfTwo k) b (g.0, (g.1.0, tt)) (λ u rs c. found_two (ground u) a (deeper 1 a) k d e rs l c.match) (λ u rs. refl)
-    (λ u rs c. found_two_nodes (spots (ground u) (deeper 1 a) (deeper 1 a) rs) k d e rs c.match)))
+    (plain_parts n a s _ (OfTwo k) b (g.0, (g.1.0, tt)) (λ u rs c. found_two (defined u) a (deeper 1 a) k d e rs l c.match) (λ u rs. refl)
+    (λ u rs c. found_two_nodes (spots (defined u) (deeper 1 a) (deeper 1 a) rs) k d e rs c.match)
+    (λ u rs. tt)))
 apt_two n k a s p [] b g = tt
 apt_two n k a s p (d ∷ []) b g = tt
 apt_two n k a s p (d ∷ e ∷ f ∷ ds) b g = tt
@@ -159,15 +164,16 @@ pub apt_body : (n : ℕ) (k : WithBody) (a : Around) (s : Tables) (p : Place) (d
 apt_body n k a s p [] b g = tt
 apt_body n k a s p (d ∷ ds) b g =
     apt_within n a s 2 p _ (λ l. apt_made n a s (deeper 1 a) p s _ (OfBody k) b
-    (plain_parts n a s _ (OfBody k) b (g.0, below_apt n (deeper 1 a) ds g.1) (λ u rs c. found_with_body (ground u) a (deeper 1 a) k d ds rs l c.match) (λ u rs. refl)
-    (λ u rs c. found_with_body_nodes (spots (ground u) (deeper 1 a) (deeper 1 a) rs) k d ds rs c.match)))
+    (plain_parts n a s _ (OfBody k) b (g.0, below_apt n (deeper 1 a) ds g.1) (λ u rs c. found_with_body (defined u) a (deeper 1 a) k d ds rs l c.match) (λ u rs. refl)
+    (λ u rs c. found_with_body_nodes (spots (defined u) (deeper 1 a) (deeper 1 a) rs) k d ds rs c.match)
+    (λ u rs. tt)))
 
 -- dynamic variables
 
 apt_dynamic_as : (n : ℕ) (a : Around) (s : Tables) (p : Place) (name : Option Name) → Stage a s → AptAt n a s (dynamic_as a s p name)
 apt_dynamic_as n a s p None b = tt
 apt_dynamic_as n a s p (Some name) b =
-    apt_at_once n a s p (dynamic name.0) b (omega arith) (λ h l. right_whole h (scope_of a) a.spot.depth (dynamic name.0) refl refl l refl refl tt tt)
+    apt_at_once n a s p (dynamic name.0) b (omega arith) (λ h k. record { numbers = refl }) (λ h l. right_whole h (scope_of a) a.spot.depth (dynamic name.0) refl refl l refl refl tt tt)
 
 pub apt_dynamic : (n : ℕ) (a : Around) (s : Tables) (p : Place) (ds : List Item) → Stage a s → AptAt n a s (dynamic_row a s p ds)
 apt_dynamic n a s p (v ∷ []) b = apt_dynamic_as n a s p (dynamic_name s.words (symbol_of v)) b
@@ -206,17 +212,18 @@ apt_function n a s p (d ∷ e ∷ ds) b = tt
 -- the two forms of methods
 pub record OfMethods (f : Form) : Type 0 where
   pub some : 1 ≤ all_nodes f
-  pub right : (h : Ground) (a : Around) → a.spot.depth + 1 ≤ 1000 → a.spot.in_method ≡ true → RightAt h a f
+  pub numbered : (h k : Definitions) → Numbered h k f
+  pub right : (h : Definitions) (a : Around) → a.spot.depth + 1 ≤ 1000 → a.spot.in_method ≡ true → RightAt h a f
 
 pub next_of_methods : OfMethods next_method
-next_of_methods = record { some = omega arith; right = λ h a l e. right_whole h (scope_of a) a.spot.depth next_method refl refl l e refl tt tt }
+next_of_methods = record { some = omega arith; numbered = λ h k. record { numbers = refl }; right = λ h a l e. right_whole h (scope_of a) a.spot.depth next_method refl refl l e refl tt tt }
 
 pub has_of_methods : OfMethods has_next
-has_of_methods = record { some = omega arith; right = λ h a l e. right_whole h (scope_of a) a.spot.depth has_next refl refl l e refl tt tt }
+has_of_methods = record { some = omega arith; numbered = λ h k. record { numbers = refl }; right = λ h a l e. right_whole h (scope_of a) a.spot.depth has_next refl refl l e refl tt tt }
 
 apt_in_method : (n : ℕ) (f : Form) (a : Around) (s : Tables) (p : Place) (m : Bool) → Stage a s → a.spot.in_method ≡ m → OfMethods f
     → AptAt n a s (if m then made_at_once a p s f else bad_shape p)
-apt_in_method n f a s p true b e o = apt_at_once n a s p f b o.some (λ h l. o.right h a l e)
+apt_in_method n f a s p true b e o = apt_at_once n a s p f b o.some o.numbered (λ h l. o.right h a l e)
 apt_in_method n f a s p false b e o = tt
 
 pub apt_method : (n : ℕ) (f : Form) (a : Around) (s : Tables) (p : Place) (ds : List Item) → Stage a s → OfMethods f → AptAt n a s (method_row f a s p ds)

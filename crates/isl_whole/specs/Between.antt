@@ -1,13 +1,13 @@
 -- The tables between top-level forms: whole, with the built-in classes, and with no more sites than nodes.
 use Rattle.std.specs.Prelude.{◌≡◌, []}
 use Rattle.isl_profile.specs.declared.tables.Tables.{Tables}
-use Rattle.isl_whole.specs.Ground.{ground, WholeTables, FewSites}
+use Rattle.isl_whole.specs.Definitions.{defined, WholeTables, FewSites}
 use Rattle.isl_whole.specs.Classes.{SimpleClasses}
 
 pub record WholeBetween (t : Tables) : Type 0 where
   pub whole : WholeTables t
   pub classes : SimpleClasses t.classes.rows
-  pub sites : FewSites (ground t)
+  pub sites : FewSites (defined t)
 
 -- tables in which no form has left anything
 pub record HasNoForm (t : Tables) : Type 0 where

@@ -1,6 +1,7 @@
 pub mod Scopes
-pub mod Ground
+pub mod Definitions
 pub mod Places
 pub mod Right
 pub mod Classes
 pub mod Between
+pub mod Numbers

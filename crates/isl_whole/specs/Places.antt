@@ -9,7 +9,7 @@ use Rattle.isl_meaning.specs.Subforms.{Each}
 use Rattle.isl_profile.specs.declared.bound.Bound.{Bound}
 use Rattle.isl_profile.specs.declared.bound.Bound.TheVariants.{Variable, Function, Block, Tags}
 use Rattle.isl_profile.specs.Nodes.{Around}
-use Rattle.isl_whole.specs.Ground.{Ground}
+use Rattle.isl_whole.specs.Definitions.{Definitions}
 
 -- the variables around, the innermost last, and the numbers of the exits
 
@@ -65,7 +65,7 @@ pub record NothingAround (a : Around) : Type 0 where
   pub bound : a.bound ≡ []
   pub method : a.spot.in_method ≡ false
 
-pub record GoodAround (g : Ground) (a : Around) : Type 0 where
+pub record GoodAround (g : Definitions) (a : Around) : Type 0 where
   pub variables : Rises 0 (variables_around a.bound) g.variables
   pub exits : Rises 0 (exit_numbers a.bound) g.exits
   pub functions : Each (FunctionThere (variables_around a.bound)) a.bound

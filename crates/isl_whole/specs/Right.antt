@@ -5,37 +5,41 @@ use Rattle.isl_meaning.specs.Form.{Form}
 use Rattle.isl_meaning.specs.Fits.{fits}
 use Rattle.isl_meaning.specs.Standing.{stands}
 use Rattle.isl_meaning.specs.Counts.{depth, all_nodes}
+use Rattle.isl_profile.specs.Marks.{Grows}
 use Rattle.isl_profile.specs.Nodes.{Around, Standing}
 use Rattle.isl_profile.specs.declared.tables.Tables.{Tables}
-use Rattle.isl_whole.specs.Ground.{Ground, ground, rows_of, Later, procedure_count, WholeGround}
+use Rattle.isl_whole.specs.Definitions.{Definitions, defined, rows_of, Later, procedure_count, WholeDefinitions}
+use Rattle.isl_whole.specs.Numbers.{Numbered}
 use Rattle.isl_whole.specs.Places.{scope_of}
 
 -- a form that stands in that scope, inside so many others
-pub record RightIn (g : Ground) (s : LexicalScope) (n : ℕ) (f : Form) : Type 0 where
+pub record RightIn (g : Definitions) (s : LexicalScope) (n : ℕ) (f : Form) : Type 0 where
   pub stands : stands s f ≡ true
   pub fits : fits (rows_of g) f ≡ true
   pub deep : depth f + n ≤ 1000
 
-abbrev pub RightAt : Ground → Around → Form → Type 0
+abbrev pub RightAt : Definitions → Around → Form → Type 0
 RightAt g a f = RightIn g (scope_of a) a.spot.depth f
 
 -- what later tables have kept, and below top level nothing is defined
-pub record Behind (top : Bool) (g h : Ground) : Type 0 where
+pub record Behind (top : Bool) (g h : Definitions) : Type 0 where
   pub later : Later g h
-  pub whole : WholeGround h
+  pub whole : WholeDefinitions h
   pub main : h.main ≡ g.main
   pub inside : top ≡ false → h.functions ≡ g.functions
 
 -- the sites are more by no more than these nodes and those of new procedures, and where forms have no sites by no more
 -- than those of new procedures
-pub record Counted (sited : Bool) (g h : Ground) (n : ℕ) : Type 0 where
+pub record Counted (sited : Bool) (g h : Definitions) (n : ℕ) : Type 0 where
   pub sites : length h.sites + procedure_count g ≤ length g.sites + (if sited then n else 0) + procedure_count h
 
 -- a datum came to a form that is right there, and to whole tables
 pub record Came (a : Around) (s : Tables) (m : Standing) : Type 0 where
-  pub right : RightAt (ground m.tables) a m.form
-  pub behind : Behind a.spot.top (ground s) (ground m.tables)
-  pub counted : Counted a.spot.sited (ground s) (ground m.tables) (all_nodes m.form)
+  pub right : RightAt (defined m.tables) a m.form
+  pub behind : Behind a.spot.top (defined s) (defined m.tables)
+  pub counted : Counted a.spot.sited (defined s) (defined m.tables) (all_nodes m.form)
+  pub numbered : Numbered (defined s) (defined m.tables) m.form
+  pub grown : Grows s m.tables
 
 -- with a main form more
 abbrev pub with_main : Form → Tables → Tables

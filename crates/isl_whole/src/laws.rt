@@ -14,7 +14,7 @@ ghost use Rattle.isl_profile.specs.Nodes.{Around, Standing, stands as comes_to};
 ghost use Rattle.isl_profile.specs.Rows.{node};
 ghost use Rattle.isl_profile.specs.Judged.{Comes};
 ghost use Rattle.isl_whole.specs.Scopes.{Within};
-ghost use Rattle.isl_whole.specs.Ground.{ground, rows_of, WholeTables};
+ghost use Rattle.isl_whole.specs.Definitions.{defined, rows_of, WholeTables};
 ghost use Rattle.isl_whole.specs.Places.{NothingAround, GoodAround};
 ghost use Rattle.isl_whole.specs.Right.{Came, with_main};
 ghost use Rattle.isl_whole.specs.Between.{WholeBetween, HasNoForm};
@@ -24,10 +24,11 @@ pub fn law_scopes()
     ensures { (s t : LexicalScope) (f : Form) → Within s t → stands s f ≡ true → stands t f ≡ true }
 {}
 
-/// A datum in form, at a good place beside whole tables, comes to a form that stands there, fits and is
-/// not too deep, and the tables behind it are whole.
+/// A datum in form, at a good place beside whole tables, comes to a form that stands there, fits, is not too
+/// deep, and binds numbers between those of the tables in front and behind; and the tables behind it have
+/// grown and are whole.
 pub fn law_forms()
-    ensures { (names : List (List ℕ)) (a : Around) (s : Tables) (d : Item) (m : Standing) → Good (length names) d → GoodAround (ground s) a →
+    ensures { (names : List (List ℕ)) (a : Around) (s : Tables) (d : Item) (m : Standing) → Good (length names) d → GoodAround (defined s) a →
         WholeTables s → Comes names (node names a s d) (comes_to m) → Came a s m }
 {}
 
@@ -44,5 +45,5 @@ pub fn law_top_forms()
 
 /// Such tables are a whole program where its nodes are within their limit.
 pub fn law_programs()
-    ensures { (t : Tables) → WholeBetween t → program_nodes (rows_of (ground t)) ≤ 100000 → is_whole (rows_of (ground t)) ≡ true }
+    ensures { (t : Tables) → WholeBetween t → program_nodes (rows_of (defined t)) ≤ 100000 → is_whole (rows_of (defined t)) ≡ true }
 {}

@@ -1,5 +1,5 @@
 -- A top-level form is one where nothing is bound.
-use Rattle.isl_whole.specs.Ground.{ground}
+use Rattle.isl_whole.specs.Definitions.{defined}
 use Rattle.isl_whole.proofs.Programs.{form_came, nothing_good, first_between, file_between, prelude_between}
 use Rattle.isl_whole.proofs.laws.law_top_forms.Goals as goal
 
@@ -7,7 +7,7 @@ pub returns-clause-first : goal.returns-clause-first
 returns-clause-first c = first_between
 
 pub returns-clause-file : goal.returns-clause-file
-returns-clause-file c = λ names a s d m g n b h. file_between a s m n (form_came names a s d m g (nothing_good (ground s) a n) b.whole h) b
+returns-clause-file c = λ names a s d m g n b h. file_between a s m n (form_came names a s d m g (nothing_good (defined s) a n) b.whole h) b
 
 pub returns-clause-prelude : goal.returns-clause-prelude
-returns-clause-prelude c = λ names a s d m g n u b h. prelude_between a s m u (form_came names a s d m g (nothing_good (ground s) a n) b.whole h) b
+returns-clause-prelude c = λ names a s d m g n u b h. prelude_between a s m u (form_came names a s d m g (nothing_good (defined s) a n) b.whole h) b

@@ -19,7 +19,7 @@ use Rattle.isl_meaning.specs.Standing.{stands_alone, is_alone}
 use Rattle.isl_meaning.specs.Facts.{body_fits, literal_fits, same_name}
 use Rattle.isl_profile.specs.declared.tables.Tables.{Tables}
 
-pub record Ground : Type 0 where
+pub record Definitions : Type 0 where
   pub literals : List LiteralRow
   pub procedures : List Procedure
   pub classes : List ClassRow
@@ -29,8 +29,8 @@ pub record Ground : Type 0 where
   pub variables : ℕ
   pub exits : ℕ
 
-abbrev pub ground : Tables → Ground
-ground s = record {
+abbrev pub defined : Tables → Definitions
+defined s = record {
   literals = s.literals;
   procedures = s.procedures;
   classes = s.classes.rows;
@@ -42,7 +42,7 @@ ground s = record {
 }
 
 -- the rows of a program; no form makes a generic function yet
-abbrev pub rows_of : Ground → ProgramRows
+abbrev pub rows_of : Definitions → ProgramRows
 rows_of g = record {
   literals = g.literals;
   procedures = g.procedures;
@@ -54,7 +54,7 @@ rows_of g = record {
 }
 
 -- what comes later has no fewer literals, procedures, sites, variables and exits, and the same classes
-pub record Later (g h : Ground) : Type 0 where
+pub record Later (g h : Definitions) : Type 0 where
   pub literals : length g.literals ≤ length h.literals
   pub procedures : length g.procedures ≤ length h.procedures
   pub sites : length g.sites ≤ length h.sites
@@ -68,25 +68,25 @@ IsThere ps (callee.Procedure i) = i < length ps
 IsThere ps (callee.Generic i) = ⊥
 
 -- a procedure fits, and its body stands with its own variables alone
-abbrev pub procedure_fits : Ground → Procedure → Bool
+abbrev pub procedure_fits : Definitions → Procedure → Bool
 procedure_fits g p = body_fits (rows_of g) p.body && is_alone false (Some p)
 
 -- a main form fits, and stands alone
-abbrev pub main_fits : Ground → Form → Bool
+abbrev pub main_fits : Definitions → Form → Bool
 main_fits g f = body_fits (rows_of g) f && stands_alone false f
 
 -- the nodes of the procedures and of the main forms
-abbrev pub procedure_count : Ground → ℕ
+abbrev pub procedure_count : Definitions → ℕ
 procedure_count g = total procedure_nodes g.procedures
 
-abbrev pub main_count : Ground → ℕ
+abbrev pub main_count : Definitions → ℕ
 main_count g = total all_nodes g.main
 
 -- there are no more sites than nodes: each site is that of a form of its own
-pub record FewSites (g : Ground) : Type 0 where
+pub record FewSites (g : Definitions) : Type 0 where
   pub few : length g.sites ≤ procedure_count g + main_count g
 
-pub record WholeGround (g : Ground) : Type 0 where
+pub record WholeDefinitions (g : Definitions) : Type 0 where
   pub literals : list_all (literal_fits (rows_of g)) g.literals ≡ true
   pub procedures : list_all (procedure_fits g) g.procedures ≡ true
   pub functions : Each (λ f. IsThere g.procedures f.callee) g.functions
@@ -95,4 +95,4 @@ pub record WholeGround (g : Ground) : Type 0 where
 
 -- tables that are whole
 abbrev pub WholeTables : Tables → Type 0
-WholeTables s = WholeGround (ground s)
+WholeTables s = WholeDefinitions (defined s)
