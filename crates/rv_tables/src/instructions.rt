@@ -6,8 +6,8 @@ use rv_encode::{Bits4, Immediate12, Instr, Offset13, Offset21, Register, Shift5,
 use std::fmt::Debug;
 
 /// Appends an instruction: its name, and its fields by their names.
-pub fn put_instruction(got: &mut Answer, instruction: Instr) {
-    match instruction {
+pub fn put_instruction(got: &mut Answer, instruction: &Instr) {
+    match *instruction {
         Instr::Lui { rd, immediate } => put_upper(got, "Lui", rd, immediate),
         Instr::Auipc { rd, immediate } => put_upper(got, "Auipc", rd, immediate),
         Instr::Jal { rd, offset } => put_jump(got, "Jal", rd, offset),

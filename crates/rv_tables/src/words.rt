@@ -13,7 +13,7 @@ pub fn put(got: &mut Answer, line: &str) -> Option<()> {
         got.put("none");
         return Some(());
     };
-    put_instruction(got, instr);
+    put_instruction(got, &instr);
     let back = encode(instr);
     if back != word {
         got.put(" is ");
