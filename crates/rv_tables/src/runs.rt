@@ -86,13 +86,14 @@ impl Given {
             input_fails,
             output_fails,
         } = self;
+        let image = Image { entry: 0, words };
         let source = MemSource::new(input, input_fails);
         let Some(sink) = got.kept(MemSink::new(got.alloc, ROOM, output_fails)) else {
-            drop(words);
+            drop(image);
             drop(source);
             return None;
         };
-        let Some(machine) = loaded_machine(got, arena, words) else {
+        let Some(machine) = loaded_machine(got, arena, image) else {
             drop(source);
             drop(sink);
             return None;
@@ -105,15 +106,14 @@ impl Given {
     }
 }
 
-fn loaded_machine(got: &mut Answer, arena: u32, words: WordList) -> Option<Machine>
+fn loaded_machine(got: &mut Answer, arena: u32, image: Image) -> Option<Machine>
     requires some { 1 ≤ arena }
     requires bounded { arena ≤ 1000 }
 {
     let Some(mut machine) = got.kept(Machine::new(got.alloc, arena)) else {
-        drop(words);
+        drop(image);
         return None;
     };
-    let image = Image { entry: 0, words };
     if let Err(refusal) = machine.load(&image) {
         got.put_debug(&refusal);
     }
