@@ -205,17 +205,23 @@ fn append_new(fresh: &mut FreshList, count: u64) -> Result<(), NoMemory>
 fn taken_step(
     alloc: Global,
     place: Place,
-    right: &Right,
+    right: Right,
     names: &mut Names,
     fresh: &mut FreshList,
 ) -> Result<Datum, NoMemory>
-    ensures builds { IfOk result (λ datum. Builds names.new place right.now.piece datum) }
-    ensures ok { OnOk result (fresh.new ≡ fresh.old ++ new_symbols (length fresh.old) right.now.count) }
+    ensures builds { IfOk result (λ datum. Builds names.new place right.entry.piece datum) }
+    ensures ok { OnOk result (fresh.new ≡ fresh.old ++ new_symbols (length fresh.old) right.entry.count) }
     ensures err { OnErr result (fresh.new ≡ fresh.old) }
     ensures names { Extends names.old names.new }
 {
-    let datum = build(alloc, names, place, &right.piece)?;
-    append_new(fresh, right.count)?;
+    let Right { piece, count } = right;
+    let built = build(alloc, names, place, &piece);
+    drop(piece);
+    let datum = built?;
+    if append_new(fresh, count).is_err() {
+        drop(datum);
+        return Err(NoMemory);
+    }
     Ok(datum)
 }
 
@@ -264,7 +270,7 @@ pub fn derive(
         Derivation::Plain => Ok(Step::Plain),
         Derivation::Unfit => Err(bad_shape(datum.place)),
         Derivation::Becomes(right) => {
-            let derived = taken_step(alloc, datum.place, &right, names, fresh)?;
+            let derived = taken_step(alloc, datum.place, right, names, fresh)?;
             Ok(Step::Derived(derived))
         }
     }

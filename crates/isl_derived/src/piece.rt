@@ -171,8 +171,15 @@ pub(crate) fn form_front<'a>(
     requires { length name.now ≤ 263 }
     ensures { IfOk result (λ piece. piece ≡ form name.now (first.entry ∷ rest.entry)) }
 {
-    let mut list = one(alloc, word(name))?;
-    list.push(first)?;
+    let Ok(mut list) = one(alloc, word(name)) else {
+        drop(first);
+        drop(rest);
+        return Err(NoMemory);
+    };
+    if list.push(first).is_err() {
+        drop(rest);
+        return Err(NoMemory);
+    }
     list.append_list(rest)?;
     Ok(parens(list))
 }
@@ -187,7 +194,11 @@ pub(crate) fn form_two<'a>(
     requires { length name.now ≤ 263 }
     ensures { IfOk result (λ piece. piece ≡ form name.now (first.entry ∷ second.entry ∷ [])) }
 {
-    form_front(alloc, name, first, one(alloc, second)?)
+    let Ok(rest) = one(alloc, second) else {
+        drop(first);
+        return Err(NoMemory);
+    };
+    form_front(alloc, name, first, rest)
 }
 
 /// Parts of the form, in their order.

@@ -154,8 +154,14 @@ fn template_list<'a>(
     if let Some(second) = only_of(rest, &behind) {
         return template_pair(alloc, names, level, first, second);
     }
-    let first = part(alloc, names, level, first)?;
-    let rest = parts(alloc, names, level, rest, behind)?;
+    let Ok(first) = part(alloc, names, level, first) else {
+        drop(behind);
+        return Err(NoMemory);
+    };
+    let Ok(rest) = parts(alloc, names, level, rest, behind) else {
+        drop(first);
+        return Err(NoMemory);
+    };
     form_front(alloc, b"%append", first, rest)
 }
 
@@ -179,7 +185,10 @@ fn template_pair<'a>(
         return kept_prefix(alloc, b"quasiquote", inner);
     }
     let first = part(alloc, names, level, first)?;
-    let second = part(alloc, names, level, second)?;
+    let Ok(second) = part(alloc, names, level, second) else {
+        drop(first);
+        return Err(NoMemory);
+    };
     form_two(alloc, b"%append", first, second)
 }
 

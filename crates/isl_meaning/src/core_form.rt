@@ -196,7 +196,10 @@ impl Core {
     {
         match Box::new(alloc, inner) {
             Ok(inner) => Ok(Core::new(CoreForm::Sited(id, inner))),
-            Err(_) => Err(NoMemory),
+            Err(refused) => {
+                drop(refused);
+                Err(NoMemory)
+            }
         }
     }
 }

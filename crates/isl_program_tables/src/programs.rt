@@ -10,6 +10,7 @@ mod rows;
 use crate::inputs::command;
 use built_in::no_rows;
 use isl_base::{Datum, Names};
+use isl_meaning::ProgramRows;
 use isl_rows::Answer;
 use questions::ask;
 use rows::take;
@@ -17,14 +18,22 @@ use rows::take;
 /// Rows of a program behind those of the built-in classes, and questions, in order.
 pub fn put(got: &mut Answer, names: &mut Names, data: &[Datum]) -> Option<()> {
     let mut rows = no_rows(got, names)?;
+    let answered = put_all(got, names, &mut rows, data);
+    drop(rows);
+    answered
+}
+
+fn put_all(got: &mut Answer, names: &Names, rows: &mut ProgramRows, data: &[Datum]) -> Option<()> {
     for datum in data {
-        let (head, parts) = command(names, datum)?;
-        match head {
-            "whole" | "nodes" | "frame" | "depth" | "arity" => {
-                ask(got, names, &rows, head, parts)?;
-            }
-            _ => take(got, names, &mut rows, head, parts)?,
-        }
+        put_one(got, names, rows, datum)?;
     }
     Some(())
+}
+
+fn put_one(got: &mut Answer, names: &Names, rows: &mut ProgramRows, datum: &Datum) -> Option<()> {
+    let (head, parts) = command(names, datum)?;
+    match head {
+        "whole" | "nodes" | "frame" | "depth" | "arity" => ask(got, names, rows, head, parts),
+        _ => take(got, names, rows, head, parts),
+    }
 }

@@ -56,7 +56,11 @@ impl Chain {
         let mut chain = self;
         match chain.links.push(Link { place, items }) {
             Ok(()) => Ok(chain),
-            Err(_) => Err(NoMemory),
+            Err(refused) => {
+                drop(refused);
+                drop(chain);
+                Err(NoMemory)
+            }
         }
     }
 
@@ -68,7 +72,10 @@ impl Chain {
         let Some(Link { place, items }) = links.pop() else {
             return Ok(last);
         };
-        let items = all_in_front(links, items)?;
+        let Ok(items) = all_in_front(links, items) else {
+            drop(last);
+            return Err(NoMemory);
+        };
         joined_list(alloc, place, items, last)
     }
 }
@@ -98,7 +105,10 @@ fn with_tail(alloc: Global, place: Place, items: DatumList, tail: Datum) -> Resu
                 tail: Some(tail),
             },
         )),
-        Err(_) => Err(NoMemory),
+        Err(refused) => {
+            drop(refused);
+            Err(NoMemory)
+        }
     }
 }
 

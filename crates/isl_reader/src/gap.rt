@@ -9,7 +9,7 @@ use crate::characters::is_blank;
 
 /// Where a text of blanks and comments stands: between two things, in a line comment, in a block
 /// comment with so many around it, or before the second byte of a mark that opens or closes one.
-#[derive(Clone, Copy, Debug, PartialEq, Eq)]
+#[derive(Clone, Copy)]
 pub(crate) enum Mode {
     Between,
     InLine,
@@ -19,7 +19,7 @@ pub(crate) enum Mode {
 }
 
 /// How many bytes a gap has, or where the outermost comment opens that the text does not close.
-#[derive(Clone, Copy, Debug, PartialEq, Eq)]
+#[derive(Clone, Copy)]
 pub(crate) enum Skipped {
     Ends(usize),
     OpenFrom(usize),

@@ -12,7 +12,7 @@ use isl_base::Reason;
 
 /// A lexeme. An integer and a character are told with it; a symbol and a string are spelled by the
 /// bytes that it takes.
-#[derive(Clone, Copy, Debug, PartialEq, Eq)]
+#[derive(Clone, Copy)]
 pub(crate) enum Lexeme {
     Close,
     Dot,
@@ -28,7 +28,7 @@ pub(crate) enum Lexeme {
 }
 
 /// A lexeme of so many bytes, or a fault so many bytes behind.
-#[derive(Clone, Copy, Debug, PartialEq, Eq)]
+#[derive(Clone, Copy)]
 pub(crate) enum Lexed {
     Taken(usize, Lexeme),
     Fault(usize, Reason),

@@ -2,7 +2,7 @@
 
 /// A prefix: it stands before a datum and makes the list of a symbol and that datum
 /// (ISO/IEC 13816:2007, 6).
-#[derive(Clone, Copy, Debug, PartialEq, Eq)]
+#[derive(Clone, Copy)]
 pub enum Prefix {
     Quote,
     Quasiquote,
@@ -12,7 +12,7 @@ pub enum Prefix {
 }
 
 /// An opening: `(`, `#(` or a prefix.
-#[derive(Clone, Copy, Debug, PartialEq, Eq)]
+#[derive(Clone, Copy)]
 pub enum Opening {
     List,
     Vector,

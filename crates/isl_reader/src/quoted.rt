@@ -15,7 +15,7 @@ pub(crate) const LONGEST_NAME: usize = 256;
 
 /// How the bytes behind a quote go on: the other quote stands behind so many, or there is none, or
 /// a byte that may not stand there stands behind so many.
-#[derive(Clone, Copy, Debug, PartialEq, Eq)]
+#[derive(Clone, Copy)]
 pub(crate) enum Quoted {
     Closed(usize),
     Unclosed,

@@ -36,7 +36,10 @@ fn push(pending: &mut Vec<Pending>, datum: Pending) -> Result<(), NoMemory>
 {
     match pending.push(datum) {
         Ok(()) => Ok(()),
-        Err(_) => Err(NoMemory),
+        Err(refused) => {
+            drop(refused);
+            Err(NoMemory)
+        }
     }
 }
 
@@ -81,6 +84,7 @@ pub(crate) fn put_datum(
                 return Ok(None);
             }
             Pending::AtTail(place, items, dot, tail) => {
+                drop(datum);
                 push(pending, Pending::AtTail(place, items, dot, tail))?;
                 return Ok(None);
             }

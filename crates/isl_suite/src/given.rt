@@ -45,15 +45,51 @@ impl Given {
             out_fails,
             err_fails,
         } = self;
-        let name = Bytes::from_slice(alloc, NAME.as_bytes())?;
+        let Ok(outputs) = outputs(alloc, out_fails, err_fails) else {
+            drop((words, input));
+            drop((text, shelf_fails));
+            return Err(NoMemory);
+        };
+        let Ok(shelf) = shelf_of(alloc, text, shelf_fails) else {
+            drop((words, input));
+            drop(outputs);
+            return Err(NoMemory);
+        };
+        let (out, err) = outputs;
         Ok(Call {
             words,
-            shelf: MemShelf::new(name, text, shelf_fails),
+            shelf,
             input: MemSource::new(input, CallList::new(alloc)),
-            out: MemSink::new(alloc, ROOM, out_fails)?,
-            err: MemSink::new(alloc, ROOM, err_fails)?,
+            out,
+            err,
         })
     }
+}
+
+// The output and the error output.
+fn outputs(
+    alloc: Global,
+    out_fails: CallList,
+    err_fails: CallList,
+) -> Result<(MemSink, MemSink), NoMemory> {
+    let Ok(out) = MemSink::new(alloc, ROOM, out_fails) else {
+        drop(err_fails);
+        return Err(NoMemory);
+    };
+    let Ok(err) = MemSink::new(alloc, ROOM, err_fails) else {
+        drop(out);
+        return Err(NoMemory);
+    };
+    Ok((out, err))
+}
+
+// The shelf with the file of that text.
+fn shelf_of(alloc: Global, text: Bytes, fails: CallList) -> Result<MemShelf, NoMemory> {
+    let Ok(name) = Bytes::from_slice(alloc, NAME.as_bytes()) else {
+        drop((text, fails));
+        return Err(NoMemory);
+    };
+    Ok(MemShelf::new(name, text, fails))
 }
 
 /// The words of a call, and its outside.

@@ -18,7 +18,9 @@ pub fn put(got: &mut Answer, names: &Names, data: &[Datum]) -> Option<()> {
             " not in form "
         });
         let copy = got.kept(datum.copy(got.alloc))?;
-        show(got, names, &copy, Style::Placed, DEPTH)?;
+        let shown = show(got, names, &copy, Style::Placed, DEPTH);
+        drop(copy);
+        shown?;
     }
     Some(())
 }

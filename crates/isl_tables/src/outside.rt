@@ -19,18 +19,53 @@ pub fn put(got: &mut Answer, line: &str) -> Option<()> {
     if kind == "sink" || kind == "sure-sink" {
         return put_sink(got, kind, fails, held.parse().ok()?, calls);
     }
-    let held = bytes(got, held)?;
-    let fails = call_list(got, fails)?;
     match kind {
-        "source" => reads(got, &mut MemSource::new(held, fails), calls),
-        "sure-source" => reads(got, &mut SureSource::new(held), calls),
-        "shelf" => {
-            let name = bytes(got, "f")?;
-            reads_at(got, &mut MemShelf::new(name, held, fails), calls)
+        "source" => put_source(got, fails, held, calls),
+        "sure-source" => {
+            let mut source = SureSource::new(bytes(got, held)?);
+            let answered = reads(got, &mut source, calls);
+            drop(source);
+            answered
         }
-        "sure-shelf" => reads_at(got, &mut SureShelf::new(held), calls),
+        "shelf" => put_shelf(got, fails, held, calls),
+        "sure-shelf" => {
+            let mut shelf = SureShelf::new(bytes(got, held)?);
+            let answered = reads_at(got, &mut shelf, calls);
+            drop(shelf);
+            answered
+        }
         _ => None,
     }
+}
+
+fn put_source(got: &mut Answer, fails: &str, held: &str, calls: &str) -> Option<()> {
+    let held = bytes(got, held)?;
+    let Some(fails) = call_list(got, fails) else {
+        drop(held);
+        return None;
+    };
+    let mut source = MemSource::new(held, fails);
+    let answered = reads(got, &mut source, calls);
+    drop(source);
+    answered
+}
+
+// A shelf with one file, whose name is `f`.
+fn put_shelf(got: &mut Answer, fails: &str, held: &str, calls: &str) -> Option<()> {
+    let name = bytes(got, "f")?;
+    let Some(held) = bytes(got, held) else {
+        drop(name);
+        return None;
+    };
+    let Some(fails) = call_list(got, fails) else {
+        drop(name);
+        drop(held);
+        return None;
+    };
+    let mut shelf = MemShelf::new(name, held, fails);
+    let answered = reads_at(got, &mut shelf, calls);
+    drop(shelf);
+    answered
 }
 
 // A sink with room for so many bytes.
@@ -40,10 +75,12 @@ fn put_sink(got: &mut Answer, kind: &str, fails: &str, room: usize, calls: &str)
         let mut sink = got.kept(MemSink::new(got.alloc, room, fails))?;
         writes(got, &mut sink, calls);
         got.put_bytes(sink.bytes());
+        drop(sink);
     } else {
         let mut sink = got.kept(SureSink::new(got.alloc, room))?;
         writes(got, &mut sink, calls);
         got.put_bytes(sink.bytes());
+        drop(sink);
     }
     Some(())
 }

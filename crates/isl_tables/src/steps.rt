@@ -32,7 +32,6 @@ pub fn put(got: &mut Answer, names: &mut Names, data: &[Datum], places: Places) 
 }
 
 /// Appends the step of a form, which may be written with new symbols.
-#[tactic(auto, using(isl_base::specs::DataFormed::formed_told))]
 pub fn put_step(
     got: &mut Answer,
     names: &mut Names,
@@ -41,11 +40,28 @@ pub fn put_step(
     style: Style,
 ) -> Option<()> {
     let form = freshened(got, names, form, DEPTH)?;
-    if !form.is_formed() || !is_below(&form, names.len(), DEPTH) {
+    let answered = put_step_of(got, names, fresh, &form, style);
+    drop(form);
+    answered
+}
+
+#[tactic(auto, using(isl_base::specs::DataFormed::formed_told))]
+fn put_step_of(
+    got: &mut Answer,
+    names: &mut Names,
+    fresh: &mut FreshList,
+    form: &Datum,
+    style: Style,
+) -> Option<()> {
+    if !form.is_formed() || !is_below(form, names.len(), DEPTH) {
         return None;
     }
-    match derive(got.alloc, &form, names, fresh) {
-        Ok(Step::Derived(derived)) => show(got, names, &derived, style, DEPTH),
+    match derive(got.alloc, form, names, fresh) {
+        Ok(Step::Derived(derived)) => {
+            let shown = show(got, names, &derived, style, DEPTH);
+            drop(derived);
+            shown
+        }
         Ok(Step::Plain) => {
             got.put("plain");
             Some(())

@@ -41,11 +41,7 @@ impl Table for Rows {
         match self {
             Rows::Lines(lines) => lines.put(got, str::from_utf8(input).ok()?),
             Rows::Texts(origin) => texts::put(got, *origin, input),
-            Rows::Data(data) => {
-                let mut names = Names::new(got.alloc);
-                let read = read_data(got, &mut names, input)?;
-                data.put(got, &mut names, read.as_slice())
-            }
+            Rows::Data(data) => data.put_text(got, input),
         }
     }
 }
@@ -62,6 +58,18 @@ impl Lines {
 }
 
 impl Data {
+    fn put_text(&self, got: &mut Answer, text: &[u8]) -> Option<()> {
+        let mut names = Names::new(got.alloc);
+        let answered = self.put_read(got, &mut names, text);
+        drop(names);
+        answered
+    }
+
+    fn put_read(&self, got: &mut Answer, names: &mut Names, text: &[u8]) -> Option<()> {
+        let read = read_data(got, names, text)?;
+        self.put(got, names, read.as_slice())
+    }
+
     fn put(&self, got: &mut Answer, names: &mut Names, data: &[Datum]) -> Option<()> {
         match self {
             Data::Data => data::put(got, names, data),

@@ -28,7 +28,9 @@ fn put_next(got: &mut Answer, names: &mut Names, reader: &mut Reader) -> Option<
     match reader.next(got.alloc, names) {
         Ok(Some(datum)) => {
             got.put(if is_last { "last? " } else { "" });
-            show(got, names, &datum, Style::Placed, DEPTH)?;
+            let shown = show(got, names, &datum, Style::Placed, DEPTH);
+            drop(datum);
+            shown?;
             got.put(" ");
             Some(false)
         }

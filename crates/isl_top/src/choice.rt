@@ -1,6 +1,6 @@
 // The form of `if`: two clauses.
 
-ghost use Rattle.std.specs.Prelude.{◌≡◌, Some, IfOk};
+ghost use Rattle.std.specs.Prelude.{◌≡◌, ◌++◌, ◌∷◌, [], Some, IfOk, OnOk};
 ghost use Rattle.isl_meaning.specs.Form.{sequence, no_form, form_and};
 ghost use Rattle.isl_top.specs.Shapes.{choice};
 
@@ -21,20 +21,34 @@ pub(crate) fn choice(
     ensures { IfOk result (λ f. f ≡ choice site truth test consequent alternative) }
 {
     let mut list = ClauseList::new(alloc);
-    list.push(clause(alloc, test, consequent)?)?;
-    list.push(clause(alloc, Core::literal(truth), alternative)?)?;
+    let Ok(()) = push_clause(alloc, &mut list, test, consequent) else {
+        drop(alternative);
+        return Err(NoMemory);
+    };
+    push_clause(alloc, &mut list, Core::literal(truth), alternative)?;
     Core::sited(alloc, site, Core::clauses(list))
 }
 
-// A clause of one form behind its test.
-fn clause(alloc: Global, test: Core, form: Core) -> Result<Clause, NoMemory>
-    ensures { IfOk result (λ c.
-        c ≡ record { test = test; body = Some (sequence (form_and form no_form)) }) }
+// Appends a clause of one form behind its test.
+fn push_clause(alloc: Global, list: &mut ClauseList, test: Core, form: Core) -> Result<(), NoMemory>
+    ensures { OnOk result (list.new ≡ list.old ++
+        record { test = test; body = Some (sequence (form_and form no_form)) } ∷ []) }
+{
+    let Ok(body) = sequence_of_one(alloc, form) else {
+        drop(test);
+        return Err(NoMemory);
+    };
+    list.push(Clause {
+        test,
+        body: Some(body),
+    })
+}
+
+// The form of one form in order.
+fn sequence_of_one(alloc: Global, form: Core) -> Result<Core, NoMemory>
+    ensures { IfOk result (λ f. f ≡ sequence (form_and form no_form)) }
 {
     let mut forms = CoreList::new(alloc);
     forms.push(form)?;
-    Ok(Clause {
-        test,
-        body: Some(Core::sequence(forms)),
-    })
+    Ok(Core::sequence(forms))
 }

@@ -1,6 +1,7 @@
 // The forms of tests: two operands that are compared.
 
-ghost use Rattle.std.specs.Prelude.{◌≡◌, ◌-◌, drop};
+ghost use Rattle.std.specs.Prelude.{◌≡◌, ◌-◌, drop, IfOk};
+ghost use Rattle.isl_meaning.specs.Form.{sited, prim, form_and, no_form};
 ghost use Rattle.isl_base.specs.Data.{items_of};
 ghost use Rattle.isl_top.specs.Finds.{Finds};
 ghost use Rattle.isl_top.specs.Shapes.{comparison_of, comparison_form, test_of};
@@ -9,7 +10,7 @@ use crate::heads::{Head, list_in};
 use crate::operands::operand_of;
 use crate::tables::Tables;
 use isl_base::{Datum, DatumList, Names, NoMemory, Place};
-use isl_meaning::{Core, CoreList, Primitive};
+use isl_meaning::{Core, CoreList, Primitive, SiteId};
 use std::alloc::Global;
 
 /// The form of a test, which is `(= Z Z)` or `(< Z Z)` with operands Z; none where it is neither.
@@ -72,11 +73,33 @@ fn comparison_of(
     let Some(first) = operand_of(alloc, names, first, tables)? else {
         return Ok(None);
     };
-    let Some(second) = operand_of(alloc, names, second, tables)? else {
+    let Ok(found) = operand_of(alloc, names, second, tables) else {
+        drop(first);
+        return Err(NoMemory);
+    };
+    let Some(second) = found else {
+        drop(first);
         return Ok(None);
     };
+    Ok(Some(operation(alloc, site, which, first, second)?))
+}
+
+// The form of a primitive of two forms, at that site.
+fn operation(
+    alloc: Global,
+    site: SiteId,
+    which: Primitive,
+    first: Core,
+    second: Core,
+) -> Result<Core, NoMemory>
+    ensures { IfOk result (λ f.
+        f ≡ sited site (prim which (form_and first (form_and second no_form)))) }
+{
     let mut operands = CoreList::new(alloc);
-    operands.push(first)?;
+    let Ok(()) = operands.push(first) else {
+        drop(second);
+        return Err(NoMemory);
+    };
     operands.push(second)?;
-    Ok(Some(Core::sited(alloc, site, Core::prim(which, operands))?))
+    Core::sited(alloc, site, Core::prim(which, operands))
 }

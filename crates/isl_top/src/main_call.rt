@@ -126,7 +126,11 @@ fn run_file<F: Shelf, S: Source, O: Sink>(
         Err(LoadStop::NoMemory) => return Answer::NoMemory,
     };
     match read_program(alloc, text.as_slice()) {
-        Ok(program) => run(alloc, &program, steps, input, out, kept),
+        Ok(program) => {
+            let answer = run(alloc, &program, steps, input, out, kept);
+            drop(program);
+            answer
+        }
         Err(Stop::Refused(refusal)) => Answer::Refused(refusal),
         Err(Stop::NoMemory) => Answer::NoMemory,
     }

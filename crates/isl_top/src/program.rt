@@ -65,12 +65,27 @@ fn add_form(
     ensures added { OnOk result (IsForm names.now datum tables.old tables.new main.old main.new) }
     ensures stopped { IfErr result (IsNoForm names.now datum tables.old) }
 {
-    let place = datum.place;
+    let added = add_form_of(alloc, names, &datum, tables, main);
+    drop(datum);
+    added
+}
+
+// The same of a datum that stays.
+fn add_form_of(
+    alloc: Global,
+    names: &Names,
+    datum: &Datum,
+    tables: &mut Tables,
+    main: &mut CoreList,
+) -> Result<(), Stop>
+    ensures added { OnOk result (IsForm names.now datum.now tables.old tables.new main.old main.new) }
+    ensures stopped { IfErr result (IsNoForm names.now datum.now tables.old) }
+{
     if datum.depth() > DEEPEST {
-        return Err(refused(place, Reason::NotBuilt));
+        return Err(refused(datum.place, Reason::NotBuilt));
     }
-    let Some(form) = form_of(alloc, names, &datum, tables)? else {
-        return Err(refused(place, Reason::NotBuilt));
+    let Some(form) = form_of(alloc, names, datum, tables)? else {
+        return Err(refused(datum.place, Reason::NotBuilt));
     };
     main.push(form)?;
     Ok(())

@@ -101,11 +101,27 @@ fn if_form(
     let Some(test) = test_of(alloc, names, test, tables)? else {
         return Ok(None);
     };
-    let Some(consequent) = form_of(alloc, names, consequent, tables)? else {
+    let Ok(found) = form_of(alloc, names, consequent, tables) else {
+        drop(test);
+        return Err(NoMemory);
+    };
+    let Some(consequent) = found else {
+        drop(test);
         return Ok(None);
     };
-    let truth = tables.add_truth(place)?;
-    let Some(alternative) = form_of(alloc, names, alternative, tables)? else {
+    let Ok(truth) = tables.add_truth(place) else {
+        drop(test);
+        drop(consequent);
+        return Err(NoMemory);
+    };
+    let Ok(found) = form_of(alloc, names, alternative, tables) else {
+        drop(test);
+        drop(consequent);
+        return Err(NoMemory);
+    };
+    let Some(alternative) = found else {
+        drop(test);
+        drop(consequent);
         return Ok(None);
     };
     let form = choice(alloc, site, truth, test, consequent, alternative)?;

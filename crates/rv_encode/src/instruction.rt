@@ -5,7 +5,7 @@ use crate::fields::{Bits4, Immediate12, Offset13, Offset21, Register, Shift5, Up
 /// An instruction of RV32IM under its mnemonic, with its fields. Each field is in range by its type.
 /// `offset` is the immediate of a jump, a branch, a load or a store; that of JAL and of a branch counts
 /// from the instruction's own address.
-#[derive(Clone, Copy, Debug)]
+#[derive(Clone, Copy)]
 pub enum Instr {
     Lui {
         rd: Register,

@@ -4,7 +4,7 @@ use crate::machine::Running;
 use isl_base::{Bytes, CallList, MemShelf, MemSink, MemSource, Words};
 use isl_rows::Answer;
 use isl_top::{Kept, isl_main};
-use rv_machine::Machine;
+use rv_machine::{Image, Machine};
 
 // The name of the file with the program.
 const NAME: &str = "f";
@@ -18,32 +18,86 @@ const ROOM: usize = 64;
 pub fn put(got: &mut Answer, line: &str) -> Option<()> {
     let (text, actions) = line.split_once(" : ")?;
     let mut kept = Kept::new();
-    build(got, text, &mut kept)?;
+    if build(got, text, &mut kept).is_none() {
+        drop(kept);
+        return None;
+    }
     let image = kept.image?;
+    let acted = run_image(got, &image, actions);
+    drop(image);
+    acted
+}
+
+// What is done with a machine that has the image loaded.
+fn run_image(got: &mut Answer, image: &Image, actions: &str) -> Option<()> {
     let mut machine = got.kept(Machine::new(got.alloc, image.words()))?;
-    machine.load(&image).ok()?;
+    if machine.load(image).is_err() {
+        drop(machine);
+        return None;
+    }
+    let Some(sink) = output(got) else {
+        drop(machine);
+        return None;
+    };
     let mut running = Running {
         machine,
         source: no_input(got),
-        sink: output(got)?,
+        sink,
     };
-    running.act_all(got, actions)
+    let acted = running.act_all(got, actions);
+    drop(running);
+    acted
 }
 
 // The main call with that text in its file.
 fn build(got: &mut Answer, text: &str, kept: &mut Kept) -> Option<()> {
-    let mut words = Words::new(got.alloc);
-    got.kept(words.push("run"))?;
-    got.kept(words.push(NAME))?;
-    let name = got.kept(Bytes::from_slice(got.alloc, NAME.as_bytes()))?;
+    let mut shelf = shelf_of(got, text)?;
+    let called = call(got, &mut shelf, kept);
+    drop(shelf);
+    called
+}
+
+// The shelf with the file of that text.
+fn shelf_of(got: &mut Answer, text: &str) -> Option<MemShelf> {
     let text = got.kept(Bytes::from_slice(got.alloc, text.as_bytes()))?;
-    let mut shelf = MemShelf::new(name, text, CallList::new(got.alloc));
-    let mut input = no_input(got);
+    let Some(name) = got.kept(Bytes::from_slice(got.alloc, NAME.as_bytes())) else {
+        drop(text);
+        return None;
+    };
+    Some(MemShelf::new(name, text, CallList::new(got.alloc)))
+}
+
+fn call(got: &mut Answer, shelf: &mut MemShelf, kept: &mut Kept) -> Option<()> {
+    let words = words_of(got)?;
+    let called = call_with(got, &words, shelf, kept);
+    drop(words);
+    called
+}
+
+// The words of the command.
+fn words_of(got: &mut Answer) -> Option<Words> {
+    let mut words = Words::new(got.alloc);
+    let is_named = got.kept(words.push("run")).is_some() && got.kept(words.push(NAME)).is_some();
+    if !is_named {
+        drop(words);
+        return None;
+    }
+    Some(words)
+}
+
+fn call_with(got: &mut Answer, words: &Words, shelf: &mut MemShelf, kept: &mut Kept) -> Option<()> {
     let mut out = output(got)?;
-    let mut err = output(got)?;
+    let Some(mut err) = output(got) else {
+        drop(out);
+        return None;
+    };
+    let mut input = no_input(got);
     let _ = isl_main(
-        got.alloc, &words, &mut shelf, &mut input, &mut out, &mut err, kept,
+        got.alloc, words, shelf, &mut input, &mut out, &mut err, kept,
     );
+    drop(input);
+    drop(out);
+    drop(err);
     Some(())
 }
 

@@ -3,6 +3,7 @@
 
 mod fields;
 mod images;
+mod instructions;
 mod machine;
 mod runs;
 mod tables;

@@ -1,5 +1,7 @@
 // Short programs of the machine, loaded, stepped through and run.
 
+ghost use Rattle.std.specs.Prelude.{◌≤◌};
+
 use crate::machine::Running;
 use isl_base::{Bytes, CallList, MemSink, MemSource, WordList};
 use isl_rows::Answer;
@@ -25,10 +27,14 @@ pub fn put(got: &mut Answer, line: &str) -> Option<()> {
         input_fails: CallList::new(got.alloc),
         output_fails: CallList::new(got.alloc),
     };
-    for word in given.split(' ') {
-        all.take(got, word)?;
+    if all.take_all(got, given).is_none() {
+        drop(all);
+        return None;
     }
-    all.loaded(got)?.act_all(got, actions)
+    let mut running = all.loaded(got)?;
+    let acted = running.act_all(got, actions);
+    drop(running);
+    acted
 }
 
 // What a machine is given.
@@ -42,6 +48,14 @@ struct Given {
 }
 
 impl Given {
+    // Takes all that the machine is given.
+    fn take_all(&mut self, got: &mut Answer, given: &str) -> Option<()> {
+        for word in given.split(' ') {
+            self.take(got, word)?;
+        }
+        Some(())
+    }
+
     // Takes one thing more.
     fn take(&mut self, got: &mut Answer, word: &str) -> Option<()> {
         match word.split_once('=') {
@@ -60,6 +74,11 @@ impl Given {
 
     // The machine with the program at address 0; that the image is too big is told.
     fn loaded(self, got: &mut Answer) -> Option<Running> {
+        let is_fit = self.words.len() != 0 && self.words.len() <= MOST_WORDS as usize;
+        if !is_fit || self.arena == 0 || self.arena > MOST_WORDS {
+            drop(self);
+            return None;
+        }
         let Given {
             words,
             arena,
@@ -67,18 +86,37 @@ impl Given {
             input_fails,
             output_fails,
         } = self;
-        let is_fit = words.len() != 0 && words.len() <= MOST_WORDS as usize;
-        if !is_fit || arena == 0 || arena > MOST_WORDS {
+        let image = Image { entry: 0, words };
+        let source = MemSource::new(input, input_fails);
+        let Some(sink) = got.kept(MemSink::new(got.alloc, ROOM, output_fails)) else {
+            drop(image);
+            drop(source);
             return None;
-        }
-        let mut machine = got.kept(Machine::new(got.alloc, arena))?;
-        if let Err(refusal) = machine.load(&Image { entry: 0, words }) {
-            got.put_debug(&refusal);
-        }
+        };
+        let Some(machine) = loaded_machine(got, arena, image) else {
+            drop(source);
+            drop(sink);
+            return None;
+        };
         Some(Running {
             machine,
-            source: MemSource::new(input, input_fails),
-            sink: got.kept(MemSink::new(got.alloc, ROOM, output_fails))?,
+            source,
+            sink,
         })
     }
+}
+
+fn loaded_machine(got: &mut Answer, arena: u32, image: Image) -> Option<Machine>
+    requires some { 1 ≤ arena }
+    requires bounded { arena ≤ 1000 }
+{
+    let Some(mut machine) = got.kept(Machine::new(got.alloc, arena)) else {
+        drop(image);
+        return None;
+    };
+    if let Err(refusal) = machine.load(&image) {
+        got.put_debug(&refusal);
+    }
+    drop(image);
+    Some(machine)
 }

@@ -1,5 +1,6 @@
 // Words of the machine and the instructions that they are, both ways.
 
+use crate::instructions::put_instruction;
 use isl_rows::Answer;
 use rv_encode::{decode, encode};
 
@@ -12,7 +13,7 @@ pub fn put(got: &mut Answer, line: &str) -> Option<()> {
         got.put("none");
         return Some(());
     };
-    got.put_debug(&instr);
+    put_instruction(got, &instr);
     let back = encode(instr);
     if back != word {
         got.put(" is ");

@@ -48,29 +48,29 @@ fn form_copy(alloc: Global, form: &CoreForm) -> Result<CoreForm, NoMemory>
         CoreForm::Call(name, list) => Ok(CoreForm::Call(*name, forms_copy(alloc, list)?)),
         CoreForm::CallValue(list) => Ok(CoreForm::CallValue(forms_copy(alloc, list)?)),
         CoreForm::Apply(first, second) => {
-            let first = boxed(alloc, first)?;
-            Ok(CoreForm::Apply(first, boxed(alloc, second)?))
+            let (first, second) = both(alloc, first, second)?;
+            Ok(CoreForm::Apply(first, second))
         }
         CoreForm::Prim(which, list) => Ok(CoreForm::Prim(*which, forms_copy(alloc, list)?)),
         CoreForm::While(test, body) => {
-            let test = boxed(alloc, test)?;
-            Ok(CoreForm::While(test, boxed(alloc, body)?))
+            let (test, body) = both(alloc, test, body)?;
+            Ok(CoreForm::While(test, body))
         }
         CoreForm::Block(exit, body) => Ok(CoreForm::Block(*exit, boxed(alloc, body)?)),
         CoreForm::Return(exit, value) => Ok(CoreForm::Return(*exit, boxed(alloc, value)?)),
         CoreForm::Tagbody(exit, list) => Ok(CoreForm::Tagbody(*exit, forms_copy(alloc, list)?)),
         CoreForm::Go(exit, segment) => Ok(CoreForm::Go(*exit, *segment)),
         CoreForm::Catch(tag, body) => {
-            let tag = boxed(alloc, tag)?;
-            Ok(CoreForm::Catch(tag, boxed(alloc, body)?))
+            let (tag, body) = both(alloc, tag, body)?;
+            Ok(CoreForm::Catch(tag, body))
         }
         CoreForm::Throw(tag, value) => {
-            let tag = boxed(alloc, tag)?;
-            Ok(CoreForm::Throw(tag, boxed(alloc, value)?))
+            let (tag, value) = both(alloc, tag, value)?;
+            Ok(CoreForm::Throw(tag, value))
         }
         CoreForm::Unwind(form, cleanup) => {
-            let form = boxed(alloc, form)?;
-            Ok(CoreForm::Unwind(form, boxed(alloc, cleanup)?))
+            let (form, cleanup) = both(alloc, form, cleanup)?;
+            Ok(CoreForm::Unwind(form, cleanup))
         }
         CoreForm::DynamicLet(list, body) => {
             let list = dynamics_copy(alloc, list)?;
@@ -80,16 +80,16 @@ fn form_copy(alloc: Global, form: &CoreForm) -> Result<CoreForm, NoMemory>
         CoreForm::SetDynamic(name, value) => Ok(CoreForm::SetDynamic(*name, boxed(alloc, value)?)),
         CoreForm::DefDynamic(name, value) => Ok(CoreForm::DefDynamic(*name, boxed(alloc, value)?)),
         CoreForm::WithHandler(handler, body) => {
-            let handler = boxed(alloc, handler)?;
-            Ok(CoreForm::WithHandler(handler, boxed(alloc, body)?))
+            let (handler, body) = both(alloc, handler, body)?;
+            Ok(CoreForm::WithHandler(handler, body))
         }
         CoreForm::Signal(condition, mark) => {
-            let condition = boxed(alloc, condition)?;
-            Ok(CoreForm::Signal(condition, boxed(alloc, mark)?))
+            let (condition, mark) = both(alloc, condition, mark)?;
+            Ok(CoreForm::Signal(condition, mark))
         }
         CoreForm::Continue(condition, value) => {
-            let condition = boxed(alloc, condition)?;
-            Ok(CoreForm::Continue(condition, boxed(alloc, value)?))
+            let (condition, value) = both(alloc, condition, value)?;
+            Ok(CoreForm::Continue(condition, value))
         }
         CoreForm::NextMethod => Ok(CoreForm::NextMethod),
         CoreForm::HasNext => Ok(CoreForm::HasNext),
@@ -103,8 +103,19 @@ fn boxed(alloc: Global, form: &Core) -> Result<Box<Core>, NoMemory>
 {
     match Box::new(alloc, form.copy(alloc)?) {
         Ok(copy) => Ok(copy),
-        Err(_) => Err(NoMemory),
+        Err(refused) => {
+            drop(refused);
+            Err(NoMemory)
+        }
     }
+}
+
+#[cycle(copy)]
+fn both(alloc: Global, first: &Core, second: &Core) -> Result<(Box<Core>, Box<Core>), NoMemory>
+    ensures { IfOk result (λ copies. (copies.0.value ≡ first.now) × (copies.1.value ≡ second.now)) }
+{
+    let first = boxed(alloc, first)?;
+    Ok((first, boxed(alloc, second)?))
 }
 
 #[cycle(copy)]
@@ -133,7 +144,10 @@ fn clauses_copy(alloc: Global, list: &ClauseList) -> Result<ClauseList, NoMemory
             unreachable!()
         };
         let test = clause.test.copy(alloc)?;
-        let body = body_copy(alloc, &clause.body)?;
+        let Ok(body) = body_copy(alloc, &clause.body) else {
+            drop(test);
+            return Err(NoMemory);
+        };
         copied.push(Clause { test, body })?;
     }
     Ok(copied)

@@ -13,23 +13,34 @@ use isl_rows::Answer;
 /// Puts a question.
 pub fn ask(got: &mut Answer, setting: &Setting, question: &str, parts: &[Datum]) -> Option<()> {
     match (question, parts) {
-        ("cells", []) => {
-            let cells = got.kept(setting.generics.cells(got.alloc, &setting.classes))?;
-            got.push(cells);
+        ("cells", []) => push_cells(got, setting),
+        ("below", [class, above]) => push_below(got, setting, class, above),
+        ("applies", [tuple, method]) => push_applies(got, setting, tuple, method),
+        ("tuples", lists) => push_tuples(got, lists),
+        ("find", [function]) => {
+            got.push_found(setting.generic(function));
+            Some(())
         }
-        ("below", [class, above]) => {
-            got.push_yes_no(is_below(&setting.classes, id(class)?, id(above)?));
-        }
-        ("applies", [tuple, method]) => {
-            let tuple = ids(got, items(tuple)?)?;
-            let method = ids(got, items(method)?)?;
-            got.push_yes_no(applies(&setting.classes, &tuple, &method));
-        }
-        ("tuples", lists) => push_tuples(got, lists)?,
-        ("find", [function]) => got.push_found(setting.generic(function)),
-        (_, [function, numbers @ ..]) => ask_generic(got, setting, question, function, numbers)?,
-        _ => return None,
+        (_, [function, numbers @ ..]) => ask_generic(got, setting, question, function, numbers),
+        _ => None,
     }
+}
+
+fn push_cells(got: &mut Answer, setting: &Setting) -> Option<()> {
+    let cells = got.kept(setting.generics.cells(got.alloc, &setting.classes))?;
+    got.push(cells);
+    Some(())
+}
+
+fn push_below(got: &mut Answer, setting: &Setting, class: &Datum, above: &Datum) -> Option<()> {
+    got.push_yes_no(is_below(&setting.classes, id(class)?, id(above)?));
+    Some(())
+}
+
+fn push_applies(got: &mut Answer, setting: &Setting, tuple: &Datum, method: &Datum) -> Option<()> {
+    let tuple = ids(got, items(tuple)?)?;
+    let method = ids(got, items(method)?)?;
+    got.push_yes_no(applies(&setting.classes, &tuple, &method));
     Some(())
 }
 

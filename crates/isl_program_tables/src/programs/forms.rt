@@ -18,8 +18,9 @@ pub fn form(got: &mut Answer, names: &Names, datum: &Datum, depth: u32) -> Optio
     let (head, parts) = command(names, datum)?;
     match (head, parts) {
         ("nest", [count, inner]) => {
+            let count = number(count)?;
             let inner = form(got, names, inner, depth - 1)?;
-            Some(nested(got, number(count)?, inner))
+            Some(nested(got, count, inner))
         }
         _ => Some(Core::new(kind(got, names, head, parts, depth - 1)?)),
     }
@@ -36,27 +37,61 @@ fn kind(
 ) -> Option<CoreForm> {
     match (head, parts) {
         ("clauses", all) => Some(CoreForm::Clauses(clauses(got, names, all, depth)?)),
-        ("let", [all, body]) => {
-            let all = bindings(got, names, items(all)?, depth)?;
-            Some(CoreForm::Let(all, boxed(got, names, body, depth)?))
-        }
-        ("dynamic-let", [all, body]) => {
-            let all = dynamic_bindings(got, names, items(all)?, depth)?;
-            Some(CoreForm::DynamicLet(all, boxed(got, names, body, depth)?))
-        }
+        ("let", [all, body]) => let_form(got, names, all, body, depth),
+        ("dynamic-let", [all, body]) => dynamic_let_form(got, names, all, body, depth),
         ("sequence" | "call-value" | "call" | "prim" | "tagbody", _) => {
             list(got, names, head, parts, depth)
         }
         ("lambda", [variables, rest, body, parts @ ..]) => {
-            let required = ids(got, items(variables)?)?;
-            let parts = captured(got, names, parts)?;
-            let body = boxed(got, names, body, depth)?;
-            Some(CoreForm::Lambda(required, rest_or_nil(rest)?, body, parts))
+            lambda_form(got, names, variables, rest, body, parts, depth)
         }
         ("go", [exit, segment]) => Some(CoreForm::Go(id(exit)?, number(segment)?)),
         (_, [first, second]) => two(got, names, head, first, second, depth),
         _ => leaf(head, parts),
     }
+}
+
+#[cycle(forms)]
+fn let_form(
+    got: &mut Answer,
+    names: &Names,
+    all: &Datum,
+    body: &Datum,
+    depth: u32,
+) -> Option<CoreForm> {
+    let body = boxed(got, names, body, depth)?;
+    let all = bindings(got, names, items(all)?, depth)?;
+    Some(CoreForm::Let(all, body))
+}
+
+#[cycle(forms)]
+fn dynamic_let_form(
+    got: &mut Answer,
+    names: &Names,
+    all: &Datum,
+    body: &Datum,
+    depth: u32,
+) -> Option<CoreForm> {
+    let body = boxed(got, names, body, depth)?;
+    let all = dynamic_bindings(got, names, items(all)?, depth)?;
+    Some(CoreForm::DynamicLet(all, body))
+}
+
+#[cycle(forms)]
+fn lambda_form(
+    got: &mut Answer,
+    names: &Names,
+    variables: &Datum,
+    rest: &Datum,
+    body: &Datum,
+    parts: &[Datum],
+    depth: u32,
+) -> Option<CoreForm> {
+    let rest = rest_or_nil(rest)?;
+    let body = boxed(got, names, body, depth)?;
+    let required = ids(got, items(variables)?)?;
+    let parts = captured(got, names, parts)?;
+    Some(CoreForm::Lambda(required, rest, body, parts))
 }
 
 // Forms in a row, behind what stands in front of them.
@@ -126,17 +161,32 @@ fn forms(got: &mut Answer, names: &Names, data: &[Datum], depth: u32) -> Option<
 fn clauses(got: &mut Answer, names: &Names, data: &[Datum], depth: u32) -> Option<ClauseList> {
     let mut list = ClauseList::new(got.alloc);
     for datum in data {
-        let (test, body) = match items(datum)? {
-            [test] => (form(got, names, test, depth)?, None),
-            [test, body] => {
-                let test = form(got, names, test, depth)?;
-                (test, Some(form(got, names, body, depth)?))
-            }
-            _ => return None,
-        };
-        got.add(&mut list, Clause { test, body });
+        let clause = clause(got, names, datum, depth)?;
+        got.add(&mut list, clause);
     }
     Some(list)
+}
+
+#[cycle(forms)]
+fn clause(got: &mut Answer, names: &Names, datum: &Datum, depth: u32) -> Option<Clause> {
+    match items(datum)? {
+        [test] => {
+            let test = form(got, names, test, depth)?;
+            Some(Clause { test, body: None })
+        }
+        [test, body] => {
+            let test = form(got, names, test, depth)?;
+            let Some(body) = form(got, names, body, depth) else {
+                drop(test);
+                return None;
+            };
+            Some(Clause {
+                test,
+                body: Some(body),
+            })
+        }
+        _ => None,
+    }
 }
 
 // `(VARIABLE VALUE)` each.

@@ -4,10 +4,10 @@ use crate::inputs::{command, id, ids, items, name, number, word};
 use crate::method::method;
 use crate::programs::forms::form;
 use crate::slots::slot_rows;
-use isl_base::{Datum, Kind, Names, Place};
+use isl_base::{Datum, ItemList, Kind, Name, Names, Place};
 use isl_meaning::{
     Callee, ClassRow, CoreList, FunctionRow, GenericRow, LiteralRow, MethodRows, Procedure,
-    ProgramRows,
+    ProgramRows, Var,
 };
 use isl_rows::Answer;
 use std::str;
@@ -52,31 +52,33 @@ fn take_row(
 ) -> Option<()> {
     match kind {
         "literals" => {
-            let row = literal(got, names, part)?;
-            got.add(&mut rows.literals, row);
+            let row = literal(got, names, part);
+            add_found(got, &mut rows.literals, row)
         }
         "procedures" => {
-            let row = procedure(got, names, items(part)?)?;
-            got.add(&mut rows.procedures, row);
+            let row = procedure(got, names, part);
+            add_found(got, &mut rows.procedures, row)
         }
         "classes" => {
-            let row = class(got, names, items(part)?)?;
-            got.add(&mut rows.classes, row);
+            let row = class(got, names, part);
+            add_found(got, &mut rows.classes, row)
         }
         "generics" => {
-            let row = generic(got, names, items(part)?)?;
-            got.add(&mut rows.generics, row);
+            let row = generic(got, names, part);
+            add_found(got, &mut rows.generics, row)
         }
-        "functions" => {
-            let row = function(names, items(part)?)?;
-            got.add(&mut rows.functions, row);
-        }
+        "functions" => add_found(got, &mut rows.functions, function(names, part)),
         "main" => {
-            let row = form(got, names, part, DEPTH)?;
-            got.add(&mut rows.main, row);
+            let row = form(got, names, part, DEPTH);
+            add_found(got, &mut rows.main, row)
         }
-        _ => return None,
+        _ => None,
     }
+}
+
+// Appends a row, where there is one.
+fn add_found<T: Drop>(got: &mut Answer, list: &mut ItemList<T>, found: Option<T>) -> Option<()> {
+    got.add(list, found?);
     Some(())
 }
 
@@ -84,8 +86,8 @@ fn take_row(
 fn copy_main(got: &mut Answer, rows: &mut ProgramRows) -> Option<()> {
     let mut copies = CoreList::new(got.alloc);
     for form in rows.main.as_slice() {
-        let copy = got.kept(form.copy(got.alloc))?;
-        got.add(&mut copies, copy);
+        let copy = got.kept(form.copy(got.alloc));
+        add_found(got, &mut copies, copy)?;
     }
     rows.main = copies;
     Some(())
@@ -123,31 +125,45 @@ fn wide_integer(datum: &Datum) -> Option<Datum> {
 }
 
 // A name or nil, variables, and a body: `(f (0 1 :rest 2) BODY)`.
-fn procedure(got: &mut Answer, names: &Names, parts: &[Datum]) -> Option<Procedure> {
-    let [own, variables, body] = parts else {
+fn procedure(got: &mut Answer, names: &Names, datum: &Datum) -> Option<Procedure> {
+    let [own, variables, body] = items(datum)? else {
         return None;
     };
-    let name = match &own.kind {
-        Kind::Nil => None,
-        _ => Some(name(own)?),
-    };
-    let (required, rest) = match items(variables)? {
-        [required @ .., key, rest] if word(names, key) == Some(":rest") => {
-            (required, Some(id(rest)?))
-        }
-        required => (required, None),
+    let name = name_or_nil(own)?;
+    let (required, rest) = variables_of(names, items(variables)?)?;
+    let body = form(got, names, body, DEPTH)?;
+    let Some(required) = ids(got, required) else {
+        drop(body);
+        return None;
     };
     Some(Procedure {
         name,
-        required: ids(got, required)?,
+        required,
         rest,
-        body: form(got, names, body, DEPTH)?,
+        body,
     })
 }
 
+fn name_or_nil(datum: &Datum) -> Option<Option<Name>> {
+    match &datum.kind {
+        Kind::Nil => Some(None),
+        _ => Some(Some(name(datum)?)),
+    }
+}
+
+// The required variables, and that of the rest.
+fn variables_of<'a>(names: &Names, variables: &'a [Datum]) -> Option<(&'a [Datum], Option<Var>)> {
+    match variables {
+        [required @ .., key, rest] if word(names, key) == Some(":rest") => {
+            Some((required, Some(id(rest)?)))
+        }
+        required => Some((required, None)),
+    }
+}
+
 // A name, a precedence list, slots, and `abstract` for an abstract class.
-fn class(got: &mut Answer, names: &Names, parts: &[Datum]) -> Option<ClassRow> {
-    let (own, line, slots, abstract_class) = match parts {
+fn class(got: &mut Answer, names: &Names, datum: &Datum) -> Option<ClassRow> {
+    let (own, line, slots, abstract_class) = match items(datum)? {
         [own, line, slots] => (own, line, slots, false),
         [own, line, slots, kind] if word(names, kind) == Some("abstract") => {
             (own, line, slots, true)
@@ -163,8 +179,8 @@ fn class(got: &mut Answer, names: &Names, parts: &[Datum]) -> Option<ClassRow> {
 }
 
 // A name, the number of required arguments, `rest` where it takes more, and methods.
-fn generic(got: &mut Answer, names: &Names, parts: &[Datum]) -> Option<GenericRow> {
-    let [own, required, methods @ ..] = parts else {
+fn generic(got: &mut Answer, names: &Names, datum: &Datum) -> Option<GenericRow> {
+    let [own, required, methods @ ..] = items(datum)? else {
         return None;
     };
     let mut row = GenericRow {
@@ -186,8 +202,8 @@ fn generic(got: &mut Answer, names: &Names, parts: &[Datum]) -> Option<GenericRo
 }
 
 // A name, and `procedure` or `generic` with its number.
-fn function(names: &Names, parts: &[Datum]) -> Option<FunctionRow> {
-    let [own, kind, callee] = parts else {
+fn function(names: &Names, datum: &Datum) -> Option<FunctionRow> {
+    let [own, kind, callee] = items(datum)? else {
         return None;
     };
     let callee = id(callee)?;

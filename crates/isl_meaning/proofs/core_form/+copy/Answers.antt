@@ -28,8 +28,8 @@ copies::forms_copy-loop-at-preserved t c =
 pub copies::clauses_copy-loop-at-preserved : goal.copies::clauses_copy-loop-at-preserved
 copies::clauses_copy-loop-at-preserved t c =
     c.in_ok-push.ensures.ok
-    ∙ ap (λ f. c.loop-at.copied ++ a_clause f c.in_ok-body.body ∷ []) c.in_ok-test.ensures
-    ∙ ap (λ b. c.loop-at.copied ++ a_clause c.in-Some.clause.now.test b ∷ []) c.in_ok-body.ensures
+    ∙ ap (λ f. c.loop-at.copied ++ a_clause f c.in-Ok.body ∷ []) c.in_ok-test.ensures
+    ∙ ap (λ b. c.loop-at.copied ++ a_clause c.in-Some.clause.now.test b ∷ []) c.in-Ok.ensures
     ∙ ap (λ cs. cs ++ c.in-Some.clause.now ∷ []) c.loop-at.invariant
     ∙ sym (take_at c.args.list.now c.loop-at.at c.in-Some.clause.now c.in-Some.ensures)
 

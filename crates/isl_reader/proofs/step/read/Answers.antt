@@ -54,3 +54,12 @@ returns-in-Err-clause-found c =
     c.step.new.pending.items
     (c.loop-behind.invariant.to new (later-then c.loop-behind.names new new c.in-Err.ensures.names same))
     refl (c.in-Err.ensures.leads new same)
+
+pub returns-in-Ok-Whole-clause-names : goal.returns-in-Ok-Whole-clause-names
+returns-in-Ok-Whole-clause-names c = later-then c.args.names.now c.loop-behind.names c.step.new.names c.loop-behind.invariant.later c.in-Ok-Whole.ensures.names
+
+pub returns-in-Ok-Ends-clause-names : goal.returns-in-Ok-Ends-clause-names
+returns-in-Ok-Ends-clause-names c = later-then c.args.names.now c.loop-behind.names c.step.new.names c.loop-behind.invariant.later c.in-Ok-Ends.ensures.names
+
+pub returns-in-Err-clause-names : goal.returns-in-Err-clause-names
+returns-in-Err-clause-names c = later-then c.args.names.now c.loop-behind.names c.step.new.names c.loop-behind.invariant.later c.in-Err.ensures.names

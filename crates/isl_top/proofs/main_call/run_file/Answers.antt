@@ -5,12 +5,12 @@ use Rattle.isl_top.specs.Answers.{IsOfRun}
 use Rattle.isl_top.proofs.Judging.{accepted-small}
 use Rattle.isl_top.proofs.main_call.run_file.Goals as goal
 
-pub run-requires-clause-small : goal.run-requires-clause-small
-run-requires-clause-small g c = accepted-small c.as_slice.result.now c.in-Ok-read_program.program c.in-Ok-read_program.ensures.program
+pub run-answer-requires-clause-small : goal.run-answer-requires-clause-small
+run-answer-requires-clause-small g c = accepted-small c.as_slice.result.now c.in-Ok-read_program.program c.in-Ok-read_program.ensures.program
 
 pub returns-in-Ok-read_program-clause-refused : goal.returns-in-Ok-read_program-clause-refused
 returns-in-Ok-read_program-clause-refused g c =
-    λ refusal e. absurd (subst IsOfRun e c.run.ensures.only)
+    λ refusal e. absurd (subst IsOfRun e c.run-answer.ensures.only)
 
 pub returns-in-Err-Refused-clause-refused : goal.returns-in-Err-Refused-clause-refused
 returns-in-Err-Refused-clause-refused g c =

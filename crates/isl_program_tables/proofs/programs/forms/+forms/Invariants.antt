@@ -12,7 +12,19 @@ abbrev pub decreases-forms : goal.decreases-forms
 decreases-forms l = 4 * l.depth + 1
 
 abbrev pub decreases-clauses : goal.decreases-clauses
-decreases-clauses l = 4 * l.depth + 1
+decreases-clauses l = 4 * l.depth + 2
+
+abbrev pub decreases-clause : goal.decreases-clause
+decreases-clause l = 4 * l.depth + 1
+
+abbrev pub decreases-let_form : goal.decreases-let_form
+decreases-let_form l = 4 * l.depth + 2
+
+abbrev pub decreases-dynamic_let_form : goal.decreases-dynamic_let_form
+decreases-dynamic_let_form l = 4 * l.depth + 2
+
+abbrev pub decreases-lambda_form : goal.decreases-lambda_form
+decreases-lambda_form l = 4 * l.depth + 2
 
 abbrev pub decreases-bindings : goal.decreases-bindings
 decreases-bindings l = 4 * l.depth + 1

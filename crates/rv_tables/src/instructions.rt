@@ -1,0 +1,196 @@
+// Instructions as a derived `Debug` would write them. It would be proved in `rv_encode`, which no program of the product needs, and
+// is by far the longest function there.
+
+use isl_rows::Answer;
+use rv_encode::{Bits4, Immediate12, Instr, Offset13, Offset21, Register, Shift5, Upper20};
+use std::fmt::Debug;
+
+/// Appends an instruction: its name, and its fields by their names.
+pub fn put_instruction(got: &mut Answer, instruction: &Instr) {
+    got.put(name_of(instruction));
+    match *instruction {
+        Instr::Lui { rd, immediate } | Instr::Auipc { rd, immediate } => put_upper(
+            got, rd, immediate,
+        ),
+        Instr::Jal { rd, offset } => put_jump(got, rd, offset),
+        Instr::Jalr { rd, rs1, offset }
+        | Instr::Lb { rd, rs1, offset }
+        | Instr::Lh { rd, rs1, offset }
+        | Instr::Lw { rd, rs1, offset }
+        | Instr::Lbu { rd, rs1, offset }
+        | Instr::Lhu { rd, rs1, offset } => put_load(got, rd, rs1, offset),
+        Instr::Beq { rs1, rs2, offset }
+        | Instr::Bne { rs1, rs2, offset }
+        | Instr::Blt { rs1, rs2, offset }
+        | Instr::Bge { rs1, rs2, offset }
+        | Instr::Bltu { rs1, rs2, offset }
+        | Instr::Bgeu { rs1, rs2, offset } => put_branch(got, rs1, rs2, offset),
+        Instr::Sb { rs2, rs1, offset }
+        | Instr::Sh { rs2, rs1, offset }
+        | Instr::Sw { rs2, rs1, offset } => put_store(got, rs2, rs1, offset),
+        Instr::Addi { rd, rs1, immediate }
+        | Instr::Slti { rd, rs1, immediate }
+        | Instr::Sltiu { rd, rs1, immediate }
+        | Instr::Xori { rd, rs1, immediate }
+        | Instr::Ori { rd, rs1, immediate }
+        | Instr::Andi { rd, rs1, immediate } => put_immediate(got, rd, rs1, immediate),
+        Instr::Slli { rd, rs1, shift }
+        | Instr::Srli { rd, rs1, shift }
+        | Instr::Srai { rd, rs1, shift } => put_shift(got, rd, rs1, shift),
+        Instr::Add { rd, rs1, rs2 }
+        | Instr::Sub { rd, rs1, rs2 }
+        | Instr::Sll { rd, rs1, rs2 }
+        | Instr::Slt { rd, rs1, rs2 }
+        | Instr::Sltu { rd, rs1, rs2 }
+        | Instr::Xor { rd, rs1, rs2 }
+        | Instr::Srl { rd, rs1, rs2 }
+        | Instr::Sra { rd, rs1, rs2 }
+        | Instr::Or { rd, rs1, rs2 }
+        | Instr::And { rd, rs1, rs2 }
+        | Instr::Mul { rd, rs1, rs2 }
+        | Instr::Mulh { rd, rs1, rs2 }
+        | Instr::Mulhsu { rd, rs1, rs2 }
+        | Instr::Mulhu { rd, rs1, rs2 }
+        | Instr::Div { rd, rs1, rs2 }
+        | Instr::Divu { rd, rs1, rs2 }
+        | Instr::Rem { rd, rs1, rs2 }
+        | Instr::Remu { rd, rs1, rs2 } => put_operation(got, rd, rs1, rs2),
+        Instr::Fence {
+            rd,
+            rs1,
+            mode,
+            predecessor,
+            successor,
+        } => put_fence(got, rd, rs1, mode, predecessor, successor),
+        Instr::Ecall | Instr::Ebreak => {}
+    }
+}
+
+fn name_of(instruction: &Instr) -> &'static str {
+    match instruction {
+        Instr::Lui { .. } => "Lui",
+        Instr::Auipc { .. } => "Auipc",
+        Instr::Jal { .. } => "Jal",
+        Instr::Jalr { .. } => "Jalr",
+        Instr::Beq { .. } => "Beq",
+        Instr::Bne { .. } => "Bne",
+        Instr::Blt { .. } => "Blt",
+        Instr::Bge { .. } => "Bge",
+        Instr::Bltu { .. } => "Bltu",
+        Instr::Bgeu { .. } => "Bgeu",
+        Instr::Lb { .. } => "Lb",
+        Instr::Lh { .. } => "Lh",
+        Instr::Lw { .. } => "Lw",
+        Instr::Lbu { .. } => "Lbu",
+        Instr::Lhu { .. } => "Lhu",
+        Instr::Sb { .. } => "Sb",
+        Instr::Sh { .. } => "Sh",
+        Instr::Sw { .. } => "Sw",
+        Instr::Addi { .. } => "Addi",
+        Instr::Slti { .. } => "Slti",
+        Instr::Sltiu { .. } => "Sltiu",
+        Instr::Xori { .. } => "Xori",
+        Instr::Ori { .. } => "Ori",
+        Instr::Andi { .. } => "Andi",
+        Instr::Slli { .. } => "Slli",
+        Instr::Srli { .. } => "Srli",
+        Instr::Srai { .. } => "Srai",
+        Instr::Add { .. } => "Add",
+        Instr::Sub { .. } => "Sub",
+        Instr::Sll { .. } => "Sll",
+        Instr::Slt { .. } => "Slt",
+        Instr::Sltu { .. } => "Sltu",
+        Instr::Xor { .. } => "Xor",
+        Instr::Srl { .. } => "Srl",
+        Instr::Sra { .. } => "Sra",
+        Instr::Or { .. } => "Or",
+        Instr::And { .. } => "And",
+        Instr::Mul { .. } => "Mul",
+        Instr::Mulh { .. } => "Mulh",
+        Instr::Mulhsu { .. } => "Mulhsu",
+        Instr::Mulhu { .. } => "Mulhu",
+        Instr::Div { .. } => "Div",
+        Instr::Divu { .. } => "Divu",
+        Instr::Rem { .. } => "Rem",
+        Instr::Remu { .. } => "Remu",
+        Instr::Fence { .. } => "Fence",
+        Instr::Ecall => "Ecall",
+        Instr::Ebreak => "Ebreak",
+    }
+}
+
+fn put_upper(got: &mut Answer, rd: Register, immediate: Upper20) {
+    put_field(got, " { rd: ", &rd);
+    put_field(got, ", immediate: ", &immediate);
+    got.put(" }");
+}
+
+fn put_jump(got: &mut Answer, rd: Register, offset: Offset21) {
+    put_field(got, " { rd: ", &rd);
+    put_field(got, ", offset: ", &offset);
+    got.put(" }");
+}
+
+fn put_load(got: &mut Answer, rd: Register, rs1: Register, offset: Immediate12) {
+    put_field(got, " { rd: ", &rd);
+    put_field(got, ", rs1: ", &rs1);
+    put_field(got, ", offset: ", &offset);
+    got.put(" }");
+}
+
+fn put_branch(got: &mut Answer, rs1: Register, rs2: Register, offset: Offset13) {
+    put_field(got, " { rs1: ", &rs1);
+    put_field(got, ", rs2: ", &rs2);
+    put_field(got, ", offset: ", &offset);
+    got.put(" }");
+}
+
+fn put_store(got: &mut Answer, rs2: Register, rs1: Register, offset: Immediate12) {
+    put_field(got, " { rs2: ", &rs2);
+    put_field(got, ", rs1: ", &rs1);
+    put_field(got, ", offset: ", &offset);
+    got.put(" }");
+}
+
+fn put_immediate(got: &mut Answer, rd: Register, rs1: Register, immediate: Immediate12) {
+    put_field(got, " { rd: ", &rd);
+    put_field(got, ", rs1: ", &rs1);
+    put_field(got, ", immediate: ", &immediate);
+    got.put(" }");
+}
+
+fn put_shift(got: &mut Answer, rd: Register, rs1: Register, shift: Shift5) {
+    put_field(got, " { rd: ", &rd);
+    put_field(got, ", rs1: ", &rs1);
+    put_field(got, ", shift: ", &shift);
+    got.put(" }");
+}
+
+fn put_operation(got: &mut Answer, rd: Register, rs1: Register, rs2: Register) {
+    put_field(got, " { rd: ", &rd);
+    put_field(got, ", rs1: ", &rs1);
+    put_field(got, ", rs2: ", &rs2);
+    got.put(" }");
+}
+
+fn put_fence(
+    got: &mut Answer,
+    rd: Register,
+    rs1: Register,
+    mode: Bits4,
+    predecessor: Bits4,
+    successor: Bits4,
+) {
+    put_field(got, " { rd: ", &rd);
+    put_field(got, ", rs1: ", &rs1);
+    put_field(got, ", mode: ", &mode);
+    put_field(got, ", predecessor: ", &predecessor);
+    put_field(got, ", successor: ", &successor);
+    got.put(" }");
+}
+
+// A field, behind what stands before it.
+fn put_field<T: Debug>(got: &mut Answer, before: &str, field: &T) {
+    got.put(before);
+    got.put_debug(field);
+}
