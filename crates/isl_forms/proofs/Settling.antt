@@ -1,5 +1,5 @@
 -- Steps one after another: what the last datum comes to, the first does.
-use Rattle.std.proofs.Common.{◌≡◌, ℕ, ◌+◌, List, [], ◌∷◌, ◌++◌, Option, Some, None, length, refl, sym, ap, ◌∙◌, subst, arith}
+use Rattle.std.proofs.Common.{◌≡◌, ℕ, ◌+◌, List, [], ◌∷◌, ◌++◌, Option, Some, None, length, refl, sym, ap, ◌∙◌, subst}
 use Rattle.std.specs.Prelude.{if◌then◌else◌, codes}
 use Rattle.isl_base.specs.declared.datum.Symbol.{Symbol}
 use Rattle.isl_base.specs.declared.reason.Reason.TheVariants.{BadShape}
@@ -7,7 +7,7 @@ use Rattle.isl_base.specs.declared.reason.Stop.{Stop}
 use Rattle.isl_base.specs.declared.reason.Stop.TheVariants.{Refused, NoMemory}
 use Rattle.isl_base.specs.Names.{Extends, Extends-same, Extends-then}
 use Rattle.isl_base.specs.Data.{Item, place_of}
-use Rattle.isl_base.specs.DataNames.{text_of, text_same}
+use Rattle.isl_base.specs.DataNames.{text_same}
 use Rattle.isl_base.specs.declared.reason.Refusal.{Refusal}
 use Rattle.isl_base.specs.DataMeasures.{Formed, NamesBelow}
 use Rattle.isl_base.specs.GoodData.{Good, good_stays}

@@ -6,8 +6,8 @@ pub mod here;
 pub mod plan;
 mod primitives;
 mod rows;
-pub mod steps;
 mod shapes;
+pub mod steps;
 
 pub use here::{Here, deeper};
 pub use plan::{Inner, Part, Parts, Plan, Work};

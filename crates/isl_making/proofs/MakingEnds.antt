@@ -1,16 +1,13 @@
 -- What counts once a core form is made that defines nothing.
-use Rattle.std.proofs.Common.{◌≡◌, ◌≤◌, ℕ, Bool, true, false, List, [], ◌∷◌, ◌++◌, Some, length, slice_set, Result, Ok, Err, OnOk, refl, ap, ◌∙◌, arith}
+use Rattle.std.proofs.Common.{◌≡◌, ℕ, Bool, List, Result, Ok, Err, OnOk, refl}
 use Rattle.isl_base.specs.declared.datum.Name.{Name}
 use Rattle.isl_meaning.specs.Form.{Form}
-use Rattle.isl_meaning.specs.declared.program.Procedure.{Procedure}
 use Rattle.isl_profile.specs.declared.tables.Tables.{Tables}
 use Rattle.isl_profile.specs.declared.making.Found.{Found}
 use Rattle.isl_profile.specs.declared.making.One.{One}
 use Rattle.isl_profile.specs.declared.making.Making.{Making}
 use Rattle.isl_profile.specs.declared.making.Making.TheVariants.{OfOne, OfFunctionNamed}
-use Rattle.isl_profile.specs.declared.making.One.TheVariants.{DefineGlobal, DefineDynamic}
-use Rattle.isl_profile.specs.Makings.{with_global, with_dynamic, prelude_with, with_function, procedure_found, finish_one, finish}
-use Rattle.isl_profile.specs.Marks.{StandsFirst, Grows}
+use Rattle.isl_profile.specs.Makings.{finish}
 
 pub whatever_comes : {T E : Type 0} (r : Result T E) (P : Type 0) → P → OnOk r P
 whatever_comes (Ok x) P p = p

@@ -14,11 +14,11 @@ mod sort;
 use finish::{define_function, finish_one, procedure_found};
 use isl_base::NoMemory;
 use isl_meaning::{Core, CoreForm, SiteId};
+use isl_profile::{FoundList, Made, Making, Tables};
 use lists::{make_clauses, make_dynamics, make_segments};
 use parts::{make_block, make_function, make_let};
 use simple::{call_of_local, make_one, make_two, make_with_body};
 use sort::sort_found;
-use isl_profile::{FoundList, Made, Making, Tables};
 use std::alloc::Global;
 
 // The core form, its site aside.

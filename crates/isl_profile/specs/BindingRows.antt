@@ -1,11 +1,9 @@
 -- The rows of forms that bind: variables, dynamic variables, functions and local functions (ISO/IEC 13816:2007, 12.7, 14.2 and
 -- 14.3). What stands in the place of a list of bindings is judged behind the form.
-use Rattle.std.specs.Prelude.{ℕ, ◌+◌, Bool, true, false, not, ◌&&◌, ◌||◌, List, [], ◌∷◌, ◌++◌, Option, Some, None, if◌then◌else◌, length, map, is_some}
-use Rattle.std.specs.List.{list_any}
+use Rattle.std.specs.Prelude.{ℕ, ◌+◌, Bool, true, false, List, [], ◌∷◌, ◌++◌, Option, Some, None, length, map, is_some}
 use Rattle.isl_base.specs.declared.place.Place.{Place}
 use Rattle.isl_base.specs.declared.datum.Name.{Name}
 use Rattle.isl_base.specs.declared.datum.Symbol.{Symbol}
-use Rattle.isl_base.specs.declared.datum.Symbol.TheVariants.{Named, Fresh}
 use Rattle.isl_base.specs.declared.reason.Reason.TheVariants.{ReservedName}
 use Rattle.isl_base.specs.Data.{Item}
 use Rattle.isl_profile.specs.declared.bound.Bound.{Bound}

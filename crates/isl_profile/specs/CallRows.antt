@@ -7,7 +7,6 @@ use Rattle.isl_base.specs.Data.{Item}
 use Rattle.isl_meaning.specs.declared.primitive.Primitive.{Primitive}
 use Rattle.isl_profile.specs.declared.tables.Tables.{Tables}
 use Rattle.isl_profile.specs.Primitives.{primitive_called}
-use Rattle.isl_profile.specs.declared.making.Two.{Two}
 use Rattle.isl_profile.specs.declared.making.Making.{Making}
 use Rattle.isl_profile.specs.declared.making.Two.TheVariants.{Signalling, Continuing}
 use Rattle.isl_profile.specs.declared.making.Making.TheVariants.{OfTwo, CallOf, CallOfValue, CallOfLocal, CallOfPrimitive}

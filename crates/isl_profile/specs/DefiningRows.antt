@@ -1,24 +1,20 @@
 -- The rows of forms that define, which stand at top level (ISO/IEC 13816:2007, 12.7, 12.8 and 14.3). A definition counts
 -- for what comes after it, and not for its own parts.
-use Rattle.std.specs.Prelude.{ℕ, ◌+◌, ◌==◌, Bool, true, false, not, ◌&&◌, ◌||◌, List, [], ◌∷◌, ◌++◌, Option, Some, None, if◌then◌else◌, length, is_some}
+use Rattle.std.specs.Prelude.{◌+◌, ◌==◌, Bool, true, false, not, ◌&&◌, ◌||◌, List, [], ◌∷◌, ◌++◌, Option, Some, None, if◌then◌else◌, length, is_some}
 use Rattle.std.specs.List.{list_any}
 use Rattle.isl_base.specs.declared.place.Place.{Place}
 use Rattle.isl_base.specs.declared.datum.Name.{Name}
 use Rattle.isl_base.specs.declared.datum.Symbol.{Symbol}
-use Rattle.isl_base.specs.declared.datum.Symbol.TheVariants.{Named}
 use Rattle.isl_base.specs.declared.reason.Reason.{Reason}
-use Rattle.isl_base.specs.declared.reason.Reason.TheVariants.{DuplicateName, NotTopLevel, ReservedName, ConstantSet, NotBuilt}
-use Rattle.isl_base.specs.Data.{Item, item, symbol}
-use Rattle.isl_meaning.specs.declared.program.FunctionRow.{FunctionRow}
+use Rattle.isl_base.specs.declared.reason.Reason.TheVariants.{DuplicateName, NotTopLevel, ReservedName, ConstantSet}
+use Rattle.isl_base.specs.Data.{Item}
 use Rattle.isl_meaning.specs.declared.program.LiteralRow.TheVariants as row
 use Rattle.isl_meaning.specs.Form.{Form, literal}
 use Rattle.isl_profile.specs.declared.tables.Tables.{Tables}
-use Rattle.isl_profile.specs.declared.tables.GlobalRow.{GlobalRow}
-use Rattle.isl_profile.specs.declared.making.One.{One}
 use Rattle.isl_profile.specs.declared.making.One.TheVariants.{DefineGlobal, DefineDynamic}
-use Rattle.isl_profile.specs.declared.making.Making.TheVariants.{OfOne, OfFunctionNamed}
+use Rattle.isl_profile.specs.declared.making.Making.TheVariants.{OfFunctionNamed}
 use Rattle.isl_profile.specs.declared.parameters.Parameters.{Parameters}
-use Rattle.isl_profile.specs.Nodes.{Around, form, Node, offends, whole, Part}
+use Rattle.isl_profile.specs.Nodes.{Around, Node, offends, whole, Part}
 use Rattle.isl_profile.specs.Makings.{nothing}
 use Rattle.isl_profile.specs.Shapes.{symbol_of, name_of, parameters_in, all_symbols}
 use Rattle.isl_profile.specs.RowWords.{alone, within_depth, with_literal, each_inner, each_parameter, bad_shape, bad_binding}

@@ -1,5 +1,5 @@
 -- The rows of exits: blocks and tags, which are lexical by name (ISO/IEC 13816:2007, 14.8.1).
-use Rattle.std.specs.Prelude.{ℕ, ◌+◌, Bool, true, false, List, [], ◌∷◌, ◌++◌, Option, Some, None, if◌then◌else◌}
+use Rattle.std.specs.Prelude.{ℕ, ◌+◌, List, [], ◌∷◌, Option, Some, None, if◌then◌else◌}
 use Rattle.isl_base.specs.declared.place.Place.{Place}
 use Rattle.isl_base.specs.declared.datum.Symbol.{Symbol}
 use Rattle.isl_base.specs.declared.reason.Reason.TheVariants.{UnknownBlock, UnknownTag}
@@ -9,7 +9,7 @@ use Rattle.isl_profile.specs.declared.bound.Bound.TheVariants.{Block, Tags}
 use Rattle.isl_profile.specs.declared.bound.Target.{Target}
 use Rattle.isl_profile.specs.declared.tables.Tables.{Tables}
 use Rattle.isl_profile.specs.Names.{block_of, tag_of}
-use Rattle.isl_profile.specs.declared.making.Making.TheVariants.{OfOne, OfBlock, OfSegments}
+use Rattle.isl_profile.specs.declared.making.Making.TheVariants.{OfBlock, OfSegments}
 use Rattle.isl_profile.specs.declared.making.One.TheVariants.{ReturnTo}
 use Rattle.isl_profile.specs.Nodes.{Around, Node, with_bound}
 use Rattle.isl_profile.specs.Shapes.{symbol_of, name_of, all_differ, tags_in, forms_in, lengths_in}

@@ -7,7 +7,6 @@ use Rattle.isl_base.specs.Data.{Item}
 use Rattle.isl_derived.specs.Derived.{Derives, new_symbols}
 use Rattle.isl_profile.specs.declared.tables.Tables.{Tables}
 use Rattle.isl_profile.specs.declared.making.Found.{Found}
-use Rattle.isl_profile.specs.declared.making.Making.{Making}
 use Rattle.isl_profile.specs.declared.making.Made.{Made}
 use Rattle.isl_profile.specs.declared.making.Making.TheVariants.{Ready}
 use Rattle.isl_profile.specs.Nodes.{Around, Part, form, below, inner, bind, parameter, Node, offends, steps, whole, Ending, refused, Standing, Verdict, stands, ended, behind, recorded}

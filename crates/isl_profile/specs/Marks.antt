@@ -1,5 +1,5 @@
 -- What judging adds to the tables stands behind what was there.
-use Rattle.std.specs.Prelude.{◌≡◌, ℕ, ◌≤◌, List, take, length}
+use Rattle.std.specs.Prelude.{◌≡◌, ◌≤◌, List, take, length}
 use Rattle.isl_profile.specs.declared.tables.Tables.{Tables}
 
 -- the first list stands in front of the second

@@ -6,7 +6,7 @@ use Rattle.isl_base.specs.declared.reason.Stop.TheVariants.{Refused, NoMemory}
 use Rattle.isl_base.specs.Names.{Extends}
 use Rattle.isl_base.specs.Data.{Item}
 use Rattle.isl_profile.specs.declared.tables.Tables.{Tables}
-use Rattle.isl_profile.specs.Nodes.{Around, Node, Ending, refused, Standing, Verdict, stands, ended}
+use Rattle.isl_profile.specs.Nodes.{Around, refused, Verdict, ended}
 use Rattle.isl_profile.specs.Rows.{node, plain_node}
 use Rattle.isl_profile.specs.Judged.{Comes}
 

@@ -8,7 +8,7 @@ use Rattle.isl_base.specs.declared.datum.Symbol.TheVariants.{Named, Fresh}
 use Rattle.isl_base.specs.declared.reason.Reason.{Reason}
 use Rattle.isl_base.specs.declared.reason.Reason.TheVariants.{NotAForm, LeftOut, NotBuilt, BadShape, UnknownClass}
 use Rattle.isl_base.specs.declared.reason.Refusal.{Refusal}
-use Rattle.isl_base.specs.Data.{Item, item, Content, integer, character, symbol, string, vector, nil, list, items_list, Tail, no_tail, dotted, place_of}
+use Rattle.isl_base.specs.Data.{Item, item, integer, character, symbol, string, vector, nil, list, items_list, Tail, no_tail, dotted, place_of}
 use Rattle.isl_base.specs.DataNames.{symbol_text, text_of}
 use Rattle.isl_meaning.specs.declared.program.LiteralRow.TheVariants as row
 use Rattle.isl_meaning.specs.Form.{next_method, has_next}

@@ -1,9 +1,6 @@
 -- Parts of a row: their data are in form with names in the table, and they stand deeper than the form, or in the body of a
 -- definition at top level, so judging ends.
-use Rattle.std.specs.Prelude.{◌≡◌, ℕ, ◌+◌, ◌-◌, ◌*◌, ◌<◌, Bool, true, false, List, [], ◌∷◌, if◌then◌else◌}
-use Rattle.isl_base.specs.declared.place.Place.{Place}
-use Rattle.isl_base.specs.declared.reason.Reason.{Reason}
-use Rattle.isl_base.specs.Data.{Item}
+use Rattle.std.specs.Prelude.{ℕ, ◌+◌, ◌-◌, ◌<◌, List, [], ◌∷◌, if◌then◌else◌}
 use Rattle.isl_base.specs.GoodData.{Good}
 use Rattle.isl_profile.specs.declared.spot.Spot.{Spot}
 use Rattle.isl_profile.specs.Nodes.{Around, Part, form, below, inner, bind, parameter, Node, offends, steps, whole}

@@ -1,13 +1,13 @@
 -- The rows of what has no part of its own, of variables, and of forms that evaluate all their parts where they stand
 -- (ISO/IEC 13816:2007, 12.2 to 12.4, 14.1, 14.2, 14.3 and 14.6).
-use Rattle.std.specs.Prelude.{ℕ, ◌+◌, ◌==◌, Bool, true, false, not, ◌&&◌, ◌||◌, List, [], ◌∷◌, ◌++◌, Option, Some, None, if◌then◌else◌, length, map, is_some}
+use Rattle.std.specs.Prelude.{ℕ, ◌+◌, ◌==◌, Bool, ◌&&◌, List, [], ◌∷◌, ◌++◌, Option, Some, None, if◌then◌else◌, length, map, is_some}
 use Rattle.std.specs.List.{list_any}
 use Rattle.isl_base.specs.declared.place.Place.{Place}
 use Rattle.isl_base.specs.declared.datum.Name.{Name}
 use Rattle.isl_base.specs.declared.datum.Symbol.{Symbol}
 use Rattle.isl_base.specs.declared.datum.Symbol.TheVariants.{Named, Fresh}
 use Rattle.isl_base.specs.declared.reason.Reason.TheVariants.{ConstantSet, UnknownClass}
-use Rattle.isl_base.specs.Data.{Item, item, Content, integer, character, symbol, string, vector, nil, list, place_of}
+use Rattle.isl_base.specs.Data.{Item, item, integer, character, symbol, string, vector, nil, list, place_of}
 use Rattle.isl_meaning.specs.declared.program.LiteralRow.TheVariants as row
 use Rattle.isl_meaning.specs.Form.{Form, local, global, dynamic}
 use Rattle.isl_classes.specs.InheritedClasses.{class_named}
@@ -19,8 +19,8 @@ use Rattle.isl_profile.specs.declared.making.One.{One}
 use Rattle.isl_profile.specs.declared.making.Two.{Two}
 use Rattle.isl_profile.specs.declared.making.WithBody.{WithBody}
 use Rattle.isl_profile.specs.declared.making.One.TheVariants.{SetVariable, SetGlobal, SetDynamic}
-use Rattle.isl_profile.specs.declared.making.Making.TheVariants.{OfOne, OfTwo, OfBody, InSequence, OfClauses, Ready}
-use Rattle.isl_profile.specs.Nodes.{Around, Node, offends, whole, form, Part}
+use Rattle.isl_profile.specs.declared.making.Making.TheVariants.{OfOne, OfTwo, OfBody, InSequence, OfClauses}
+use Rattle.isl_profile.specs.Nodes.{Around, Node, offends, form, Part}
 use Rattle.isl_profile.specs.Shapes.{symbol_of, name_of, is_true, ClauseParts, clauses_in}
 use Rattle.isl_profile.specs.RowWords.{deeper, deeper_at_top, within_depth, made_of, made_at_once, unsited, literal_node, each_below, each_inner, bad_shape}
 

@@ -8,7 +8,7 @@ use Rattle.isl_profile.specs.declared.making.Found.{Found}
 use Rattle.isl_profile.specs.declared.making.Made.{Made}
 use Rattle.isl_profile.specs.declared.tables.Tables.{Tables}
 use Rattle.isl_profile.specs.Nodes.{Around, Part, whole, Ending, refused, Standing, Verdict, stands, ended, behind, recorded}
-use Rattle.isl_profile.specs.Judged.{subject, Verdicts, all_stand, one_ended, in_front, Comes, Goes}
+use Rattle.isl_profile.specs.Judged.{subject, Verdicts, one_ended, in_front, Comes, Goes}
 
 -- a part comes to that form
 pub record PartStands (names : List (List ℕ)) (o i : Around) (s : Tables) (x : Part) (m : Standing) : Type 0 where

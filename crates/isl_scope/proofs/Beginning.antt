@@ -1,6 +1,6 @@
 -- The tables in front of all forms.
 use Rattle.std.proofs.Common.{◌≡◌, ℕ, List, Result, Ok, Err, OnOk, OnErr, refl, subst, sym}
-use Rattle.isl_base.specs.Names.{Extends, with_text, Extends-same, Extends-then, Extends-with_text, text_stays}
+use Rattle.isl_base.specs.Names.{Extends, with_text, Extends-same, Extends-with_text, text_stays}
 use Rattle.isl_profile.specs.declared.tables.ReservedWords.{ReservedWords}
 use Rattle.isl_classes.specs.InheritedClasses.{Hierarchy}
 use Rattle.isl_classes.specs.InheritedBuiltIn.{AreBuiltIn}

@@ -1,5 +1,5 @@
 -- Counting a list from a place on, and the nodes of tables that have grown.
-use Rattle.std.proofs.Common.{◌≡◌, ℕ, ◌+◌, ◌≤◌, ◌<◌, min, List, [], ◌∷◌, Some, length, take, drop, slice_get, refl, ap, ◌∙◌, arith}
+use Rattle.std.proofs.Common.{◌≡◌, ℕ, ◌+◌, ◌≤◌, ◌<◌, min, List, [], ◌∷◌, Some, length, take, drop, slice_get, ap, arith}
 use Rattle.isl_meaning.specs.Counts.{all_nodes}
 use Rattle.isl_meaning.specs.ProgramCounts.{total, row_nodes, procedure_nodes, class_nodes}
 use Rattle.isl_meaning.specs.bridge.Totals.{total_left, no_total_left, one_counted, all_counted}
@@ -41,8 +41,13 @@ split f (x ∷ xs) (y ∷ ys) h =
 pub grown_nodes : (s t : Tables) → Grows s t → nodes_of t ≡ nodes_of s + nodes_behind (mark_of s) t
 grown_nodes s t g =
     let classes : total class_nodes t.classes.rows ≡ total class_nodes s.classes.rows = ap (λ h. total class_nodes h.rows) g.classes in
-    omega (arith, classes, split row_nodes s.literals t.literals g.literals, split procedure_nodes s.procedures t.procedures g.procedures,
-    split all_nodes s.main t.main g.main)
+    omega (
+      arith,
+      classes,
+      split row_nodes s.literals t.literals g.literals,
+      split procedure_nodes s.procedures t.procedures g.procedures,
+      split all_nodes s.main t.main g.main,
+    )
 
 -- what was counted, with what was added, tells whether the program is too large
 pub counted_exactly : (s t : Tables) (mark : Mark) (n r : ℕ) → Grows s t → mark ≡ mark_of s → n ≡ nodes_of s

@@ -1,5 +1,5 @@
 -- Tables that have grown reach back to their mark, and cut to it they are as before.
-use Rattle.std.proofs.Common.{◌≡◌, ◌≤◌, ℕ, List, length, take, refl, ap, arith}
+use Rattle.std.proofs.Common.{◌≡◌, ◌≤◌, List, length, refl, ap, arith}
 use Rattle.std.proofs.lemmas.List.{length-take}
 use Rattle.isl_profile.specs.declared.tables.Tables.{Tables}
 use Rattle.isl_profile.specs.Marks.{StandsFirst, Grows}

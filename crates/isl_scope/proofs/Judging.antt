@@ -1,5 +1,5 @@
 -- From what a function of the walk promises to what the function around it does.
-use Rattle.std.proofs.Common.{◌≡◌, ℕ, List, ◌++◌, length, Result, Ok, Err, IfErr, IfOk, refl, ap, subst, sym, ◌∙◌}
+use Rattle.std.proofs.Common.{◌≡◌, ℕ, List, ◌++◌, length, Result, Ok, Err, IfErr, IfOk, ap, subst, sym, ◌∙◌}
 use Rattle.isl_base.specs.Names.{Extends, Extends-then}
 use Rattle.isl_base.specs.Data.{Item}
 use Rattle.isl_base.specs.GoodData.{Good}

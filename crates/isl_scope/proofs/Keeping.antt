@@ -19,7 +19,6 @@ use Rattle.isl_meaning.specs.ProgramCounts.{total, slot_nodes, class_nodes}
 use Rattle.isl_classes.specs.InheritedClasses.{Hierarchy}
 use Rattle.isl_classes.specs.InheritedBuiltIn.{AreBuiltIn}
 use Rattle.isl_profile.specs.declared.tables.Tables.{Tables}
-use Rattle.isl_profile.specs.declared.tables.ReservedWords.{ReservedWords}
 use Rattle.isl_profile.specs.Nodes.{Around, Standing, stands}
 use Rattle.isl_profile.specs.Judged.{Comes}
 use Rattle.isl_profile.specs.Rows.{node}
@@ -104,8 +103,11 @@ rows_nodes [] (p ∷ ps) ns l m h = absurd (cc h)
 rows_nodes (c ∷ cs) [] ns l m h = absurd (omega (arith, l))
 rows_nodes (c ∷ cs) (p ∷ ps) [] l m h = absurd (cc h)
 rows_nodes (c ∷ cs) (p ∷ ps) (n ∷ ns) l m h =
-    omega (arith, row_nodes c p n (and_first (is_row c p n) (begins_with_built_in cs ps ns) h),
-    rows_nodes cs ps ns (omega (arith, l)) (omega (arith, m)) (and_second (is_row c p n) (begins_with_built_in cs ps ns) h))
+    omega (
+      arith,
+      row_nodes c p n (and_first (is_row c p n) (begins_with_built_in cs ps ns) h),
+      rows_nodes cs ps ns (omega (arith, l)) (omega (arith, m)) (and_second (is_row c p n) (begins_with_built_in cs ps ns) h),
+    )
 
 pub built_in_small : (texts : List (List ℕ)) (h : Hierarchy) → AreBuiltIn texts h → begins_with_built_in h.rows built_in_precedence built_in_slots ≡ true →
     total class_nodes h.rows ≤ 100000

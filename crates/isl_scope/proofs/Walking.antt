@@ -1,5 +1,5 @@
 -- The walk over the parts of a form: parts stay sound, and what was judged stands in front of what is left.
-use Rattle.std.proofs.Common.{◌≡◌, ℕ, ◌+◌, ◌<◌, ◌≤◌, List, [], ◌∷◌, ◌++◌, drop, map, length, get_or, suc, add-one, drop-cons, refl, ap, subst, sym, ◌∙◌, append_assoc, arith}
+use Rattle.std.proofs.Common.{◌≡◌, ℕ, ◌+◌, ◌<◌, ◌≤◌, List, [], ◌∷◌, ◌++◌, drop, length, get_or, suc, add-one, drop-cons, refl, ap, subst, sym, ◌∙◌, append_assoc}
 use Rattle.std.proofs.lemmas.List.{drop_all}
 use Rattle.std.specs.Borrow.{Bor}
 use Rattle.isl_base.specs.Names.{Extends, Extends-same, Extends-then}
@@ -13,17 +13,16 @@ use Rattle.isl_profile.specs.declared.bound.Bound.{Bound}
 use Rattle.isl_profile.specs.declared.bound.Bound.TheVariants.{Variable}
 use Rattle.isl_profile.specs.declared.making.Found.{Found}
 use Rattle.isl_profile.specs.declared.making.Found.TheVariants.{Value, Binding, Parameter}
-use Rattle.isl_profile.specs.declared.making.Made.{Made}
 use Rattle.isl_profile.specs.declared.spot.Spot.{Spot}
 use Rattle.isl_profile.specs.declared.tables.Tables.{Tables}
 use Rattle.isl_profile.specs.Makings.{nothing}
-use Rattle.isl_profile.specs.Nodes.{Around, Part, form, below, inner, bind, parameter, Standing, stands, ended, refused, behind, recorded}
-use Rattle.isl_profile.specs.Judged.{with_variable, Comes, made, ends}
+use Rattle.isl_profile.specs.Nodes.{Around, Part, form, below, inner, bind, parameter, stands}
+use Rattle.isl_profile.specs.Judged.{with_variable, made, ends}
 use Rattle.isl_profile.specs.Promises.{FormComes, FormStops}
 use Rattle.isl_profile.specs.RowWords.{deeper}
 use Rattle.isl_profile.specs.Sound.{weight, SoundPart, AllSound}
 use Rattle.isl_profile.specs.Marks.{Grows}
-use Rattle.isl_profile.specs.Walks.{PartStands, PartTaken, PartEnds, PartStops, Through, PartsStop}
+use Rattle.isl_profile.specs.Walks.{PartTaken, PartStops, Through, PartsStop}
 use Rattle.isl_profile.specs.bridge.Growing.{grows_same, grows_then}
 use Rattle.isl_profile.specs.bridge.Turns.{through_none, turn, turn_stops}
 use Rattle.isl_forms.specs.declared.plan.Part.{Part as WrittenPart}

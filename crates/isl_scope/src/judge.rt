@@ -116,12 +116,27 @@ fn carry_out<'a>(
     let mut binds = work.binds;
     let mut found = FoundList::new(alloc);
     judge_parts(
-        alloc, names, tables, bound, spot, spots, &work.parts, &mut binds, &mut found,
+        alloc,
+        names,
+        tables,
+        bound,
+        spot,
+        spots,
+        &work.parts,
+        &mut binds,
+        &mut found,
     )?;
     let base = bound.len();
     bound.append_list(binds)?;
     judge_inner(
-        alloc, names, tables, bound, spot, spots, &work.inner, &mut found,
+        alloc,
+        names,
+        tables,
+        bound,
+        spot,
+        spots,
+        &work.inner,
+        &mut found,
     )?;
     bound.cut(base);
     Ok(complete(alloc, work.made, found, tables)?)

@@ -1,13 +1,12 @@
 -- A node comes to at most one verdict.
-use Rattle.std.proofs.Common.{◌≡◌, ◌+◌, List, [], ◌∷◌, length, refl, ap, subst, sym, arith}
+use Rattle.std.proofs.Common.{◌≡◌, ◌+◌, List, length, refl, ap, subst, sym, arith}
 use Rattle.std.specs.Prelude.{ℕ}
-use Rattle.isl_base.specs.Names.{IsTable}
 use Rattle.isl_base.specs.Data.{Item}
 use Rattle.isl_derived.specs.Derived.{Derives}
 use Rattle.isl_profile.specs.declared.tables.Tables.{Tables}
-use Rattle.isl_profile.specs.Nodes.{Around, Part, Node, Standing, Verdict, stands, ended, behind, recorded}
+use Rattle.isl_profile.specs.Nodes.{Around, Part, Node, Standing, Verdict, stands, ended, behind}
 use Rattle.isl_profile.specs.Rows.{node}
-use Rattle.isl_profile.specs.Judged.{with_fresh, subject, Verdicts, all_stand, one_ended, in_front, made_verdict, Comes, offence, step, made, Goes, ends, goes, stops}
+use Rattle.isl_profile.specs.Judged.{with_fresh, Verdicts, made_verdict, Comes, offence, step, made, Goes, ends, goes, stops}
 
 -- a datum has one step, under that table of names
 abbrev pub OneStep : List (List ℕ) → Type 0

@@ -3,14 +3,14 @@ use Rattle.std.proofs.Common.{◌≡◌, ◌++◌, List, [], ◌∷◌, refl, ap
 use Rattle.std.specs.Prelude.{ℕ}
 use Rattle.isl_base.specs.declared.reason.Stop.{Stop}
 use Rattle.isl_base.specs.declared.reason.Stop.TheVariants.{Refused, NoMemory}
-use Rattle.isl_base.specs.Names.{Extends, Extends-then, Extends-same}
+use Rattle.isl_base.specs.Names.{Extends, Extends-then}
 use Rattle.isl_profile.specs.declared.making.Found.{Found}
 use Rattle.isl_profile.specs.declared.making.Made.{Made}
 use Rattle.isl_profile.specs.declared.tables.Tables.{Tables}
-use Rattle.isl_profile.specs.Nodes.{Around, Part, Ending, Standing, stands, ended, behind, recorded}
+use Rattle.isl_profile.specs.Nodes.{Around, Part, Ending, stands, behind, recorded}
 use Rattle.isl_profile.specs.Makings.{made_form, finished}
-use Rattle.isl_profile.specs.Judged.{Verdicts, all_stand, one_ended, in_front, Comes, made, Goes, ends, goes, stops}
-use Rattle.isl_profile.specs.Walks.{PartStands, PartTaken, PartEnds, PartStops, all_in_front, Through, PartsEnd, PartsStop, WholeComes, WholeStops}
+use Rattle.isl_profile.specs.Judged.{Verdicts, all_stand, one_ended, in_front, made, Goes, ends, goes, stops}
+use Rattle.isl_profile.specs.Walks.{PartTaken, PartStops, all_in_front, Through, PartsStop, WholeComes, WholeStops}
 
 -- nothing was judged yet
 pub through_none : (names : List (List ℕ)) (o i : Around) (s : Tables) (xs : List Part) → Through names o i s xs [] i s xs

@@ -1,8 +1,6 @@
 -- A form more is in the segment, or a tag ends it.
-use Rattle.std.proofs.Common.{ℕ, ◌≡◌, ◌++◌, ◌∷◌, [], Some, None, ◌+◌, drop, arith}
-use Rattle.std.specs.Prelude.{slice_get}
-use Rattle.isl_profile.specs.Shapes.{symbol_of, lengths_in}
-use Rattle.isl_forms.specs.Behind.{longer_by}
+use Rattle.std.proofs.Common.{◌≡◌, ◌++◌, ◌∷◌, [], Some, None, ◌+◌, drop, arith}
+use Rattle.isl_profile.specs.Shapes.{symbol_of}
 use Rattle.isl_forms.proofs.Shaping.{drop_seen, form_turn, tag_turn}
 use Rattle.isl_forms.proofs.shapes.lengths_in.Goals.{in-Some+in_ok-push-in-Some, in-None}
 use Rattle.isl_forms.proofs.shapes.lengths_in.Goals as goal

@@ -1,14 +1,13 @@
 -- Each part in its turn.
-use Rattle.std.proofs.Common.{◌≡◌, ℕ, ◌<◌, List, [], ◌++◌, length, refl, ap, subst, sym, ◌∙◌, rules}
+use Rattle.std.proofs.Common.{◌<◌, List, ◌++◌, length, refl, ap, subst, sym, ◌∙◌, rules}
 use Rattle.std.proofs.lemmas.Result.{err_from_is_err_and}
 use Rattle.isl_base.specs.Names.{Extends-same}
 use Rattle.isl_base.specs.GoodData.{Good}
 use Rattle.isl_profile.specs.declared.bound.Bound.{Bound}
-use Rattle.isl_profile.specs.Nodes.{Around, Part, stands}
-use Rattle.isl_profile.specs.declared.tables.Tables.{Tables}
+use Rattle.isl_profile.specs.Nodes.{stands}
 use Rattle.isl_profile.specs.Marks.{Grows}
 use Rattle.isl_profile.specs.Promises.{FormComes, FormStops, Settles, settled_datum}
-use Rattle.isl_profile.specs.Sound.{weight, SoundPart, AllSound}
+use Rattle.isl_profile.specs.Sound.{weight, AllSound}
 use Rattle.isl_profile.specs.Walks.{PartTaken, PartStops, Through}
 use Rattle.isl_profile.specs.bridge.Growing.{grows_then, finish_grows}
 use Rattle.isl_profile.specs.bridge.Turns.{whole_stands, whole_stops}
@@ -117,8 +116,13 @@ pub judge_part-returns-in_ok-push-in-Parameter-2-clause-stands : goal.judge_part
 judge_part-returns-in_ok-push-in-Parameter-2-clause-stands c c' =
     let taken = parameter_taken c'.args.names.now (at c'.args.bound.now c'.args.spots.outside) c'.args.bound.now c'.args.binds.now c'.args.spots.inside c'.args.tables.now
     c'.in-Parameter.symbol c'.args.found.now in
-    rw (c'.in-Parameter.is, c'.in_ok-variable-in-Parameter.ensures.ok, c'.in_ok-push-in-Parameter-2.ensures.ok, c'.in_ok-push-in-Parameter.ensures.ok,
-    c'.in_ok-variable-in-Parameter.ensures.variable) taken
+    rw (
+      c'.in-Parameter.is,
+      c'.in_ok-variable-in-Parameter.ensures.ok,
+      c'.in_ok-push-in-Parameter-2.ensures.ok,
+      c'.in_ok-push-in-Parameter.ensures.ok,
+      c'.in_ok-variable-in-Parameter.ensures.variable,
+    ) taken
 
 -- parts one after another
 
@@ -126,10 +130,11 @@ pub judge_parts-loop-part-preserved : goal.judge_parts-loop-part-preserved
 judge_parts-loop-part-preserved c c' =
     let P : List Bound → Type 0 = λ b. PartTaken c'.judge_part.new.names (at b c'.args.spots.outside) (at (b ++ c'.loop-part.binds) c'.args.spots.inside) c'.loop-part.tables
     (view_part c'.part-item.result) c'.loop-part.found (at (b ++ c'.judge_part.new.binds) c'.args.spots.inside) c'.judge_part.new.tables c'.judge_part.new.found in
-    let taken = subst P c'.loop-part.invariant.0 c'.in_ok-judge_part.ensures.stands in
-    (c'.in_ok-judge_part.ensures.bound ∙ c'.loop-part.invariant.0,
-    so_far_turn _ _ _ _ _ _ _ _ _ _ _ _ _ _ _ _ _ c'.loop-part.invariant.1 (next_part c'.args.parts.now c'.loop-part.part-index c'.part-item.result (search rules) (search rules))
-    c'.in_ok-judge_part.ensures.names c'.in_ok-judge_part.ensures.grows refl taken)
+    let taken = subst P c'.loop-part.invariant.0 c'.in_ok-judge_part.ensures.stands in (
+      c'.in_ok-judge_part.ensures.bound ∙ c'.loop-part.invariant.0,
+      so_far_turn _ _ _ _ _ _ _ _ _ _ _ _ _ _ _ _ _ c'.loop-part.invariant.1 (next_part c'.args.parts.now c'.loop-part.part-index c'.part-item.result (search rules) (search rules))
+          c'.in_ok-judge_part.ensures.names c'.in_ok-judge_part.ensures.grows refl taken,
+    )
 
 pub judge_parts-returns-in_err-judge_part-clause-stops : goal.judge_parts-returns-in_err-judge_part-clause-stops
 judge_parts-returns-in_err-judge_part-clause-stops c c' =

@@ -6,12 +6,15 @@ use Rattle.isl_scope.proofs.scope.take_form.Goals as goal
 
 pub returns-then-nodes-gt-MOST_NODES-clause-stop : goal.returns-then-nodes-gt-MOST_NODES-clause-stop
 returns-then-nodes-gt-MOST_NODES-clause-stop c =
-    inr (record {
-      tables = c.judge_top.new.tables;
-      given = c.in_ok-judge_top.ensures.given;
-      large = counted_too_many c.args.tables.now c.judge_top.new.tables c.mark_of-mark.result c.args.nodes _ c.in_ok-judge_top.ensures.grows c.mark_of-mark.ensures c.requires.nodes
-          c.with_added-nodes.ensures (omega (arith, c.if-nodes-gt-MOST_NODES.true));
-    }, search rules)
+    inr (
+      record {
+        tables = c.judge_top.new.tables;
+        given = c.in_ok-judge_top.ensures.given;
+        large = counted_too_many c.args.tables.now c.judge_top.new.tables c.mark_of-mark.result c.args.nodes _ c.in_ok-judge_top.ensures.grows c.mark_of-mark.ensures c.requires.nodes
+            c.with_added-nodes.ensures (omega (arith, c.if-nodes-gt-MOST_NODES.true));
+      },
+      search rules,
+    )
 
 pub returns-clause-taken : goal.returns-clause-taken
 returns-clause-taken c = record {
