@@ -35,7 +35,7 @@ read-fronted : (number : Numbers) (text : Seq ℕ) (p : Place) (s : State) → R
 read-fronted number text p s r = fronted-steps number text p (state text p [] []) s (fronted-start number text p) r
 
 -- the same front of a text leaves the same
-same-front : (a b r : Seq ℕ) → a ++ r ≡ b ++ r → a ≡ b
+pub same-front : (a b r : Seq ℕ) → a ++ r ≡ b ++ r → a ≡ b
 same-front [] [] r e = refl
 same-front [] (c ∷ b) r e = absurd (omega (arith, ap length e, length-append b r))
 same-front (c ∷ a) [] r e = absurd (omega (arith, ap length e, length-append a r))

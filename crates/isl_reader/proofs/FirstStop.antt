@@ -1,5 +1,5 @@
--- A text that stops before its first datum is whole has no first datum.
-use Rattle.std.proofs.Common.{◌≡◌, ℕ, ◌≤◌, true, false, nat_le, List as Seq, [], ◌∷◌, ◌++◌, length, take, drop, Option, Some, None, refl, sym, ap, subst, ◌∙◌, arith, if◌then◌else◌, ◌⊎◌, inl, inr, ⊎_elim, length-append}
+-- What comes next in a text is one datum, a stop or the end.
+use Rattle.std.proofs.Common.{◌≡◌, ℕ, ◌+◌, ◌<◌, ◌≤◌, true, false, nat_le, List as Seq, [], ◌∷◌, ◌++◌, length, take, drop, Option, Some, None, refl, sym, ap, subst, ◌∙◌, arith, if◌then◌else◌, ◌⊎◌, inl, inr, ⊎_elim, length-append, append_assoc}
 use Rattle.isl_base.specs.declared.place.Place.{Place}
 use Rattle.isl_base.specs.declared.reason.Reason.{Reason}
 use Rattle.isl_base.specs.declared.reason.Reason.TheVariants.{NestTooDeep}
@@ -18,25 +18,33 @@ use Rattle.isl_reader.specs.declared.pending.Pending.TheVariants.{InList, AtDot,
 use Rattle.isl_reader.specs.Characters.{place_behind}
 use Rattle.isl_reader.specs.Gaps.{Gap}
 use Rattle.isl_reader.specs.Atoms.{Atom}
-use Rattle.isl_reader.specs.Meanings.{atom_content, prefix_name}
+use Rattle.isl_reader.specs.Meanings.{number_in, atom_content, prefix_name}
 use Rattle.isl_reader.specs.bridge.Lexemes.{skip, lex, atom_of}
-use Rattle.isl_reader.specs.bridge.Machine.{State, Outcome, stopped, Step, next, over, moved, put, full_dot, ending, closing, dot_step, prefix_step, opened, unless_full, opening_step, content_step, atom_step, act, by_lexed, by_rest, by_gap, step, Steps, none, more, put_in}
-use Rattle.isl_reader.specs.Trees.{Trees, no_tree, then_tree, spelled, behind}
+use Rattle.isl_reader.specs.bridge.Machine.{State, Outcome, finished, stopped, Step, next, over, moved, put, full_dot, ending, closing, dot_step, prefix_step, opened, unless_full, opening_step, content_step, atom_step, act, by_lexed, by_rest, by_gap, step, Steps, none, more, put_in}
+use Rattle.isl_reader.specs.Trees.{Trees, no_tree, then_tree, spelled, spelled_all, behind, StandsAll}
 use Rattle.isl_reader.specs.Meanings.{MeansAll, prefix_item}
 use Rattle.isl_reader.specs.Reads.{ReadsNext}
 use Rattle.isl_reader.specs.Fronts.{Level, in_list, at_dot, at_tail, in_vector, at_prefix, levels_behind, front_behind}
 use Rattle.isl_reader.specs.Stops.{StopsFirst}
-use Rattle.isl_reader.proofs.Stepping.{Numbers, state, step-gap}
+use Rattle.isl_reader.proofs.Stepping.{Numbers, state, step-gap, place_behind-append}
 use Rattle.isl_reader.proofs.Completing.{tree-steps}
 use Rattle.isl_reader.proofs.Fronting.{Held, front-steps, all_zero, means-exists, held-exists}
 use Rattle.isl_reader.proofs.Rows.{row-step}
+use Rattle.isl_reader.proofs.TextLaws.{last-step, reads_or_stops}
+use Rattle.isl_reader.proofs.Answering.{same-front}
 
--- as many data as n are whole behind the step
+-- one where something is open
+abbrev some_open : Seq Pending → ℕ
+some_open [] = 0
+some_open (o ∷ os) = 1
+
+-- behind the step more than n data are whole, or n and something is open
 abbrev Grows : ℕ → Step → Type 0
-Grows n (next t) = n ≤ length t.done
+Grows n (next t) = n < length t.done + some_open t.pending
 Grows n (over o) = Unit {0}
 
-put_in-grows : (r : Seq ℕ) (p : Place) (done : Seq Item) (os : Seq Pending) (d : Item) → length done ≤ length (put_in r p done os d).done
+put_in-grows : (r : Seq ℕ) (p : Place) (done : Seq Item) (os : Seq Pending) (d : Item)
+    → length done < length (put_in r p done os d).done + some_open (put_in r p done os d).pending
 unfolding put_in
 put_in-grows r p done [] d = omega (arith, length-append done (d ∷ []))
 put_in-grows r p done (AtPrefix q n ∷ os) d = put_in-grows r p done os (prefix_item q n.0 d)
@@ -126,11 +134,15 @@ step-grows : (number : Numbers) (s : State) → Grows (length s.done) (step numb
 unfolding step
 step-grows number s = gap-grows number s (skip Between 0 0 s.rest)
 
+one-open : (os : Seq Pending) → some_open os ≤ 1
+one-open [] = omega arith
+one-open (o ∷ os) = omega arith
+
 steps-grow : (number : Numbers) (s t : State) → Steps number s t → length s.done ≤ length t.done
 steps-grow number s t (none v) = omega arith
 steps-grow number s t (more v w x a e) =
-    let one : length w.done ≤ length x.done = subst (Grows (length w.done)) e (step-grows number w) in
-    omega (arith, one, steps-grow number v w a)
+    let one : length w.done < length x.done + some_open x.pending = subst (Grows (length w.done)) e (step-grows number w) in
+    omega (arith, one, one-open x.pending, steps-grow number v w a)
 
 -- the first of some steps
 record First (number : Numbers) (s t : State) : Type 0 where
@@ -187,3 +199,79 @@ next_or_stops names text p d after at r n x =
     let grown : 1 ≤ length h.0 = steps-grow all_zero u b on in
     let empty = held-none all_zero p f.data_before f.levels h.0 h.1.0 h.1.1 x.first in
     absurd (omega (arith, grown, ap length empty))
+
+-- of two ways from one state, one goes on with the other
+two-ways : (number : Numbers) (s a b : State) → Steps number s a → Steps number s b → Steps number a b ⊎ Steps number b a
+two-ways number s a b (none v) y = inl y
+two-ways number s a b (more v w x k f) y =
+    ⊎_elim
+    (λ on. ⊎_elim
+    (λ same. inr (more b b x (none b) (ap (step number) (sym same) ∙ f)))
+    (λ first. let at : first.state_then ≡ x = (let h = sym first.one ∙ f in cc) in inl (subst (λ z. Steps number z b) at first.others))
+    (steps-first number w b on))
+    (λ back. inr (more b w x back f))
+    (two-ways number v w b k y)
+
+-- from one whole datum no step leads to one whole datum
+same-whole : (number : Numbers) (a b : State) → Steps number a b → length a.done ≡ 1 → length b.done ≡ 1 → b.pending ≡ [] → a ≡ b
+same-whole number a b (none v) h k e = refl
+same-whole number a b (more v w x y f) h k e =
+    let one : length w.done < length x.done + some_open x.pending = subst (Grows (length w.done)) f (step-grows number w) in
+    absurd (omega (arith, one, steps-grow number v w y, h, k, ap some_open e))
+
+-- the first datum of a text, whole
+datum-whole : (names : Seq (Seq ℕ)) (text : Seq ℕ) (p : Place) (d : Item) (after : Seq ℕ) → (n : ReadsNext names text p d after)
+    → Steps (number_in names) (state text p [] []) (state after (behind (place_behind p n.gap) n.reads.tree) (d ∷ []) [])
+unfolding put_in
+datum-whole names text p d after n =
+    let t = n.reads.tree in
+    let front : text ≡ n.gap ++ spelled t after = n.front ∙ ap (λ v. n.gap ++ v) n.reads.spells in
+    subst (λ v. Steps (number_in names) (state v p [] []) (state after (behind (place_behind p n.gap) t) (d ∷ []) [])) (sym front)
+    (tree-steps (number_in names) t n.gap after p [] [] d (subst (Gap n.gap) n.reads.spells n.is_gap) n.reads.stands n.reads.means refl)
+
+-- what comes next in a text is one datum at most
+same-next : (names : Seq (Seq ℕ)) (text : Seq ℕ) (p : Place) (d e : Item) (after left : Seq ℕ)
+    → (x : ReadsNext names text p d after) (y : ReadsNext names text p e left)
+    → state after (behind (place_behind p x.gap) x.reads.tree) (d ∷ []) [] ≡ state left (behind (place_behind p y.gap) y.reads.tree) (e ∷ []) []
+same-next names text p d e after left x y =
+    let a = state after (behind (place_behind p x.gap) x.reads.tree) (d ∷ []) [] in
+    let b = state left (behind (place_behind p y.gap) y.reads.tree) (e ∷ []) [] in
+    ⊎_elim
+    (λ on. same-whole (number_in names) a b on (omega arith) (omega arith) refl)
+    (λ back. sym (same-whole (number_in names) b a back (omega arith) (omega arith) refl))
+    (two-ways (number_in names) (state text p [] []) a b (datum-whole names text p d after x) (datum-whole names text p e left y))
+
+next-front : (names : Seq (Seq ℕ)) (text : Seq ℕ) (p : Place) (d : Item) (after : Seq ℕ) → (x : ReadsNext names text p d after)
+    → text ≡ (x.gap ++ x.bytes) ++ after
+next-front names text p d after x = x.front ∙ sym (append_assoc x.gap x.bytes after)
+
+pub one_datum : (names : Seq (Seq ℕ)) (text : Seq ℕ) (p : Place) (d e : Item) (after left : Seq ℕ)
+    → (x : ReadsNext names text p d after) (y : ReadsNext names text p e left)
+    → (d ≡ e) × (after ≡ left) × (place_behind (place_behind p x.gap) x.bytes ≡ place_behind (place_behind p y.gap) y.bytes)
+one_datum names text p d e after left x y =
+    let same = same-next names text p d e after left x y in
+    let first : d ∷ [] ≡ e ∷ [] = ap (λ (s : State). s.done) same in
+    let rest : after ≡ left = ap (λ (s : State). s.rest) same in
+    let whole : (x.gap ++ x.bytes) ++ left ≡ (y.gap ++ y.bytes) ++ left =
+    ap (λ r. (x.gap ++ x.bytes) ++ r) (sym rest) ∙ sym (next-front names text p d after x) ∙ next-front names text p e left y in (
+      cc,
+      rest,
+      sym (place_behind-append p x.gap x.bytes) ∙ ap (place_behind p) (same-front (x.gap ++ x.bytes) (y.gap ++ y.bytes) left whole)
+          ∙ place_behind-append p y.gap y.bytes,
+    )
+
+-- where only a gap is left, no datum comes
+pub end_or_next : (names : Seq (Seq ℕ)) (text : Seq ℕ) (p : Place) (d : Item) (after : Seq ℕ) → Gap text [] → ReadsNext names text p d after → ⊥
+end_or_next names text p d after g x =
+    let number = number_in names in
+    let s = state text p [] [] in
+    let on = steps-on number s (state after (behind (place_behind p x.gap) x.reads.tree) (d ∷ []) []) s (finished []) (datum-whole names text p d after x) (none s)
+    (last-step number text p [] g) in
+    let grown = steps-grow number (state after (behind (place_behind p x.gap) x.reads.tree) (d ∷ []) []) s on in
+    absurd (omega (arith, grown))
+
+-- and no stop
+pub end_or_stops : (text : Seq ℕ) (p : Place) (at : Place) (r : Reason) → Gap text [] → StopsFirst p text at r → ⊥
+unfolding MeansAll spelled_all StandsAll
+end_or_stops text p at r g x =
+    reads_or_stops [] text p [] at r (record { trees = no_tree; gap = text; spells = refl; stands = tt; is_gap = g; means = refl }) x.stops

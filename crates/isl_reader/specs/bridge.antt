@@ -3,3 +3,5 @@ pub mod Machine
 pub mod Turns
 pub mod Steps
 pub mod Scanning
+pub mod LaterReads
+pub mod GoodReads

@@ -1,6 +1,7 @@
 // The reader: the data of a text, one call each.
 
 ghost use Rattle.std.specs.Prelude.{◌≡◌, ◌<◌, ◌↔◌, [], length, Some, None, IfOk, IfErr, IfSome, IfNone, IsTrue};
+ghost use Rattle.isl_base.specs.GoodData.{Good};
 ghost use Rattle.isl_reader.specs.Gaps.{Gap};
 ghost use Rattle.isl_reader.specs.bridge.Turns.{IsLater};
 ghost use Rattle.isl_reader.specs.Answers.{IsRead, IsEnded, IsStopped};
@@ -48,13 +49,14 @@ impl<'a> Reader<'a> {
         }
     }
 
-    /// The next datum; the reader has then consumed exactly its spelling and the blanks and comments
-    /// before it. None exactly where only blanks and closed comments are left. A refusal comes exactly
+    /// The next datum, in form and with its names in the table; the reader has then consumed exactly its
+    /// spelling and the blanks and comments before it. None exactly where only blanks and closed comments are left. A refusal comes exactly
     /// at the first stop of the text, and from then on again. After `NoMemory` the reader stands
     /// where it was. Names may have been added, and those that were there keep their numbers.
     pub fn next(&mut self, alloc: Global, names: &mut Names) -> Result<Option<Datum>, Stop>
         ensures names { IsLater names.old names.new }
         ensures read { IfOk result (λ o. IfSome o (IsRead names.new self.old self.new)) }
+        ensures good { IfOk result (λ o. IfSome o (Good (length names.new))) }
         ensures ended { IfOk result (λ o. IfNone o (IsEnded self.old self.new)) }
         ensures refused { IfErr result (IsStopped self.old self.new) }
     {

@@ -12,26 +12,11 @@ use Rattle.isl_reader.specs.Atoms.{Atom, an_integer, a_character, a_symbol, a_st
 use Rattle.isl_reader.specs.Trees.{Tree, atom, proper, improper, row, prefixed, Trees, no_tree, then_tree, prefix_bytes, spelled, spelled_all, behind_all, Stands, StandsAll}
 use Rattle.isl_reader.specs.Meanings.{number_in, named, atom_content, list_content, in_front, joined, prefix_item, Means, MeansAll}
 use Rattle.isl_reader.specs.Reads.{ReadsNext}
+use Rattle.isl_reader.specs.bridge.GoodReads.{some_bytes, prefix_some}
 use Rattle.isl_top.specs.Verdicts.{DataOf, no_datum, then_datum}
 
 abbrev Numbers : Type 0
 Numbers = Seq ℕ → Option ℕ
-
-begins-some : (p : ℕ → Bool) (w : Seq ℕ) → begins p w ≡ true → 0 < length w
-begins-some p [] h = absurd (cc)
-begins-some p (b ∷ bs) h = omega arith
-
--- a spelling has a byte at least
-some-bytes : (b after : Seq ℕ) (a : Atom) → Spells b after a → 0 < length b
-some-bytes _ _ _ (decimal w after k i v) = begins-some is_token w k.some
-some-bytes _ _ _ (token w after k i f d l) = begins-some is_token w k.some
-some-bytes _ _ _ (barred bs after name k l) = omega arith
-some-bytes _ _ _ (quoted bs after content k) = omega arith
-some-bytes _ _ _ (based letter base w after k l i v) = omega arith
-some-bytes _ _ _ (marked b after k) = omega arith
-some-bytes _ _ _ (lettered b after k) = omega arith
-some-bytes _ _ _ (space w after k e) = omega arith
-some-bytes _ _ _ (newline w after k e) = omega arith
 
 -- an atom has no part
 named-size : (o : Option ℕ) (c : Content) → named o ≡ Some c → content_size c ≡ 1
@@ -68,13 +53,6 @@ joined-size p ds (item q (list es t)) = omega (arith, front-size ds es)
 prefix-size : (p : Place) (n : ℕ) (d : Item) → item_size (prefix_item p n d) ≡ item_size d + 8
 prefix-size p n d = omega arith
 
-prefix-bytes : (x : Prefix) → 0 < length (prefix_bytes x)
-prefix-bytes Quote = omega arith
-prefix-bytes Quasiquote = omega arith
-prefix-bytes Unquote = omega arith
-prefix-bytes UnquoteSplicing = omega arith
-prefix-bytes Function = omega arith
-
 more-size : (ds : Seq Item) (d : Item) → items_size (items_of (ds ++ d ∷ [])) ≡ items_size (items_of ds) + item_size d + 1
 more-size [] d = omega arith
 more-size (e ∷ es) d = omega (arith, more-size es d)
@@ -86,7 +64,7 @@ mutual
   tree-size : (number : Numbers) (n : ℕ) (p : Place) (t : Tree) (after : Seq ℕ) (d : Item) → Stands n t after → Means number p t d
       → item_size d + 1 + 8 * length after ≤ 8 * length (spelled t after)
   tree-size number n p (atom b a) after d s m =
-      rw (m.1.1) (omega (arith, some-bytes b after a s, atom-size number a m.0 m.1.0, length-append b after))
+      rw (m.1.1) (omega (arith, some_bytes b after a s, atom-size number a m.0 m.1.0, length-append b after))
   tree-size number n p (proper ts g) after d s m =
       rw (m.1.1) (omega (
         arith,
@@ -116,7 +94,7 @@ mutual
       rw (m.1.1.2) (omega (
         arith,
         prefix-size p m.0 m.1.0,
-        prefix-bytes x,
+        prefix_some x,
         tree-size number (suc n) (place_behind (place_behind p (prefix_bytes x)) g) t after m.1.0 s.3 m.1.1.1,
         length-append (prefix_bytes x) (g ++ spelled t after),
         length-append g (spelled t after),
@@ -144,11 +122,6 @@ next-size names text p d after r =
       ap length r.front,
       length-append r.gap (r.bytes ++ after),
     )
-
--- a datum takes bytes
-pub next-shorter : (names : Seq (Seq ℕ)) (text : Seq ℕ) (p : Place) (d : Item) (after : Seq ℕ) → ReadsNext names text p d after
-    → length after < length text
-next-shorter names text p d after r = omega (arith, next-size names text p d after r)
 
 -- the data of a text have at most eight parts a byte, and one more
 pub data-size : (names : Seq (Seq ℕ)) (text : Seq ℕ) (ds : Seq Item) (rest : Seq ℕ) (p : Place) → DataOf names text ds rest p

@@ -1,7 +1,7 @@
 -- The text is judged datum by datum.
 use Rattle.std.proofs.Common.{rules, sym}
 use Rattle.isl_top.proofs.Judging.{judged-init, judged-step, judged-offends, judged-stops, judged-end, judged-later}
-use Rattle.isl_top.proofs.Spans.{next-shorter}
+use Rattle.isl_reader.specs.bridge.GoodReads.{next_shorter}
 use Rattle.isl_top.proofs.program.program_of.Goals as goal
 
 pub loop-main-init : goal.loop-main-init
@@ -17,7 +17,7 @@ returns-in_err-datum-clause-stopped c =
 pub loop-main-smaller : goal.loop-main-smaller
 loop-main-smaller c =
     let read = rw c.in-Some.is at c.in_ok-datum.ensures.read in
-    next-shorter c.next.new.names c.loop-main.reader.rest c.loop-main.reader.place c.in-Some.datum c.next.new.self.rest read.reads
+    next_shorter c.next.new.names c.loop-main.reader.rest c.loop-main.reader.place c.in-Some.datum c.next.new.self.rest read.reads
 
 pub loop-main-preserved : goal.loop-main-preserved
 loop-main-preserved c =
