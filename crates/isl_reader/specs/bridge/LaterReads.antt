@@ -23,7 +23,7 @@ number_front [] ys text n h = absurd (cc)
 number_front (t ∷ ts) ys text n h =
     number_if (bytes_eq text t) (number_in ts text) (number_in (ts ++ ys) text) n (λ m e. number_front ts ys text m e) h
 
-number_later : (old new : Seq (Seq ℕ)) (text : Seq ℕ) (n : ℕ) → Extends old new → number_in old text ≡ Some n → number_in new text ≡ Some n
+pub number_later : (old new : Seq (Seq ℕ)) (text : Seq ℕ) (n : ℕ) → Extends old new → number_in old text ≡ Some n → number_in new text ≡ Some n
 number_later old new text n x h = ap (λ ts. number_in ts text) x.begins ∙ number_front old x.added text n h
 
 abbrev Numbers : Type 0
@@ -50,7 +50,7 @@ content_later a b k (a_string bytes) c h = h
 mutual
   unfolding Means MeansAll
 
-  means_later : (a b : Numbers) → Keeps a b → (p : Place) (t : Tree) (d : Item) → Means a p t d → Means b p t d
+  pub means_later : (a b : Numbers) → Keeps a b → (p : Place) (t : Tree) (d : Item) → Means a p t d → Means b p t d
   means_later a b k p (atom bs x) d m = (m.0, (content_later a b k x m.0 m.1.0, m.1.1))
   means_later a b k p (proper ts g) d m = (m.0, (all_later a b k (place_behind p (40 ∷ [])) ts m.0 m.1.0, m.1.1))
   means_later a b k p (improper ts g h t i) d m = (
@@ -92,7 +92,7 @@ mutual
   )
 
 -- the next datum
-pub next_later : (old new : Seq (Seq ℕ)) (text : Seq ℕ) (p : Place) (d : Item) (after : Seq ℕ) → Extends old new
+unfoldable pub next_later : (old new : Seq (Seq ℕ)) (text : Seq ℕ) (p : Place) (d : Item) (after : Seq ℕ) → Extends old new
     → ReadsNext old text p d after → ReadsNext new text p d after
 next_later old new text p d after x r = record {
   gap = r.gap;

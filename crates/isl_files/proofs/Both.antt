@@ -1,0 +1,54 @@
+-- The prelude, and then the file.
+use Rattle.std.proofs.Common.{◌≡◌, ℕ, ◌≤◌, List, length, subst, sym, ap}
+use Rattle.isl_base.specs.declared.origin.Origin.TheVariants.{Prelude, File}
+use Rattle.isl_base.specs.declared.reason.Stop.{Stop}
+use Rattle.isl_base.specs.declared.reason.Stop.TheVariants.{Refused, NoMemory}
+use Rattle.isl_base.specs.Names.{IsTable, Extends}
+use Rattle.isl_meaning.specs.declared.program.ProgramRows.{ProgramRows}
+use Rattle.isl_profile.specs.declared.tables.Tables.{Tables}
+use Rattle.isl_reader.specs.Readers.{first_place}
+use Rattle.isl_scope.specs.Scopes.{rows_of, IsFirst}
+use Rattle.isl_files.specs.declared.mode.Mode.{Mode}
+use Rattle.isl_files.specs.declared.mode.Mode.TheVariants.{Run}
+use Rattle.isl_files.specs.Verdicts.{all_taken, JudgesText, accepted, Verdict, prelude_refused, file_refused, file_accepted, IsNoProgram}
+use Rattle.isl_files.specs.bridge.First.{first_later}
+use Rattle.isl_files.specs.bridge.Later.{judges_later}
+use Rattle.isl_files.specs.bridge.Stopping.{JudgesStop, BothTaken, BothRefused, in_prelude, in_file, BothStop, VerdictStops}
+
+pub both_taken : (names more : List (List ℕ)) (prelude text : List ℕ) (mode : Mode) (s t u : Tables) → Extends names more →
+    JudgesText names Prelude Run s prelude (all_taken t) → JudgesText more File mode t text (all_taken u) → BothTaken more prelude text mode s u
+both_taken names more prelude text mode s t u e h k = record {
+  between = t;
+  in_prelude = judges_later names more Prelude Run s prelude (first_place Prelude) (all_taken t) e h;
+  in_file = k;
+}
+
+pub prelude_stops : (names : List (List ℕ)) (prelude text : List ℕ) (mode : Mode) (s : Tables) (stop : Stop) →
+    JudgesStop names Prelude Run s prelude (first_place Prelude) stop → BothStop names prelude text mode s stop
+prelude_stops names prelude text mode s NoMemory h = tt
+prelude_stops names prelude text mode s (Refused r) h = in_prelude h
+
+pub file_stops : (names more : List (List ℕ)) (prelude text : List ℕ) (mode : Mode) (s t : Tables) (stop : Stop) → Extends names more →
+    JudgesText names Prelude Run s prelude (all_taken t) → JudgesStop more File mode t text (first_place File) stop → BothStop more prelude text mode s stop
+file_stops names more prelude text mode s t NoMemory e h k = tt
+file_stops names more prelude text mode s t (Refused r) e h k =
+    in_file t (judges_later names more Prelude Run s prelude (first_place Prelude) (all_taken t) e h) k
+
+pub whole_accepted : (names more : List (List ℕ)) (prelude text : List ℕ) (mode : Mode) (s u : Tables) (program : ProgramRows) → Extends names more → length text ≤ 1048576 →
+    IsFirst names s → BothTaken more prelude text mode s u → program ≡ rows_of u → Verdict more prelude text mode (accepted program)
+whole_accepted names more prelude text mode s u program e short first b same =
+    subst (λ x. Verdict more prelude text mode (accepted x)) (sym same)
+    (file_accepted b.between u short (record { first = s; is_first = first_later names more s e first; judges = b.in_prelude }) b.in_file)
+
+pub whole_stops : (names more : List (List ℕ)) (prelude text : List ℕ) (mode : Mode) (s : Tables) (stop : Stop) → Extends names more → length text ≤ 1048576 →
+    IsFirst names s → BothStop more prelude text mode s stop → VerdictStops more prelude text mode stop
+whole_stops names more prelude text mode s NoMemory e short first h = tt
+whole_stops names more prelude text mode s (Refused r) e short first (in_prelude h) =
+    prelude_refused r short (record { first = s; is_first = first_later names more s e first; judges = h })
+whole_stops names more prelude text mode s (Refused r) e short first (in_file t h k) =
+    file_refused t r short (record { first = s; is_first = first_later names more s e first; judges = h }) k
+
+pub no_program : (names : List (List ℕ)) (prelude text : List ℕ) (mode : Mode) (stop : Stop) → IsTable names → VerdictStops names prelude text mode stop →
+    IsNoProgram prelude text mode stop
+no_program names prelude text mode NoMemory table h = tt
+no_program names prelude text mode (Refused r) table h = record { names = names; table = table; verdict = h }

@@ -1,0 +1,5 @@
+pub mod Stopping
+pub mod Later
+pub mod First
+pub mod LaterVerdicts
+pub mod Once

@@ -1,0 +1,28 @@
+// Laws of the verdict on a file.
+
+ghost use Rattle.std.specs.Prelude.{◌≡◌, ℕ, List};
+ghost use Rattle.isl_base.specs.Names.{IsTable, Extends};
+ghost use Rattle.isl_files.specs.declared.mode.Mode.{Mode as mode_of};
+ghost use Rattle.isl_files.specs.Verdicts.{Outcome, Verdict};
+
+use isl_profile::laws::law_one_verdict as law_one_verdict_of_a_form;
+use isl_reader::laws::{law_end, law_next_or_stops, law_one_datum, law_one_stop};
+
+/// A prelude and a text have at most one verdict in each mode, where names are numbered by one table.
+pub fn law_one_verdict()
+    ensures { (names : List (List ℕ)) (prelude text : List ℕ) (mode : mode_of) (v w : Outcome) → IsTable names →
+        Verdict names prelude text mode v → Verdict names prelude text mode w → v ≡ w }
+{
+    law_one_verdict_of_a_form();
+    law_one_datum();
+    law_one_stop();
+    law_next_or_stops();
+    law_end();
+}
+
+/// A verdict stays under every later table of names. So two verdicts whose tables are the beginnings of
+/// one table are one verdict.
+pub fn law_names_apart()
+    ensures { (old new : List (List ℕ)) (prelude text : List ℕ) (mode : mode_of) (v : Outcome) → Extends old new →
+        Verdict old prelude text mode v → Verdict new prelude text mode v }
+{}
