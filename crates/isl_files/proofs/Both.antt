@@ -1,5 +1,5 @@
 -- The prelude, and then the file.
-use Rattle.std.proofs.Common.{◌≡◌, ℕ, ◌≤◌, List, length, subst, sym, ap}
+use Rattle.std.proofs.Common.{◌≡◌, ℕ, ◌<◌, ◌≤◌, List, [], length, Result, Ok, Err, OnOk, IfErr, subst, sym}
 use Rattle.isl_base.specs.declared.origin.Origin.TheVariants.{Prelude, File}
 use Rattle.isl_base.specs.declared.reason.Stop.{Stop}
 use Rattle.isl_base.specs.declared.reason.Stop.TheVariants.{Refused, NoMemory}
@@ -10,7 +10,7 @@ use Rattle.isl_reader.specs.Readers.{first_place}
 use Rattle.isl_scope.specs.Scopes.{rows_of, IsFirst}
 use Rattle.isl_files.specs.declared.mode.Mode.{Mode}
 use Rattle.isl_files.specs.declared.mode.Mode.TheVariants.{Run}
-use Rattle.isl_files.specs.Verdicts.{all_taken, JudgesText, accepted, Verdict, prelude_refused, file_refused, file_accepted, IsNoProgram}
+use Rattle.isl_files.specs.Verdicts.{all_taken, JudgesText, accepted, longest_file, too_long, Verdict, source_too_long, prelude_refused, file_refused, file_accepted, Refuses, IsNoProgram}
 use Rattle.isl_files.specs.bridge.First.{first_later}
 use Rattle.isl_files.specs.bridge.Later.{judges_later}
 use Rattle.isl_files.specs.bridge.Stopping.{JudgesStop, BothTaken, BothRefused, in_prelude, in_file, BothStop, VerdictStops}
@@ -52,3 +52,22 @@ pub no_program : (names : List (List ℕ)) (prelude text : List ℕ) (mode : Mod
     IsNoProgram prelude text mode stop
 no_program names prelude text mode NoMemory table h = tt
 no_program names prelude text mode (Refused r) table h = record { names = names; table = table; verdict = h }
+
+-- of the file behind the prelude, whatever it comes to
+pub file_was_taken : {E : Type 0} (r : Result (Unit {0}) E) (names more : List (List ℕ)) (prelude text : List ℕ) (mode : Mode) (s t u : Tables) → Extends names more →
+    JudgesText names Prelude Run s prelude (all_taken t) → OnOk r (JudgesText more File mode t text (all_taken u)) → OnOk r (BothTaken more prelude text mode s u)
+file_was_taken (Ok x) names more prelude text mode s t u e h k = both_taken names more prelude text mode s t u e h k
+file_was_taken (Err x) names more prelude text mode s t u e h k = tt
+
+pub file_was_stopped : (r : Result (Unit {0}) Stop) (names more : List (List ℕ)) (prelude text : List ℕ) (mode : Mode) (s t : Tables) → Extends names more →
+    JudgesText names Prelude Run s prelude (all_taken t) → IfErr r (JudgesStop more File mode t text (first_place File)) → IfErr r (BothStop more prelude text mode s)
+file_was_stopped (Ok x) names more prelude text mode s t e h k = tt
+file_was_stopped (Err x) names more prelude text mode s t e h k = file_stops names more prelude text mode s t x e h k
+
+-- a file that is too long is refused under any table of names
+pub too_long_refused : (prelude text : List ℕ) (mode : Mode) → longest_file < length text → Refuses prelude text mode too_long
+too_long_refused prelude text mode h = record {
+  names = [];
+  table = record { once = λ i j t a b. absurd (cc); short = λ i t a. absurd (cc) };
+  verdict = source_too_long h;
+}
