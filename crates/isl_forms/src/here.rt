@@ -8,8 +8,8 @@ ghost use Rattle.isl_profile.specs.Marks.{Grows};
 
 use crate::plan::{Inner, Parts, Plan, Work};
 use isl_base::{Datum, NoMemory, Place, Reason};
-use isl_meaning::{Core, LiteralRow, SiteId};
-use isl_profile::{BoundList, Made, Making, Spot, Tables};
+use isl_meaning::{LiteralRow, SiteId};
+use isl_profile::{BoundList, Leaf, Made, Making, Spot, Tables};
 use std::alloc::Global;
 
 /// Where a form stands: what is bound there, and its place.
@@ -123,10 +123,10 @@ pub(crate) fn made_plain<'a>(
 pub(crate) fn made_at_once<'a>(
     here: Here,
     tables: &mut Tables,
-    form: Core,
+    leaf: Leaf,
 ) -> Result<Plan<'a>, NoMemory>
     ensures plan { IfOk result (λ plan. shown here.entry.bound.now tables.new plan
-        ≡ word.made_at_once (at here.entry.bound.now here.entry.spot) here.entry.place tables.old form) }
+        ≡ word.made_at_once (at here.entry.bound.now here.entry.spot) here.entry.place tables.old leaf) }
     ensures grows { Grows tables.old tables.new }
 {
     if !fits_depth(here.spot, 1) {
@@ -135,14 +135,14 @@ pub(crate) fn made_at_once<'a>(
     let inside = deeper(here.spot, 1);
     let parts = Parts::new(here.alloc);
     let inner = Inner::new(here.alloc);
-    made_plain(here, tables, inside, parts, inner, Making::Ready(form))
+    made_plain(here, tables, inside, parts, inner, Making::Ready(leaf))
 }
 
 /// A core form that has no parts, without a site.
 #[tactic(auto, using(crate::proofs::Lists::nothing_bound))]
-pub(crate) fn unsited<'a>(here: Here, tables: &Tables, form: Core) -> Plan<'a>
+pub(crate) fn unsited<'a>(here: Here, tables: &Tables, leaf: Leaf) -> Plan<'a>
     ensures { shown here.entry.bound.now tables.now result
-        ≡ word.unsited (at here.entry.bound.now here.entry.spot) here.entry.place tables.now form }
+        ≡ word.unsited (at here.entry.bound.now here.entry.spot) here.entry.place tables.now leaf }
 {
     if !fits_depth(here.spot, 1) {
         return offence(here.place, Reason::DepthLimit);
@@ -155,7 +155,7 @@ pub(crate) fn unsited<'a>(here: Here, tables: &Tables, form: Core) -> Plan<'a>
         inner: Inner::new(here.alloc),
         made: Made {
             site: None,
-            making: Making::Ready(form),
+            making: Making::Ready(leaf),
         },
     })
 }
@@ -185,5 +185,5 @@ pub(crate) fn literal_plan<'a>(
 {
     let id = tables.literals.len();
     tables.literals.push(row)?;
-    Ok(unsited(here, tables, Core::literal(id)))
+    Ok(unsited(here, tables, Leaf::Literal(id)))
 }

@@ -17,8 +17,8 @@ use crate::here::{
 use crate::plan::{Inner, Parts, Plan, inner_forms, one_form, push_below, push_form};
 use crate::shapes::{Clauses, clauses_in, is_true, name_of, symbol_of};
 use isl_base::{Datum, Kind, Name, NoMemory, Place, Reason, Symbol};
-use isl_meaning::{Core, CoreForm, LiteralRow};
-use isl_profile::{BodyLengths, Making, One, ReservedWords, Tables, Two, WithBody};
+use isl_meaning::LiteralRow;
+use isl_profile::{BodyLengths, Leaf, Making, One, ReservedWords, Tables, Two, WithBody};
 
 // A symbol that no variable around is: a global variable.
 fn free_symbol<'a>(here: Here, tables: &mut Tables, symbol: Symbol) -> Result<Plan<'a>, NoMemory>
@@ -27,7 +27,7 @@ fn free_symbol<'a>(here: Here, tables: &mut Tables, symbol: Symbol) -> Result<Pl
     ensures grows { Grows tables.old tables.new }
 {
     match symbol {
-        Symbol::Named(name) => made_at_once(here, tables, Core::new(CoreForm::Global(name))),
+        Symbol::Named(name) => made_at_once(here, tables, Leaf::Global(name)),
         Symbol::Fresh { .. } => Ok(offence(here.place, Reason::BadShape)),
     }
 }
@@ -47,7 +47,7 @@ pub(crate) fn symbol_plan<'a>(
         return literal_plan(here, tables, LiteralRow::Datum(datum));
     }
     match variable_of(here.bound, symbol) {
-        Some(variable) => Ok(unsited(here, tables, Core::new(CoreForm::Local(variable)))),
+        Some(variable) => Ok(unsited(here, tables, Leaf::Local(variable))),
         None => free_symbol(here, tables, symbol),
     }
 }
@@ -354,7 +354,7 @@ pub(crate) fn dynamic_plan<'a>(
         return Ok(offence(here.place, Reason::BadShape));
     };
     match dynamic_name(tables.words, datum) {
-        Some(name) => made_at_once(here, tables, Core::new(CoreForm::Dynamic(name))),
+        Some(name) => made_at_once(here, tables, Leaf::Dynamic(name)),
         None => Ok(offence(here.place, Reason::BadShape)),
     }
 }
@@ -389,7 +389,7 @@ fn function_symbol<'a>(
     ensures grows { Grows tables.old tables.new }
 {
     match function_of(here.bound, symbol) {
-        Some(variable) => Ok(unsited(here, tables, Core::new(CoreForm::Local(variable)))),
+        Some(variable) => Ok(unsited(here, tables, Leaf::Local(variable))),
         None => match symbol {
             Symbol::Named(name) => literal_plan(here, tables, LiteralRow::Function(name)),
             Symbol::Fresh { .. } => Ok(offence(here.place, Reason::BadShape)),
@@ -420,17 +420,17 @@ pub(crate) fn function_plan<'a>(
 pub(crate) fn method_plan<'a>(
     here: Here,
     tables: &mut Tables,
-    form: Core,
+    leaf: Leaf,
     items: &[Datum],
 ) -> Result<Plan<'a>, NoMemory>
     ensures plan { IfOk result (λ plan. shown here.entry.bound.now tables.new plan
-        ≡ row.method_row form (at here.entry.bound.now here.entry.spot) tables.old here.entry.place items.now) }
+        ≡ row.method_row leaf (at here.entry.bound.now here.entry.spot) tables.old here.entry.place items.now) }
     ensures grows { Grows tables.old tables.new }
 {
     if !items.is_empty() || !here.spot.in_method {
         return Ok(offence(here.place, Reason::BadShape));
     }
-    made_at_once(here, tables, form)
+    made_at_once(here, tables, leaf)
 }
 
 // The class of a name, that is defined earlier.
