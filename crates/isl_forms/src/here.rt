@@ -119,6 +119,29 @@ pub(crate) fn made_plain<'a>(
     made_of(here, tables, work, making)
 }
 
+/// A core form all of whose parts stand where it stands, with so many core forms of its own.
+#[tactic(auto, using(crate::proofs::Lists::nothing_inside))]
+pub(crate) fn made_within<'a>(
+    here: Here,
+    tables: &mut Tables,
+    own: u32,
+    parts: Parts<'a>,
+    making: Making,
+) -> Result<Plan<'a>, NoMemory>
+    ensures plan { IfOk result (λ plan. shown here.entry.bound.now tables.new plan
+        ≡ word.within_depth own (at here.entry.bound.now here.entry.spot) here.entry.place
+        (word.made_of (at here.entry.bound.now here.entry.spot) (word.deeper 1 (at here.entry.bound.now here.entry.spot))
+        here.entry.place tables.old (view_parts parts.entry) making)) }
+    ensures grows { Grows tables.old tables.new }
+{
+    if !fits_depth(here.spot, own) {
+        return Ok(offence(here.place, Reason::DepthLimit));
+    }
+    let inside = deeper(here.spot, 1);
+    let inner = Inner::new(here.alloc);
+    made_plain(here, tables, inside, parts, inner, making)
+}
+
 /// A core form that has no parts.
 pub(crate) fn made_at_once<'a>(
     here: Here,
@@ -129,13 +152,8 @@ pub(crate) fn made_at_once<'a>(
         ≡ word.made_at_once (at here.entry.bound.now here.entry.spot) here.entry.place tables.old leaf) }
     ensures grows { Grows tables.old tables.new }
 {
-    if !fits_depth(here.spot, 1) {
-        return Ok(offence(here.place, Reason::DepthLimit));
-    }
-    let inside = deeper(here.spot, 1);
     let parts = Parts::new(here.alloc);
-    let inner = Inner::new(here.alloc);
-    made_plain(here, tables, inside, parts, inner, Making::Ready(leaf))
+    made_within(here, tables, 1, parts, Making::Ready(leaf))
 }
 
 /// A core form that has no parts, without a site.

@@ -11,10 +11,10 @@ ghost use Rattle.isl_profile.specs.Marks.{Grows};
 
 use crate::bound::{function_of, variable_of};
 use crate::here::{
-    Here, deeper, deeper_at_top, fits_depth, literal_plan, made_at_once, made_plain, offence,
+    Here, deeper_at_top, fits_depth, literal_plan, made_at_once, made_plain, made_within, offence,
     unsited,
 };
-use crate::plan::{Inner, Parts, Plan, inner_forms, one_form, push_below, push_form};
+use crate::plan::{Parts, Plan, inner_forms, one_form, push_below, push_form};
 use crate::shapes::{Clauses, clauses_in, is_true, name_of, symbol_of};
 use isl_base::{Datum, Kind, Name, NoMemory, Place, Reason, Symbol};
 use isl_meaning::LiteralRow;
@@ -90,13 +90,8 @@ pub(crate) fn one_part<'a>(
         ≡ row.one_part (at here.entry.bound.now here.entry.spot) here.entry.place tables.old kind datum.now) }
     ensures grows { Grows tables.old tables.new }
 {
-    if !fits_depth(here.spot, 1) {
-        return Ok(offence(here.place, Reason::DepthLimit));
-    }
     let parts = one_form(here.alloc, datum)?;
-    let inside = deeper(here.spot, 1);
-    let inner = Inner::new(here.alloc);
-    made_plain(here, tables, inside, parts, inner, Making::OfOne(kind))
+    made_within(here, tables, 1, parts, Making::OfOne(kind))
 }
 
 // A global variable that a form sets is kept.
@@ -263,21 +258,10 @@ pub(crate) fn cond_plan<'a>(
     let Some(clauses) = clauses_in(here.alloc, items)? else {
         return Ok(offence(here.place, Reason::BadShape));
     };
-    if !fits_depth(here.spot, own_depth(&clauses)) {
-        return Ok(offence(here.place, Reason::DepthLimit));
-    }
     let lengths = clause_lengths(here, &clauses)?;
     let parts = clause_parts(here, &clauses)?;
-    let inside = deeper(here.spot, 1);
-    let inner = Inner::new(here.alloc);
-    made_plain(
-        here,
-        tables,
-        inside,
-        parts,
-        inner,
-        Making::OfClauses(lengths),
-    )
+    let own = own_depth(&clauses);
+    made_within(here, tables, own, parts, Making::OfClauses(lengths))
 }
 
 /// Two forms: `(throw x x)`, `(%apply x x)`.
@@ -294,14 +278,9 @@ pub(crate) fn two_plan<'a>(
     let [first, second] = items else {
         return Ok(offence(here.place, Reason::BadShape));
     };
-    if !fits_depth(here.spot, 1) {
-        return Ok(offence(here.place, Reason::DepthLimit));
-    }
     let mut parts = one_form(here.alloc, first)?;
     push_form(&mut parts, second)?;
-    let inside = deeper(here.spot, 1);
-    let inner = Inner::new(here.alloc);
-    made_plain(here, tables, inside, parts, inner, Making::OfTwo(kind))
+    made_within(here, tables, 1, parts, Making::OfTwo(kind))
 }
 
 /// A form and a body: `(while x f*)`, `(catch x f*)`, `(unwind-protect x f*)`, `(with-handler x f*)`.
@@ -318,14 +297,9 @@ pub(crate) fn body_plan<'a>(
     let [first, body @ ..] = items else {
         return Ok(offence(here.place, Reason::BadShape));
     };
-    if !fits_depth(here.spot, 2) {
-        return Ok(offence(here.place, Reason::DepthLimit));
-    }
     let mut parts = one_form(here.alloc, first)?;
     push_below(&mut parts, body)?;
-    let inside = deeper(here.spot, 1);
-    let inner = Inner::new(here.alloc);
-    made_plain(here, tables, inside, parts, inner, Making::OfBody(kind))
+    made_within(here, tables, 2, parts, Making::OfBody(kind))
 }
 
 // The name of a dynamic variable: a symbol with a name, and not `t`.
