@@ -3,7 +3,7 @@ use Rattle.std.specs.Prelude.{◌≡◌, List, [], ◌∷◌, ◌++◌}
 use Rattle.std.specs.Borrow.{Bor}
 use Rattle.std.proofs.Common.{refl, ap}
 use Rattle.std.proofs.lemmas.List.{append-nil}
-use Rattle.isl_profile.specs.Nodes.{inner}
+use Rattle.isl_profile.specs.Nodes.{Part, inner}
 use Rattle.isl_profile.specs.RowWords.{each_inner}
 use Rattle.isl_forms.specs.Views.{view_inner, data_of}
 use Rattle.isl_profile.specs.declared.bound.Bound.{Bound}
@@ -16,6 +16,10 @@ shown_items ds = items_list-items_of ds
 -- nothing more is bound
 pub nothing_bound : (bs : List Bound) → bs ++ [] ≡ bs
 nothing_bound bs = append-nil bs
+
+-- nothing stands inside
+pub nothing_inside : (xs : List Part) → xs ++ [] ≡ xs
+nothing_inside xs = append-nil xs
 
 -- forms inside, of data that are borrowed
 pub shown_inner : (ds : List (Bor Item)) → view_inner ds ≡ each_inner (data_of ds)

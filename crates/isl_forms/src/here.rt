@@ -8,8 +8,8 @@ ghost use Rattle.isl_profile.specs.Marks.{Grows};
 
 use crate::plan::{Inner, Parts, Plan, Work};
 use isl_base::{Datum, NoMemory, Place, Reason};
-use isl_meaning::{Core, LiteralRow, SiteId};
-use isl_profile::{BoundList, Made, Making, Spot, Tables};
+use isl_meaning::{LiteralRow, SiteId};
+use isl_profile::{BoundList, Leaf, Made, Making, Spot, Tables};
 use std::alloc::Global;
 
 /// Where a form stands: what is bound there, and its place.
@@ -119,30 +119,48 @@ pub(crate) fn made_plain<'a>(
     made_of(here, tables, work, making)
 }
 
+/// A core form all of whose parts stand where it stands, with so many core forms of its own.
+#[tactic(auto, using(crate::proofs::Lists::nothing_inside))]
+pub(crate) fn made_within<'a>(
+    here: Here,
+    tables: &mut Tables,
+    own: u32,
+    parts: Parts<'a>,
+    making: Making,
+) -> Result<Plan<'a>, NoMemory>
+    ensures plan { IfOk result (λ plan. shown here.entry.bound.now tables.new plan
+        ≡ word.within_depth own (at here.entry.bound.now here.entry.spot) here.entry.place
+        (word.made_of (at here.entry.bound.now here.entry.spot) (word.deeper 1 (at here.entry.bound.now here.entry.spot))
+        here.entry.place tables.old (view_parts parts.entry) making)) }
+    ensures grows { Grows tables.old tables.new }
+{
+    if !fits_depth(here.spot, own) {
+        return Ok(offence(here.place, Reason::DepthLimit));
+    }
+    let inside = deeper(here.spot, 1);
+    let inner = Inner::new(here.alloc);
+    made_plain(here, tables, inside, parts, inner, making)
+}
+
 /// A core form that has no parts.
 pub(crate) fn made_at_once<'a>(
     here: Here,
     tables: &mut Tables,
-    form: Core,
+    leaf: Leaf,
 ) -> Result<Plan<'a>, NoMemory>
     ensures plan { IfOk result (λ plan. shown here.entry.bound.now tables.new plan
-        ≡ word.made_at_once (at here.entry.bound.now here.entry.spot) here.entry.place tables.old form) }
+        ≡ word.made_at_once (at here.entry.bound.now here.entry.spot) here.entry.place tables.old leaf) }
     ensures grows { Grows tables.old tables.new }
 {
-    if !fits_depth(here.spot, 1) {
-        return Ok(offence(here.place, Reason::DepthLimit));
-    }
-    let inside = deeper(here.spot, 1);
     let parts = Parts::new(here.alloc);
-    let inner = Inner::new(here.alloc);
-    made_plain(here, tables, inside, parts, inner, Making::Ready(form))
+    made_within(here, tables, 1, parts, Making::Ready(leaf))
 }
 
 /// A core form that has no parts, without a site.
 #[tactic(auto, using(crate::proofs::Lists::nothing_bound))]
-pub(crate) fn unsited<'a>(here: Here, tables: &Tables, form: Core) -> Plan<'a>
+pub(crate) fn unsited<'a>(here: Here, tables: &Tables, leaf: Leaf) -> Plan<'a>
     ensures { shown here.entry.bound.now tables.now result
-        ≡ word.unsited (at here.entry.bound.now here.entry.spot) here.entry.place tables.now form }
+        ≡ word.unsited (at here.entry.bound.now here.entry.spot) here.entry.place tables.now leaf }
 {
     if !fits_depth(here.spot, 1) {
         return offence(here.place, Reason::DepthLimit);
@@ -155,7 +173,7 @@ pub(crate) fn unsited<'a>(here: Here, tables: &Tables, form: Core) -> Plan<'a>
         inner: Inner::new(here.alloc),
         made: Made {
             site: None,
-            making: Making::Ready(form),
+            making: Making::Ready(leaf),
         },
     })
 }
@@ -185,5 +203,5 @@ pub(crate) fn literal_plan<'a>(
 {
     let id = tables.literals.len();
     tables.literals.push(row)?;
-    Ok(unsited(here, tables, Core::literal(id)))
+    Ok(unsited(here, tables, Leaf::Literal(id)))
 }

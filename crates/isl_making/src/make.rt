@@ -17,7 +17,7 @@ use isl_meaning::{Core, CoreForm, SiteId};
 use isl_profile::{FoundList, Made, Making, Tables};
 use lists::{make_clauses, make_dynamics, make_segments};
 use parts::{make_block, make_function, make_let};
-use simple::{call_of_local, make_one, make_two, make_with_body};
+use simple::{call_of_local, leaf_form, make_one, make_two, make_with_body};
 use sort::sort_found;
 use std::alloc::Global;
 
@@ -28,7 +28,7 @@ fn make(alloc: Global, making: Making, found: FoundList) -> Result<Core, NoMemor
     let sorted = sort_found(alloc, found)?;
     let forms = sorted.forms;
     match making {
-        Making::Ready(core) => Ok(core),
+        Making::Ready(leaf) => Ok(leaf_form(alloc, leaf)),
         Making::OfOne(one) => make_one(alloc, one, forms),
         Making::OfTwo(two) => make_two(alloc, two, forms),
         Making::OfBody(with_body) => make_with_body(alloc, with_body, forms),
@@ -45,7 +45,7 @@ fn make(alloc: Global, making: Making, found: FoundList) -> Result<Core, NoMemor
         }
         Making::OfBlock(exit) => make_block(alloc, exit, forms),
         Making::OfSegments(exit, lengths) => make_segments(alloc, exit, &lengths, forms),
-        Making::OfFunctionNamed(_, _, _, _, form) => Ok(form),
+        Making::OfFunctionNamed(_, _, _, _, leaf) => Ok(leaf_form(alloc, leaf)),
     }
 }
 
@@ -89,8 +89,8 @@ pub fn complete(
             finish_one(one, tables)?;
             Ok(core)
         }
-        Making::OfFunctionNamed(name, required, rest, of_file, form) => {
-            let core = at_site(alloc, site, form)?;
+        Making::OfFunctionNamed(name, required, rest, of_file, leaf) => {
+            let core = at_site(alloc, site, leaf_form(alloc, leaf))?;
             let procedure = procedure_found(alloc, name, required, rest, found)?;
             define_function(name, procedure, of_file, tables)?;
             Ok(core)

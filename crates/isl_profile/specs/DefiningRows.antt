@@ -9,13 +9,13 @@ use Rattle.isl_base.specs.declared.reason.Reason.{Reason}
 use Rattle.isl_base.specs.declared.reason.Reason.TheVariants.{DuplicateName, NotTopLevel, ReservedName, ConstantSet}
 use Rattle.isl_base.specs.Data.{Item}
 use Rattle.isl_meaning.specs.declared.program.LiteralRow.TheVariants as row
-use Rattle.isl_meaning.specs.Form.{Form, literal}
 use Rattle.isl_profile.specs.declared.tables.Tables.{Tables}
+use Rattle.isl_profile.specs.declared.making.Leaf.{Leaf}
+use Rattle.isl_profile.specs.declared.making.Leaf.TheVariants.{Literal, Nothing}
 use Rattle.isl_profile.specs.declared.making.One.TheVariants.{DefineGlobal, DefineDynamic}
 use Rattle.isl_profile.specs.declared.making.Making.TheVariants.{OfFunctionNamed}
 use Rattle.isl_profile.specs.declared.parameters.Parameters.{Parameters}
 use Rattle.isl_profile.specs.Nodes.{Around, Node, offends, whole, Part}
-use Rattle.isl_profile.specs.Makings.{nothing}
 use Rattle.isl_profile.specs.Shapes.{symbol_of, name_of, parameters_in, all_symbols}
 use Rattle.isl_profile.specs.RowWords.{alone, within_depth, with_literal, each_inner, each_parameter, bad_shape, bad_binding}
 use Rattle.isl_profile.specs.ValueRows.{one_part}
@@ -100,9 +100,9 @@ abbrev pub with_name : Bool → Item → Tables → Tables
 with_name true d s = with_literal (row.Datum d) s
 with_name false d s = s
 
-abbrev pub named_form : Bool → Tables → Form
-named_form true s = literal (length s.literals)
-named_form false s = nothing
+abbrev pub named_form : Bool → Tables → Leaf
+named_form true s = Literal (length s.literals)
+named_form false s = Nothing
 
 abbrev pub function_parts : Parameters → List Item → List Part
 function_parts ps fs = each_parameter (all_symbols ps) ++ each_inner fs

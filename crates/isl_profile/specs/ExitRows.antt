@@ -4,11 +4,11 @@ use Rattle.isl_base.specs.declared.place.Place.{Place}
 use Rattle.isl_base.specs.declared.datum.Symbol.{Symbol}
 use Rattle.isl_base.specs.declared.reason.Reason.TheVariants.{UnknownBlock, UnknownTag}
 use Rattle.isl_base.specs.Data.{Item}
-use Rattle.isl_meaning.specs.Form.{go}
 use Rattle.isl_profile.specs.declared.bound.Bound.TheVariants.{Block, Tags}
 use Rattle.isl_profile.specs.declared.bound.Target.{Target}
 use Rattle.isl_profile.specs.declared.tables.Tables.{Tables}
 use Rattle.isl_profile.specs.Names.{block_of, tag_of}
+use Rattle.isl_profile.specs.declared.making.Leaf.TheVariants.{Go}
 use Rattle.isl_profile.specs.declared.making.Making.TheVariants.{OfBlock, OfSegments}
 use Rattle.isl_profile.specs.declared.making.One.TheVariants.{ReturnTo}
 use Rattle.isl_profile.specs.Nodes.{Around, Node, with_bound}
@@ -58,7 +58,7 @@ tagbody_row a s p ds =
 
 abbrev pub go_to : Around → Tables → Place → Symbol → Option Target → Node
 go_to a s p x None = no_such p UnknownTag (name_of x)
-go_to a s p x (Some target) = made_at_once a p s (go target.exit target.segment)
+go_to a s p x (Some target) = made_at_once a p s (Go target.exit target.segment)
 
 abbrev pub go_as : Around → Tables → Place → Option Symbol → Node
 go_as a s p None = bad_shape p

@@ -8,9 +8,10 @@ use Rattle.isl_derived.specs.Derived.{Derives, new_symbols}
 use Rattle.isl_profile.specs.declared.tables.Tables.{Tables}
 use Rattle.isl_profile.specs.declared.making.Found.{Found}
 use Rattle.isl_profile.specs.declared.making.Made.{Made}
+use Rattle.isl_profile.specs.declared.making.Leaf.TheVariants.{Nothing}
 use Rattle.isl_profile.specs.declared.making.Making.TheVariants.{Ready}
 use Rattle.isl_profile.specs.Nodes.{Around, Part, form, below, inner, bind, parameter, Node, offends, steps, whole, Ending, refused, Standing, Verdict, stands, ended, behind, recorded}
-use Rattle.isl_profile.specs.Makings.{nothing, made_form, finished}
+use Rattle.isl_profile.specs.Makings.{made_form, finished}
 use Rattle.isl_profile.specs.RowWords.{deeper}
 use Rattle.isl_profile.specs.Rows.{node}
 
@@ -27,7 +28,7 @@ subject names o i s (form d) = node names o s d
 subject names o i s (below d) = node names (deeper 1 o) s d
 subject names o i s (inner d) = node names i s d
 subject names o i s (bind x d) = node names o (with_variable s) d
-subject names o i s (parameter x) = whole o i (with_variable s) [] (record { site = None; making = Ready nothing })
+subject names o i s (parameter x) = whole o i (with_variable s) [] (record { site = None; making = Ready Nothing })
 
 -- what all parts came to
 pub record AllFound : Type 0 where

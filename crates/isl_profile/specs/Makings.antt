@@ -5,19 +5,21 @@ use Rattle.isl_base.specs.declared.datum.Name.{Name}
 use Rattle.isl_meaning.specs.declared.part.Part.{Part as Captured}
 use Rattle.isl_meaning.specs.declared.program.Procedure.{Procedure}
 use Rattle.isl_meaning.specs.declared.program.Callee.TheVariants as callee
-use Rattle.isl_meaning.specs.Form.{Form, local, set_local, set_global, def_global, clauses, sequence, let_form, lambda, call, call_value, apply, prim, while_form, block, return_from, tagbody, catch_form, throw, unwind, dynamic_let, set_dynamic, def_dynamic, with_handler, signal_form, continue_form, sited}
+use Rattle.isl_meaning.specs.Form.{Form, literal, local, global, dynamic, go, next_method, has_next, set_local, set_global, def_global, clauses, sequence, let_form, lambda, call, call_value, apply, prim, while_form, block, return_from, tagbody, catch_form, throw, unwind, dynamic_let, set_dynamic, def_dynamic, with_handler, signal_form, continue_form, sited}
 use Rattle.isl_meaning.specs.Form.{Forms, no_form, form_and, ClauseForms, no_clause, clause_and, MaybeForm, no_body, with_body}
 use Rattle.isl_meaning.specs.Form.{BindingForms, no_binding, binding_and, DynamicForms, no_dynamic, dynamic_and}
 use Rattle.isl_meaning.specs.Mentions.{mentions}
 use Rattle.isl_meaning.specs.model.View.{forms}
 use Rattle.isl_profile.specs.declared.tables.Tables.{Tables}
 use Rattle.isl_profile.specs.declared.making.Found.{Found}
+use Rattle.isl_profile.specs.declared.making.Leaf.{Leaf}
 use Rattle.isl_profile.specs.declared.making.One.{One}
 use Rattle.isl_profile.specs.declared.making.Two.{Two}
 use Rattle.isl_profile.specs.declared.making.WithBody.{WithBody}
 use Rattle.isl_profile.specs.declared.making.Making.{Making}
 use Rattle.isl_profile.specs.declared.making.Made.{Made}
 use Rattle.isl_profile.specs.declared.making.Found.TheVariants.{Value, Binding, Parameter}
+use Rattle.isl_profile.specs.declared.making.Leaf.TheVariants.{Literal, Local, Global, Dynamic, Go, NextMethod, HasNext, Nothing}
 use Rattle.isl_profile.specs.declared.making.One.TheVariants.{SetVariable, SetGlobal, DefineGlobal, SetDynamic, DefineDynamic, ReturnTo}
 use Rattle.isl_profile.specs.declared.making.Two.TheVariants.{Applying, Throwing, Signalling, Continuing}
 use Rattle.isl_profile.specs.declared.making.WithBody.TheVariants.{Repeating, Catching, Unwinding, Handling}
@@ -26,6 +28,17 @@ use Rattle.isl_profile.specs.declared.making.Making.TheVariants.{Ready, OfOne, O
 -- forms without a body, where none was found
 abbrev pub nothing : Form
 nothing = sequence no_form
+
+-- forms that have no parts
+abbrev pub leaf_form : Leaf → Form
+leaf_form (Literal n) = literal n
+leaf_form (Local v) = local v
+leaf_form (Global n) = global n.0
+leaf_form (Dynamic n) = dynamic n.0
+leaf_form (Go x k) = go x k
+leaf_form NextMethod = next_method
+leaf_form HasNext = has_next
+leaf_form Nothing = nothing
 
 -- the forms among what was found, and the variables, in order
 
@@ -130,7 +143,7 @@ make_function n rest parts vs body =
     lambda (take n vs) (rest_found rest (drop n vs)) body (filter (λ p. mentions p body) parts)
 
 abbrev pub make : Making → List Found → Form
-make (Ready f) rs = f
+make (Ready l) rs = leaf_form l
 make (OfOne k) rs = make_one k (forms_found rs)
 make (OfTwo k) rs = make_two k (forms_found rs)
 make (OfBody k) rs = make_with_body k (forms_found rs)
@@ -145,7 +158,7 @@ make (OfDynamics ns) rs = dynamic_let (make_dynamics ns (forms_found rs)) (body_
 make (OfFunction n rest parts) rs = make_function n rest parts (variables_found rs) (body_of (forms_found rs))
 make (OfBlock x) rs = block x (body_of (forms_found rs))
 make (OfSegments x ns) rs = tagbody x (make_segments ns (forms_found rs))
-make (OfFunctionNamed name n rest of_file f) rs = f
+make (OfFunctionNamed name n rest of_file l) rs = leaf_form l
 
 abbrev pub at_site : Option ℕ → Form → Form
 at_site None f = f
@@ -193,7 +206,7 @@ finish_one (ReturnTo x) s = s
 
 abbrev pub finish : Making → List Found → Tables → Tables
 finish (OfOne k) rs s = finish_one k s
-finish (OfFunctionNamed name n rest of_file f) rs s = with_function name (procedure_found name n rest rs) of_file s
+finish (OfFunctionNamed name n rest of_file l) rs s = with_function name (procedure_found name n rest rs) of_file s
 finish m rs s = s
 
 abbrev pub finished : Made → List Found → Tables → Tables

@@ -7,10 +7,11 @@ use Rattle.isl_base.specs.declared.reason.Reason.{Reason}
 use Rattle.isl_base.specs.declared.reason.Reason.TheVariants.{BadShape, BadBinding, DepthLimit}
 use Rattle.isl_base.specs.Data.{Item, place_of}
 use Rattle.isl_meaning.specs.declared.program.LiteralRow.{LiteralRow}
-use Rattle.isl_meaning.specs.Form.{Form, literal}
 use Rattle.isl_profile.specs.declared.bound.Bound.{Bound}
 use Rattle.isl_profile.specs.declared.spot.Spot.{Spot}
 use Rattle.isl_profile.specs.declared.tables.Tables.{Tables}
+use Rattle.isl_profile.specs.declared.making.Leaf.{Leaf}
+use Rattle.isl_profile.specs.declared.making.Leaf.TheVariants.{Literal}
 use Rattle.isl_profile.specs.declared.making.Making.{Making}
 use Rattle.isl_profile.specs.declared.making.Making.TheVariants.{Ready}
 use Rattle.isl_profile.specs.Nodes.{Around, Part, form, below, inner, bind, parameter, Node, offends, whole}
@@ -65,18 +66,18 @@ abbrev pub made_of : Around → Around → Place → Tables → List Part → Ma
 made_of a i p s xs m = whole (deeper 1 a) i (with_site a p s) xs (record { site = next_site a s; making = m })
 
 -- a core form that has no parts
-abbrev pub made_at_once : Around → Place → Tables → Form → Node
-made_at_once a p s f = within_depth 1 a p (made_of a (deeper 1 a) p s [] (Ready f))
+abbrev pub made_at_once : Around → Place → Tables → Leaf → Node
+made_at_once a p s l = within_depth 1 a p (made_of a (deeper 1 a) p s [] (Ready l))
 
 -- the same without a site, as that of a literal and of a variable
-abbrev pub unsited : Around → Place → Tables → Form → Node
-unsited a p s f = within_depth 1 a p (whole a a s [] (record { site = None; making = Ready f }))
+abbrev pub unsited : Around → Place → Tables → Leaf → Node
+unsited a p s l = within_depth 1 a p (whole a a s [] (record { site = None; making = Ready l }))
 
 abbrev pub with_literal : LiteralRow → Tables → Tables
 with_literal row s = record s { literals = s.literals ++ row ∷ [] }
 
 abbrev pub literal_node : Around → Place → Tables → LiteralRow → Node
-literal_node a p s row = unsited a p (with_literal row s) (literal (length s.literals))
+literal_node a p s row = unsited a p (with_literal row s) (Literal (length s.literals))
 
 -- parts
 

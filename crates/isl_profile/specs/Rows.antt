@@ -11,7 +11,6 @@ use Rattle.isl_base.specs.declared.reason.Refusal.{Refusal}
 use Rattle.isl_base.specs.Data.{Item, item, integer, character, symbol, string, vector, nil, list, items_list, Tail, no_tail, dotted, place_of}
 use Rattle.isl_base.specs.DataNames.{symbol_text, text_of}
 use Rattle.isl_meaning.specs.declared.program.LiteralRow.TheVariants as row
-use Rattle.isl_meaning.specs.Form.{next_method, has_next}
 use Rattle.isl_classes.specs.InheritedClasses.{class_named}
 use Rattle.isl_derived.specs.Asked.{list_items, is_word}
 use Rattle.isl_derived.specs.Derived.{Derivation, plain, unfit, becomes, derivation}
@@ -20,6 +19,7 @@ use Rattle.isl_profile.specs.declared.special.Special.TheVariants as name
 use Rattle.isl_profile.specs.declared.tables.Tables.{Tables}
 use Rattle.isl_profile.specs.Words.{special_named, is_left_out, is_kept, is_reserved_text}
 use Rattle.isl_profile.specs.Names.{function_of}
+use Rattle.isl_profile.specs.declared.making.Leaf.TheVariants.{NextMethod, HasNext}
 use Rattle.isl_profile.specs.declared.making.Two.TheVariants.{Applying, Throwing}
 use Rattle.isl_profile.specs.declared.making.WithBody.TheVariants.{Repeating, Catching, Unwinding, Handling}
 use Rattle.isl_profile.specs.declared.making.Making.TheVariants.{CallOfValue}
@@ -84,8 +84,8 @@ special_row names name.SetDynamic a s p ds = set_dynamic_row a s p ds
 special_row names name.WithHandler a s p ds = body_row Handling a s p ds
 special_row names name.Function a s p ds = function_row a s p ds
 special_row names name.Class a s p ds = class_row a s p ds
-special_row names name.CallNextMethod a s p ds = method_row next_method a s p ds
-special_row names name.NextMethodP a s p ds = method_row has_next a s p ds
+special_row names name.CallNextMethod a s p ds = method_row NextMethod a s p ds
+special_row names name.NextMethodP a s p ds = method_row HasNext a s p ds
 special_row names name.WithFunctions a s p ds = with_functions_row (functions_kept names ds) a s p ds
 special_row names name.Defglobal a s p ds = global_row false a s p ds
 special_row names name.Defconstant a s p ds = global_row true a s p ds

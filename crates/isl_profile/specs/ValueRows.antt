@@ -9,15 +9,16 @@ use Rattle.isl_base.specs.declared.datum.Symbol.TheVariants.{Named, Fresh}
 use Rattle.isl_base.specs.declared.reason.Reason.TheVariants.{ConstantSet, UnknownClass}
 use Rattle.isl_base.specs.Data.{Item, item, integer, character, symbol, string, vector, nil, list, place_of}
 use Rattle.isl_meaning.specs.declared.program.LiteralRow.TheVariants as row
-use Rattle.isl_meaning.specs.Form.{Form, local, global, dynamic}
 use Rattle.isl_classes.specs.InheritedClasses.{class_named}
 use Rattle.isl_profile.specs.declared.tables.Tables.{Tables}
 use Rattle.isl_profile.specs.declared.tables.GlobalRow.{GlobalRow}
 use Rattle.isl_profile.specs.declared.tables.ReservedWords.{ReservedWords}
 use Rattle.isl_profile.specs.Names.{variable_of, function_of}
+use Rattle.isl_profile.specs.declared.making.Leaf.{Leaf}
 use Rattle.isl_profile.specs.declared.making.One.{One}
 use Rattle.isl_profile.specs.declared.making.Two.{Two}
 use Rattle.isl_profile.specs.declared.making.WithBody.{WithBody}
+use Rattle.isl_profile.specs.declared.making.Leaf.TheVariants.{Local, Global, Dynamic}
 use Rattle.isl_profile.specs.declared.making.One.TheVariants.{SetVariable, SetGlobal, SetDynamic}
 use Rattle.isl_profile.specs.declared.making.Making.TheVariants.{OfOne, OfTwo, OfBody, InSequence, OfClauses}
 use Rattle.isl_profile.specs.Nodes.{Around, Node, offends, form, Part}
@@ -27,11 +28,11 @@ use Rattle.isl_profile.specs.RowWords.{deeper, deeper_at_top, within_depth, made
 -- a symbol: `t`, a variable around, or a global variable
 
 abbrev pub free_symbol : Around → Place → Tables → Symbol → Node
-free_symbol a p s (Named n) = made_at_once a p s (global n.0)
+free_symbol a p s (Named n) = made_at_once a p s (Global n)
 free_symbol a p s (Fresh e serial) = bad_shape p
 
 abbrev pub symbol_as : Around → Place → Tables → Symbol → Option ℕ → Node
-symbol_as a p s x (Some v) = unsited a p s (local v)
+symbol_as a p s x (Some v) = unsited a p s (Local v)
 symbol_as a p s x None = free_symbol a p s x
 
 abbrev pub symbol_node : Around → Place → Tables → Symbol → Node
@@ -143,7 +144,7 @@ dynamic_name w (Some x) = if is_true w x then None else name_of x
 
 abbrev pub dynamic_as : Around → Tables → Place → Option Name → Node
 dynamic_as a s p None = bad_shape p
-dynamic_as a s p (Some n) = made_at_once a p s (dynamic n.0)
+dynamic_as a s p (Some n) = made_at_once a p s (Dynamic n)
 
 abbrev pub dynamic_row : Around → Tables → Place → List Item → Node
 dynamic_row a s p (v ∷ []) = dynamic_as a s p (dynamic_name s.words (symbol_of v))
@@ -167,7 +168,7 @@ function_named a s p (Named n) = literal_node a p s (row.Function n)
 function_named a s p (Fresh e serial) = bad_shape p
 
 abbrev pub function_as : Around → Tables → Place → Symbol → Option ℕ → Node
-function_as a s p x (Some v) = unsited a p s (local v)
+function_as a s p x (Some v) = unsited a p s (Local v)
 function_as a s p x None = function_named a s p x
 
 abbrev pub function_symbol : Around → Tables → Place → Option Symbol → Node
@@ -180,9 +181,9 @@ function_row a s p [] = bad_shape p
 function_row a s p (d ∷ e ∷ ds) = bad_shape p
 
 -- (call-next-method) and (next-method-p), in a method that may have a next one
-abbrev pub method_row : Form → Around → Tables → Place → List Item → Node
-method_row f a s p [] = if a.spot.in_method then made_at_once a p s f else bad_shape p
-method_row f a s p (d ∷ ds) = bad_shape p
+abbrev pub method_row : Leaf → Around → Tables → Place → List Item → Node
+method_row l a s p [] = if a.spot.in_method then made_at_once a p s l else bad_shape p
+method_row l a s p (d ∷ ds) = bad_shape p
 
 -- (class c): a class that is defined earlier
 

@@ -10,7 +10,7 @@ pub mod spot;
 pub mod tables;
 
 pub use bound::{Bound, BoundList, Target};
-pub use making::{BodyLengths, Found, FoundList, Lengths, Made, Making, One, Two, WithBody};
+pub use making::{BodyLengths, Found, FoundList, Leaf, Lengths, Made, Making, One, Two, WithBody};
 pub use parameters::Parameters;
 pub use special::{Special, is_special_name, special_named};
 pub use spot::Spot;

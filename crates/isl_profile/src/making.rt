@@ -1,7 +1,7 @@
 // How a core form is made of what was found of its parts.
 
 use isl_base::{ItemList, Name, NameList};
-use isl_meaning::{Core, ExitVar, PartList, Primitive, SiteId, Var};
+use isl_meaning::{Core, ExitVar, LiteralId, PartList, Primitive, SiteId, Var};
 
 /// What was found of a part: its core form, that of a variable's value with the variable, or a
 /// parameter.
@@ -14,6 +14,21 @@ pub enum Found {
 
 /// What was found of the parts of a form, in their order.
 pub type FoundList = ItemList<Found>;
+
+/// A form that has no parts.
+#[derive(Clone, Copy)]
+pub enum Leaf {
+    Literal(LiteralId),
+    Local(Var),
+    Global(Name),
+    Dynamic(Name),
+    /// A transfer to a segment.
+    Go(ExitVar, u32),
+    NextMethod,
+    HasNext,
+    /// No forms.
+    Nothing,
+}
 
 /// A form with one part.
 #[derive(Clone, Copy)]
@@ -54,8 +69,7 @@ pub type Lengths = ItemList<usize>;
 /// How a core form is made of what was found of its parts.
 #[derive(Drop)]
 pub enum Making {
-    /// It has no parts.
-    Ready(Core),
+    Ready(Leaf),
     OfOne(One),
     OfTwo(Two),
     OfBody(WithBody),
@@ -80,7 +94,7 @@ pub enum Making {
     OfSegments(ExitVar, Lengths),
     /// The function of that name, with so many required variables, a rest variable or none, and a body.
     /// The definition, of a file or not, stands for that form.
-    OfFunctionNamed(Name, usize, bool, bool, Core),
+    OfFunctionNamed(Name, usize, bool, bool, Leaf),
 }
 
 /// How a core form is made, and its site where it has one.

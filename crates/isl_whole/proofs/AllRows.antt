@@ -10,10 +10,10 @@ use Rattle.isl_base.specs.DataFormed.{formed_tells}
 use Rattle.isl_base.specs.DataNames.{symbol_text}
 use Rattle.isl_base.specs.DataParts.{AllOf}
 use Rattle.isl_base.specs.GoodData.{Good}
-use Rattle.isl_meaning.specs.Form.{next_method, has_next}
 use Rattle.isl_meaning.specs.declared.program.LiteralRow.TheVariants as row
 use Rattle.isl_derived.specs.Asked.{list_items}
 use Rattle.isl_derived.specs.Derived.{Derivation, plain, unfit, becomes, derivation}
+use Rattle.isl_profile.specs.declared.making.Leaf.TheVariants.{NextMethod, HasNext}
 use Rattle.isl_profile.specs.declared.making.Two.TheVariants.{Applying, Throwing}
 use Rattle.isl_profile.specs.declared.making.WithBody.TheVariants.{Repeating, Catching, Unwinding, Handling}
 use Rattle.isl_profile.specs.declared.making.Making.TheVariants.{CallOfValue}
@@ -61,8 +61,8 @@ apt_special names n name.SetDynamic a s p ds b g = apt_set_dynamic n a s p ds b 
 apt_special names n name.WithHandler a s p ds b g = apt_body n Handling a s p ds b g
 apt_special names n name.Function a s p ds b g = apt_function n a s p ds b
 apt_special names n name.Class a s p ds b g = apt_class n a s p ds b
-apt_special names n name.CallNextMethod a s p ds b g = apt_method n next_method a s p ds b next_of_methods
-apt_special names n name.NextMethodP a s p ds b g = apt_method n has_next a s p ds b has_of_methods
+apt_special names n name.CallNextMethod a s p ds b g = apt_method n NextMethod a s p ds b next_of_methods
+apt_special names n name.NextMethodP a s p ds b g = apt_method n HasNext a s p ds b has_of_methods
 apt_special names n name.WithFunctions a s p ds b g = apt_with_functions n (functions_kept names ds) a s p ds b g
 apt_special names n name.Defglobal a s p ds b g = apt_global n false a s p ds b g
 apt_special names n name.Defconstant a s p ds b g = apt_global n true a s p ds b g

@@ -11,7 +11,7 @@ use Rattle.isl_base.specs.DataParts.{AllOf}
 use Rattle.isl_base.specs.GoodData.{Good}
 use Rattle.isl_meaning.specs.declared.program.LiteralRow.{LiteralRow}
 use Rattle.isl_meaning.specs.declared.scope.LexicalScope.{LexicalScope}
-use Rattle.isl_meaning.specs.Form.{Form, literal}
+use Rattle.isl_meaning.specs.Form.{Form}
 use Rattle.isl_meaning.specs.Subforms.{Each}
 use Rattle.isl_meaning.specs.Counts.{all_nodes}
 use Rattle.isl_meaning.specs.Facts.{literal_fits}
@@ -20,10 +20,12 @@ use Rattle.isl_profile.specs.declared.spot.Spot.{Spot}
 use Rattle.isl_profile.specs.declared.tables.Tables.{Tables}
 use Rattle.isl_profile.specs.declared.making.Found.{Found}
 use Rattle.isl_profile.specs.declared.making.Made.{Made}
+use Rattle.isl_profile.specs.declared.making.Leaf.{Leaf}
+use Rattle.isl_profile.specs.declared.making.Leaf.TheVariants.{Literal}
 use Rattle.isl_profile.specs.declared.making.Making.{Making}
 use Rattle.isl_profile.specs.declared.making.Making.TheVariants.{Ready}
 use Rattle.isl_profile.specs.Nodes.{Around, Part, form, below, inner, bind, parameter, Node, offends, steps, whole}
-use Rattle.isl_profile.specs.Makings.{make, at_site, made_form, finish, finished}
+use Rattle.isl_profile.specs.Makings.{leaf_form, make, at_site, made_form, finish, finished}
 use Rattle.isl_profile.specs.Shapes.{Pair}
 use Rattle.isl_profile.specs.RowWords.{deeper, with_site_if, site_if, within_depth, made_of, made_at_once, unsited, with_literal, literal_node, each_form, each_below, each_inner, each_bound, each_parameter}
 use Rattle.isl_profile.specs.bridge.GoodParts.{GoodPairs}
@@ -132,9 +134,9 @@ apt_within n a s k p x h = where_true n a s (nat_le (a.spot.depth + k) 1000) p x
 
 -- nodes without parts, at no site
 
-pub apt_unsited : (n : ℕ) (a : Around) (s : Tables) (p : Place) (t : Tables) (f : Form) → Stage a s → Entered (defined s) (defined t) → Counted a.spot.sited (defined s) (defined t) 0
-    → ((h k : Definitions) → Numbered h k f) → ((h : Definitions) → Later (defined t) h → a.spot.depth + 1 ≤ 1000 → RightAt h a f) → AptAt n a s (unsited a p t f)
-apt_unsited n a s p t f b e start num r = apt_within n a s 1 p _ (λ l. record {
+pub apt_unsited : (n : ℕ) (a : Around) (s : Tables) (p : Place) (t : Tables) (x : Leaf) → Stage a s → Entered (defined s) (defined t) → Counted a.spot.sited (defined s) (defined t) 0
+    → ((h k : Definitions) → Numbered h k (leaf_form x)) → ((h : Definitions) → Later (defined t) h → a.spot.depth + 1 ≤ 1000 → RightAt h a (leaf_form x)) → AptAt n a s (unsited a p t x)
+apt_unsited n a s p t x b e start num r = apt_within n a s 1 p _ (λ l. record {
   entered = e;
   outside = good_later (defined s) (defined t) a e.later b.good;
   inside = good_later (defined s) (defined t) a e.later b.good;
@@ -144,7 +146,7 @@ apt_unsited n a s p t f b e start num r = apt_within n a s 1 p _ (λ l. record {
   right = λ u rs c. r (defined u) c.later l;
   ends = λ u rs c. behind_same a.spot.top (defined u) c.whole;
   counted = λ u rs c k.
-      counted_more a.spot.sited (defined s) (defined u) (0 + found_nodes rs) (all_nodes f) (omega (arith, none_found (spots (defined u) a a rs) rs c.match))
+      counted_more a.spot.sited (defined s) (defined u) (0 + found_nodes rs) (all_nodes (leaf_form x)) (omega (arith, none_found (spots (defined u) a a rs) rs c.match))
       (counted_then a.spot.sited (defined s) (defined t) (defined u) 0 (found_nodes rs) start k);
   numbered = λ u rs c k. num (defined s) (defined u);
 })
@@ -152,7 +154,7 @@ apt_unsited n a s p t f b e start num r = apt_within n a s 1 p _ (λ l. record {
 pub apt_literal : (n : ℕ) (a : Around) (s : Tables) (p : Place) (x : LiteralRow) → Stage a s → literal_fits (rows_of (defined s)) x ≡ true
     → AptAt n a s (literal_node a p s x)
 apt_literal n a s p x b h =
-    apt_unsited n a s p (with_literal x s) (literal (length s.literals)) b (entered_literal (defined s) x b.whole h) (record { sites = (counted_same a.spot.sited (defined s)).sites }) (λ h k. record { numbers = refl })
+    apt_unsited n a s p (with_literal x s) (Literal (length s.literals)) b (entered_literal (defined s) x b.whole h) (record { sites = (counted_same a.spot.sited (defined s)).sites }) (λ h k. record { numbers = refl })
     (λ k l d. made_literal k (scope_of a) a.spot.depth (length s.literals) d (omega (arith, l.literals, length-append s.literals (x ∷ []))))
 
 -- what a form at its site needs
@@ -257,12 +259,12 @@ plain_parts n a s xs k b x r e m own = record {
 }
 
 -- a form that has no parts, at its site
-pub apt_at_once : (n : ℕ) (a : Around) (s : Tables) (p : Place) (f : Form) → Stage a s → 1 ≤ all_nodes f → ((h k : Definitions) → Numbered h k f)
-    → ((h : Definitions) → a.spot.depth + 1 ≤ 1000 → RightAt h a f)
-    → AptAt n a s (made_at_once a p s f)
-apt_at_once n a s p f b some num r =
-    apt_within n a s 1 p _ (λ l. apt_made n a s (deeper 1 a) p s [] (Ready f) b
-    (plain_parts n a s [] (Ready f) b tt (λ u rs c. r (defined u) l) (λ u rs. refl)
+pub apt_at_once : (n : ℕ) (a : Around) (s : Tables) (p : Place) (x : Leaf) → Stage a s → 1 ≤ all_nodes (leaf_form x) → ((h k : Definitions) → Numbered h k (leaf_form x))
+    → ((h : Definitions) → a.spot.depth + 1 ≤ 1000 → RightAt h a (leaf_form x))
+    → AptAt n a s (made_at_once a p s x)
+apt_at_once n a s p x b some num r =
+    apt_within n a s 1 p _ (λ l. apt_made n a s (deeper 1 a) p s [] (Ready x) b
+    (plain_parts n a s [] (Ready x) b tt (λ u rs c. r (defined u) l) (λ u rs. refl)
     (λ u rs c. omega (arith, some, none_found (spots (defined u) (deeper 1 a) (deeper 1 a) rs) rs c.match))
     (λ u rs. num (defined s) (defined u))))
 

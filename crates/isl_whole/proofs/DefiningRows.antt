@@ -27,7 +27,7 @@ use Rattle.isl_profile.specs.declared.parameters.Parameters.{Parameters}
 use Rattle.isl_profile.specs.declared.making.Found.{Found}
 use Rattle.isl_profile.specs.declared.making.One.TheVariants.{DefineGlobal, DefineDynamic}
 use Rattle.isl_profile.specs.Nodes.{Around, Node}
-use Rattle.isl_profile.specs.Makings.{nothing, forms_found, variables_found, body_of, rest_found, procedure_found}
+use Rattle.isl_profile.specs.Makings.{leaf_form, forms_found, variables_found, body_of, rest_found, procedure_found}
 use Rattle.isl_profile.specs.Shapes.{symbol_of, parameters_in, all_symbols}
 use Rattle.isl_profile.specs.RowWords.{each_parameter, each_inner, alone}
 use Rattle.isl_profile.specs.DefiningRows.{function_parts, named, is_that, has_global, has_dynamic, is_set, is_of_prelude, has_function, is_taken, is_truth, is_reserved, defining_offence, unless_offending, global_as, global_row, defdynamic_as, defdynamic_row, with_name, named_form, defun_of, defun_with, defun_as, defun_row}
@@ -172,7 +172,7 @@ name_entered n true d s w g = entered_literal (defined s) (row.Datum d) w (forme
 name_entered n false d s w g = entered_same (defined s) w
 
 name_right : (sited : Bool) (d : Item) (s : Tables) (h : Definitions) (t : LexicalScope) (k : ℕ) → k + 1 ≤ 1000 → Later (defined (with_name sited d s)) h
-    → RightIn h t k (named_form sited s)
+    → RightIn h t k (leaf_form (named_form sited s))
 name_right true d s h t k l e = made_literal h t k (length s.literals) l (omega (arith, e.literals, length-append s.literals (row.Datum d ∷ [])))
 name_right false d s h t k l e = made_body h t k [] l tt
 
@@ -192,7 +192,7 @@ name_counted : (b sited : Bool) (d : Item) (s : Tables) → Counted b (defined s
 name_counted b true d s = record { sites = (counted_same b (defined s)).sites }
 name_counted b false d s = record { sites = (counted_same b (defined s)).sites }
 
-name_numbered : (sited : Bool) (s : Tables) (h k : Definitions) → Numbered h k (named_form sited s)
+name_numbered : (sited : Bool) (s : Tables) (h k : Definitions) → Numbered h k (leaf_form (named_form sited s))
 name_numbered true s h k = record { numbers = refl }
 name_numbered false s h k = record { numbers = refl }
 

@@ -9,12 +9,13 @@ use Rattle.isl_base.specs.DataParts.{AllOf}
 use Rattle.isl_base.specs.GoodData.{Good}
 use Rattle.isl_meaning.specs.declared.scope.LexicalScope.{LexicalScope}
 use Rattle.isl_meaning.specs.declared.scope.Around.TheVariants as exit
-use Rattle.isl_meaning.specs.Form.{Form, go}
+use Rattle.isl_meaning.specs.Form.{Form}
 use Rattle.isl_meaning.specs.Subforms.{Each}
 use Rattle.isl_meaning.specs.Standing.{with_around}
 use Rattle.isl_profile.specs.declared.tables.Tables.{Tables}
 use Rattle.isl_profile.specs.declared.bound.Target.{Target}
 use Rattle.isl_profile.specs.declared.bound.Bound.TheVariants.{Block, Tags}
+use Rattle.isl_profile.specs.declared.making.Leaf.TheVariants.{Go}
 use Rattle.isl_profile.specs.declared.making.One.TheVariants.{ReturnTo}
 use Rattle.isl_profile.specs.declared.making.Making.TheVariants.{OfBlock, OfSegments}
 use Rattle.isl_profile.specs.Names.{block_of, tag_of}
@@ -138,7 +139,7 @@ apt_tagbody n a s p ds b g =
 apt_go_to : (n : ℕ) (a : Around) (s : Tables) (p : Place) (x : Symbol) (target : Option Target) → Stage a s → tag_of a.bound x ≡ target → AptAt n a s (go_to a s p x target)
 apt_go_to n a s p x None b h = apt_no_such n a s p _ (name_of x)
 apt_go_to n a s p x (Some t) b h =
-    apt_at_once n a s p (go t.exit t.segment) b (omega arith) (λ h k. record { numbers = refl }) (λ k l. made_go k (scope_of a) a.spot.depth t.exit t.segment l (tag_there x a.bound 0 s.exits t b.good.exits h))
+    apt_at_once n a s p (Go t.exit t.segment) b (omega arith) (λ h k. record { numbers = refl }) (λ k l. made_go k (scope_of a) a.spot.depth t.exit t.segment l (tag_there x a.bound 0 s.exits t b.good.exits h))
 
 apt_go_as : (n : ℕ) (a : Around) (s : Tables) (p : Place) (x : Option Symbol) → Stage a s → AptAt n a s (go_as a s p x)
 apt_go_as n a s p None b = tt

@@ -9,7 +9,6 @@ use Rattle.isl_base.specs.declared.reason.Refusal.{Refusal}
 use Rattle.isl_base.specs.Data.{Item, item, integer, character, symbol, string, vector, nil, list, items_list, Tail, no_tail, dotted, place_of}
 use Rattle.isl_base.specs.DataNames.{symbol_text}
 use Rattle.isl_meaning.specs.declared.program.LiteralRow.{LiteralRow}
-use Rattle.isl_meaning.specs.Form.{Form, next_method, has_next}
 use Rattle.isl_classes.specs.InheritedClasses.{class_named}
 use Rattle.isl_derived.specs.Asked.{list_items}
 use Rattle.isl_derived.specs.Derived.{Derivation, plain, unfit, becomes, derivation}
@@ -17,6 +16,8 @@ use Rattle.isl_profile.specs.declared.bound.Bound.{Bound}
 use Rattle.isl_profile.specs.declared.bound.Target.{Target}
 use Rattle.isl_profile.specs.declared.parameters.Parameters.{Parameters}
 use Rattle.isl_profile.specs.declared.tables.Tables.{Tables}
+use Rattle.isl_profile.specs.declared.making.Leaf.{Leaf}
+use Rattle.isl_profile.specs.declared.making.Leaf.TheVariants.{NextMethod, HasNext}
 use Rattle.isl_profile.specs.declared.making.One.{One}
 use Rattle.isl_profile.specs.declared.making.Two.{Two}
 use Rattle.isl_profile.specs.declared.making.Two.TheVariants.{Applying, Throwing}
@@ -164,8 +165,8 @@ begins_within s k a p x h = begins_if s (nat_le (a.spot.depth + k) 1000) x _ h t
 begins_made : (s : Tables) (a : Around) (p : Place) (t : Tables) → Grows s t → Grows s (with_site_if a.spot.sited p t)
 begins_made s a p t g = grows_then s t (with_site_if a.spot.sited p t) g (grows_site a.spot.sited p t)
 
-begins_at_once : (s : Tables) (a : Around) (p : Place) (f : Form) → Begins s (made_at_once a p s f)
-begins_at_once s a p f = begins_within s 1 a p _ (begins_made s a p s (grows_same s))
+begins_at_once : (s : Tables) (a : Around) (p : Place) (l : Leaf) → Begins s (made_at_once a p s l)
+begins_at_once s a p l = begins_within s 1 a p _ (begins_made s a p s (grows_same s))
 
 begins_literal : (s : Tables) (a : Around) (p : Place) (row : LiteralRow) → Begins s (literal_node a p s row)
 begins_literal s a p row = begins_within s 1 a p _ (grows_literal s row)
@@ -267,9 +268,9 @@ begins_function s a p (d ∷ []) = begins_function_symbol s a p (symbol_of d)
 begins_function s a p [] = tt
 begins_function s a p (d ∷ e ∷ ds) = tt
 
-begins_method : (s : Tables) (f : Form) (a : Around) (p : Place) (ds : List Item) → Begins s (method_row f a s p ds)
-begins_method s f a p [] = begins_if s a.spot.in_method _ _ (begins_at_once s a p f) tt
-begins_method s f a p (d ∷ ds) = tt
+begins_method : (s : Tables) (l : Leaf) (a : Around) (p : Place) (ds : List Item) → Begins s (method_row l a s p ds)
+begins_method s l a p [] = begins_if s a.spot.in_method _ _ (begins_at_once s a p l) tt
+begins_method s l a p (d ∷ ds) = tt
 
 begins_class_of : (s : Tables) (q : Place) (a : Around) (p : Place) (c : Option ℕ) → Begins s (class_of q a s p c)
 begins_class_of s q a p None = tt
@@ -456,8 +457,8 @@ begins_special names s name.SetDynamic a p ds = begins_set_dynamic s a p ds
 begins_special names s name.WithHandler a p ds = begins_body s Handling a p ds
 begins_special names s name.Function a p ds = begins_function s a p ds
 begins_special names s name.Class a p ds = begins_class s a p ds
-begins_special names s name.CallNextMethod a p ds = begins_method s next_method a p ds
-begins_special names s name.NextMethodP a p ds = begins_method s has_next a p ds
+begins_special names s name.CallNextMethod a p ds = begins_method s NextMethod a p ds
+begins_special names s name.NextMethodP a p ds = begins_method s HasNext a p ds
 begins_special names s name.WithFunctions a p ds = begins_with_functions s (functions_kept names ds) a p ds
 begins_special names s name.Defglobal a p ds = begins_global s false a p ds
 begins_special names s name.Defconstant a p ds = begins_global s true a p ds

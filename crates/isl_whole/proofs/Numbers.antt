@@ -17,7 +17,7 @@ use Rattle.isl_profile.specs.declared.making.WithBody.{WithBody}
 use Rattle.isl_profile.specs.declared.making.WithBody.TheVariants.{Repeating, Catching, Unwinding, Handling}
 use Rattle.isl_profile.specs.declared.making.Making.{Making}
 use Rattle.isl_profile.specs.declared.making.Making.TheVariants.{Ready, OfOne, OfTwo, OfBody, InSequence, CallOf, CallOfValue, CallOfLocal, CallOfPrimitive, OfClauses, OfVariables, OfDynamics, OfFunction, OfBlock, OfSegments, OfFunctionNamed}
-use Rattle.isl_profile.specs.Makings.{forms_found, variables_found, bindings_found, body_of, make_one, make_two, make_with_body, make_clauses, make_segments, make_dynamics, behind_dynamics, rest_found, make, at_site}
+use Rattle.isl_profile.specs.Makings.{leaf_form, forms_found, variables_found, bindings_found, body_of, make_one, make_two, make_with_body, make_clauses, make_segments, make_dynamics, behind_dynamics, rest_found, make, at_site}
 use Rattle.isl_whole.specs.Definitions.{Definitions, Later}
 use Rattle.isl_whole.specs.Numbers.{is_from, numbers_fit, Numbered}
 use Rattle.isl_whole.proofs.Tests.{all_more}
@@ -67,8 +67,8 @@ pub record AllNumbered (g h : Definitions) (rs : List Found) : Type 0 where
 
 -- what a making itself binds, or the form that it has
 abbrev pub OwnNumbers : Definitions → Definitions → Making → List Found → Type 0
-OwnNumbers g h (Ready f) rs = Numbered g h f
-OwnNumbers g h (OfFunctionNamed name n rest of_file f) rs = Numbered g h f
+OwnNumbers g h (Ready l) rs = Numbered g h (leaf_form l)
+OwnNumbers g h (OfFunctionNamed name n rest of_file l) rs = Numbered g h (leaf_form l)
 OwnNumbers g h OfVariables rs = list_all (is_from g.variables h.variables) (variables_bound (bindings_found rs)) ≡ true
 OwnNumbers g h (OfFunction n rest parts) rs =
     list_all (is_from g.variables h.variables) (parameters (take n (variables_found rs)) (rest_found rest (drop n (variables_found rs)))) ≡ true
@@ -123,7 +123,7 @@ segments_numbered g h [] fs e = tt
 segments_numbered g h (n ∷ ns) fs e = (body_numbered g h (take n fs) (each_taken _ n fs e), segments_numbered g h ns (drop n fs) (each_dropped _ n fs e))
 
 pub make_numbered : (g h : Definitions) (k : Making) (rs : List Found) → AllNumbered g h rs → OwnNumbers g h k rs → Numbered g h (make k rs)
-make_numbered g h (Ready f) rs a o = o
+make_numbered g h (Ready l) rs a o = o
 make_numbered g h (OfOne k) rs a o = one_numbered g h k (forms_found rs) a.forms
 make_numbered g h (OfTwo k) rs a o = two_numbered g h k (forms_found rs) a.forms
 make_numbered g h (OfBody k) rs a o = with_body_numbered g h k (forms_found rs) a.forms
@@ -143,7 +143,7 @@ make_numbered g h (OfFunction n rest parts) rs a o =
     numbered_whole g h _ (and_from _ _ o refl) tt (body_numbered g h (forms_found rs) a.forms, tt)
 make_numbered g h (OfBlock x) rs a o = numbered_whole g h _ (and_from _ _ o refl) tt (body_numbered g h (forms_found rs) a.forms, tt)
 make_numbered g h (OfSegments x ns) rs a o = numbered_whole g h _ (and_from _ _ o refl) tt (segments_numbered g h ns (forms_found rs) a.forms)
-make_numbered g h (OfFunctionNamed name n rest of_file f) rs a o = o
+make_numbered g h (OfFunctionNamed name n rest of_file l) rs a o = o
 
 pub site_numbered : (g h : Definitions) (site : Option ℕ) (f : Form) → Numbered g h f → Numbered g h (at_site site f)
 site_numbered g h None f n = n

@@ -11,12 +11,14 @@ use Rattle.isl_base.specs.DataParts.{AllOf}
 use Rattle.isl_base.specs.GoodData.{Good}
 use Rattle.isl_meaning.specs.declared.program.ClassRow.{ClassRow}
 use Rattle.isl_meaning.specs.declared.program.LiteralRow.TheVariants as row
-use Rattle.isl_meaning.specs.Form.{Form, local, global, dynamic, next_method, has_next}
+use Rattle.isl_meaning.specs.Form.{Form, global, dynamic, next_method, has_next}
 use Rattle.isl_meaning.specs.Standing.{is_variable}
 use Rattle.isl_meaning.specs.Counts.{all_nodes}
 use Rattle.isl_classes.specs.InheritedClasses.{class_named}
 use Rattle.isl_classes.specs.InheritedSlots.{same_name}
 use Rattle.isl_profile.specs.declared.tables.Tables.{Tables}
+use Rattle.isl_profile.specs.declared.making.Leaf.{Leaf}
+use Rattle.isl_profile.specs.declared.making.Leaf.TheVariants.{Local, Global, Dynamic}
 use Rattle.isl_profile.specs.declared.making.One.{One}
 use Rattle.isl_profile.specs.declared.making.One.TheVariants.{SetVariable, SetGlobal, SetDynamic}
 use Rattle.isl_profile.specs.declared.making.Two.{Two}
@@ -28,7 +30,7 @@ use Rattle.isl_profile.specs.Shapes.{symbol_of, is_true, ClauseParts, clauses_in
 use Rattle.isl_profile.specs.RowWords.{unsited, deeper, deeper_at_top, made_at_once, each_below, each_inner, bad_shape}
 use Rattle.isl_profile.specs.ValueRows.{free_symbol, symbol_as, symbol_node, quote_row, is_constant, with_set, one_part, set_free, set_as, set_datum, setq_row, progn_row, clause_lengths, clause_parts, own_depth, cond_as, cond_row, two_row, body_row, dynamic_name, dynamic_as, dynamic_row, set_dynamic_as, set_dynamic_row, function_named, function_as, function_symbol, function_row, method_row, class_of, class_symbol, class_datum, class_row}
 use Rattle.isl_profile.specs.bridge.GoodParts.{GoodClauses, MaybeClauses, good_clauses}
-use Rattle.isl_profile.specs.Makings.{forms_found, make_clauses}
+use Rattle.isl_profile.specs.Makings.{leaf_form, forms_found, make_clauses}
 use Rattle.isl_whole.specs.Definitions.{Definitions, defined}
 use Rattle.isl_whole.specs.Numbers.{Numbered}
 use Rattle.isl_whole.specs.Places.{scope_of}
@@ -46,13 +48,13 @@ use Rattle.isl_whole.proofs.Found.{found_one, one_ends, found_two, found_with_bo
 -- a symbol
 
 apt_free_symbol : (n : ℕ) (a : Around) (p : Place) (s : Tables) (x : Symbol) → Stage a s → AptAt n a s (free_symbol a p s x)
-apt_free_symbol n a p s (Named name) b = apt_at_once n a s p (global name.0) b (omega arith) (λ h k. record { numbers = refl }) (λ h l. right_whole h (scope_of a) a.spot.depth (global name.0) refl refl l refl refl tt tt)
+apt_free_symbol n a p s (Named name) b = apt_at_once n a s p (Global name) b (omega arith) (λ h k. record { numbers = refl }) (λ h l. right_whole h (scope_of a) a.spot.depth (global name.0) refl refl l refl refl tt tt)
 apt_free_symbol n a p s (Fresh e serial) b = tt
 
 -- the value of a variable around
 pub apt_local : (n : ℕ) (a : Around) (p : Place) (s : Tables) (v : ℕ) → Stage a s → is_variable (scope_of a) v ≡ true
-    → AptAt n a s (unsited a p s (local v))
-apt_local n a p s v b e = apt_unsited n a s p s (local v) b (entered_same (defined s) b.whole) (counted_same a.spot.sited (defined s)) (λ h k. record { numbers = refl }) (λ h l d. made_local h (scope_of a) a.spot.depth v d e)
+    → AptAt n a s (unsited a p s (Local v))
+apt_local n a p s v b e = apt_unsited n a s p s (Local v) b (entered_same (defined s) b.whole) (counted_same a.spot.sited (defined s)) (λ h k. record { numbers = refl }) (λ h l d. made_local h (scope_of a) a.spot.depth v d e)
 
 apt_symbol_as : (n : ℕ) (a : Around) (p : Place) (s : Tables) (x : Symbol) (v : Option ℕ) → Stage a s → variable_of a.bound x ≡ v → AptAt n a s (symbol_as a p s x v)
 apt_symbol_as n a p s x (Some v) b e = apt_local n a p s v b (variable_there x a.bound v e)
@@ -173,7 +175,7 @@ apt_body n k a s p (d ∷ ds) b g =
 apt_dynamic_as : (n : ℕ) (a : Around) (s : Tables) (p : Place) (name : Option Name) → Stage a s → AptAt n a s (dynamic_as a s p name)
 apt_dynamic_as n a s p None b = tt
 apt_dynamic_as n a s p (Some name) b =
-    apt_at_once n a s p (dynamic name.0) b (omega arith) (λ h k. record { numbers = refl }) (λ h l. right_whole h (scope_of a) a.spot.depth (dynamic name.0) refl refl l refl refl tt tt)
+    apt_at_once n a s p (Dynamic name) b (omega arith) (λ h k. record { numbers = refl }) (λ h l. right_whole h (scope_of a) a.spot.depth (dynamic name.0) refl refl l refl refl tt tt)
 
 pub apt_dynamic : (n : ℕ) (a : Around) (s : Tables) (p : Place) (ds : List Item) → Stage a s → AptAt n a s (dynamic_row a s p ds)
 apt_dynamic n a s p (v ∷ []) b = apt_dynamic_as n a s p (dynamic_name s.words (symbol_of v)) b
@@ -221,14 +223,14 @@ next_of_methods = record { some = omega arith; numbered = λ h k. record { numbe
 pub has_of_methods : OfMethods has_next
 has_of_methods = record { some = omega arith; numbered = λ h k. record { numbers = refl }; right = λ h a l e. right_whole h (scope_of a) a.spot.depth has_next refl refl l e refl tt tt }
 
-apt_in_method : (n : ℕ) (f : Form) (a : Around) (s : Tables) (p : Place) (m : Bool) → Stage a s → a.spot.in_method ≡ m → OfMethods f
-    → AptAt n a s (if m then made_at_once a p s f else bad_shape p)
-apt_in_method n f a s p true b e o = apt_at_once n a s p f b o.some o.numbered (λ h l. o.right h a l e)
-apt_in_method n f a s p false b e o = tt
+apt_in_method : (n : ℕ) (l : Leaf) (a : Around) (s : Tables) (p : Place) (m : Bool) → Stage a s → a.spot.in_method ≡ m → OfMethods (leaf_form l)
+    → AptAt n a s (if m then made_at_once a p s l else bad_shape p)
+apt_in_method n l a s p true b e o = apt_at_once n a s p l b o.some o.numbered (λ h d. o.right h a d e)
+apt_in_method n l a s p false b e o = tt
 
-pub apt_method : (n : ℕ) (f : Form) (a : Around) (s : Tables) (p : Place) (ds : List Item) → Stage a s → OfMethods f → AptAt n a s (method_row f a s p ds)
-apt_method n f a s p [] b o = apt_in_method n f a s p a.spot.in_method b refl o
-apt_method n f a s p (d ∷ ds) b o = tt
+pub apt_method : (n : ℕ) (l : Leaf) (a : Around) (s : Tables) (p : Place) (ds : List Item) → Stage a s → OfMethods (leaf_form l) → AptAt n a s (method_row l a s p ds)
+apt_method n l a s p [] b o = apt_in_method n l a s p a.spot.in_method b refl o
+apt_method n l a s p (d ∷ ds) b o = tt
 
 -- a class that was found is there
 class_there : (rows : List ClassRow) (name : Name) (c : ℕ) → class_named rows name ≡ Some c → nat_lt c (length rows) ≡ true

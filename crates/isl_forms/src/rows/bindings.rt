@@ -9,10 +9,8 @@ ghost use Rattle.isl_forms.specs.Views.{at, shown, view_parts, view_inner, view_
 ghost use Rattle.isl_profile.specs.Marks.{Grows};
 
 use crate::bound::{parts_around, variable_of};
-use crate::here::{Bindings, Here, deeper, fits_depth, made_of, made_plain, offence};
-use crate::plan::{
-    Inner, Parts, Plan, bound_parts, inner_forms, push_below, push_form, push_parameters,
-};
+use crate::here::{Bindings, Here, deeper, fits_depth, made_of, made_plain, made_within, offence};
+use crate::plan::{Parts, Plan, bound_parts, inner_forms, push_below, push_form, push_parameters};
 use crate::shapes::{PairList, all_symbols, name_of, pairs_in, parameters_in, symbol_of};
 use isl_base::{Datum, NameList, NoMemory, Reason};
 use isl_profile::{Bound, BoundList, Making, Parameters, Tables};
@@ -79,21 +77,9 @@ fn dynamics<'a>(
         ≡ row.dynamics_as (at here.entry.bound.now here.entry.spot) tables.old here.entry.place forms.now (view_pairs pairs.now) (Some names)) }
     ensures grows { Grows tables.old tables.new }
 {
-    if !fits_depth(here.spot, 2) {
-        return Ok(offence(here.place, Reason::DepthLimit));
-    }
     let mut parts = values_of(here, pairs)?;
     push_below(&mut parts, forms)?;
-    let inside = deeper(here.spot, 1);
-    let inner = Inner::new(here.alloc);
-    made_plain(
-        here,
-        tables,
-        inside,
-        parts,
-        inner,
-        Making::OfDynamics(names),
-    )
+    made_within(here, tables, 2, parts, Making::OfDynamics(names))
 }
 
 /// `(dynamic-let ((v x)*) f*)`: dynamic variables have names.

@@ -8,10 +8,10 @@ ghost use Rattle.isl_forms.specs.Views.{at, shown, view_parts, data_of};
 ghost use Rattle.isl_profile.specs.RowWords as word;
 ghost use Rattle.isl_profile.specs.Marks.{Grows};
 
-use crate::here::{Here, deeper, fits_depth, made_plain, offence};
-use crate::plan::{Inner, Parts, Plan, push_form, push_forms};
+use crate::here::{Here, made_within};
+use crate::plan::{Parts, Plan, push_form, push_forms};
 use crate::primitives::primitive_called;
-use isl_base::{Datum, Name, NoMemory, Reason};
+use isl_base::{Datum, Name, NoMemory};
 use isl_meaning::{Primitive, Var};
 use isl_profile::{Making, Tables, Two};
 
@@ -35,13 +35,8 @@ fn all_parts<'a>(
         ≡ row.all_parts making (at here.entry.bound.now here.entry.spot) tables.old here.entry.place items.now) }
     ensures grows { Grows tables.old tables.new }
 {
-    if !fits_depth(here.spot, 1) {
-        return Ok(offence(here.place, Reason::DepthLimit));
-    }
     let parts = all_forms(here, items)?;
-    let inside = deeper(here.spot, 1);
-    let inner = Inner::new(here.alloc);
-    made_plain(here, tables, inside, parts, inner, making)
+    made_within(here, tables, 1, parts, making)
 }
 
 /// A lambda form: the call of the function that its head gives, the operator first.
@@ -55,15 +50,10 @@ pub(crate) fn value_call_plan<'a>(
         ≡ row.all_parts CallOfValue (at here.entry.bound.now here.entry.spot) tables.old here.entry.place (head.now ∷ items.now)) }
     ensures grows { Grows tables.old tables.new }
 {
-    if !fits_depth(here.spot, 1) {
-        return Ok(offence(here.place, Reason::DepthLimit));
-    }
     let mut parts = Parts::new(here.alloc);
     push_form(&mut parts, head)?;
     push_forms(&mut parts, items)?;
-    let inside = deeper(here.spot, 1);
-    let inner = Inner::new(here.alloc);
-    made_plain(here, tables, inside, parts, inner, Making::CallOfValue)
+    made_within(here, tables, 1, parts, Making::CallOfValue)
 }
 
 /// The call of a local function: a variable, and its name a form of its own inside the call.
@@ -77,20 +67,8 @@ pub(crate) fn local_call_plan<'a>(
         ≡ row.local_call variable (at here.entry.bound.now here.entry.spot) tables.old here.entry.place items.now) }
     ensures grows { Grows tables.old tables.new }
 {
-    if !fits_depth(here.spot, 2) {
-        return Ok(offence(here.place, Reason::DepthLimit));
-    }
     let parts = all_forms(here, items)?;
-    let inside = deeper(here.spot, 1);
-    let inner = Inner::new(here.alloc);
-    made_plain(
-        here,
-        tables,
-        inside,
-        parts,
-        inner,
-        Making::CallOfLocal(variable),
-    )
+    made_within(here, tables, 2, parts, Making::CallOfLocal(variable))
 }
 
 // A call of a primitive, or of the function of a name.

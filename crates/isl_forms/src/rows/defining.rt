@@ -14,8 +14,8 @@ use crate::rows::bindings::parameter_parts;
 use crate::rows::values::one_part;
 use crate::shapes::{name_of, parameters_in, symbol_of};
 use isl_base::{Datum, Name, NameList, NoMemory, Reason};
-use isl_meaning::{Core, CoreList, LiteralRow};
-use isl_profile::{BoundList, Made, Making, One, Parameters, Spot, Tables};
+use isl_meaning::LiteralRow;
+use isl_profile::{BoundList, Leaf, Made, Making, One, Parameters, Spot, Tables};
 
 // The name that a definition gives: a symbol with a name.
 fn named(datum: &Datum) -> Option<Name>
@@ -139,18 +139,18 @@ pub(crate) fn defdynamic_plan<'a>(
 }
 
 // The form that a definition of a file stands for: the symbol of its name, whose literal is met first.
-fn named_form(here: Here, tables: &mut Tables, datum: &Datum) -> Result<Core, NoMemory>
+fn named_form(here: Here, tables: &mut Tables, datum: &Datum) -> Result<Leaf, NoMemory>
     ensures form { IfOk result (λ form. form ≡ row.named_form here.entry.spot.sited tables.old) }
     ensures ok { OnOk result (tables.new ≡ row.with_name here.entry.spot.sited datum.now tables.old) }
     ensures grows { Grows tables.old tables.new }
 {
     if !here.spot.sited {
-        return Ok(Core::sequence(CoreList::new(here.alloc)));
+        return Ok(Leaf::Nothing);
     }
     let id = tables.literals.len();
     let literal = LiteralRow::Datum(datum.copy(here.alloc)?);
     tables.literals.push(literal)?;
-    Ok(Core::literal(id))
+    Ok(Leaf::Literal(id))
 }
 
 // Where the forms of a definition's body stand: its depth begins anew.

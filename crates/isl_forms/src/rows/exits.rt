@@ -16,8 +16,7 @@ use crate::plan::{Inner, Parts, Plan, inner_forms};
 use crate::rows::values::one_part;
 use crate::shapes::{all_differ, forms_in, lengths_in, symbol_of, tags_in};
 use isl_base::{Datum, NoMemory, Reason, Symbol};
-use isl_meaning::{Core, CoreForm};
-use isl_profile::{Bound, BoundList, Making, One, Tables};
+use isl_profile::{Bound, BoundList, Leaf, Making, One, Tables};
 
 // The next exit; a form that makes one takes its number.
 fn take_exit(tables: &mut Tables) -> Result<usize, NoMemory>
@@ -159,7 +158,7 @@ fn go_to<'a>(here: Here, tables: &mut Tables, symbol: Symbol) -> Result<Plan<'a>
     let Ok(segment) = u32::try_from(target.segment) else {
         return Err(NoMemory);
     };
-    made_at_once(here, tables, Core::new(CoreForm::Go(target.exit, segment)))
+    made_at_once(here, tables, Leaf::Go(target.exit, segment))
 }
 
 /// `(go tag)`

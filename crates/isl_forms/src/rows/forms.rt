@@ -30,8 +30,8 @@ use crate::rows::values::{
 use crate::shapes::{list_items, symbol_of};
 use isl_base::{Datum, Kind, Names, NoMemory, Reason, Symbol};
 use isl_derived::is_derived_name;
-use isl_meaning::{Core, CoreForm, LiteralRow};
-use isl_profile::{Special, Tables, Two, WithBody, is_special_name, special_named};
+use isl_meaning::LiteralRow;
+use isl_profile::{Leaf, Special, Tables, Two, WithBody, is_special_name, special_named};
 
 // The name of a symbol, where a text names it.
 fn symbol_text<'n>(names: &'n Names, symbol: Symbol) -> Option<&'n [u8]>
@@ -211,10 +211,8 @@ fn special_plan<'a>(
         Special::WithHandler => body_plan(here, tables, WithBody::Handling, items),
         Special::Function => function_plan(here, tables, items),
         Special::Class => class_plan(here, tables, items),
-        Special::CallNextMethod => {
-            method_plan(here, tables, Core::new(CoreForm::NextMethod), items)
-        }
-        Special::NextMethodP => method_plan(here, tables, Core::new(CoreForm::HasNext), items),
+        Special::CallNextMethod => method_plan(here, tables, Leaf::NextMethod, items),
+        Special::NextMethodP => method_plan(here, tables, Leaf::HasNext, items),
         Special::WithFunctions => {
             with_functions_plan(here, tables, functions_kept(names, items), items)
         }

@@ -11,14 +11,14 @@ ghost use Rattle.isl_profile.specs.Marks.{Grows};
 
 use crate::bound::{function_of, variable_of};
 use crate::here::{
-    Here, deeper, deeper_at_top, fits_depth, literal_plan, made_at_once, made_plain, offence,
+    Here, deeper_at_top, fits_depth, literal_plan, made_at_once, made_plain, made_within, offence,
     unsited,
 };
-use crate::plan::{Inner, Parts, Plan, inner_forms, one_form, push_below, push_form};
+use crate::plan::{Parts, Plan, inner_forms, one_form, push_below, push_form};
 use crate::shapes::{Clauses, clauses_in, is_true, name_of, symbol_of};
 use isl_base::{Datum, Kind, Name, NoMemory, Place, Reason, Symbol};
-use isl_meaning::{Core, CoreForm, LiteralRow};
-use isl_profile::{BodyLengths, Making, One, ReservedWords, Tables, Two, WithBody};
+use isl_meaning::LiteralRow;
+use isl_profile::{BodyLengths, Leaf, Making, One, ReservedWords, Tables, Two, WithBody};
 
 // A symbol that no variable around is: a global variable.
 fn free_symbol<'a>(here: Here, tables: &mut Tables, symbol: Symbol) -> Result<Plan<'a>, NoMemory>
@@ -27,7 +27,7 @@ fn free_symbol<'a>(here: Here, tables: &mut Tables, symbol: Symbol) -> Result<Pl
     ensures grows { Grows tables.old tables.new }
 {
     match symbol {
-        Symbol::Named(name) => made_at_once(here, tables, Core::new(CoreForm::Global(name))),
+        Symbol::Named(name) => made_at_once(here, tables, Leaf::Global(name)),
         Symbol::Fresh { .. } => Ok(offence(here.place, Reason::BadShape)),
     }
 }
@@ -47,7 +47,7 @@ pub(crate) fn symbol_plan<'a>(
         return literal_plan(here, tables, LiteralRow::Datum(datum));
     }
     match variable_of(here.bound, symbol) {
-        Some(variable) => Ok(unsited(here, tables, Core::new(CoreForm::Local(variable)))),
+        Some(variable) => Ok(unsited(here, tables, Leaf::Local(variable))),
         None => free_symbol(here, tables, symbol),
     }
 }
@@ -90,13 +90,8 @@ pub(crate) fn one_part<'a>(
         ≡ row.one_part (at here.entry.bound.now here.entry.spot) here.entry.place tables.old kind datum.now) }
     ensures grows { Grows tables.old tables.new }
 {
-    if !fits_depth(here.spot, 1) {
-        return Ok(offence(here.place, Reason::DepthLimit));
-    }
     let parts = one_form(here.alloc, datum)?;
-    let inside = deeper(here.spot, 1);
-    let inner = Inner::new(here.alloc);
-    made_plain(here, tables, inside, parts, inner, Making::OfOne(kind))
+    made_within(here, tables, 1, parts, Making::OfOne(kind))
 }
 
 // A global variable that a form sets is kept.
@@ -263,21 +258,10 @@ pub(crate) fn cond_plan<'a>(
     let Some(clauses) = clauses_in(here.alloc, items)? else {
         return Ok(offence(here.place, Reason::BadShape));
     };
-    if !fits_depth(here.spot, own_depth(&clauses)) {
-        return Ok(offence(here.place, Reason::DepthLimit));
-    }
     let lengths = clause_lengths(here, &clauses)?;
     let parts = clause_parts(here, &clauses)?;
-    let inside = deeper(here.spot, 1);
-    let inner = Inner::new(here.alloc);
-    made_plain(
-        here,
-        tables,
-        inside,
-        parts,
-        inner,
-        Making::OfClauses(lengths),
-    )
+    let own = own_depth(&clauses);
+    made_within(here, tables, own, parts, Making::OfClauses(lengths))
 }
 
 /// Two forms: `(throw x x)`, `(%apply x x)`.
@@ -294,14 +278,9 @@ pub(crate) fn two_plan<'a>(
     let [first, second] = items else {
         return Ok(offence(here.place, Reason::BadShape));
     };
-    if !fits_depth(here.spot, 1) {
-        return Ok(offence(here.place, Reason::DepthLimit));
-    }
     let mut parts = one_form(here.alloc, first)?;
     push_form(&mut parts, second)?;
-    let inside = deeper(here.spot, 1);
-    let inner = Inner::new(here.alloc);
-    made_plain(here, tables, inside, parts, inner, Making::OfTwo(kind))
+    made_within(here, tables, 1, parts, Making::OfTwo(kind))
 }
 
 /// A form and a body: `(while x f*)`, `(catch x f*)`, `(unwind-protect x f*)`, `(with-handler x f*)`.
@@ -318,14 +297,9 @@ pub(crate) fn body_plan<'a>(
     let [first, body @ ..] = items else {
         return Ok(offence(here.place, Reason::BadShape));
     };
-    if !fits_depth(here.spot, 2) {
-        return Ok(offence(here.place, Reason::DepthLimit));
-    }
     let mut parts = one_form(here.alloc, first)?;
     push_below(&mut parts, body)?;
-    let inside = deeper(here.spot, 1);
-    let inner = Inner::new(here.alloc);
-    made_plain(here, tables, inside, parts, inner, Making::OfBody(kind))
+    made_within(here, tables, 2, parts, Making::OfBody(kind))
 }
 
 // The name of a dynamic variable: a symbol with a name, and not `t`.
@@ -354,7 +328,7 @@ pub(crate) fn dynamic_plan<'a>(
         return Ok(offence(here.place, Reason::BadShape));
     };
     match dynamic_name(tables.words, datum) {
-        Some(name) => made_at_once(here, tables, Core::new(CoreForm::Dynamic(name))),
+        Some(name) => made_at_once(here, tables, Leaf::Dynamic(name)),
         None => Ok(offence(here.place, Reason::BadShape)),
     }
 }
@@ -389,7 +363,7 @@ fn function_symbol<'a>(
     ensures grows { Grows tables.old tables.new }
 {
     match function_of(here.bound, symbol) {
-        Some(variable) => Ok(unsited(here, tables, Core::new(CoreForm::Local(variable)))),
+        Some(variable) => Ok(unsited(here, tables, Leaf::Local(variable))),
         None => match symbol {
             Symbol::Named(name) => literal_plan(here, tables, LiteralRow::Function(name)),
             Symbol::Fresh { .. } => Ok(offence(here.place, Reason::BadShape)),
@@ -420,17 +394,17 @@ pub(crate) fn function_plan<'a>(
 pub(crate) fn method_plan<'a>(
     here: Here,
     tables: &mut Tables,
-    form: Core,
+    leaf: Leaf,
     items: &[Datum],
 ) -> Result<Plan<'a>, NoMemory>
     ensures plan { IfOk result (λ plan. shown here.entry.bound.now tables.new plan
-        ≡ row.method_row form (at here.entry.bound.now here.entry.spot) tables.old here.entry.place items.now) }
+        ≡ row.method_row leaf (at here.entry.bound.now here.entry.spot) tables.old here.entry.place items.now) }
     ensures grows { Grows tables.old tables.new }
 {
     if !items.is_empty() || !here.spot.in_method {
         return Ok(offence(here.place, Reason::BadShape));
     }
-    made_at_once(here, tables, form)
+    made_at_once(here, tables, leaf)
 }
 
 // The class of a name, that is defined earlier.

@@ -3,13 +3,13 @@
 ghost use Rattle.std.specs.Prelude.{◌≡◌, IfOk};
 ghost use Rattle.isl_meaning.specs.Form.{local, call_value, form_and};
 ghost use Rattle.isl_meaning.specs.model.View as view;
-ghost use Rattle.isl_profile.specs.Makings.{nothing, one_of, two_of, with_body_of, make_one, make_two, make_with_body};
+ghost use Rattle.isl_profile.specs.Makings.{nothing, leaf_form, one_of, two_of, with_body_of, make_one, make_two, make_with_body};
 
 use crate::make::parts::boxed;
 use crate::make::queue::FormQueue;
 use isl_base::NoMemory;
 use isl_meaning::{Core, CoreForm, CoreList, Var};
-use isl_profile::{One, Two, WithBody};
+use isl_profile::{Leaf, One, Two, WithBody};
 use std::alloc::Global;
 
 // No forms.
@@ -17,6 +17,22 @@ fn nothing(alloc: Global) -> Core
     ensures { result ≡ nothing }
 {
     Core::sequence(CoreList::new(alloc))
+}
+
+/// A form that has no parts.
+pub(crate) fn leaf_form(alloc: Global, leaf: Leaf) -> Core
+    ensures { result ≡ leaf_form leaf }
+{
+    match leaf {
+        Leaf::Literal(id) => Core::literal(id),
+        Leaf::Local(var) => Core::new(CoreForm::Local(var)),
+        Leaf::Global(name) => Core::new(CoreForm::Global(name)),
+        Leaf::Dynamic(name) => Core::new(CoreForm::Dynamic(name)),
+        Leaf::Go(exit, segment) => Core::new(CoreForm::Go(exit, segment)),
+        Leaf::NextMethod => Core::new(CoreForm::NextMethod),
+        Leaf::HasNext => Core::new(CoreForm::HasNext),
+        Leaf::Nothing => nothing(alloc),
+    }
 }
 
 fn one_of(one: One, form: Box<Core>) -> Core

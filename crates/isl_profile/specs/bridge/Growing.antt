@@ -135,6 +135,6 @@ finish_one_grows mark s k g = g
 -- what counts once a form is made
 pub finish_grows : (mark s : Tables) (m : Making) (rs : List Found) → Grows mark s → Grows mark (finish m rs s)
 finish_grows mark s (OfOne k) rs g = finish_one_grows mark s k g
-finish_grows mark s (OfFunctionNamed name n rest of_file f) rs g =
+finish_grows mark s (OfFunctionNamed name n rest of_file l) rs g =
     with_function_grows mark s name (procedure_found name n rest rs) of_file g
 finish_grows mark s m rs g = g

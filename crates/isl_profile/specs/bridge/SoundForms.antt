@@ -9,11 +9,11 @@ use Rattle.isl_base.specs.declared.reason.Reason.{Reason}
 use Rattle.isl_base.specs.Data.{Item, item, integer, character, symbol, string, vector, nil, list, place_of}
 use Rattle.isl_base.specs.DataParts.{AllOf}
 use Rattle.isl_base.specs.GoodData.{Good}
-use Rattle.isl_meaning.specs.Form.{Form}
 use Rattle.isl_classes.specs.InheritedClasses.{class_named}
 use Rattle.isl_profile.specs.declared.tables.Tables.{Tables}
 use Rattle.isl_profile.specs.declared.bound.Target.{Target}
 use Rattle.isl_profile.specs.declared.bound.Bound.TheVariants.{Block, Tags}
+use Rattle.isl_profile.specs.declared.making.Leaf.{Leaf}
 use Rattle.isl_profile.specs.declared.making.One.{One}
 use Rattle.isl_profile.specs.declared.making.Two.{Two}
 use Rattle.isl_profile.specs.declared.making.WithBody.{WithBody}
@@ -173,9 +173,9 @@ sound_function n w a s p (d ∷ []) = sound_function_symbol n w a s p (symbol_of
 sound_function n w a s p [] = tt
 sound_function n w a s p (d ∷ e ∷ ds) = tt
 
-pub sound_method : (n w : ℕ) (f : Form) (a : Around) (s : Tables) (p : Place) (ds : List Item) → SoundNode n w (method_row f a s p ds)
-sound_method n w f a s p [] = sound_if n w a.spot.in_method _ _ (sound_at_once n w a p s f) tt
-sound_method n w f a s p (d ∷ ds) = tt
+pub sound_method : (n w : ℕ) (l : Leaf) (a : Around) (s : Tables) (p : Place) (ds : List Item) → SoundNode n w (method_row l a s p ds)
+sound_method n w l a s p [] = sound_if n w a.spot.in_method _ _ (sound_at_once n w a p s l) tt
+sound_method n w l a s p (d ∷ ds) = tt
 
 sound_class_of : (n w : ℕ) (q : Place) (a : Around) (s : Tables) (p : Place) (c : Option ℕ) → SoundNode n w (class_of q a s p c)
 sound_class_of n w q a s p None = tt

@@ -8,7 +8,7 @@ use Rattle.isl_base.specs.Data.{Item}
 use Rattle.isl_base.specs.DataParts.{AllOf}
 use Rattle.isl_base.specs.GoodData.{Good}
 use Rattle.isl_meaning.specs.declared.program.LiteralRow.{LiteralRow}
-use Rattle.isl_meaning.specs.Form.{Form}
+use Rattle.isl_profile.specs.declared.making.Leaf.{Leaf}
 use Rattle.isl_profile.specs.declared.spot.Spot.{Spot}
 use Rattle.isl_profile.specs.declared.tables.Tables.{Tables}
 use Rattle.isl_profile.specs.Nodes.{Around, Part, Node, offends}
@@ -60,14 +60,14 @@ sound_within n w k a p x h = where_true n w (nat_le (a.spot.depth + k) 1000) p x
 
 -- nodes without parts
 
-pub sound_unsited : (n w : ℕ) (a : Around) (p : Place) (s : Tables) (f : Form) → SoundNode n w (unsited a p s f)
-sound_unsited n w a p s f = sound_within n w 1 a p _ (λ h. tt)
+pub sound_unsited : (n w : ℕ) (a : Around) (p : Place) (s : Tables) (l : Leaf) → SoundNode n w (unsited a p s l)
+sound_unsited n w a p s l = sound_within n w 1 a p _ (λ h. tt)
 
 pub sound_literal : (n w : ℕ) (a : Around) (p : Place) (s : Tables) (row : LiteralRow) → SoundNode n w (literal_node a p s row)
 sound_literal n w a p s row = sound_within n w 1 a p _ (λ h. tt)
 
-pub sound_at_once : (n w : ℕ) (a : Around) (p : Place) (s : Tables) (f : Form) → SoundNode n w (made_at_once a p s f)
-sound_at_once n w a p s f = sound_within n w 1 a p _ (λ h. tt)
+pub sound_at_once : (n w : ℕ) (a : Around) (p : Place) (s : Tables) (l : Leaf) → SoundNode n w (made_at_once a p s l)
+sound_at_once n w a p s l = sound_within n w 1 a p _ (λ h. tt)
 
 -- lists of parts
 

@@ -7,7 +7,7 @@ use Rattle.isl_base.specs.Data.{Item, item, integer, character, symbol, string, 
 use Rattle.isl_base.specs.DataNames.{symbol_text}
 use Rattle.isl_base.specs.DataParts.{AllOf}
 use Rattle.isl_base.specs.GoodData.{Good}
-use Rattle.isl_meaning.specs.Form.{next_method, has_next}
+use Rattle.isl_profile.specs.declared.making.Leaf.TheVariants.{NextMethod, HasNext}
 use Rattle.isl_profile.specs.declared.making.Two.TheVariants.{Applying, Throwing}
 use Rattle.isl_profile.specs.declared.making.WithBody.TheVariants.{Repeating, Catching, Unwinding, Handling}
 use Rattle.isl_profile.specs.declared.making.Making.TheVariants.{CallOfValue}
@@ -50,8 +50,8 @@ sound_special names n name.SetDynamic a s p ds g = sound_set_dynamic n a s p ds 
 sound_special names n name.WithHandler a s p ds g = sound_body n Handling a s p ds g
 sound_special names n name.Function a s p ds g = sound_function n (weight a.spot) a s p ds
 sound_special names n name.Class a s p ds g = sound_class n (weight a.spot) a s p ds
-sound_special names n name.CallNextMethod a s p ds g = sound_method n (weight a.spot) next_method a s p ds
-sound_special names n name.NextMethodP a s p ds g = sound_method n (weight a.spot) has_next a s p ds
+sound_special names n name.CallNextMethod a s p ds g = sound_method n (weight a.spot) NextMethod a s p ds
+sound_special names n name.NextMethodP a s p ds g = sound_method n (weight a.spot) HasNext a s p ds
 sound_special names n name.WithFunctions a s p ds g = sound_with_functions n (functions_kept names ds) a s p ds g
 sound_special names n name.Defglobal a s p ds g = sound_global n false a s p ds g
 sound_special names n name.Defconstant a s p ds g = sound_global n true a s p ds g

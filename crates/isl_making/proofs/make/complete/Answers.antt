@@ -22,7 +22,7 @@ returns-in_default-clause-ok c =
 pub returns-in_ok-define_function-in-OfFunctionNamed-clause-ok : goal.returns-in_ok-define_function-in-OfFunctionNamed-clause-ok
 returns-in_ok-define_function-in-OfFunctionNamed-clause-ok c =
     let kind : c.args.made.making ≡ OfFunctionNamed c.in-OfFunctionNamed.name c.in-OfFunctionNamed.required
-    c.in-OfFunctionNamed.rest c.in-OfFunctionNamed.of_file c.in-OfFunctionNamed.form = cc in
+    c.in-OfFunctionNamed.rest c.in-OfFunctionNamed.of_file c.in-OfFunctionNamed.leaf = cc in
     rw kind (c.in_ok-define_function-in-OfFunctionNamed.ensures.ok
     ∙ ap (λ p. with_function c.in-OfFunctionNamed.name p c.in-OfFunctionNamed.of_file c.args.tables.now)
     c.in_ok-procedure-in-OfFunctionNamed.ensures)

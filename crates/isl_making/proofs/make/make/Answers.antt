@@ -2,7 +2,7 @@
 use Rattle.isl_making.proofs.make.make.Goals as goal
 
 pub returns-in-Ready : goal.returns-in-Ready
-returns-in-Ready c = rw c.in-Ready.is
+returns-in-Ready c = rw c.in-Ready.is c.leaf_form.ensures
 
 pub returns-in-OfOne : goal.returns-in-OfOne
 returns-in-OfOne c = rw (c.in-OfOne.is, ← c.in_ok-sorted.ensures.forms) c.make_one.ensures
@@ -47,4 +47,4 @@ pub returns-in-OfSegments : goal.returns-in-OfSegments
 returns-in-OfSegments c = rw (c.in-OfSegments.is, ← c.in_ok-sorted.ensures.forms) c.make_segments.ensures
 
 pub returns-in-OfFunctionNamed : goal.returns-in-OfFunctionNamed
-returns-in-OfFunctionNamed c = rw c.in-OfFunctionNamed.is
+returns-in-OfFunctionNamed c = rw c.in-OfFunctionNamed.is c.leaf_form-in-OfFunctionNamed.ensures
