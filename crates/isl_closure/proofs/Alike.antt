@@ -20,7 +20,8 @@ use Rattle.isl_closure.specs.declared.place.MethodPlace.{MethodPlace}
 use Rattle.isl_closure.specs.declared.program.FlatProcedure.{FlatProcedure}
 use Rattle.isl_closure.specs.FlatState.{Captured, of_value, of_cell, FlatEnvironment, FlatState, FlatEvaluated, FlatAct, under, exit_of, method_of}
 use Rattle.isl_closure.specs.FlatState as flat
-use Rattle.isl_closure.specs.Scope.{Known, Scope, with_bound, with_around, kinds_of, seen}
+use Rattle.isl_closure.specs.declared.place.Known.{Known}
+use Rattle.isl_closure.specs.Scope.{Scope, with_bound, with_around, kinds_of, seen}
 use Rattle.isl_closure.specs.Flatten.{functions, functions_of_values, functions_of_body, functions_of_dynamics, flat_procedure, body_scope}
 
 -- what is known of each variable of the state: the value that it keeps, or nothing

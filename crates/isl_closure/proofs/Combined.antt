@@ -14,7 +14,8 @@ use Rattle.isl_closure.specs.declared.program.FlatProcedure.{FlatProcedure}
 use Rattle.isl_closure.specs.FlatState.{Captured, FlatEnvironment, FlatState, FlatEvaluated, FlatAct, under}
 use Rattle.isl_closure.specs.FlatState as flat
 use Rattle.isl_closure.specs.FlatSignals as flat_signals
-use Rattle.isl_closure.specs.Scope.{Known, Scope}
+use Rattle.isl_closure.specs.declared.place.Known.{Known}
+use Rattle.isl_closure.specs.Scope.{Scope}
 use Rattle.isl_closure.proofs.Alike.{World, Later, AreFree, Holds, PlaceAt, VariableAt, Matches, SameObject, ObjectsAlike, Related, Beside, twin, Sim, Continues, Follows, Acts, Lands}
 use Rattle.isl_closure.proofs.Lists.{pushed, changed_both, length-changed, in_front, behind, IsBehind, of_either}
 

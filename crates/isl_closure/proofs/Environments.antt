@@ -26,7 +26,8 @@ use Rattle.isl_closure.specs.FlatState.{Captured, of_value, of_cell, of_exit, of
 use Rattle.isl_closure.specs.FlatState as flat_state
 use Rattle.isl_closure.specs.FlatSignals as flat_signals
 use Rattle.isl_closure.specs.FlatMeaning as flat_meaning
-use Rattle.isl_closure.specs.Scope.{Known, Scope, home_of, homes_of, slot_at, in_slots, with_bound, with_around, known_or, known_of, exit_or, method_or, flat_part, flat_parts, captured_place, captured_known, captured_variables, captured_exits, captured_method, seen}
+use Rattle.isl_closure.specs.declared.place.Known.{Known}
+use Rattle.isl_closure.specs.Scope.{Scope, home_of, homes_of, slot_at, in_slots, with_bound, with_around, known_or, known_of, exit_or, method_or, flat_part, flat_parts, captured_place, captured_known, captured_variables, captured_exits, captured_method, seen}
 use Rattle.isl_closure.proofs.Alike.{World, Later, AreFree, Holds, PlaceAt, VariableAt, ExitAt, Matches, KeepsValue, PartIsThere, Beside, twin, Sim, Follows, Acts}
 use Rattle.isl_closure.proofs.Lists.{in_front, behind, length-changed, other_place}
 use Rattle.isl_closure.proofs.Combined.{with_more, after_that, free_later, matches_later, at_twin, charges, sooner, requests, more_values}

@@ -26,7 +26,8 @@ use Rattle.isl_closure.specs.declared.place.VariablePlace.TheVariants.{Slot, Slo
 use Rattle.isl_closure.specs.declared.place.ExitPlace.{ExitPlace}
 use Rattle.isl_closure.specs.declared.place.MethodPlace.{MethodPlace}
 use Rattle.isl_closure.specs.FlatState.{under}
-use Rattle.isl_closure.specs.Scope.{Known, Scope, no_scope, slot_at, in_slots, with_bound, with_around, known_or, captured_place, captured_known, captured_variables, captured_exits, captured_method, seen}
+use Rattle.isl_closure.specs.declared.place.Known.{Known}
+use Rattle.isl_closure.specs.Scope.{Scope, no_scope, slot_at, in_slots, with_bound, with_around, known_or, captured_place, captured_known, captured_variables, captured_exits, captured_method, seen}
 use Rattle.isl_closure.proofs.Alike.{KeepsValue, IsKnown, IsAround, IsInMethod, PartIsThere}
 use Rattle.isl_closure.proofs.Environments.{equal_or_not, under_first, under_after, some_same}
 use Rattle.isl_closure.proofs.Forms.{other_number}

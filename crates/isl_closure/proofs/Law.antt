@@ -26,7 +26,8 @@ use Rattle.isl_closure.proofs.Combined.{itself}
 use Rattle.isl_closure.proofs.Fine.{fit_alone, own_fine}
 use Rattle.isl_closure.proofs.Fitting.{whole_fits}
 use Rattle.isl_closure.proofs.Levels.{SoundMains, mains_alike}
-use Rattle.isl_closure.proofs.Numbers.{Placed, joined, placed_left, placed_right, all_counted}
+use Rattle.isl_closure.specs.bridge.Counted.{joined, all_counted}
+use Rattle.isl_closure.proofs.Numbers.{Placed, placed_left, placed_right}
 use Rattle.isl_closure.proofs.Sounds.{sounds}
 use Rattle.isl_closure.proofs.Stands.{bound_stands, flat_stands, body_of, both_stand, inner_stand, outermost_stands}
 use Rattle.isl_closure.proofs.Start.{first_related}

@@ -13,7 +13,8 @@ use Rattle.isl_closure.specs.Scope.{Scope, with_bound, with_around, kinds_of, se
 use Rattle.isl_closure.specs.Flatten.{functions, functions_of_values, functions_of_dynamics, flat_procedure, body_scope, inner_procedures, procedures_of_forms, procedures_of_clauses, procedures_of_values, procedures_of_dynamics}
 use Rattle.isl_closure.proofs.Alike.{Sound, SoundForms, SoundClauses, SoundValues, SoundDynamics, CanBeSet, IsKnown}
 use Rattle.isl_closure.proofs.Fine.{ScopesFit, Fine, itself_true, outer_fine, inner_fine, block_around, segment_around, fit_bound, fit_around, fit_seen, let_fine, lambda_parts, lambda_fine, sets_here}
-use Rattle.isl_closure.proofs.Numbers.{joined, Placed, placed_left, placed_right, placed_first, placed_rest, all_counted, values_counted, dynamics_counted}
+use Rattle.isl_closure.specs.bridge.Counted.{joined, all_counted, values_counted, dynamics_counted}
+use Rattle.isl_closure.proofs.Numbers.{Placed, placed_left, placed_right, placed_first, placed_rest}
 
 settable : (l : LexicalScope) (s : Scope) (v : ℕ) (f : Form) → ScopesFit l s → Fine l s (core.set_local v f) → CanBeSet s v
 settable l s v f fit h =

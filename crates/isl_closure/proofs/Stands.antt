@@ -20,14 +20,15 @@ use Rattle.isl_closure.specs.declared.program.FlatProcedure.{FlatProcedure}
 use Rattle.isl_closure.specs.FlatNodes.{homes}
 use Rattle.isl_closure.specs.FlatState.{under, kind_of_place}
 use Rattle.isl_closure.specs.FlatStanding.{FlatScope, with_homes, with_exit, VariableStands, IsNoCapturedValue, ExitStands, MethodStands, PartsStand, Stands, StandForms, StandClauses, StandBody, StandValues, StandDynamics, LambdasStand}
-use Rattle.isl_closure.specs.Scope.{Known, Scope, no_scope, homes_of, home_of, slot_at, in_slots, with_bound, with_around, known_or, known_of, exit_or, method_or, flat_parts, kind_of, kinds_of, captured_place, captured_known, captured_variables, captured_exits, captured_method, seen}
+use Rattle.isl_closure.specs.declared.place.Known.{Known}
+use Rattle.isl_closure.specs.Scope.{Scope, no_scope, homes_of, home_of, slot_at, in_slots, with_bound, with_around, known_or, known_of, exit_or, method_or, flat_parts, kind_of, kinds_of, captured_place, captured_known, captured_variables, captured_exits, captured_method, seen}
 use Rattle.isl_closure.specs.Flatten.{functions, functions_of_values, functions_of_body, functions_of_dynamics, flat, flat_forms, flat_clauses, flat_body, flat_bindings, flat_dynamics, flat_procedure, body_scope, inner_procedures, procedures_of_forms, procedures_of_clauses, procedures_of_body, procedures_of_values, procedures_of_dynamics}
 use Rattle.isl_closure.proofs.Alike.{KeepsValue, PartIsThere, Sound, SoundForms, SoundClauses, SoundBody, SoundValues, SoundDynamics}
 use Rattle.isl_closure.proofs.Applied.{all_homes}
 use Rattle.isl_closure.proofs.Environments.{equal_or_not, under_first, under_after, some_same, length-homes}
 use Rattle.isl_closure.proofs.Forms.{homes_same}
 use Rattle.isl_closure.proofs.Lists.{in_front, behind}
-use Rattle.isl_closure.proofs.Numbers.{joined, all_counted, body_counted, values_counted, dynamics_counted}
+use Rattle.isl_closure.specs.bridge.Counted.{joined, all_counted, body_counted, values_counted, dynamics_counted}
 
 -- what is known of a variable in a scope is so where the flat form stands
 pub record KnownStands (t : FlatScope) (k : Known) : Type 0 where

@@ -9,3 +9,4 @@ pub mod FlatStanding
 pub mod FlatFits
 pub mod Law
 pub mod model
+pub mod bridge

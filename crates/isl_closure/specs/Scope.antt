@@ -8,6 +8,7 @@ use Rattle.isl_closure.specs.declared.place.CapturedKind.{CapturedKind}
 use Rattle.isl_closure.specs.declared.place.CapturedKind.TheVariants as kind
 use Rattle.isl_closure.specs.declared.place.Home.{Home}
 use Rattle.isl_closure.specs.declared.place.Home.TheVariants as home
+use Rattle.isl_closure.specs.declared.place.Known.{Known}
 use Rattle.isl_closure.specs.declared.place.VariablePlace.{VariablePlace}
 use Rattle.isl_closure.specs.declared.place.VariablePlace.TheVariants.{Slot, SlotCell, CapturedValue, CapturedCell}
 use Rattle.isl_closure.specs.declared.place.ExitPlace.{ExitPlace}
@@ -17,11 +18,6 @@ use Rattle.isl_closure.specs.declared.place.MethodPlace.TheVariants as method_pl
 use Rattle.isl_closure.specs.declared.place.FlatPart.{FlatPart}
 use Rattle.isl_closure.specs.declared.place.FlatPart.TheVariants as part
 use Rattle.isl_closure.specs.FlatState.{under, kind_of_place}
-
--- what is known of a variable: its place, and whether it keeps its first value, since nothing sets it
-pub record Known : Type 0 where
-  pub place : VariablePlace
-  pub fixed : Bool
 
 -- the variables and exits around, innermost first, and the method around; and how many slots and exits of the same
 -- procedure there are

@@ -10,5 +10,5 @@ pub use flat_core::{
     FlatBinding, FlatBindingList, FlatClause, FlatClauseList, FlatCore, FlatCoreForm, FlatCoreList,
     FlatDynBinding, FlatDynBindings, FlatPartList,
 };
-pub use place::{CapturedKind, ExitPlace, FlatPart, Home, MethodPlace, VariablePlace};
+pub use place::{CapturedKind, ExitPlace, FlatPart, Home, Known, MethodPlace, VariablePlace};
 pub use program::{CapturedKinds, FlatProcedure, FlatProcedureList, FlatProgram, HomeList};

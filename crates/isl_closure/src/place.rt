@@ -33,6 +33,13 @@ pub enum MethodPlace {
     Captured(usize),
 }
 
+/// What is known of a variable where it is bound: its place, and whether it keeps its first value, since nothing sets it.
+#[derive(Clone, Copy)]
+pub struct Known {
+    pub place: VariablePlace,
+    pub fixed: bool,
+}
+
 /// What a captured thing is: the value of a variable, its cell, an exit, or the arguments and the other methods of a
 /// method.
 #[derive(Clone, Copy)]

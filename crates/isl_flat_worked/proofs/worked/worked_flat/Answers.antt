@@ -1,3 +1,4 @@
+-- Each program is a lemma of its own.
 use Rattle.isl_flat_worked.proofs.Examples.{earlier_turn, many_cleanups, without_itself, continued, methods_in_order, seen_through_a_call, rest_list, counting, counting_words, counting_flat}
 use Rattle.isl_flat_worked.proofs.worked.worked_flat.Goals as goal
 

@@ -1,0 +1,2 @@
+-- What proofs above need of the definitions.
+pub mod Counted

@@ -1,0 +1,5 @@
+pub mod CellWalks
+pub mod Turns
+pub mod Captured
+pub mod Going
+pub mod Bodies

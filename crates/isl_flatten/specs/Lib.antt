@@ -1,0 +1,2 @@
+pub mod NewVariables
+pub mod Places

@@ -1,0 +1,32 @@
+-- The variables that a body binds, as the translation to flat forms has them.
+use Rattle.std.specs.Prelude.{ℕ, ◌+◌, not, List, [], ◌∷◌, ◌++◌, length}
+use Rattle.isl_meaning.specs.Form.{Form}
+use Rattle.isl_meaning.specs.Captured.{sets}
+use Rattle.isl_closure.specs.declared.place.Home.{Home}
+use Rattle.isl_closure.specs.declared.place.Known.{Known}
+use Rattle.isl_closure.specs.Scope.{Scope, home_of, slot_at}
+use Rattle.isl_flatten.specs.declared.variables.NewVariable.{NewVariable}
+
+-- a variable of a body
+abbrev pub new_variable : Form → ℕ → NewVariable
+new_variable body v = record { var = v; home = home_of v body; fixed = not (sets v body) }
+
+abbrev pub new_variables : List ℕ → Form → List NewVariable
+new_variables [] body = []
+new_variables (v ∷ vs) body = new_variable body v ∷ new_variables vs body
+
+abbrev pub homes_of_new : List NewVariable → List Home
+homes_of_new [] = []
+homes_of_new (x ∷ xs) = x.home ∷ homes_of_new xs
+
+abbrev pub known_in_slot : NewVariable → ℕ → Known
+known_in_slot x n = record { place = slot_at x.home n; fixed = x.fixed }
+
+-- new variables in slots from a number on
+abbrev pub slots_of : List NewVariable → ℕ → List (ℕ × Known)
+slots_of [] n = []
+slots_of (x ∷ xs) n = (x.var, known_in_slot x n) ∷ slots_of xs (n + 1)
+
+-- a scope with new variables
+abbrev pub with_new : List NewVariable → Scope → Scope
+with_new xs s = record s { variables = slots_of xs s.slots ++ s.variables; slots = s.slots + length xs }

@@ -1,0 +1,10 @@
+// Programs made flat: the code of closure conversion, which gives just what its definition says.
+#![tactic(auto)]
+
+mod bindings;
+mod cells;
+mod forms;
+mod places;
+mod tables;
+mod variables;
+

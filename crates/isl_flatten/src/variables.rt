@@ -1,0 +1,120 @@
+// The variables that a body binds: where each lives, and whether it keeps its first value.
+
+ghost use Rattle.std.specs.Prelude.{◌≡◌, ◌≤◌, take, length, slice_get, IfOk};
+ghost use Rattle.isl_meaning.specs.Form.{parameters};
+ghost use Rattle.isl_meaning.specs.Meaning.{bound_variables};
+ghost use Rattle.isl_meaning.specs.model.View.{bindings_of};
+ghost use Rattle.isl_closure.specs.Scope.{homes_of};
+ghost use Rattle.isl_flatten.specs.NewVariables.{new_variable, new_variables, homes_of_new};
+
+use crate::cells::{captures, sets};
+use isl_base::{ItemList, NoMemory};
+use isl_closure::{Home, HomeList};
+use isl_meaning::{BindingList, Core, Part, Var, VarList};
+use std::alloc::Global;
+
+/// A variable where it is bound: where it lives, and whether it keeps its first value, since nothing sets it.
+#[derive(Clone, Copy)]
+pub(crate) struct NewVariable {
+    pub(crate) var: Var,
+    pub(crate) home: Home,
+    pub(crate) fixed: bool,
+}
+
+/// Variables that a body binds, in their order.
+pub(crate) type NewVariables = ItemList<NewVariable>;
+
+// The variables of that body.
+pub(crate) fn new_variables(
+    alloc: Global,
+    variables: &VarList,
+    body: &Core,
+) -> Result<NewVariables, NoMemory>
+    ensures { IfOk result (λ news. news ≡ new_variables variables.now body.now) }
+{
+    let mut news = NewVariables::new(alloc);
+    for at in 0..variables.len() {
+        let Some(var) = variables.get(at) else {
+            unreachable!()
+        };
+        news.push(new_variable(*var, body))?;
+    }
+    Ok(news)
+}
+
+fn new_variable(var: Var, body: &Core) -> NewVariable
+    ensures { result ≡ new_variable body.now var }
+{
+    let is_set = sets(body, var);
+    let home = if is_set && captures(body, Part::Variable(var)) {
+        Home::Cell
+    } else {
+        Home::Slot
+    };
+    NewVariable {
+        var,
+        home,
+        fixed: !is_set,
+    }
+}
+
+// The variables of a function: the required ones, and the rest variable.
+pub(crate) fn parameters(
+    alloc: Global,
+    required: &VarList,
+    rest: Option<Var>,
+) -> Result<VarList, NoMemory>
+    ensures { IfOk result (λ variables. variables ≡ parameters required.now rest) }
+{
+    let mut variables = VarList::new(alloc);
+    for var in required.as_slice() {
+        variables.push(*var)?;
+    }
+    if let Some(var) = rest {
+        variables.push(var)?;
+    }
+    Ok(variables)
+}
+
+// The variables that bindings bind.
+pub(crate) fn bound(alloc: Global, list: &BindingList) -> Result<VarList, NoMemory>
+    ensures { IfOk result (λ variables. variables ≡ bound_variables (bindings_of list.now)) }
+{
+    let mut variables = VarList::new(alloc);
+    for at in 0..list.len() {
+        let Some(binding) = list.get(at) else {
+            unreachable!()
+        };
+        variables.push(binding.var)?;
+    }
+    Ok(variables)
+}
+
+// Where the first of these live, as many as are asked.
+pub(crate) fn first_homes(
+    alloc: Global,
+    news: &NewVariables,
+    count: usize,
+) -> Result<HomeList, NoMemory>
+    requires { count ≤ length news.now }
+    ensures { IfOk result (λ homes. homes ≡ take count (homes_of_new news.now)) }
+{
+    let mut homes = HomeList::new(alloc);
+    for at in 0..count {
+        let Some(new) = news.get(at) else {
+            unreachable!()
+        };
+        homes.push(new.home)?;
+    }
+    Ok(homes)
+}
+
+// Where the variable behind those lives, if there is one.
+pub(crate) fn home_at(news: &NewVariables, at: usize) -> Option<Home>
+    ensures { result ≡ slice_get (homes_of_new news.now) at }
+{
+    match news.get(at) {
+        None => None,
+        Some(new) => Some(new.home),
+    }
+}
