@@ -4,17 +4,18 @@ use Rattle.std.specs.Str.{bytes_eq}
 use Rattle.isl_base.specs.declared.calls.Calls.{Calls}
 use Rattle.isl_base.specs.Calls.{no_calls, passed, failed}
 
--- bytes that are kept, and how many there is room for in all
+-- bytes that are kept, how many there is room for in all, and how many calls put some there
 pub record BufferState : Type 0 where
   pub bytes : List ℕ
   pub capacity : ℕ
+  pub writes : ℕ
 
 abbrev pub empty_buffer : ℕ → BufferState
-empty_buffer room = record { bytes = []; capacity = room }
+empty_buffer room = record { bytes = []; capacity = room; writes = 0 }
 
 -- with the first n of these bytes more
 abbrev pub with_front : BufferState → ℕ → List ℕ → BufferState
-with_front b n more = record { bytes = b.bytes ++ take n more; capacity = b.capacity }
+with_front b n more = record { bytes = b.bytes ++ take n more; capacity = b.capacity; writes = b.writes + (if n == 0 then 0 else 1) }
 
 -- a source: the bytes that are left, and its calls
 pub record SourceState : Type 0 where

@@ -1,4 +1,4 @@
-// A list of bytes with room for so many, taken at once.
+// A list of bytes with room for so many, taken at once, that counts what put bytes there.
 
 ghost use Rattle.std.specs.Prelude.{◌≡◌, ◌-◌, ◌≤◌, ◌<◌, ◌^◌, length, min, IfOk};
 ghost use Rattle.isl_base.specs.Memory.{empty_buffer, with_front};
@@ -7,11 +7,12 @@ use crate::faults::NoMemory;
 use std::alloc::Global;
 use std::marker::Model;
 
-/// Bytes that are kept, and how many there is room for in all.
+/// Bytes that are kept, how many there is room for in all, and how many calls put some there.
 #[derive(Drop)]
 pub(crate) struct FixedBuffer {
     items: Vec<u8>,
     capacity: usize,
+    writes: u64,
 }
 
 impl Model for FixedBuffer {
@@ -20,10 +21,11 @@ impl Model for FixedBuffer {
 
     ghost Value = { BufferState };
 
-    ghost view = { λ b. record { bytes = b.items.items; capacity = b.capacity } };
+    ghost view = { λ b. record { bytes = b.items.items; capacity = b.capacity; writes = b.writes } };
 
     ghost invariant = { λ b.
-        (length b.items.items ≤ b.capacity) × (b.capacity ≤ vec_capacity b.items) };
+        (length b.items.items ≤ b.capacity) × (b.capacity ≤ vec_capacity b.items)
+        × (b.writes ≤ length b.items.items) };
 }
 
 impl FixedBuffer {
@@ -32,7 +34,11 @@ impl FixedBuffer {
         ensures { IfOk result (λ buffer. buffer ≡ empty_buffer capacity) }
     {
         match Vec::with_capacity(alloc, capacity) {
-            Ok(items) => Ok(FixedBuffer { items, capacity }),
+            Ok(items) => Ok(FixedBuffer {
+                items,
+                capacity,
+                writes: 0,
+            }),
             Err(_) => Err(NoMemory),
         }
     }
@@ -44,17 +50,21 @@ impl FixedBuffer {
         self.capacity - self.items.len()
     }
 
-    /// Keeps as many bytes of the front as there is room for, and answers how many.
+    /// Keeps as many bytes of the front as there is room for, and answers how many. A call that keeps
+    /// some is counted.
     pub(crate) fn put(&mut self, bytes: &[u8]) -> usize
         ensures count { result ≡ min (self.old.capacity - length self.old.bytes) (length bytes.now) }
         ensures after { self.new ≡ with_front self.old result bytes.now }
         ensures within { length self.new.bytes ≤ self.new.capacity }
-        ensures fits { length self.new.bytes < 2 ^ 64 }
+        ensures writes { self.new.writes ≤ length self.new.bytes }
     {
         let count = self.room().min(bytes.len());
         let Ok(()) = self.items.extend_from_slice(&bytes[..count]) else {
             unreachable!()
         };
+        if count > 0 {
+            self.writes += 1;
+        }
         count
     }
 
@@ -62,6 +72,7 @@ impl FixedBuffer {
     pub(crate) fn bytes(&self) -> &[u8]
         ensures bytes { result.now ≡ self.now.bytes }
         ensures within { length self.now.bytes ≤ self.now.capacity }
+        ensures writes { self.now.writes ≤ length self.now.bytes }
     {
         self.items.as_slice()
     }

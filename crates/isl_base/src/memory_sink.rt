@@ -17,12 +17,10 @@ use std::marker::Model;
 #[derive(Drop)]
 pub struct MemSink {
     kept: FixedBuffer,
-    writes: u64,
     calls: Calls,
 }
 
 impl Model for MemSink {
-    ghost use Rattle.std.specs.Prelude.{◌≤◌, length};
     ghost use Rattle.isl_base.specs.Memory.{SinkState};
 
     ghost Value = { SinkState };
@@ -30,11 +28,9 @@ impl Model for MemSink {
     ghost view = { λ s. record {
       kept = s.kept.bytes;
       capacity = s.kept.capacity;
-      writes = s.writes;
+      writes = s.kept.writes;
       calls = s.calls;
     } };
-
-    ghost invariant = { λ s. s.writes ≤ length s.kept.bytes };
 }
 
 impl MemSink {
@@ -48,7 +44,6 @@ impl MemSink {
         let kept = FixedBuffer::new(alloc, capacity)?;
         Ok(MemSink {
             kept,
-            writes: 0,
             calls: Calls::new(fails),
         })
     }
@@ -99,9 +94,6 @@ impl Sink for MemSink {
             return Err(self.calls.fail());
         }
         let count = self.kept.put(bytes);
-        if count > 0 {
-            self.writes += 1;
-        }
         self.calls.pass();
         Ok(count)
     }

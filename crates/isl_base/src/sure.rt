@@ -62,11 +62,9 @@ impl Source for SureSource {
 pub struct SureSink {
     kept: FixedBuffer,
     over: bool,
-    writes: u64,
 }
 
 impl Model for SureSink {
-    ghost use Rattle.std.specs.Prelude.{◌≤◌, length};
     ghost use Rattle.isl_base.specs.Sure.{SureSinkState};
 
     ghost Value = { SureSinkState };
@@ -75,10 +73,8 @@ impl Model for SureSink {
       kept = s.kept.bytes;
       capacity = s.kept.capacity;
       over = s.over;
-      writes = s.writes;
+      writes = s.kept.writes;
     } };
-
-    ghost invariant = { λ s. s.writes ≤ length s.kept.bytes };
 }
 
 impl SureSink {
@@ -89,11 +85,7 @@ impl SureSink {
         ensures { IfOk result (λ sink. sink ≡ empty_sure_sink capacity) }
     {
         let kept = FixedBuffer::new(alloc, capacity)?;
-        Ok(SureSink {
-            kept,
-            over: false,
-            writes: 0,
-        })
+        Ok(SureSink { kept, over: false })
     }
 
     /// The first bytes that it was given: never more than it keeps, and at least one for each
@@ -127,9 +119,6 @@ impl Sink for SureSink {
         let count = self.kept.put(bytes);
         if count < bytes.len() {
             self.over = true;
-        }
-        if count > 0 {
-            self.writes += 1;
         }
         Ok(bytes.len())
     }

@@ -7,7 +7,6 @@ use Rattle.isl_base.specs.Data.{Item, Content}
 use Rattle.isl_reader.specs.declared.opening.Opening.{Opening}
 use Rattle.isl_reader.specs.declared.opening.Opening.TheVariants.{List, Vector, Before}
 use Rattle.isl_reader.specs.declared.lexeme.Lexeme.{Lexeme}
-use Rattle.isl_reader.specs.declared.lexeme.Lexeme.TheVariants.{Close, Dot, Open, Integer, Character, Token, Bar, Text}
 use Rattle.isl_reader.specs.declared.lexeme.Lexed.{Lexed}
 use Rattle.isl_reader.specs.declared.lexeme.Lexed.TheVariants.{Taken, Fault}
 use Rattle.isl_reader.specs.declared.gap.Mode.TheVariants.{Between}
@@ -19,9 +18,10 @@ use Rattle.isl_reader.specs.Characters.{place_behind}
 use Rattle.isl_reader.specs.Gaps.{Gap}
 use Rattle.isl_reader.specs.Atoms.{Atom}
 use Rattle.isl_reader.specs.Meanings.{atom_content, prefix_name}
-use Rattle.isl_reader.specs.bridge.Lexemes.{skip, lex, atom_of}
+use Rattle.isl_reader.specs.bridge.Lexemes.{skip, lex}
 use Rattle.isl_reader.specs.bridge.Machine.{State, finished, stopped, unknown, Step, next, over, moved, full_dot, ending, closing, dot_step, prefix_step, opened, unless_full, opening_step, content_step, atom_step, act, by_lexed, by_rest, by_gap, step}
 use Rattle.isl_reader.proofs.Skips.{skip-ends}
+use Rattle.isl_reader.proofs.EachAct.{at-act}
 use Rattle.isl_reader.proofs.Stepping.{Numbers, state}
 
 -- the step is not the end of the text
@@ -77,14 +77,12 @@ atom-goes number s p r None = tt
 atom-goes number s p r (Some a) = full-goes (full_dot s.pending) r _ (content-goes s p (atom_content number a))
 
 act-goes : (number : Numbers) (s : State) (p : Place) (r w : Seq ℕ) (x : Lexeme) → GoesOn (act number s p r w x)
-act-goes number s p r w Close = closing-goes s p r s.pending
-act-goes number s p r w Dot = dot-goes s p r s.pending
-act-goes number s p r w (Open o) = opening-goes number s p r o
-act-goes number s p r w (Integer n) = atom-goes number s p r (atom_of (Integer n) w)
-act-goes number s p r w (Character n) = atom-goes number s p r (atom_of (Character n) w)
-act-goes number s p r w Token = atom-goes number s p r (atom_of Token w)
-act-goes number s p r w Bar = atom-goes number s p r (atom_of Bar w)
-act-goes number s p r w Text = atom-goes number s p r (atom_of Text w)
+act-goes number s p r w x = at-act GoesOn number s p r w (record {
+  closes = closing-goes s p r s.pending;
+  dots = dot-goes s p r s.pending;
+  opens = opening-goes number s p r;
+  reads = atom-goes number s p r;
+}) x
 
 lexed-goes : (number : Numbers) (s : State) (x : Lexed) → GoesOn (by_lexed number s x)
 unfolding by_lexed

@@ -71,37 +71,25 @@ unfolding quoted_from
 inside-unclosed-escaped quote bs content n s =
     inside-passed quote bs content (92 ∷ []) 0 n s ∙ rw n refl
 
-pub faults-string : (bs content : List ℕ) → Inside 34 bs content → Faults (34 ∷ bs) 0 UnclosedString
+unclosed-string : (bs : List ℕ) → quoted_from 34 false 0 bs ≡ Unclosed → Faults (34 ∷ bs) 0 UnclosedString
 unfolding lex mark_lexed is_token skip is_blank
-faults-string bs content s = record {
-  lexes = rw (inside-unclosed 34 bs content refl s) refl;
-  no_gap = refl;
-  some = omega arith;
-}
+unclosed-string bs h = record { lexes = rw h refl; no_gap = refl; some = omega arith }
+
+unclosed-bar : (bs : List ℕ) → quoted_from 124 false 0 bs ≡ Unclosed → Faults (124 ∷ bs) 0 UnclosedString
+unfolding lex mark_lexed is_token skip is_blank
+unclosed-bar bs h = record { lexes = rw h refl; no_gap = refl; some = omega arith }
+
+pub faults-string : (bs content : List ℕ) → Inside 34 bs content → Faults (34 ∷ bs) 0 UnclosedString
+faults-string bs content s = unclosed-string bs (inside-unclosed 34 bs content refl s)
 
 pub faults-string-escaped : (bs content : List ℕ) → Inside 34 bs content → Faults (34 ∷ (bs ++ 92 ∷ [])) 0 UnclosedString
-unfolding lex mark_lexed is_token skip is_blank
-faults-string-escaped bs content s = record {
-  lexes = rw (inside-unclosed-escaped 34 bs content refl s) refl;
-  no_gap = refl;
-  some = omega arith;
-}
+faults-string-escaped bs content s = unclosed-string (bs ++ 92 ∷ []) (inside-unclosed-escaped 34 bs content refl s)
 
 pub faults-bar : (bs content : List ℕ) → Inside 124 bs content → Faults (124 ∷ bs) 0 UnclosedString
-unfolding lex mark_lexed is_token skip is_blank
-faults-bar bs content s = record {
-  lexes = rw (inside-unclosed 124 bs content refl s) refl;
-  no_gap = refl;
-  some = omega arith;
-}
+faults-bar bs content s = unclosed-bar bs (inside-unclosed 124 bs content refl s)
 
 pub faults-bar-escaped : (bs content : List ℕ) → Inside 124 bs content → Faults (124 ∷ (bs ++ 92 ∷ [])) 0 UnclosedString
-unfolding lex mark_lexed is_token skip is_blank
-faults-bar-escaped bs content s = record {
-  lexes = rw (inside-unclosed-escaped 124 bs content refl s) refl;
-  no_gap = refl;
-  some = omega arith;
-}
+faults-bar-escaped bs content s = unclosed-bar (bs ++ 92 ∷ []) (inside-unclosed-escaped 124 bs content refl s)
 
 not-printed : (b : ℕ) → is_printed b ≡ false → not (is_printed b) ≡ true
 not-printed b h = ap not h

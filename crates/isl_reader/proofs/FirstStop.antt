@@ -7,7 +7,6 @@ use Rattle.isl_base.specs.Data.{Item, Content}
 use Rattle.isl_reader.specs.declared.opening.Opening.{Opening}
 use Rattle.isl_reader.specs.declared.opening.Opening.TheVariants.{List, Vector, Before}
 use Rattle.isl_reader.specs.declared.lexeme.Lexeme.{Lexeme}
-use Rattle.isl_reader.specs.declared.lexeme.Lexeme.TheVariants.{Close, Dot, Open, Integer, Character, Token, Bar, Text}
 use Rattle.isl_reader.specs.declared.lexeme.Lexed.{Lexed}
 use Rattle.isl_reader.specs.declared.lexeme.Lexed.TheVariants.{Taken, Fault}
 use Rattle.isl_reader.specs.declared.gap.Mode.TheVariants.{Between}
@@ -27,6 +26,7 @@ use Rattle.isl_reader.specs.Reads.{ReadsNext}
 use Rattle.isl_reader.specs.Fronts.{Level, in_list, at_dot, at_tail, in_vector, at_prefix, levels_behind, front_behind}
 use Rattle.isl_reader.specs.Stops.{StopsFirst}
 use Rattle.isl_reader.proofs.Stepping.{Numbers, state, step-gap, place_behind-append}
+use Rattle.isl_reader.proofs.EachAct.{at-act}
 use Rattle.isl_reader.proofs.Completing.{tree-steps}
 use Rattle.isl_reader.proofs.Fronting.{Held, front-steps, all_zero, means-exists, held-exists}
 use Rattle.isl_reader.proofs.Rows.{row-step}
@@ -102,14 +102,12 @@ atom-grows number s p r None = tt
 atom-grows number s p r (Some a) = full-grows (length s.done) (full_dot s.pending) r _ (content-grows s p (atom_content number a))
 
 act-grows : (number : Numbers) (s : State) (p : Place) (r w : Seq ℕ) (x : Lexeme) → Grows (length s.done) (act number s p r w x)
-act-grows number s p r w Close = closing-grows s p r s.pending
-act-grows number s p r w Dot = dot-grows s p r s.pending
-act-grows number s p r w (Open o) = opening-grows number s p r o
-act-grows number s p r w (Integer n) = atom-grows number s p r (atom_of (Integer n) w)
-act-grows number s p r w (Character n) = atom-grows number s p r (atom_of (Character n) w)
-act-grows number s p r w Token = atom-grows number s p r (atom_of Token w)
-act-grows number s p r w Bar = atom-grows number s p r (atom_of Bar w)
-act-grows number s p r w Text = atom-grows number s p r (atom_of Text w)
+act-grows number s p r w x = at-act (Grows (length s.done)) number s p r w (record {
+  closes = closing-grows s p r s.pending;
+  dots = dot-grows s p r s.pending;
+  opens = opening-grows number s p r;
+  reads = atom-grows number s p r;
+}) x
 
 lexed-grows : (number : Numbers) (s : State) (x : Lexed) → Grows (length s.done) (by_lexed number s x)
 unfolding by_lexed

@@ -25,6 +25,7 @@ pub mod Acting
 pub mod Leading
 pub mod Numbering
 pub mod Finding
+pub mod EachAct
 pub mod Ending
 pub mod Answering
 pub mod TextLaws
