@@ -13,9 +13,12 @@ pub struct Verdicts;
 
 impl Table for Verdicts {
     fn put(&self, got: &mut Answer, input: &[u8]) -> Option<()> {
-        match judge(got.alloc, input) {
-            Ok(true) => got.put("taken"),
-            Ok(false) => return None,
+        let mut names = Names::new(got.alloc);
+        match judge(got.alloc, &mut names, input) {
+            Ok(scope) => {
+                drop(scope);
+                got.put("taken");
+            }
             Err(stop) => got.put_stop(stop),
         }
         Some(())
@@ -25,28 +28,38 @@ impl Table for Verdicts {
 // How deep walks over the data of a text go at most, item by item.
 const DEPTH: u32 = 2000;
 
-// Judges the forms of a text, one after another; false for one that no walk of that depth goes through.
+/// The scope of the forms of a text, one after another.
 #[tactic(auto, using(isl_base::specs::DataFormed::formed_told))]
-fn judge(alloc: Global, text: &[u8]) -> Result<bool, Stop> {
+pub fn judge(alloc: Global, names: &mut Names, text: &[u8]) -> Result<Scope, Stop> {
     if text.len() > LONGEST {
         return Err(Stop::Refused(Refusal {
             place: Place { line: 1, column: 1 },
             reason: Reason::SourceTooLong,
         }));
     }
-    let mut names = Names::new(alloc);
-    let mut scope = Scope::new(alloc, &mut names)?;
+    let mut scope = Scope::new(alloc, names)?;
+    let judged = judge_all(alloc, names, &mut scope, text);
+    match judged {
+        Ok(()) => Ok(scope),
+        Err(stop) => {
+            drop(scope);
+            Err(stop)
+        }
+    }
+}
+
+fn judge_all(alloc: Global, names: &mut Names, scope: &mut Scope, text: &[u8]) -> Result<(), Stop> {
     let mut reader = Reader::new(text, Origin::File);
     for _ in 0..text.len() {
-        match reader.next(alloc, &mut names)? {
+        match reader.next(alloc, names)? {
             Some(datum) => {
                 if !datum.is_formed() || !is_below(&datum, names.len(), DEPTH) {
-                    return Ok(false);
+                    return Err(Stop::NoMemory);
                 }
-                scope.form(&mut names, &datum, Origin::File)?;
+                scope.form(names, &datum, Origin::File)?;
             }
             None => break,
         }
     }
-    Ok(true)
+    Ok(())
 }
