@@ -54,9 +54,12 @@ fn judge_all(alloc: Global, names: &mut Names, scope: &mut Scope, text: &[u8]) -
         match reader.next(alloc, names)? {
             Some(datum) => {
                 if !datum.is_formed() || !is_below(&datum, names.len(), DEPTH) {
+                    drop(datum);
                     return Err(Stop::NoMemory);
                 }
-                scope.form(names, &datum, Origin::File)?;
+                let judged = scope.form(names, &datum, Origin::File);
+                drop(datum);
+                judged?;
             }
             None => break,
         }
