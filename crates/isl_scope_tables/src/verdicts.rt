@@ -2,6 +2,7 @@
 
 use crate::named::is_below;
 use isl_base::{Names, Origin, Place, Reason, Refusal, Stop};
+use isl_checker::is_whole;
 use isl_reader::Reader;
 use isl_rows::{Answer, LONGEST, Table};
 use isl_scope::Scope;
@@ -15,14 +16,22 @@ impl Table for Verdicts {
     fn put(&self, got: &mut Answer, input: &[u8]) -> Option<()> {
         let mut names = Names::new(got.alloc);
         match judge(got.alloc, &mut names, input) {
-            Ok(scope) => {
-                drop(scope);
-                got.put("taken");
+            Ok(scope) => put_taken(got, scope),
+            Err(stop) => {
+                got.put_stop(stop);
+                Some(())
             }
-            Err(stop) => got.put_stop(stop),
         }
-        Some(())
     }
+}
+
+// The forms are taken; the checker of programs is asked too, though the type of a program says so.
+fn put_taken(got: &mut Answer, scope: Scope) -> Option<()> {
+    let program = scope.finish();
+    let whole = got.kept(is_whole(got.alloc, program.rows()));
+    drop(program);
+    got.put(if whole? { "taken" } else { "not whole" });
+    Some(())
 }
 
 // How deep walks over the data of a text go at most, item by item.
