@@ -15,7 +15,8 @@ use std::io;
 use verdicts::Verdicts;
 
 fn main(rt: HostRuntime) -> io::Result<()> {
-    put_table(&rt, "verdicts.txt", &Verdicts)?;
+    put_table(&rt, "verdicts.txt", &Verdicts::Judged)?;
+    put_table(&rt, "checked.txt", &Verdicts::Checked)?;
     put_table(&rt, "core_forms.txt", &Programs)?;
     put_table(&rt, "sites.txt", &Sites)
 }

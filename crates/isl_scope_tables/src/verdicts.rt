@@ -8,15 +8,25 @@ use isl_rows::{Answer, LONGEST, Table};
 use isl_scope::Scope;
 use std::alloc::Global;
 
-/// The table whose inputs are texts of files. The answer is `taken`, or the reason and the place of
-/// the first offence of the text or of a form.
-pub struct Verdicts;
+/// The tables whose inputs are texts of files. The answer is `taken`, or `whole` or `not whole` by the checker of programs,
+/// which is asked although the type of a program says so; or the reason and the place of the first offence of the text or of a form.
+pub enum Verdicts {
+    Judged,
+    Checked,
+}
 
 impl Table for Verdicts {
     fn put(&self, got: &mut Answer, input: &[u8]) -> Option<()> {
         let mut names = Names::new(got.alloc);
         match judge(got.alloc, &mut names, input) {
-            Ok(scope) => put_taken(got, scope),
+            Ok(scope) => match self {
+                Verdicts::Judged => {
+                    drop(scope);
+                    got.put("taken");
+                    Some(())
+                }
+                Verdicts::Checked => put_checked(got, scope),
+            },
             Err(stop) => {
                 got.put_stop(stop);
                 Some(())
@@ -25,12 +35,12 @@ impl Table for Verdicts {
     }
 }
 
-// The forms are taken; the checker of programs is asked too, though the type of a program says so.
-fn put_taken(got: &mut Answer, scope: Scope) -> Option<()> {
+// What the checker says of the program.
+fn put_checked(got: &mut Answer, scope: Scope) -> Option<()> {
     let program = scope.finish();
     let whole = got.kept(is_whole(got.alloc, program.rows()));
     drop(program);
-    got.put(if whole? { "taken" } else { "not whole" });
+    got.put(if whole? { "whole" } else { "not whole" });
     Some(())
 }
 
