@@ -1,9 +1,8 @@
 // What is computed of a datum.
 
-use crate::shown::{Style, show};
 use crate::tables::DEPTH;
 use isl_base::{Datum, Names};
-use isl_rows::Answer;
+use isl_rows::{Answer, Style, show};
 
 /// Data. The answer for each is its size, its depth, whether it is in form, and a copy of it.
 pub fn put(got: &mut Answer, names: &Names, data: &[Datum]) -> Option<()> {

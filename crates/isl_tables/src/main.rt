@@ -10,7 +10,6 @@ mod outside;
 mod printed;
 mod reasons;
 mod serials;
-mod shown;
 mod steps;
 mod tables;
 mod texts;

@@ -1,10 +1,9 @@
 // Derived forms one after the other, with the new symbols that their steps make.
 
 use crate::fresh::fresh_symbols;
-use crate::shown::{Style, show_symbol};
 use crate::steps::put_step;
 use isl_base::{Datum, Kind, Name, Names};
-use isl_rows::Answer;
+use isl_rows::{Answer, Style, show_symbol};
 
 /// How many new symbols there are, and then forms, one after the other. The answer for each is its step
 /// and how many new symbols there are then; and, behind all, the new symbols and the names of the forms.

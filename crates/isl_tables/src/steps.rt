@@ -4,11 +4,10 @@ ghost use Rattle.std.specs.Prelude.{length};
 
 use crate::fresh::freshened;
 use crate::named::is_below;
-use crate::shown::{Style, show};
 use crate::tables::DEPTH;
 use isl_base::{Datum, FreshList, Names};
 use isl_derived::{Step, derive};
-use isl_rows::Answer;
+use isl_rows::{Answer, Style, show};
 
 /// Whether the answer has the places of the parts that do not stand at the place of the form.
 #[derive(Drop)]

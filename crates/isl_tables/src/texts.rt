@@ -1,10 +1,9 @@
 // Texts, and the data or the stop that the reader gives of them.
 
-use crate::shown::{Style, show};
 use crate::tables::DEPTH;
 use isl_base::{Names, Origin};
 use isl_reader::Reader;
-use isl_rows::{Answer, LONGEST};
+use isl_rows::{Answer, LONGEST, Style, show};
 
 /// A text. The answer is each datum with its places and then `end`, or `!` and the stop with its
 /// place. Where `last` says otherwise, or the stop is not answered again, it is said too.

@@ -1,7 +1,7 @@
 // Data as the tables write them.
 
+use crate::answer::Answer;
 use isl_base::{Datum, Kind, Names, Place, Symbol};
-use isl_rows::Answer;
 
 /// How a datum is written.
 #[derive(Clone, Copy)]

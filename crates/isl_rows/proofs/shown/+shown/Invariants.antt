@@ -1,4 +1,5 @@
-use Rattle.isl_tables.proofs.shown.+shown.Given as goal
+-- The parts of a datum stand inside fewer lists.
+use Rattle.isl_rows.proofs.shown.+shown.Given as goal
 
 abbrev pub decreases-show : goal.decreases-show
 decreases-show l = l.depth
