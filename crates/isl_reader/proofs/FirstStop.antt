@@ -18,7 +18,7 @@ use Rattle.isl_reader.specs.Characters.{place_behind}
 use Rattle.isl_reader.specs.Gaps.{Gap}
 use Rattle.isl_reader.specs.Atoms.{Atom}
 use Rattle.isl_reader.specs.Meanings.{number_in, atom_content, prefix_name}
-use Rattle.isl_reader.specs.bridge.Lexemes.{skip, lex, atom_of}
+use Rattle.isl_reader.specs.bridge.Lexemes.{skip, lex}
 use Rattle.isl_reader.specs.bridge.Machine.{State, Outcome, finished, stopped, Step, next, over, moved, put, full_dot, ending, closing, dot_step, prefix_step, opened, unless_full, opening_step, content_step, atom_step, act, by_lexed, by_rest, by_gap, step, Steps, none, more, put_in}
 use Rattle.isl_reader.specs.Trees.{Trees, no_tree, then_tree, spelled, spelled_all, behind, StandsAll}
 use Rattle.isl_reader.specs.Meanings.{MeansAll, prefix_item}

@@ -1,22 +1,28 @@
-// Puts the rows of the tables of files to the scope.
+// Puts the rows of the tables of files to the reading of programs.
 #![tactic(auto)]
 
+mod files;
 mod forms;
-mod named;
 mod primitives;
 mod programs;
-mod sites;
-mod verdicts;
 
+use files::Files;
 use isl_rows::put_table;
-use programs::Programs;
-use sites::Sites;
 use std::io;
-use verdicts::Verdicts;
+
+// The file of each table.
+const TABLES: &[(&str, Files)] = &[
+    ("verdicts.txt", Files::Verdicts),
+    ("preludes.txt", Files::Programs),
+    ("checked.txt", Files::Checked),
+    ("core_forms.txt", Files::Programs),
+    ("shown.txt", Files::Shown),
+    ("sites.txt", Files::Sites),
+];
 
 fn main(rt: HostRuntime) -> io::Result<()> {
-    put_table(&rt, "verdicts.txt", &Verdicts::Judged)?;
-    put_table(&rt, "checked.txt", &Verdicts::Checked)?;
-    put_table(&rt, "core_forms.txt", &Programs)?;
-    put_table(&rt, "sites.txt", &Sites)
+    for (name, table) in TABLES {
+        put_table(&rt, name, table)?;
+    }
+    Ok(())
 }

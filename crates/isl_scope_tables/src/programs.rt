@@ -1,37 +1,16 @@
-// Programs of accepted files, as rows write them.
+// Programs, as rows write them.
 
 use crate::forms::{put_form, put_named, put_variables};
-use crate::verdicts::judge;
 use isl_base::Names;
 use isl_meaning::{LiteralRow, Procedure, ProgramRows};
-use isl_rows::{Answer, Style, Table, show};
-
-/// The table whose inputs are texts of files. The answer is the program: its main forms; behind `;` its literals, each a datum,
-/// `#'` and the name of a function, or `class` and a number; and behind one more each of its procedures, with its name, its variables and its body.
-pub struct Programs;
-
-impl Table for Programs {
-    fn put(&self, got: &mut Answer, input: &[u8]) -> Option<()> {
-        let mut names = Names::new(got.alloc);
-        match judge(got.alloc, &mut names, input) {
-            Ok(scope) => {
-                let program = scope.finish();
-                let answered = put_program(got, &names, program.rows());
-                drop(program);
-                answered
-            }
-            Err(stop) => {
-                got.put_stop(stop);
-                Some(())
-            }
-        }
-    }
-}
+use isl_rows::{Answer, Style, show};
 
 // How deep forms and data stand inside one another in a row.
 const DEPTH: u32 = 100;
 
-fn put_program(got: &mut Answer, names: &Names, rows: &ProgramRows) -> Option<()> {
+/// Appends a program: its main forms; behind `;` its literals, each a datum, `#'` and the name of a function, or `class` and a number;
+/// and behind one more each of its procedures, with its name, its variables and its body.
+pub fn put_program(got: &mut Answer, names: &Names, rows: &ProgramRows) -> Option<()> {
     for form in rows.main.as_slice() {
         got.begin();
         put_form(got, names, form, DEPTH)?;
