@@ -1,10 +1,9 @@
 -- Which file is a program (ISO/IEC 13816:2007, 6, 11 and 12): the forms of a prelude and then of a file are read and judged one
 -- after another, and the first offence refuses the file.
-use Rattle.std.specs.Prelude.{◌≡◌, ℕ, ◌<◌, ◌≤◌, List, [], length}
+use Rattle.std.specs.Prelude.{ℕ, ◌<◌, ◌≤◌, List, [], length}
 use Rattle.isl_base.specs.declared.origin.Origin.{Origin}
 use Rattle.isl_base.specs.declared.origin.Origin.TheVariants.{Prelude, File}
 use Rattle.isl_base.specs.declared.place.Place.{Place}
-use Rattle.isl_base.specs.declared.reason.Reason.{Reason}
 use Rattle.isl_base.specs.declared.reason.Reason.TheVariants.{SourceTooLong}
 use Rattle.isl_base.specs.declared.reason.Refusal.{Refusal}
 use Rattle.isl_base.specs.declared.reason.Stop.{Stop}

@@ -1,7 +1,6 @@
 -- Under one table of names, a file has at most one verdict.
-use Rattle.std.specs.Prelude.{◌≡◌, ℕ, ◌<◌, ◌≤◌, true, false, List, [], Some, slice_get, codes, refl}
-use Rattle.std.proofs.Common.{ap, sym, subst, ◌∙◌, arith, inl, inr, ⊎_elim}
-use Rattle.isl_base.specs.declared.datum.Name.{Name}
+use Rattle.std.specs.Prelude.{◌≡◌, ℕ, ◌<◌, ◌≤◌, List, [], refl}
+use Rattle.std.proofs.Common.{ap, sym, subst, ◌∙◌, arith, ⊎_elim}
 use Rattle.isl_base.specs.declared.origin.Origin.{Origin}
 use Rattle.isl_base.specs.declared.place.Place.{Place}
 use Rattle.isl_base.specs.declared.reason.Reason.{Reason}
@@ -9,9 +8,8 @@ use Rattle.isl_base.specs.declared.reason.Refusal.{Refusal}
 use Rattle.isl_base.specs.declared.reason.Stop.TheVariants.{Refused}
 use Rattle.isl_base.specs.Names.{IsTable, Extends-same}
 use Rattle.isl_base.specs.Data.{Item, place_of}
-use Rattle.isl_meaning.specs.Form.{Form}
 use Rattle.isl_profile.specs.declared.tables.Tables.{Tables}
-use Rattle.isl_profile.specs.Nodes.{Around, Standing, Ending, Verdict as Come, stands, ended, refused as refused_at}
+use Rattle.isl_profile.specs.Nodes.{Around, Standing, Verdict as Come, stands, ended, refused as refused_at}
 use Rattle.isl_profile.specs.Rows.{node}
 use Rattle.isl_profile.specs.Judged.{Comes}
 use Rattle.isl_profile.specs.Promises.{FormComes}
@@ -19,9 +17,9 @@ use Rattle.isl_reader.specs.Characters.{place_behind}
 use Rattle.isl_reader.specs.Gaps.{Gap}
 use Rattle.isl_reader.specs.Reads.{ReadsNext}
 use Rattle.isl_reader.specs.Stops.{Stops, StopsFirst}
-use Rattle.isl_scope.specs.Scopes.{top, with_main, rows_of, nodes_of, most_nodes, too_large, Given, IsFirst, IsTaken, IsTooLarge, IsStopped}
+use Rattle.isl_scope.specs.Scopes.{top, with_main, rows_of, nodes_of, most_nodes, Given, IsTaken, IsStopped}
 use Rattle.isl_files.specs.declared.mode.Mode.{Mode}
-use Rattle.isl_files.specs.Shown.{stays, printing_at, IsPrinting, IsForm, runs, not_last, last_stays, last_shown}
+use Rattle.isl_files.specs.Shown.{printing_at, IsPrinting, IsForm, runs, not_last, last_stays, last_shown}
 use Rattle.isl_files.specs.Verdicts.{FormTaken, FormRefused, Judgement, all_taken, one_refused, behind_next, Judges, at_end, form_taken, form_refused, text_stops, Outcome, accepted, refused, BehindPrelude, Verdict, source_too_long, prelude_refused, file_refused, file_accepted}
 use Rattle.isl_files.specs.bridge.First.{one_first, same_name}
 
