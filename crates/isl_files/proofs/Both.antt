@@ -13,7 +13,7 @@ use Rattle.isl_files.specs.declared.mode.Mode.TheVariants.{Run}
 use Rattle.isl_files.specs.Verdicts.{all_taken, JudgesText, accepted, longest_file, too_long, Verdict, source_too_long, prelude_refused, file_refused, file_accepted, Refuses, IsNoProgram}
 use Rattle.isl_files.specs.bridge.First.{first_later}
 use Rattle.isl_files.specs.bridge.Later.{judges_later}
-use Rattle.isl_files.specs.bridge.Stopping.{JudgesStop, BothTaken, BothRefused, in_prelude, in_file, BothStop, VerdictStops}
+use Rattle.isl_files.specs.bridge.Stopping.{JudgesStop, BothTaken, in_prelude, in_file, BothStop, VerdictStops}
 
 pub both_taken : (names more : List (List ℕ)) (prelude text : List ℕ) (mode : Mode) (s t u : Tables) → Extends names more →
     JudgesText names Prelude Run s prelude (all_taken t) → JudgesText more File mode t text (all_taken u) → BothTaken more prelude text mode s u

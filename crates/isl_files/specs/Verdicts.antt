@@ -4,7 +4,6 @@ use Rattle.std.specs.Prelude.{◌≡◌, ℕ, ◌<◌, ◌≤◌, List, [], leng
 use Rattle.isl_base.specs.declared.origin.Origin.{Origin}
 use Rattle.isl_base.specs.declared.origin.Origin.TheVariants.{Prelude, File}
 use Rattle.isl_base.specs.declared.place.Place.{Place}
-use Rattle.isl_base.specs.declared.reason.Reason.{Reason}
 use Rattle.isl_base.specs.declared.reason.Reason.TheVariants.{SourceTooLong}
 use Rattle.isl_base.specs.declared.reason.Refusal.{Refusal}
 use Rattle.isl_base.specs.declared.reason.Stop.{Stop}
@@ -89,6 +88,11 @@ pub data Verdict (names : List (List ℕ)) (prelude text : List ℕ) (mode : Mod
       → JudgesText names File mode t text (one_refused r) → Verdict names prelude text mode (refused r)
   file_accepted : (t u : Tables) → length text ≤ longest_file → BehindPrelude names prelude (all_taken t)
       → JudgesText names File mode t text (all_taken u) → Verdict names prelude text mode (accepted (rows_of u))
+
+-- what refuses the file is its length, or stands in it
+pub data IsOfFile (names : List (List ℕ)) (text : List ℕ) (mode : Mode) (r : Refusal) : Type 0 where
+  its_length : r ≡ too_long → IsOfFile names text mode r
+  in_it : (t : Tables) → JudgesText names File mode t text (one_refused r) → IsOfFile names text mode r
 
 -- the file is that program, with these names
 pub record Accepts (prelude text : List ℕ) (mode : Mode) (names : List (List ℕ)) (program : ProgramRows) : Type 0 where

@@ -1,9 +1,12 @@
 // Laws of the verdict on a file.
 
-ghost use Rattle.std.specs.Prelude.{◌≡◌, ℕ, List};
+ghost use Rattle.std.specs.Prelude.{◌≡◌, ℕ, List, []};
+ghost use Rattle.isl_base.specs.declared.reason.Refusal.{Refusal as refusal};
 ghost use Rattle.isl_base.specs.Names.{IsTable, Extends};
+ghost use Rattle.isl_meaning.specs.declared.program.ProgramRows.{ProgramRows as program_rows};
 ghost use Rattle.isl_files.specs.declared.mode.Mode.{Mode as mode_of};
-ghost use Rattle.isl_files.specs.Verdicts.{Outcome, Verdict};
+ghost use Rattle.isl_files.specs.declared.mode.Mode.TheVariants.{Run};
+ghost use Rattle.isl_files.specs.Verdicts.{Outcome, accepted, refused, Verdict, IsOfFile};
 
 use isl_profile::laws::law_one_verdict as law_one_verdict_of_a_form;
 use isl_reader::laws::{law_end, law_next_or_stops, law_one_datum, law_one_stop};
@@ -12,6 +15,19 @@ use isl_reader::laws::{law_end, law_next_or_stops, law_one_datum, law_one_stop};
 pub fn law_one_verdict()
     ensures { (names : List (List ℕ)) (prelude text : List ℕ) (mode : mode_of) (v w : Outcome) → IsTable names →
         Verdict names prelude text mode v → Verdict names prelude text mode w → v ≡ w }
+{
+    law_one_verdict_of_a_form();
+    law_one_datum();
+    law_one_stop();
+    law_next_or_stops();
+    law_end();
+}
+
+/// A prelude that is accepted in front of the empty file refuses no file: what refuses a file is its length, or
+/// stands in it.
+pub fn law_prelude()
+    ensures { (names : List (List ℕ)) (prelude text : List ℕ) (mode : mode_of) (program : program_rows) (r : refusal) → IsTable names →
+        Verdict names prelude [] Run (accepted program) → Verdict names prelude text mode (refused r) → IsOfFile names text mode r }
 {
     law_one_verdict_of_a_form();
     law_one_datum();

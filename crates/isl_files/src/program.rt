@@ -66,12 +66,7 @@ fn program_of(
 /// those of the file are read and judged one after another; in mode Show the value of the file's last
 /// form is printed. Refused at its first offence: at 1:1 for its length; else at the fault of a text, or at
 /// the first offence of a form, whichever comes first. Places in the prelude are 0:0.
-pub fn read_program(
-    alloc: Global,
-    text: &[u8],
-    prelude: &[u8],
-    mode: Mode,
-) -> Result<Whole, Stop>
+pub fn read_program(alloc: Global, text: &[u8], prelude: &[u8], mode: Mode) -> Result<Whole, Stop>
     ensures program { IfOk result (λ whole. Accepts prelude.now text.now mode whole.names whole.program) }
     ensures stops { IfErr result (IsNoProgram prelude.now text.now mode) }
 {

@@ -121,7 +121,12 @@ fn string_at(alloc: Global, place: Place, text: &[u8]) -> Result<Datum, NoMemory
 }
 
 // What stands in front of the form that is printed.
-fn front_at(alloc: Global, place: Place, format: Name, standard_output: Name) -> Result<DatumList, NoMemory>
+fn front_at(
+    alloc: Global,
+    place: Place,
+    format: Name,
+    standard_output: Name,
+) -> Result<DatumList, NoMemory>
     ensures { IfOk result (λ ds. ds ≡ named_at place format ∷ list_at place (named_at place standard_output ∷ [])
         ∷ item place (string (codes "~S~%")) ∷ []) }
 {
@@ -157,7 +162,13 @@ fn printing(alloc: Global, names: &mut Names, form: Datum) -> Result<Datum, NoMe
 }
 
 /// The form that is judged for a datum, behind which the reader stands.
-pub(crate) fn form_of(alloc: Global, names: &mut Names, reader: &Reader, datum: Datum, mode: Mode) -> Result<Datum, NoMemory>
+pub(crate) fn form_of(
+    alloc: Global,
+    names: &mut Names,
+    reader: &Reader,
+    datum: Datum,
+    mode: Mode,
+) -> Result<Datum, NoMemory>
     requires good { Good (length names.old) datum }
     ensures form { IfOk result (IsForm names.new mode datum reader.now.rest) }
     ensures good { IfOk result (Good (length names.new)) }

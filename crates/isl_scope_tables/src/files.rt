@@ -1,4 +1,4 @@
-// Files behind a prelude, and what is told of them.
+// Files, and what is told of them.
 
 use crate::programs::put_program;
 use isl_base::Stop;
@@ -6,74 +6,78 @@ use isl_checker::is_whole;
 use isl_files::{Mode, Whole, read_program};
 use isl_meaning::ProgramRows;
 use isl_rows::{Answer, Table};
-use std::alloc::Global;
 
-/// The tables whose inputs are texts of files; where an input has a byte 0, what stands in front of it is the prelude. A refusal is
-/// answered by its reason and its place.
-pub enum Files {
-    /// Answers `taken`.
-    Verdicts,
-    /// Answers `whole` or `not whole` by the checker of programs, which is asked although the type of a program says so.
-    Checked,
-    /// Answers the program.
-    Programs,
-    /// Answers the program that prints the value of its last form.
-    Shown,
-    /// Answers the place of each site.
+/// What is told of the program of a file. A refusal is told by its reason and its place.
+#[derive(Clone, Copy)]
+pub enum Told {
+    /// `taken`.
+    Taken,
+    /// `taken`, with the numbers of main forms, functions and literals.
+    Counts,
+    /// `whole` or `not whole` by the checker of programs, which is asked although the type of a program says so.
+    Wholeness,
+    /// The program.
+    Program,
+    /// The place of each site.
     Sites,
 }
 
+/// The tables whose inputs are texts of files that no prelude stands before.
+pub struct Files(pub Told);
+
 impl Table for Files {
     fn put(&self, got: &mut Answer, input: &[u8]) -> Option<()> {
-        match self.read(got.alloc, input) {
-            Ok(whole) => {
-                let answered = self.put_whole(got, &whole);
-                drop(whole);
-                answered
-            }
-            Err(stop) => {
-                got.put_stop(stop);
-                Some(())
-            }
+        let read = read_program(got.alloc, input, b"", Mode::Run);
+        put_read(got, self.0, read)
+    }
+}
+
+/// The tables whose inputs are a line `run` or `show`, a prelude of one line, and the text of a file.
+pub struct Preludes(pub Told);
+
+impl Table for Preludes {
+    fn put(&self, got: &mut Answer, input: &[u8]) -> Option<()> {
+        let (mode, rest) = line_of(input)?;
+        let (prelude, text) = line_of(rest)?;
+        let read = read_program(got.alloc, text, prelude, mode_of(mode)?);
+        put_read(got, self.0, read)
+    }
+}
+
+fn put_read(got: &mut Answer, told: Told, read: Result<Whole, Stop>) -> Option<()> {
+    match read {
+        Ok(whole) => {
+            let answered = put_whole(got, told, &whole);
+            drop(whole);
+            answered
+        }
+        Err(stop) => {
+            got.put_stop(stop);
+            Some(())
         }
     }
 }
 
-impl Files {
-    // The program of an input.
-    fn read(&self, alloc: Global, input: &[u8]) -> Result<Whole, Stop> {
-        let (prelude, file) = parts(input);
-        let mode = match self {
-            Files::Shown => Mode::Show,
-            _ => Mode::Run,
-        };
-        read_program(alloc, file, prelude, mode)
+fn put_whole(got: &mut Answer, told: Told, whole: &Whole) -> Option<()> {
+    let rows = whole.program.rows();
+    match told {
+        Told::Taken => got.put("taken"),
+        Told::Counts => put_counts(got, rows),
+        Told::Wholeness => put_wholeness(got, rows)?,
+        Told::Program => put_program(got, &whole.names, rows)?,
+        Told::Sites => put_sites(got, rows),
     }
-
-    // What this table tells of it.
-    fn put_whole(&self, got: &mut Answer, whole: &Whole) -> Option<()> {
-        let rows = whole.program.rows();
-        match self {
-            Files::Verdicts => got.put("taken"),
-            Files::Checked => put_checked(got, rows)?,
-            Files::Programs | Files::Shown => put_program(got, &whole.names, rows)?,
-            Files::Sites => put_sites(got, rows),
-        }
-        Some(())
-    }
+    Some(())
 }
 
-// The prelude and the file of an input.
-fn parts(input: &[u8]) -> (&[u8], &[u8]) {
-    for at in 0..input.len() {
-        if input[at] == 0 {
-            return (&input[..at], &input[at + 1..]);
-        }
-    }
-    (&[], input)
+fn put_counts(got: &mut Answer, rows: &ProgramRows) {
+    got.put("taken");
+    got.push(rows.main.len());
+    got.push(rows.functions.len());
+    got.push(rows.literals.len());
 }
 
-fn put_checked(got: &mut Answer, rows: &ProgramRows) -> Option<()> {
+fn put_wholeness(got: &mut Answer, rows: &ProgramRows) -> Option<()> {
     let is_whole = got.kept(is_whole(got.alloc, rows))?;
     got.put(if is_whole { "whole" } else { "not whole" });
     Some(())
@@ -84,4 +88,23 @@ fn put_sites(got: &mut Answer, rows: &ProgramRows) {
         got.begin();
         got.put_place(*place);
     }
+}
+
+// The mode of that name.
+fn mode_of(name: &[u8]) -> Option<Mode> {
+    if name == b"run".as_slice() {
+        Some(Mode::Run)
+    } else if name == b"show".as_slice() {
+        Some(Mode::Show)
+    } else {
+        None
+    }
+}
+
+// The first line, and what stands behind it.
+fn line_of(text: &[u8]) -> Option<(&[u8], &[u8])> {
+    let end = text.iter().position(|byte| *byte == b'\n')?;
+    let (line, rest) = text.split_at_checked(end)?;
+    let (_, behind) = rest.split_first()?;
+    Some((line, behind))
 }

@@ -1,4 +1,4 @@
-// Puts the rows of the tables of files to the reading of programs.
+// Puts the rows of the tables of files to the call that reads a file.
 #![tactic(auto)]
 
 mod files;
@@ -6,23 +6,15 @@ mod forms;
 mod primitives;
 mod programs;
 
-use files::Files;
+use files::{Files, Preludes, Told};
 use isl_rows::put_table;
 use std::io;
 
-// The file of each table.
-const TABLES: &[(&str, Files)] = &[
-    ("verdicts.txt", Files::Verdicts),
-    ("preludes.txt", Files::Programs),
-    ("checked.txt", Files::Checked),
-    ("core_forms.txt", Files::Programs),
-    ("shown.txt", Files::Shown),
-    ("sites.txt", Files::Sites),
-];
-
 fn main(rt: HostRuntime) -> io::Result<()> {
-    for (name, table) in TABLES {
-        put_table(&rt, name, table)?;
-    }
-    Ok(())
+    put_table(&rt, "verdicts.txt", &Files(Told::Taken))?;
+    put_table(&rt, "checked.txt", &Files(Told::Wholeness))?;
+    put_table(&rt, "core_forms.txt", &Files(Told::Program))?;
+    put_table(&rt, "sites.txt", &Files(Told::Sites))?;
+    put_table(&rt, "files.txt", &Preludes(Told::Counts))?;
+    put_table(&rt, "programs.txt", &Preludes(Told::Program))
 }

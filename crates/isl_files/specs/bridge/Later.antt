@@ -1,5 +1,5 @@
 -- What is said of forms under a table of names is said of them under every later one.
-use Rattle.std.specs.Prelude.{◌≡◌, ℕ, Bool, List, length, refl}
+use Rattle.std.specs.Prelude.{◌≡◌, ℕ, List, length, refl}
 use Rattle.std.proofs.Common.{ap, sym, ◌∙◌, inl, inr, ⊎_elim}
 use Rattle.isl_base.specs.declared.origin.Origin.{Origin}
 use Rattle.isl_base.specs.declared.place.Place.{Place}

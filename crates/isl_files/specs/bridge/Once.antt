@@ -1,17 +1,17 @@
 -- Under one table of names, a file has at most one verdict.
-use Rattle.std.specs.Prelude.{◌≡◌, ℕ, ◌<◌, ◌≤◌, true, false, List, [], Some, slice_get, codes, refl}
-use Rattle.std.proofs.Common.{ap, sym, subst, ◌∙◌, arith, inl, inr, ⊎_elim}
-use Rattle.isl_base.specs.declared.datum.Name.{Name}
+use Rattle.std.specs.Prelude.{◌≡◌, ℕ, ◌<◌, ◌≤◌, List, [], refl}
+use Rattle.std.proofs.Common.{ap, sym, subst, ◌∙◌, arith, ⊎_elim}
 use Rattle.isl_base.specs.declared.origin.Origin.{Origin}
+use Rattle.isl_base.specs.declared.origin.Origin.TheVariants.{File}
 use Rattle.isl_base.specs.declared.place.Place.{Place}
 use Rattle.isl_base.specs.declared.reason.Reason.{Reason}
 use Rattle.isl_base.specs.declared.reason.Refusal.{Refusal}
 use Rattle.isl_base.specs.declared.reason.Stop.TheVariants.{Refused}
 use Rattle.isl_base.specs.Names.{IsTable, Extends-same}
 use Rattle.isl_base.specs.Data.{Item, place_of}
-use Rattle.isl_meaning.specs.Form.{Form}
+use Rattle.isl_meaning.specs.declared.program.ProgramRows.{ProgramRows}
 use Rattle.isl_profile.specs.declared.tables.Tables.{Tables}
-use Rattle.isl_profile.specs.Nodes.{Around, Standing, Ending, Verdict as Come, stands, ended, refused as refused_at}
+use Rattle.isl_profile.specs.Nodes.{Around, Standing, Verdict as Come, stands, ended, refused as refused_at}
 use Rattle.isl_profile.specs.Rows.{node}
 use Rattle.isl_profile.specs.Judged.{Comes}
 use Rattle.isl_profile.specs.Promises.{FormComes}
@@ -19,10 +19,11 @@ use Rattle.isl_reader.specs.Characters.{place_behind}
 use Rattle.isl_reader.specs.Gaps.{Gap}
 use Rattle.isl_reader.specs.Reads.{ReadsNext}
 use Rattle.isl_reader.specs.Stops.{Stops, StopsFirst}
-use Rattle.isl_scope.specs.Scopes.{top, with_main, rows_of, nodes_of, most_nodes, too_large, Given, IsFirst, IsTaken, IsTooLarge, IsStopped}
+use Rattle.isl_scope.specs.Scopes.{top, with_main, rows_of, nodes_of, most_nodes, Given, IsTaken, IsStopped}
 use Rattle.isl_files.specs.declared.mode.Mode.{Mode}
-use Rattle.isl_files.specs.Shown.{stays, printing_at, IsPrinting, IsForm, runs, not_last, last_stays, last_shown}
-use Rattle.isl_files.specs.Verdicts.{FormTaken, FormRefused, Judgement, all_taken, one_refused, behind_next, Judges, at_end, form_taken, form_refused, text_stops, Outcome, accepted, refused, BehindPrelude, Verdict, source_too_long, prelude_refused, file_refused, file_accepted}
+use Rattle.isl_files.specs.declared.mode.Mode.TheVariants.{Run}
+use Rattle.isl_files.specs.Shown.{printing_at, IsPrinting, IsForm, runs, not_last, last_stays, last_shown}
+use Rattle.isl_files.specs.Verdicts.{JudgesText, IsOfFile, its_length, in_it, FormTaken, FormRefused, Judgement, all_taken, one_refused, behind_next, Judges, at_end, form_taken, form_refused, text_stops, Outcome, accepted, refused, BehindPrelude, Verdict, source_too_long, prelude_refused, file_refused, file_accepted}
 use Rattle.isl_files.specs.bridge.First.{one_first, same_name}
 
 -- what is known of texts and of forms
@@ -243,3 +244,16 @@ one_verdict names prelude text mode v w once (file_accepted s x l a g) (file_acc
     let tables : s ≡ t = same_tables s t (same_prelude names prelude _ _ once a b) in
     ap (λ z. accepted (rows_of z))
     (same_tables x y (same_judgement names _ mode s text _ _ _ once g (judges_there names _ mode s t text text _ _ _ tables refl refl h)))
+
+-- a prelude that is taken once is taken in front of each file
+pub of_file : (names : List (List ℕ)) (prelude text : List ℕ) (mode : Mode) (v w : Outcome) (program : ProgramRows) (r : Refusal) → Once names →
+    Verdict names prelude [] Run v → v ≡ accepted program → Verdict names prelude text mode w → w ≡ refused r → IsOfFile names text mode r
+of_file names prelude text mode v w program r once (source_too_long l) e b f = absurd (cc)
+of_file names prelude text mode v w program r once (prelude_refused q l a) e b f = absurd (cc)
+of_file names prelude text mode v w program r once (file_refused s q l a g) e b f = absurd (cc)
+of_file names prelude text mode v w program r once (file_accepted s x l a g) e (source_too_long m) f = its_length (cc)
+of_file names prelude text mode v w program r once (file_accepted s x l a g) e (prelude_refused q m b) f = absurd (cc (same_prelude names prelude _ _ once a b))
+of_file names prelude text mode v w program r once (file_accepted s x l a g) e (file_refused t q m b h) f =
+    let same : q ≡ r = cc in
+    in_it t (subst (λ y. JudgesText names File mode t text (one_refused y)) same h)
+of_file names prelude text mode v w program r once (file_accepted s x l a g) e (file_accepted t u m b h) f = absurd (cc)

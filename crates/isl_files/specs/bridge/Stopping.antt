@@ -1,5 +1,5 @@
 -- What the calls below `read_program` promise of their stops, where want of memory is free.
-use Rattle.std.specs.Prelude.{ℕ, List, ◌≤◌, length}
+use Rattle.std.specs.Prelude.{ℕ, List}
 use Rattle.isl_base.specs.declared.origin.Origin.{Origin}
 use Rattle.isl_base.specs.declared.origin.Origin.TheVariants.{Prelude, File}
 use Rattle.isl_base.specs.declared.place.Place.{Place}

@@ -16,15 +16,14 @@ loop-datum-smaller c =
 
 pub loop-datum-preserved : goal.loop-datum-preserved
 loop-datum-preserved c =
-    let read = rw c.in-Some.is at c.in_ok-datum.ensures.read in
-    (
+    let read = rw c.in-Some.is at c.in_ok-datum.ensures.read in (
       leads_more c.loop-datum.names c.next.new.names c.judge_form.new.names c.args.origin c.args.mode c.args.scope.now c.args.reader.now.rest c.args.reader.now.place
-      c.loop-datum.scope c.loop-datum.reader c.next.new.self c.in-Some.datum c.judge_form.new.scope
-      c.in_ok-datum.ensures.names.extends c.in_ok-judge_form.ensures.names c.loop-datum.invariant.0 read c.in_ok-judge_form.ensures.taken,
+          c.loop-datum.scope c.loop-datum.reader c.next.new.self c.in-Some.datum c.judge_form.new.scope
+          c.in_ok-datum.ensures.names.extends c.in_ok-judge_form.ensures.names c.loop-datum.invariant.0 read c.in_ok-judge_form.ensures.taken,
       read.still,
       Extends-then c.args.names.now c.next.new.names c.judge_form.new.names
-      (Extends-then c.args.names.now c.loop-datum.names c.next.new.names c.loop-datum.invariant.2 c.in_ok-datum.ensures.names.extends)
-      c.in_ok-judge_form.ensures.names,
+          (Extends-then c.args.names.now c.loop-datum.names c.next.new.names c.loop-datum.invariant.2 c.in_ok-datum.ensures.names.extends)
+          c.in_ok-judge_form.ensures.names,
     )
 
 pub returns-in_err-datum-clause-stops : goal.returns-in_err-datum-clause-stops

@@ -10,11 +10,11 @@ pub returns-then-not-last-clause-form : goal.returns-then-not-last-clause-form
 returns-then-not-last-clause-form c =
     elim c.then-not-last.branch [
       | then-not-last-via-then-not-last w ↦
-        subst (λ m. IsForm c.args.names.now m c.args.datum c.args.reader.now.rest c.args.datum) (sym c.in-Show.is)
-        (not_last c.args.datum c.args.reader.now.rest (λ g. let last : c.last.result ≡ true = c.last.ensures.1 g in cc w.if-not-last.true))
+          subst (λ m. IsForm c.args.names.now m c.args.datum c.args.reader.now.rest c.args.datum) (sym c.in-Show.is)
+          (not_last c.args.datum c.args.reader.now.rest (λ g. let last : c.last.result ≡ true = c.last.ensures.1 g in cc w.if-not-last.true))
       | then-not-last-via-else-not-last+then-stays w ↦
-        subst (λ m. IsForm c.args.names.now m c.args.datum c.args.reader.now.rest c.args.datum) (sym c.in-Show.is)
-        (last_stays c.args.datum c.args.reader.now.rest (sym w.stays.ensures ∙ w.if-stays.true))
+          subst (λ m. IsForm c.args.names.now m c.args.datum c.args.reader.now.rest c.args.datum) (sym c.in-Show.is)
+          (last_stays c.args.datum c.args.reader.now.rest (sym w.stays.ensures ∙ w.if-stays.true))
     ]
 
 pub returns-in-Run-clause-form : goal.returns-in-Run-clause-form
