@@ -1,7 +1,8 @@
 -- What contracts see of the code's data that borrow: texts, data, bindings, clauses, parts.
-use Rattle.std.specs.Prelude.{ℕ, List, [], ◌∷◌, ◌++◌, map, Option, Some, None}
+use Rattle.std.specs.Prelude.{◌≡◌, ℕ, List, [], ◌∷◌, ◌++◌, map, Option, Some, None, Result, IfOk}
 use Rattle.std.specs.Borrow.{Bor}
 use Rattle.isl_base.specs.Data.{Item}
+use Rattle.isl_base.specs.declared.faults.NoMemory.{NoMemory}
 use Rattle.isl_profile.specs.declared.bound.Bound.{Bound}
 use Rattle.isl_profile.specs.declared.spot.Spot.{Spot}
 use Rattle.isl_profile.specs.declared.tables.Tables.{Tables}
@@ -13,6 +14,7 @@ use Rattle.isl_forms.specs.declared.plan.Work.{Work}
 use Rattle.isl_forms.specs.declared.plan.Plan.{Plan}
 use Rattle.isl_forms.specs.declared.plan.Plan.TheVariants.{Offends, Whole}
 use Rattle.isl_profile.specs.Shapes.{Pair, ClauseParts}
+use Rattle.isl_profile.specs.Marks.{Grows}
 use Rattle.isl_profile.specs.Nodes.{Around, Part, form, below, inner, bind, parameter, Node, offends, whole}
 
 abbrev pub texts : List (Bor (List ℕ)) → List (List ℕ)
@@ -72,3 +74,8 @@ abbrev pub shown : List Bound → Tables → Plan → Node
 shown bound s (Offends p r) = offends p r
 shown bound s (Whole w) =
     whole (at bound w.outside) (at (bound ++ w.binds) w.inside) s (view_parts w.parts ++ view_inner w.inner) w.made
+
+-- a plan for a node, where these things are bound: with the tables then it shows the node; the tables have grown from those before, where
+-- memory was wanting too
+abbrev pub IsPlan : List Bound → Tables → Tables → Node → Result Plan NoMemory → Type 0
+IsPlan bound old new node result = IfOk result (λ plan. shown bound new plan ≡ node) × Grows old new

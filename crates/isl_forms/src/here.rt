@@ -2,7 +2,7 @@
 
 ghost use Rattle.std.specs.Prelude.{◌≡◌, ◌+◌, ◌<◌, ◌++◌, [], ℕ, nat_le, Some, IfOk, OnOk};
 ghost use Rattle.isl_profile.specs.Nodes.{offends};
-ghost use Rattle.isl_forms.specs.Views.{at, shown, view_parts, view_inner};
+ghost use Rattle.isl_forms.specs.Views.{at, shown, view_parts, view_inner, IsPlan};
 ghost use Rattle.isl_profile.specs.RowWords as word;
 ghost use Rattle.isl_profile.specs.Marks.{Grows};
 
@@ -69,10 +69,9 @@ pub(crate) fn made_of<'a>(
     making: Making,
 ) -> Result<Plan<'a>, NoMemory>
     requires { here.spot.depth + 1 < 4294967296 }
-    ensures plan { IfOk result (λ plan. shown here.entry.bound.now tables.new plan
-        ≡ word.made_of (at here.entry.bound.now here.entry.spot) (at (here.entry.bound.now ++ work.entry.binds) work.entry.inside)
-        here.entry.place tables.old (view_parts work.entry.parts ++ view_inner work.entry.inner) making) }
-    ensures grows { Grows tables.old tables.new }
+    ensures { IsPlan here.entry.bound.now tables.old tables.new
+        (word.made_of (at here.entry.bound.now here.entry.spot) (at (here.entry.bound.now ++ work.entry.binds) work.entry.inside)
+        here.entry.place tables.old (view_parts work.entry.parts ++ view_inner work.entry.inner) making) result }
 {
     let site = take_site(here, tables)?;
     Ok(Plan::Whole(Work {
@@ -105,10 +104,9 @@ pub(crate) fn made_plain<'a>(
     making: Making,
 ) -> Result<Plan<'a>, NoMemory>
     requires { here.spot.depth + 1 < 4294967296 }
-    ensures plan { IfOk result (λ plan. shown here.entry.bound.now tables.new plan
-        ≡ word.made_of (at here.entry.bound.now here.entry.spot) (at here.entry.bound.now inside)
-        here.entry.place tables.old (view_parts parts.entry ++ view_inner inner.entry) making) }
-    ensures grows { Grows tables.old tables.new }
+    ensures { IsPlan here.entry.bound.now tables.old tables.new
+        (word.made_of (at here.entry.bound.now here.entry.spot) (at here.entry.bound.now inside)
+        here.entry.place tables.old (view_parts parts.entry ++ view_inner inner.entry) making) result }
 {
     let work = Bindings {
         inside,
@@ -128,11 +126,10 @@ pub(crate) fn made_within<'a>(
     parts: Parts<'a>,
     making: Making,
 ) -> Result<Plan<'a>, NoMemory>
-    ensures plan { IfOk result (λ plan. shown here.entry.bound.now tables.new plan
-        ≡ word.within_depth own (at here.entry.bound.now here.entry.spot) here.entry.place
+    ensures { IsPlan here.entry.bound.now tables.old tables.new
+        (word.within_depth own (at here.entry.bound.now here.entry.spot) here.entry.place
         (word.made_of (at here.entry.bound.now here.entry.spot) (word.deeper 1 (at here.entry.bound.now here.entry.spot))
-        here.entry.place tables.old (view_parts parts.entry) making)) }
-    ensures grows { Grows tables.old tables.new }
+        here.entry.place tables.old (view_parts parts.entry) making)) result }
 {
     if !fits_depth(here.spot, own) {
         return Ok(offence(here.place, Reason::DepthLimit));
@@ -148,9 +145,8 @@ pub(crate) fn made_at_once<'a>(
     tables: &mut Tables,
     leaf: Leaf,
 ) -> Result<Plan<'a>, NoMemory>
-    ensures plan { IfOk result (λ plan. shown here.entry.bound.now tables.new plan
-        ≡ word.made_at_once (at here.entry.bound.now here.entry.spot) here.entry.place tables.old leaf) }
-    ensures grows { Grows tables.old tables.new }
+    ensures { IsPlan here.entry.bound.now tables.old tables.new
+        (word.made_at_once (at here.entry.bound.now here.entry.spot) here.entry.place tables.old leaf) result }
 {
     let parts = Parts::new(here.alloc);
     made_within(here, tables, 1, parts, Making::Ready(leaf))
@@ -197,9 +193,8 @@ pub(crate) fn literal_plan<'a>(
     tables: &mut Tables,
     row: LiteralRow,
 ) -> Result<Plan<'a>, NoMemory>
-    ensures plan { IfOk result (λ plan. shown here.entry.bound.now tables.new plan
-        ≡ word.literal_node (at here.entry.bound.now here.entry.spot) here.entry.place tables.old row) }
-    ensures grows { Grows tables.old tables.new }
+    ensures { IsPlan here.entry.bound.now tables.old tables.new
+        (word.literal_node (at here.entry.bound.now here.entry.spot) here.entry.place tables.old row) result }
 {
     let id = tables.literals.len();
     tables.literals.push(row)?;

@@ -5,7 +5,7 @@ ghost use Rattle.isl_profile.specs.RowWords as word;
 ghost use Rattle.isl_profile.specs.BindingRows as row;
 ghost use Rattle.isl_profile.specs.Shapes as shape;
 ghost use Rattle.isl_profile.specs.Shapes.{symbol_of, pairs_in, parameters_in};
-ghost use Rattle.isl_forms.specs.Views.{at, shown, view_parts, view_inner, view_pairs};
+ghost use Rattle.isl_forms.specs.Views.{at, view_parts, view_inner, view_pairs, IsPlan};
 ghost use Rattle.isl_profile.specs.Marks.{Grows};
 
 use crate::bound::{parts_around, variable_of};
@@ -21,9 +21,8 @@ pub(crate) fn let_plan<'a>(
     tables: &mut Tables,
     items: &'a [Datum],
 ) -> Result<Plan<'a>, NoMemory>
-    ensures plan { IfOk result (λ plan. shown here.entry.bound.now tables.new plan
-        ≡ row.let_row (at here.entry.bound.now here.entry.spot) tables.old here.entry.place items.now) }
-    ensures grows { Grows tables.old tables.new }
+    ensures { IsPlan here.entry.bound.now tables.old tables.new
+        (row.let_row (at here.entry.bound.now here.entry.spot) tables.old here.entry.place items.now) result }
 {
     let [list, forms @ ..] = items else {
         return Ok(offence(here.place, Reason::BadShape));
@@ -73,9 +72,8 @@ fn dynamics<'a>(
     names: NameList,
     forms: &'a [Datum],
 ) -> Result<Plan<'a>, NoMemory>
-    ensures plan { IfOk result (λ plan. shown here.entry.bound.now tables.new plan
-        ≡ row.dynamics_as (at here.entry.bound.now here.entry.spot) tables.old here.entry.place forms.now (view_pairs pairs.now) (Some names)) }
-    ensures grows { Grows tables.old tables.new }
+    ensures { IsPlan here.entry.bound.now tables.old tables.new
+        (row.dynamics_as (at here.entry.bound.now here.entry.spot) tables.old here.entry.place forms.now (view_pairs pairs.now) (Some names)) result }
 {
     let mut parts = values_of(here, pairs)?;
     push_below(&mut parts, forms)?;
@@ -88,9 +86,8 @@ pub(crate) fn dynamic_let_plan<'a>(
     tables: &mut Tables,
     items: &'a [Datum],
 ) -> Result<Plan<'a>, NoMemory>
-    ensures plan { IfOk result (λ plan. shown here.entry.bound.now tables.new plan
-        ≡ row.dynamic_let_row (at here.entry.bound.now here.entry.spot) tables.old here.entry.place items.now) }
-    ensures grows { Grows tables.old tables.new }
+    ensures { IsPlan here.entry.bound.now tables.old tables.new
+        (row.dynamic_let_row (at here.entry.bound.now here.entry.spot) tables.old here.entry.place items.now) result }
 {
     let [list, forms @ ..] = items else {
         return Ok(offence(here.place, Reason::BadShape));
@@ -126,9 +123,8 @@ pub(crate) fn lambda_plan<'a>(
     tables: &mut Tables,
     items: &'a [Datum],
 ) -> Result<Plan<'a>, NoMemory>
-    ensures plan { IfOk result (λ plan. shown here.entry.bound.now tables.new plan
-        ≡ row.lambda_row (at here.entry.bound.now here.entry.spot) tables.old here.entry.place items.now) }
-    ensures grows { Grows tables.old tables.new }
+    ensures { IsPlan here.entry.bound.now tables.old tables.new
+        (row.lambda_row (at here.entry.bound.now here.entry.spot) tables.old here.entry.place items.now) result }
 {
     let [list, forms @ ..] = items else {
         return Ok(offence(here.place, Reason::BadShape));
@@ -172,9 +168,8 @@ pub(crate) fn with_functions_plan<'a>(
     kept: bool,
     items: &'a [Datum],
 ) -> Result<Plan<'a>, NoMemory>
-    ensures plan { IfOk result (λ plan. shown here.entry.bound.now tables.new plan
-        ≡ row.with_functions_row kept (at here.entry.bound.now here.entry.spot) tables.old here.entry.place items.now) }
-    ensures grows { Grows tables.old tables.new }
+    ensures { IsPlan here.entry.bound.now tables.old tables.new
+        (row.with_functions_row kept (at here.entry.bound.now here.entry.spot) tables.old here.entry.place items.now) result }
 {
     let [list, forms @ ..] = items else {
         return Ok(offence(here.place, Reason::BadShape));

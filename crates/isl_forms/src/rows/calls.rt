@@ -4,7 +4,7 @@ ghost use Rattle.std.specs.Prelude.{◌≡◌, ◌+◌, ◌<◌, ◌++◌, ◌�
 ghost use Rattle.std.specs.Str.{bytes_eq};
 ghost use Rattle.isl_profile.specs.CallRows as row;
 ghost use Rattle.isl_profile.specs.declared.making.Making.TheVariants.{CallOfValue};
-ghost use Rattle.isl_forms.specs.Views.{at, shown, view_parts, data_of};
+ghost use Rattle.isl_forms.specs.Views.{at, view_parts, data_of, IsPlan};
 ghost use Rattle.isl_profile.specs.RowWords as word;
 ghost use Rattle.isl_profile.specs.Marks.{Grows};
 
@@ -31,9 +31,8 @@ fn all_parts<'a>(
     making: Making,
     items: &'a [Datum],
 ) -> Result<Plan<'a>, NoMemory>
-    ensures plan { IfOk result (λ plan. shown here.entry.bound.now tables.new plan
-        ≡ row.all_parts making (at here.entry.bound.now here.entry.spot) tables.old here.entry.place items.now) }
-    ensures grows { Grows tables.old tables.new }
+    ensures { IsPlan here.entry.bound.now tables.old tables.new
+        (row.all_parts making (at here.entry.bound.now here.entry.spot) tables.old here.entry.place items.now) result }
 {
     let parts = all_forms(here, items)?;
     made_within(here, tables, 1, parts, making)
@@ -46,9 +45,8 @@ pub(crate) fn value_call_plan<'a>(
     head: &'a Datum,
     items: &'a [Datum],
 ) -> Result<Plan<'a>, NoMemory>
-    ensures plan { IfOk result (λ plan. shown here.entry.bound.now tables.new plan
-        ≡ row.all_parts CallOfValue (at here.entry.bound.now here.entry.spot) tables.old here.entry.place (head.now ∷ items.now)) }
-    ensures grows { Grows tables.old tables.new }
+    ensures { IsPlan here.entry.bound.now tables.old tables.new
+        (row.all_parts CallOfValue (at here.entry.bound.now here.entry.spot) tables.old here.entry.place (head.now ∷ items.now)) result }
 {
     let mut parts = Parts::new(here.alloc);
     push_form(&mut parts, head)?;
@@ -63,9 +61,8 @@ pub(crate) fn local_call_plan<'a>(
     variable: Var,
     items: &'a [Datum],
 ) -> Result<Plan<'a>, NoMemory>
-    ensures plan { IfOk result (λ plan. shown here.entry.bound.now tables.new plan
-        ≡ row.local_call variable (at here.entry.bound.now here.entry.spot) tables.old here.entry.place items.now) }
-    ensures grows { Grows tables.old tables.new }
+    ensures { IsPlan here.entry.bound.now tables.old tables.new
+        (row.local_call variable (at here.entry.bound.now here.entry.spot) tables.old here.entry.place items.now) result }
 {
     let parts = all_forms(here, items)?;
     made_within(here, tables, 2, parts, Making::CallOfLocal(variable))
@@ -118,9 +115,8 @@ pub(crate) fn named_call_plan<'a>(
     text: &[u8],
     items: &'a [Datum],
 ) -> Result<Plan<'a>, NoMemory>
-    ensures plan { IfOk result (λ plan. shown here.entry.bound.now tables.new plan
-        ≡ row.named_call name text.now (at here.entry.bound.now here.entry.spot) tables.old here.entry.place items.now) }
-    ensures grows { Grows tables.old tables.new }
+    ensures { IsPlan here.entry.bound.now tables.old tables.new
+        (row.named_call name text.now (at here.entry.bound.now here.entry.spot) tables.old here.entry.place items.now) result }
 {
     all_parts(here, tables, call_making(name, text, items.len()), items)
 }

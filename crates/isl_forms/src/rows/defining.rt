@@ -5,7 +5,7 @@ ghost use Rattle.std.specs.List.{list_any};
 ghost use Rattle.isl_profile.specs.DefiningRows as row;
 ghost use Rattle.isl_profile.specs.RowWords as word;
 ghost use Rattle.isl_profile.specs.Shapes.{symbol_of};
-ghost use Rattle.isl_forms.specs.Views.{at, shown, view_parts, view_inner};
+ghost use Rattle.isl_forms.specs.Views.{at, view_parts, view_inner, IsPlan};
 ghost use Rattle.isl_profile.specs.Marks.{Grows};
 
 use crate::here::{Here, fits_depth, offence};
@@ -93,9 +93,8 @@ pub(crate) fn global_plan<'a>(
     constant: bool,
     items: &'a [Datum],
 ) -> Result<Plan<'a>, NoMemory>
-    ensures plan { IfOk result (λ plan. shown here.entry.bound.now tables.new plan
-        ≡ row.global_row constant (at here.entry.bound.now here.entry.spot) tables.old here.entry.place items.now) }
-    ensures grows { Grows tables.old tables.new }
+    ensures { IsPlan here.entry.bound.now tables.old tables.new
+        (row.global_row constant (at here.entry.bound.now here.entry.spot) tables.old here.entry.place items.now) result }
 {
     let [target, datum] = items else {
         return Ok(offence(here.place, Reason::BadShape));
@@ -120,9 +119,8 @@ pub(crate) fn defdynamic_plan<'a>(
     tables: &mut Tables,
     items: &'a [Datum],
 ) -> Result<Plan<'a>, NoMemory>
-    ensures plan { IfOk result (λ plan. shown here.entry.bound.now tables.new plan
-        ≡ row.defdynamic_row (at here.entry.bound.now here.entry.spot) tables.old here.entry.place items.now) }
-    ensures grows { Grows tables.old tables.new }
+    ensures { IsPlan here.entry.bound.now tables.old tables.new
+        (row.defdynamic_row (at here.entry.bound.now here.entry.spot) tables.old here.entry.place items.now) result }
 {
     let [target, datum] = items else {
         return Ok(offence(here.place, Reason::BadShape));
@@ -175,9 +173,8 @@ fn defun_with<'a>(
     parameters: &Parameters,
     forms: &'a [Datum],
 ) -> Result<Plan<'a>, NoMemory>
-    ensures plan { IfOk result (λ plan. shown here.entry.bound.now tables.new plan
-        ≡ row.defun_of (at here.entry.bound.now here.entry.spot) tables.old name datum.now forms.now parameters.now) }
-    ensures grows { Grows tables.old tables.new }
+    ensures { IsPlan here.entry.bound.now tables.old tables.new
+        (row.defun_of (at here.entry.bound.now here.entry.spot) tables.old name datum.now forms.now parameters.now) result }
 {
     let form = named_form(here, tables, datum)?;
     let making = Making::OfFunctionNamed(
@@ -212,9 +209,8 @@ pub(crate) fn defun_plan<'a>(
     kept: bool,
     items: &'a [Datum],
 ) -> Result<Plan<'a>, NoMemory>
-    ensures plan { IfOk result (λ plan. shown here.entry.bound.now tables.new plan
-        ≡ row.defun_row kept (at here.entry.bound.now here.entry.spot) tables.old here.entry.place items.now) }
-    ensures grows { Grows tables.old tables.new }
+    ensures { IsPlan here.entry.bound.now tables.old tables.new
+        (row.defun_row kept (at here.entry.bound.now here.entry.spot) tables.old here.entry.place items.now) result }
 {
     let [target, list, forms @ ..] = items else {
         return Ok(offence(here.place, Reason::BadShape));

@@ -7,7 +7,7 @@ ghost use Rattle.isl_profile.specs.Nodes.{with_bound};
 ghost use Rattle.isl_profile.specs.Shapes as shape;
 ghost use Rattle.isl_profile.specs.Names.{block_of, tag_of};
 ghost use Rattle.isl_profile.specs.Shapes.{symbol_of};
-ghost use Rattle.isl_forms.specs.Views.{at, shown, view_parts, view_inner};
+ghost use Rattle.isl_forms.specs.Views.{at, shown, view_parts, view_inner, IsPlan};
 ghost use Rattle.isl_profile.specs.Marks.{Grows};
 
 use crate::bound::{block_of, tag_of};
@@ -48,10 +48,9 @@ fn exit_form<'a>(
     making: Making,
 ) -> Result<Plan<'a>, NoMemory>
     requires { here.spot.depth + 2 < 4294967296 }
-    ensures plan { IfOk result (λ plan. shown here.entry.bound.now tables.new plan
-        ≡ word.made_of (at here.entry.bound.now here.entry.spot)
-        (with_bound bound (word.deeper 2 (at here.entry.bound.now here.entry.spot))) here.entry.place tables.old (view_inner inner.entry) making) }
-    ensures grows { Grows tables.old tables.new }
+    ensures { IsPlan here.entry.bound.now tables.old tables.new
+        (word.made_of (at here.entry.bound.now here.entry.spot)
+        (with_bound bound (word.deeper 2 (at here.entry.bound.now here.entry.spot))) here.entry.place tables.old (view_inner inner.entry) making) result }
 {
     let mut binds = BoundList::new(here.alloc);
     binds.push(bound)?;
@@ -70,9 +69,8 @@ pub(crate) fn block_plan<'a>(
     tables: &mut Tables,
     items: &'a [Datum],
 ) -> Result<Plan<'a>, NoMemory>
-    ensures plan { IfOk result (λ plan. shown here.entry.bound.now tables.new plan
-        ≡ row.block_row (at here.entry.bound.now here.entry.spot) tables.old here.entry.place items.now) }
-    ensures grows { Grows tables.old tables.new }
+    ensures { IsPlan here.entry.bound.now tables.old tables.new
+        (row.block_row (at here.entry.bound.now here.entry.spot) tables.old here.entry.place items.now) result }
 {
     let [name, forms @ ..] = items else {
         return Ok(offence(here.place, Reason::BadShape));
@@ -100,9 +98,8 @@ pub(crate) fn return_from_plan<'a>(
     tables: &mut Tables,
     items: &'a [Datum],
 ) -> Result<Plan<'a>, NoMemory>
-    ensures plan { IfOk result (λ plan. shown here.entry.bound.now tables.new plan
-        ≡ row.return_from_row (at here.entry.bound.now here.entry.spot) tables.old here.entry.place items.now) }
-    ensures grows { Grows tables.old tables.new }
+    ensures { IsPlan here.entry.bound.now tables.old tables.new
+        (row.return_from_row (at here.entry.bound.now here.entry.spot) tables.old here.entry.place items.now) result }
 {
     let [name, datum] = items else {
         return Ok(offence(here.place, Reason::BadShape));
@@ -123,9 +120,8 @@ pub(crate) fn tagbody_plan<'a>(
     tables: &mut Tables,
     items: &'a [Datum],
 ) -> Result<Plan<'a>, NoMemory>
-    ensures plan { IfOk result (λ plan. shown here.entry.bound.now tables.new plan
-        ≡ row.tagbody_row (at here.entry.bound.now here.entry.spot) tables.old here.entry.place items.now) }
-    ensures grows { Grows tables.old tables.new }
+    ensures { IsPlan here.entry.bound.now tables.old tables.new
+        (row.tagbody_row (at here.entry.bound.now here.entry.spot) tables.old here.entry.place items.now) result }
 {
     let tags = tags_in(here.alloc, items)?;
     if !all_differ(tags.as_slice()) {
@@ -148,9 +144,8 @@ pub(crate) fn tagbody_plan<'a>(
 
 // A transfer to the segment behind a tag.
 fn go_to<'a>(here: Here, tables: &mut Tables, symbol: Symbol) -> Result<Plan<'a>, NoMemory>
-    ensures plan { IfOk result (λ plan. shown here.entry.bound.now tables.new plan
-        ≡ row.go_to (at here.entry.bound.now here.entry.spot) tables.old here.entry.place symbol (tag_of here.entry.bound.now symbol)) }
-    ensures grows { Grows tables.old tables.new }
+    ensures { IsPlan here.entry.bound.now tables.old tables.new
+        (row.go_to (at here.entry.bound.now here.entry.spot) tables.old here.entry.place symbol (tag_of here.entry.bound.now symbol)) result }
 {
     let Some(target) = tag_of(here.bound, symbol) else {
         return Ok(no_such(here, tables, Reason::UnknownTag, symbol));
@@ -167,9 +162,8 @@ pub(crate) fn go_plan<'a>(
     tables: &mut Tables,
     items: &[Datum],
 ) -> Result<Plan<'a>, NoMemory>
-    ensures plan { IfOk result (λ plan. shown here.entry.bound.now tables.new plan
-        ≡ row.go_row (at here.entry.bound.now here.entry.spot) tables.old here.entry.place items.now) }
-    ensures grows { Grows tables.old tables.new }
+    ensures { IsPlan here.entry.bound.now tables.old tables.new
+        (row.go_row (at here.entry.bound.now here.entry.spot) tables.old here.entry.place items.now) result }
 {
     let [tag] = items else {
         return Ok(offence(here.place, Reason::BadShape));

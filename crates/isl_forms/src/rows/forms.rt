@@ -12,7 +12,7 @@ ghost use Rattle.isl_profile.specs.Names.{function_of};
 ghost use Rattle.isl_profile.specs.RowWords as word;
 ghost use Rattle.isl_profile.specs.Rows as row;
 ghost use Rattle.isl_profile.specs.Shapes.{symbol_of};
-ghost use Rattle.isl_forms.specs.Views.{at, shown, texts};
+ghost use Rattle.isl_forms.specs.Views.{at, texts, IsPlan};
 ghost use Rattle.isl_profile.specs.Marks.{Grows};
 
 use crate::bound::function_of;
@@ -185,9 +185,8 @@ fn special_plan<'a>(
     special: Special,
     items: &'a [Datum],
 ) -> Result<Plan<'a>, NoMemory>
-    ensures plan { IfOk result (λ plan. shown here.entry.bound.now tables.new plan
-        ≡ row.special_row names.now special (at here.entry.bound.now here.entry.spot) tables.old here.entry.place items.now) }
-    ensures grows { Grows tables.old tables.new }
+    ensures { IsPlan here.entry.bound.now tables.old tables.new
+        (row.special_row names.now special (at here.entry.bound.now here.entry.spot) tables.old here.entry.place items.now) result }
 {
     match special {
         Special::Quote => quote_plan(here, tables, items),
@@ -235,9 +234,8 @@ fn call_symbol<'a>(
     symbol: Symbol,
     items: &'a [Datum],
 ) -> Result<Plan<'a>, NoMemory>
-    ensures plan { IfOk result (λ plan. shown here.entry.bound.now tables.new plan
-        ≡ row.call_symbol symbol (symbol_text names.now symbol) (at here.entry.bound.now here.entry.spot) tables.old here.entry.place items.now) }
-    ensures grows { Grows tables.old tables.new }
+    ensures { IsPlan here.entry.bound.now tables.old tables.new
+        (row.call_symbol symbol (symbol_text names.now symbol) (at here.entry.bound.now here.entry.spot) tables.old here.entry.place items.now) result }
 {
     let Symbol::Named(name) = symbol else {
         return Ok(offence(here.place, Reason::BadShape));
@@ -267,9 +265,8 @@ fn headed_plan<'a>(
     items: &'a [Datum],
     tail: &Option<Box<Datum>>,
 ) -> Result<Plan<'a>, NoMemory>
-    ensures plan { IfOk result (λ plan. shown here.entry.bound.now tables.new plan
-        ≡ row.headed names.now symbol (at here.entry.bound.now here.entry.spot) tables.old here.entry.place items.now (tail_of tail.now)) }
-    ensures grows { Grows tables.old tables.new }
+    ensures { IsPlan here.entry.bound.now tables.old tables.new
+        (row.headed names.now symbol (at here.entry.bound.now here.entry.spot) tables.old here.entry.place items.now (tail_of tail.now)) result }
 {
     if let Some(special) = special_of(names, symbol) {
         return match tail {
@@ -323,9 +320,8 @@ fn form_headed_plan<'a>(
     items: &'a [Datum],
     tail: &Option<Box<Datum>>,
 ) -> Result<Plan<'a>, NoMemory>
-    ensures plan { IfOk result (λ plan. shown here.entry.bound.now tables.new plan
-        ≡ row.headed_by_form names.now head.now (at here.entry.bound.now here.entry.spot) tables.old here.entry.place items.now (tail_of tail.now)) }
-    ensures grows { Grows tables.old tables.new }
+    ensures { IsPlan here.entry.bound.now tables.old tables.new
+        (row.headed_by_form names.now head.now (at here.entry.bound.now here.entry.spot) tables.old here.entry.place items.now (tail_of tail.now)) result }
 {
     if !is_lambda(names, head) || tail.is_some() {
         return Ok(offence(here.place, Reason::NotAForm));
@@ -341,9 +337,8 @@ fn list_plan<'a>(
     items: &'a [Datum],
     tail: &Option<Box<Datum>>,
 ) -> Result<Plan<'a>, NoMemory>
-    ensures plan { IfOk result (λ plan. shown here.entry.bound.now tables.new plan
-        ≡ row.list_node names.now (at here.entry.bound.now here.entry.spot) tables.old here.entry.place items.now (tail_of tail.now)) }
-    ensures grows { Grows tables.old tables.new }
+    ensures { IsPlan here.entry.bound.now tables.old tables.new
+        (row.list_node names.now (at here.entry.bound.now here.entry.spot) tables.old here.entry.place items.now (tail_of tail.now)) result }
 {
     let [head, others @ ..] = items else {
         return Ok(offence(here.place, Reason::NotAForm));
@@ -363,9 +358,8 @@ pub fn plain_plan<'a>(
     datum: &'a Datum,
 ) -> Result<Plan<'a>, NoMemory>
     requires { here.place ≡ place_of datum.now }
-    ensures plan { IfOk result (λ plan. shown here.entry.bound.now tables.new plan
-        ≡ row.plain_node names.now (at here.entry.bound.now here.entry.spot) tables.old datum.now) }
-    ensures grows { Grows tables.old tables.new }
+    ensures { IsPlan here.entry.bound.now tables.old tables.new
+        (row.plain_node names.now (at here.entry.bound.now here.entry.spot) tables.old datum.now) result }
 {
     match &datum.kind {
         Kind::List { items, tail } => list_plan(here, tables, names, items.as_slice(), tail),
@@ -380,9 +374,8 @@ pub fn plain_plan<'a>(
 
 // A datum that evaluates to itself.
 fn self_plan<'a>(here: Here, tables: &mut Tables, datum: &Datum) -> Result<Plan<'a>, NoMemory>
-    ensures plan { IfOk result (λ plan. shown here.entry.bound.now tables.new plan
-        ≡ word.literal_node (at here.entry.bound.now here.entry.spot) here.entry.place tables.old (literal.Datum datum.now)) }
-    ensures grows { Grows tables.old tables.new }
+    ensures { IsPlan here.entry.bound.now tables.old tables.new
+        (word.literal_node (at here.entry.bound.now here.entry.spot) here.entry.place tables.old (literal.Datum datum.now)) result }
 {
     literal_plan(here, tables, LiteralRow::Datum(datum.copy(here.alloc)?))
 }

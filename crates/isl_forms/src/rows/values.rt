@@ -6,7 +6,7 @@ ghost use Rattle.isl_profile.specs.Names.{function_of};
 ghost use Rattle.isl_profile.specs.RowWords as word;
 ghost use Rattle.isl_profile.specs.ValueRows as row;
 ghost use Rattle.isl_profile.specs.Shapes.{symbol_of};
-ghost use Rattle.isl_forms.specs.Views.{at, shown, view_parts, view_clauses};
+ghost use Rattle.isl_forms.specs.Views.{at, view_parts, view_clauses, IsPlan};
 ghost use Rattle.isl_profile.specs.Marks.{Grows};
 
 use crate::bound::{function_of, variable_of};
@@ -22,9 +22,8 @@ use isl_profile::{BodyLengths, Leaf, Making, One, ReservedWords, Tables, Two, Wi
 
 // A symbol that no variable around is: a global variable.
 fn free_symbol<'a>(here: Here, tables: &mut Tables, symbol: Symbol) -> Result<Plan<'a>, NoMemory>
-    ensures plan { IfOk result (λ plan. shown here.entry.bound.now tables.new plan
-        ≡ row.free_symbol (at here.entry.bound.now here.entry.spot) here.entry.place tables.old symbol) }
-    ensures grows { Grows tables.old tables.new }
+    ensures { IsPlan here.entry.bound.now tables.old tables.new
+        (row.free_symbol (at here.entry.bound.now here.entry.spot) here.entry.place tables.old symbol) result }
 {
     match symbol {
         Symbol::Named(name) => made_at_once(here, tables, Leaf::Global(name)),
@@ -38,9 +37,8 @@ pub(crate) fn symbol_plan<'a>(
     tables: &mut Tables,
     symbol: Symbol,
 ) -> Result<Plan<'a>, NoMemory>
-    ensures plan { IfOk result (λ plan. shown here.entry.bound.now tables.new plan
-        ≡ row.symbol_node (at here.entry.bound.now here.entry.spot) here.entry.place tables.old symbol) }
-    ensures grows { Grows tables.old tables.new }
+    ensures { IsPlan here.entry.bound.now tables.old tables.new
+        (row.symbol_node (at here.entry.bound.now here.entry.spot) here.entry.place tables.old symbol) result }
 {
     if is_true(tables.words, symbol) {
         let datum = Datum::new(here.place, Kind::Sym(symbol));
@@ -58,9 +56,8 @@ pub(crate) fn quote_plan<'a>(
     tables: &mut Tables,
     items: &'a [Datum],
 ) -> Result<Plan<'a>, NoMemory>
-    ensures plan { IfOk result (λ plan. shown here.entry.bound.now tables.new plan
-        ≡ row.quote_row (at here.entry.bound.now here.entry.spot) tables.old here.entry.place items.now) }
-    ensures grows { Grows tables.old tables.new }
+    ensures { IsPlan here.entry.bound.now tables.old tables.new
+        (row.quote_row (at here.entry.bound.now here.entry.spot) tables.old here.entry.place items.now) result }
 {
     let [datum] = items else {
         return Ok(offence(here.place, Reason::BadShape));
@@ -86,9 +83,8 @@ pub(crate) fn one_part<'a>(
     kind: One,
     datum: &'a Datum,
 ) -> Result<Plan<'a>, NoMemory>
-    ensures plan { IfOk result (λ plan. shown here.entry.bound.now tables.new plan
-        ≡ row.one_part (at here.entry.bound.now here.entry.spot) here.entry.place tables.old kind datum.now) }
-    ensures grows { Grows tables.old tables.new }
+    ensures { IsPlan here.entry.bound.now tables.old tables.new
+        (row.one_part (at here.entry.bound.now here.entry.spot) here.entry.place tables.old kind datum.now) result }
 {
     let parts = one_form(here.alloc, datum)?;
     made_within(here, tables, 1, parts, Making::OfOne(kind))
@@ -110,9 +106,8 @@ fn set_free<'a>(
     symbol: Symbol,
     datum: &'a Datum,
 ) -> Result<Plan<'a>, NoMemory>
-    ensures plan { IfOk result (λ plan. shown here.entry.bound.now tables.new plan
-        ≡ row.set_free (at here.entry.bound.now here.entry.spot) tables.old here.entry.place symbol datum.now) }
-    ensures grows { Grows tables.old tables.new }
+    ensures { IsPlan here.entry.bound.now tables.old tables.new
+        (row.set_free (at here.entry.bound.now here.entry.spot) tables.old here.entry.place symbol datum.now) result }
 {
     let Symbol::Named(name) = symbol else {
         return Ok(offence(here.place, Reason::BadShape));
@@ -131,9 +126,8 @@ fn set_symbol<'a>(
     symbol: Symbol,
     datum: &'a Datum,
 ) -> Result<Plan<'a>, NoMemory>
-    ensures plan { IfOk result (λ plan. shown here.entry.bound.now tables.new plan
-        ≡ row.set_symbol (at here.entry.bound.now here.entry.spot) tables.old here.entry.place symbol datum.now) }
-    ensures grows { Grows tables.old tables.new }
+    ensures { IsPlan here.entry.bound.now tables.old tables.new
+        (row.set_symbol (at here.entry.bound.now here.entry.spot) tables.old here.entry.place symbol datum.now) result }
 {
     if is_true(tables.words, symbol) {
         return Ok(offence(here.place, Reason::ConstantSet));
@@ -151,9 +145,8 @@ fn set_datum<'a>(
     target: &Datum,
     datum: &'a Datum,
 ) -> Result<Plan<'a>, NoMemory>
-    ensures plan { IfOk result (λ plan. shown here.entry.bound.now tables.new plan
-        ≡ row.set_datum (at here.entry.bound.now here.entry.spot) tables.old here.entry.place target.now datum.now) }
-    ensures grows { Grows tables.old tables.new }
+    ensures { IsPlan here.entry.bound.now tables.old tables.new
+        (row.set_datum (at here.entry.bound.now here.entry.spot) tables.old here.entry.place target.now datum.now) result }
 {
     match &target.kind {
         Kind::Sym(symbol) => set_symbol(here, tables, *symbol, datum),
@@ -172,9 +165,8 @@ pub(crate) fn setq_plan<'a>(
     tables: &mut Tables,
     items: &'a [Datum],
 ) -> Result<Plan<'a>, NoMemory>
-    ensures plan { IfOk result (λ plan. shown here.entry.bound.now tables.new plan
-        ≡ row.setq_row (at here.entry.bound.now here.entry.spot) tables.old here.entry.place items.now) }
-    ensures grows { Grows tables.old tables.new }
+    ensures { IsPlan here.entry.bound.now tables.old tables.new
+        (row.setq_row (at here.entry.bound.now here.entry.spot) tables.old here.entry.place items.now) result }
 {
     let [target, datum] = items else {
         return Ok(offence(here.place, Reason::BadShape));
@@ -188,9 +180,8 @@ pub(crate) fn progn_plan<'a>(
     tables: &mut Tables,
     items: &'a [Datum],
 ) -> Result<Plan<'a>, NoMemory>
-    ensures plan { IfOk result (λ plan. shown here.entry.bound.now tables.new plan
-        ≡ row.progn_row (at here.entry.bound.now here.entry.spot) tables.old here.entry.place items.now) }
-    ensures grows { Grows tables.old tables.new }
+    ensures { IsPlan here.entry.bound.now tables.old tables.new
+        (row.progn_row (at here.entry.bound.now here.entry.spot) tables.old here.entry.place items.now) result }
 {
     if !fits_depth(here.spot, 1) {
         return Ok(offence(here.place, Reason::DepthLimit));
@@ -251,9 +242,8 @@ pub(crate) fn cond_plan<'a>(
     tables: &mut Tables,
     items: &'a [Datum],
 ) -> Result<Plan<'a>, NoMemory>
-    ensures plan { IfOk result (λ plan. shown here.entry.bound.now tables.new plan
-        ≡ row.cond_row (at here.entry.bound.now here.entry.spot) tables.old here.entry.place items.now) }
-    ensures grows { Grows tables.old tables.new }
+    ensures { IsPlan here.entry.bound.now tables.old tables.new
+        (row.cond_row (at here.entry.bound.now here.entry.spot) tables.old here.entry.place items.now) result }
 {
     let Some(clauses) = clauses_in(here.alloc, items)? else {
         return Ok(offence(here.place, Reason::BadShape));
@@ -271,9 +261,8 @@ pub(crate) fn two_plan<'a>(
     kind: Two,
     items: &'a [Datum],
 ) -> Result<Plan<'a>, NoMemory>
-    ensures plan { IfOk result (λ plan. shown here.entry.bound.now tables.new plan
-        ≡ row.two_row kind (at here.entry.bound.now here.entry.spot) tables.old here.entry.place items.now) }
-    ensures grows { Grows tables.old tables.new }
+    ensures { IsPlan here.entry.bound.now tables.old tables.new
+        (row.two_row kind (at here.entry.bound.now here.entry.spot) tables.old here.entry.place items.now) result }
 {
     let [first, second] = items else {
         return Ok(offence(here.place, Reason::BadShape));
@@ -290,9 +279,8 @@ pub(crate) fn body_plan<'a>(
     kind: WithBody,
     items: &'a [Datum],
 ) -> Result<Plan<'a>, NoMemory>
-    ensures plan { IfOk result (λ plan. shown here.entry.bound.now tables.new plan
-        ≡ row.body_row kind (at here.entry.bound.now here.entry.spot) tables.old here.entry.place items.now) }
-    ensures grows { Grows tables.old tables.new }
+    ensures { IsPlan here.entry.bound.now tables.old tables.new
+        (row.body_row kind (at here.entry.bound.now here.entry.spot) tables.old here.entry.place items.now) result }
 {
     let [first, body @ ..] = items else {
         return Ok(offence(here.place, Reason::BadShape));
@@ -320,9 +308,8 @@ pub(crate) fn dynamic_plan<'a>(
     tables: &mut Tables,
     items: &'a [Datum],
 ) -> Result<Plan<'a>, NoMemory>
-    ensures plan { IfOk result (λ plan. shown here.entry.bound.now tables.new plan
-        ≡ row.dynamic_row (at here.entry.bound.now here.entry.spot) tables.old here.entry.place items.now) }
-    ensures grows { Grows tables.old tables.new }
+    ensures { IsPlan here.entry.bound.now tables.old tables.new
+        (row.dynamic_row (at here.entry.bound.now here.entry.spot) tables.old here.entry.place items.now) result }
 {
     let [datum] = items else {
         return Ok(offence(here.place, Reason::BadShape));
@@ -339,9 +326,8 @@ pub(crate) fn set_dynamic_plan<'a>(
     tables: &mut Tables,
     items: &'a [Datum],
 ) -> Result<Plan<'a>, NoMemory>
-    ensures plan { IfOk result (λ plan. shown here.entry.bound.now tables.new plan
-        ≡ row.set_dynamic_row (at here.entry.bound.now here.entry.spot) tables.old here.entry.place items.now) }
-    ensures grows { Grows tables.old tables.new }
+    ensures { IsPlan here.entry.bound.now tables.old tables.new
+        (row.set_dynamic_row (at here.entry.bound.now here.entry.spot) tables.old here.entry.place items.now) result }
 {
     let [datum, target] = items else {
         return Ok(offence(here.place, Reason::BadShape));
@@ -358,9 +344,8 @@ fn function_symbol<'a>(
     tables: &mut Tables,
     symbol: Symbol,
 ) -> Result<Plan<'a>, NoMemory>
-    ensures plan { IfOk result (λ plan. shown here.entry.bound.now tables.new plan
-        ≡ row.function_as (at here.entry.bound.now here.entry.spot) tables.old here.entry.place symbol (function_of here.entry.bound.now symbol)) }
-    ensures grows { Grows tables.old tables.new }
+    ensures { IsPlan here.entry.bound.now tables.old tables.new
+        (row.function_as (at here.entry.bound.now here.entry.spot) tables.old here.entry.place symbol (function_of here.entry.bound.now symbol)) result }
 {
     match function_of(here.bound, symbol) {
         Some(variable) => Ok(unsited(here, tables, Leaf::Local(variable))),
@@ -377,9 +362,8 @@ pub(crate) fn function_plan<'a>(
     tables: &mut Tables,
     items: &'a [Datum],
 ) -> Result<Plan<'a>, NoMemory>
-    ensures plan { IfOk result (λ plan. shown here.entry.bound.now tables.new plan
-        ≡ row.function_row (at here.entry.bound.now here.entry.spot) tables.old here.entry.place items.now) }
-    ensures grows { Grows tables.old tables.new }
+    ensures { IsPlan here.entry.bound.now tables.old tables.new
+        (row.function_row (at here.entry.bound.now here.entry.spot) tables.old here.entry.place items.now) result }
 {
     let [datum] = items else {
         return Ok(offence(here.place, Reason::BadShape));
@@ -397,9 +381,8 @@ pub(crate) fn method_plan<'a>(
     leaf: Leaf,
     items: &[Datum],
 ) -> Result<Plan<'a>, NoMemory>
-    ensures plan { IfOk result (λ plan. shown here.entry.bound.now tables.new plan
-        ≡ row.method_row leaf (at here.entry.bound.now here.entry.spot) tables.old here.entry.place items.now) }
-    ensures grows { Grows tables.old tables.new }
+    ensures { IsPlan here.entry.bound.now tables.old tables.new
+        (row.method_row leaf (at here.entry.bound.now here.entry.spot) tables.old here.entry.place items.now) result }
 {
     if !items.is_empty() || !here.spot.in_method {
         return Ok(offence(here.place, Reason::BadShape));
@@ -414,9 +397,8 @@ fn class_symbol<'a>(
     place: Place,
     symbol: Symbol,
 ) -> Result<Plan<'a>, NoMemory>
-    ensures plan { IfOk result (λ plan. shown here.entry.bound.now tables.new plan
-        ≡ row.class_symbol place (at here.entry.bound.now here.entry.spot) tables.old here.entry.place symbol) }
-    ensures grows { Grows tables.old tables.new }
+    ensures { IsPlan here.entry.bound.now tables.old tables.new
+        (row.class_symbol place (at here.entry.bound.now here.entry.spot) tables.old here.entry.place symbol) result }
 {
     let Symbol::Named(name) = symbol else {
         return Ok(offence(here.place, Reason::BadShape));
@@ -433,9 +415,8 @@ pub(crate) fn class_plan<'a>(
     tables: &mut Tables,
     items: &'a [Datum],
 ) -> Result<Plan<'a>, NoMemory>
-    ensures plan { IfOk result (λ plan. shown here.entry.bound.now tables.new plan
-        ≡ row.class_row (at here.entry.bound.now here.entry.spot) tables.old here.entry.place items.now) }
-    ensures grows { Grows tables.old tables.new }
+    ensures { IsPlan here.entry.bound.now tables.old tables.new
+        (row.class_row (at here.entry.bound.now here.entry.spot) tables.old here.entry.place items.now) result }
 {
     let [datum] = items else {
         return Ok(offence(here.place, Reason::BadShape));
