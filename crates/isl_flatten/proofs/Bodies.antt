@@ -13,7 +13,6 @@ use Rattle.isl_closure.specs.Flatten.{home_of_rest}
 use Rattle.isl_flatten.specs.declared.places.Places.{Places}
 use Rattle.isl_flatten.specs.declared.variables.NewVariable.{NewVariable}
 use Rattle.isl_flatten.specs.NewVariables.{new_variable, new_variables, known_in_slot, homes_of_new, slots_of, with_new}
-use Rattle.isl_flatten.specs.Places.{places_with}
 use Rattle.isl_flatten.proofs.Turns.{item}
 
 slots_same : (vs : List ℕ) (body : Form) (n : ℕ) → slots_of (new_variables vs body) n ≡ in_slots vs body n

@@ -1,5 +1,5 @@
 -- Loops that make the items of a list flat, one after another: what is made, and what is still to be made of the rest.
-use Rattle.std.proofs.Common.{◌≡◌, ◌≤◌, ℕ, suc, ◌+◌, List, [], ◌∷◌, ◌++◌, refl, sym, ap, subst, ◌∙◌, Option, Some, None, length, drop, arith, append_assoc, length-append}
+use Rattle.std.proofs.Common.{◌≡◌, ◌≤◌, ℕ, ◌+◌, List, [], ◌∷◌, ◌++◌, refl, sym, ap, ◌∙◌, Option, Some, None, length, drop, append_assoc}
 use Rattle.std.specs.Prelude.{slice_get, option_map}
 use Rattle.std.proofs.lemmas.List.{append-nil}
 use Rattle.std.proofs.Math.ListN.{drop_of_length-le}
@@ -15,8 +15,9 @@ use Rattle.isl_closure.specs.declared.flat_core.FlatDynBinding.{FlatDynBinding}
 use Rattle.isl_closure.specs.declared.program.FlatProcedure.{FlatProcedure}
 use Rattle.isl_closure.specs.FlatForm.{FlatForm}
 use Rattle.isl_closure.specs.FlatForm as flat_form
-use Rattle.isl_closure.specs.Scope.{Scope, home_of}
-use Rattle.isl_closure.specs.Flatten.{flat, flat_forms, flat_clauses, flat_body, flat_bindings, flat_dynamics, functions, functions_of_body, inner_procedures, procedures_of_forms, procedures_of_clauses, procedures_of_body, procedures_of_values, procedures_of_dynamics}
+use Rattle.isl_meaning.specs.declared.program.Procedure.{Procedure}
+use Rattle.isl_closure.specs.Scope.{Scope, no_scope, home_of}
+use Rattle.isl_closure.specs.Flatten.{flat, flat_forms, flat_clauses, flat_body, flat_bindings, flat_dynamics, functions, functions_of_body, functions_of_procedures, body_scope, flat_procedure, flat_procedures, inner_of_procedures, flat_mains, inner_of_mains, inner_procedures, procedures_of_forms, procedures_of_clauses, procedures_of_body, procedures_of_values, procedures_of_dynamics}
 use Rattle.isl_closure.specs.bridge.Counted.{joined, all_counted, body_counted}
 use Rattle.isl_closure.specs.model.View as flat_view
 
@@ -148,3 +149,36 @@ inside_after s r same before after more count e k f all h =
     ∙ ap (λ n. after ++ inner_procedures s n f) (length_after before after more count e k)
     ∙ ap (λ ys. ys ++ inner_procedures s (length before + count) f) e
     ∙ append_assoc before more (inner_procedures s (length before + count) f)
+
+-- procedures and main forms of a program
+abbrev pub one_procedure : ℕ → Procedure → FlatProcedure
+one_procedure n p = flat_procedure no_scope n [] p.required p.rest p.body
+
+abbrev pub procedure_inside : ℕ → Procedure → List FlatProcedure
+procedure_inside n p = inner_procedures (body_scope p.required p.rest p.body no_scope) n p.body
+
+abbrev pub procedure_count : Procedure → ℕ
+procedure_count p = functions p.body
+
+pub procedure_counted : (n : ℕ) (p : Procedure) → length (procedure_inside n p) ≡ procedure_count p
+procedure_counted n p = all_counted (body_scope p.required p.rest p.body no_scope) n p.body
+
+pub procedures_made : (n : ℕ) (xs : List Procedure) → all_made one_procedure procedure_inside procedure_count n xs ≡ flat_procedures n xs
+procedures_made n [] = refl
+procedures_made n (p ∷ ps) = ap (λ ys. one_procedure n p ∷ ys) (procedures_made (n + procedure_count p) ps)
+
+pub procedures_inside : (n : ℕ) (xs : List Procedure) → all_inside one_procedure procedure_inside procedure_count n xs ≡ inner_of_procedures n xs
+procedures_inside n [] = refl
+procedures_inside n (p ∷ ps) = ap (λ ys. procedure_inside n p ++ ys) (procedures_inside (n + procedure_count p) ps)
+
+pub mains_made : (n : ℕ) (xs : List Form) → all_made (flat no_scope) (inner_procedures no_scope) functions n xs ≡ flat_mains n xs
+mains_made n [] = refl
+mains_made n (f ∷ fs) = ap (λ ys. flat no_scope n f ∷ ys) (mains_made (n + functions f) fs)
+
+pub mains_inside : (n : ℕ) (xs : List Form) → all_inside (flat no_scope) (inner_procedures no_scope) functions n xs ≡ inner_of_mains n xs
+mains_inside n [] = refl
+mains_inside n (f ∷ fs) = ap (λ ys. inner_procedures no_scope n f ++ ys) (mains_inside (n + functions f) fs)
+
+pub inner_counted : (n : ℕ) (xs : List Procedure) → length (inner_of_procedures n xs) ≡ functions_of_procedures xs
+inner_counted n [] = refl
+inner_counted n (p ∷ ps) = joined (procedure_inside n p) _ _ _ (procedure_counted n p) (inner_counted (n + procedure_count p) ps)

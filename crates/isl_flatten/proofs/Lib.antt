@@ -3,3 +3,4 @@ pub mod Turns
 pub mod Captured
 pub mod Going
 pub mod Bodies
+pub mod Whole

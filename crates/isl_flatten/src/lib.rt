@@ -5,6 +5,8 @@ mod bindings;
 mod cells;
 mod forms;
 mod places;
+pub mod program;
 mod tables;
 mod variables;
 
+pub use program::flatten;

@@ -299,11 +299,7 @@ fn captured_exits(alloc: Global, parts: &PartList) -> Result<Bindings<ExitPlace>
 }
 
 // A captured exit, by its number inside; nothing where the part is none.
-fn captured_exit(
-    made: &mut Bindings<ExitPlace>,
-    part: Part,
-    at: usize,
-) -> Result<(), NoMemory>
+fn captured_exit(made: &mut Bindings<ExitPlace>, part: Part, at: usize) -> Result<(), NoMemory>
     ensures { OnOk result (made.new ≡ captured_exits (part ∷ []) at ++ made.old) }
 {
     match part {

@@ -1,11 +1,11 @@
 -- What is made of forms, clauses and bindings, one after another; of bodies; and of functions.
-use Rattle.std.proofs.Common.{◌≡◌, ◌≤◌, ℕ, ◌+◌, List, [], ◌∷◌, ◌++◌, Option, sym, ap, ◌∙◌, length, take, drop, arith, length-append, append_assoc}
+use Rattle.std.proofs.Common.{◌≡◌, ◌≤◌, ◌+◌, List, [], ◌∷◌, ◌++◌, Option, ap, ◌∙◌, length, take, drop, arith, length-append, append_assoc}
 use Rattle.std.specs.Prelude.{slice_get, option_map, option_to_list, Bool}
 use Rattle.isl_meaning.specs.Form.{Form, parameters}
 use Rattle.isl_meaning.specs.Meaning.{bound_variables}
 use Rattle.isl_meaning.specs.declared.core_form.Binding.{Binding}
 use Rattle.isl_meaning.specs.declared.core_form.DynBinding.{DynBinding}
-use Rattle.isl_meaning.specs.model.View.{forms, clauses_of, maybe_form, bindings_of, dynamics_of}
+use Rattle.isl_meaning.specs.model.View.{maybe_form, bindings_of, dynamics_of}
 use Rattle.isl_base.specs.declared.datum.Name.{Name}
 use Rattle.isl_closure.specs.declared.flat_core.FlatClause.{FlatClause}
 use Rattle.isl_closure.specs.declared.flat_core.FlatBinding.{FlatBinding}

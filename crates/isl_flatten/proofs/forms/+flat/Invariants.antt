@@ -1,5 +1,5 @@
 -- The sizes of the forms fall.
-use Rattle.std.proofs.Common.{◌≡◌, ◌+◌, ◌*◌, take}
+use Rattle.std.proofs.Common.{◌≡◌, ◌+◌, ◌*◌}
 use Rattle.isl_meaning.specs.Form.{form_size, forms_size, clauses_size, maybe_size, bindings_size, dynamics_size}
 use Rattle.isl_meaning.specs.model.View.{view_form, forms, clauses_of, maybe_form, bindings_of, dynamics_of}
 use Rattle.isl_meaning.specs.declared.core_form.Binding.{Binding}

@@ -1,5 +1,5 @@
 -- A variable more.
-use Rattle.std.proofs.Common.{ap, ◌∙◌, ◌++◌, ◌∷◌, [], refl}
+use Rattle.std.proofs.Common.{◌∙◌, refl}
 use Rattle.isl_meaning.specs.Meaning.{bound_variables}
 use Rattle.isl_meaning.specs.declared.core_form.Binding.{Binding}
 use Rattle.isl_meaning.specs.model.View.{bindings_of}

@@ -1,5 +1,5 @@
 -- A variable more.
-use Rattle.std.proofs.Common.{ap, sym, ◌∙◌, ◌++◌, ◌∷◌, [], refl, take, arith, ◌≡◌}
+use Rattle.std.proofs.Common.{ap, ◌∙◌, refl, take, arith, ◌≡◌}
 use Rattle.isl_flatten.specs.declared.variables.NewVariable.{NewVariable}
 use Rattle.isl_flatten.specs.NewVariables.{homes_of_new}
 use Rattle.isl_flatten.proofs.Turns.{turn, first_of}

@@ -1,5 +1,5 @@
 -- What is left is what is behind the innermost names.
-use Rattle.std.proofs.Common.{ap, sym, ◌∙◌, ◌-◌, length, take, drop, arith, ◌≤◌}
+use Rattle.std.proofs.Common.{ap, ◌∙◌, ◌-◌, length, take, drop, arith, ◌≤◌}
 use Rattle.std.specs.Prelude.{reverse}
 use Rattle.std.proofs.lemmas.List.{length-reverse}
 use Rattle.isl_flatten.proofs.Turns.{without_last}
