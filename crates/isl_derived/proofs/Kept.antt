@@ -14,6 +14,7 @@ use Rattle.isl_derived.specs.Pieces.{Piece, word, made, taken, parens, Pieces, n
 use Rattle.isl_derived.specs.Derived.{becomes, derivation, Derives, new_symbols}
 use Rattle.isl_derived.specs.declared.one_step.Step.TheVariants.{Derived}
 use Rattle.isl_derived.specs.Steps.{IsStep, IsWhole}
+use Rattle.isl_derived.specs.GoodSteps.{StepsAreGood}
 use Rattle.isl_derived.specs.Ends.{AllFurther, AllFurtherIn}
 use Rattle.isl_derived.proofs.Parts.{GoesDown, goes_down}
 use Rattle.isl_derived.proofs.Derivations.{OfDerivation}
@@ -107,6 +108,9 @@ pub step_named : (names : List (List ℕ)) (d : Item) (s : ℕ) (e : Item) (s2 :
     → NamesBelow (length names) e
 step_named names d s e s2 h x =
     step_too (NamesBelow (length names)) (below_down (length names)) names (below_up (length names)) d s e s2 h x
+
+pub step_good : StepsAreGood
+step_good names d s e s2 g x = record { formed = step_formed names d s e s2 g.formed x; named = step_named names d s e s2 g.named x }
 
 -- a later table
 
