@@ -82,7 +82,7 @@ formed_up : (n : ℕ) → GoesUp n Formed
 unfolding Formed
 formed_up n = record { over_name = λ p k h. tt; over_fresh = λ p i. tt; over_items = formed_over }
 
-pub step_formed : (names : List (List ℕ)) (d : Item) (s : ℕ) (e : Item) (s2 : ℕ) → Formed d → Derives names d s e s2 → Formed e
+step_formed : (names : List (List ℕ)) (d : Item) (s : ℕ) (e : Item) (s2 : ℕ) → Formed d → Derives names d s e s2 → Formed e
 step_formed names d s e s2 h x = step_too Formed formed_down names (formed_up (length names)) d s e s2 h x
 
 -- names of the table
@@ -104,7 +104,7 @@ below_up : (n : ℕ) → GoesUp n (NamesBelow n)
 unfolding NamesBelow
 below_up n = record { over_name = λ p k h. h; over_fresh = λ p i. tt; over_items = below_over n }
 
-pub step_named : (names : List (List ℕ)) (d : Item) (s : ℕ) (e : Item) (s2 : ℕ) → NamesBelow (length names) d → Derives names d s e s2
+step_named : (names : List (List ℕ)) (d : Item) (s : ℕ) (e : Item) (s2 : ℕ) → NamesBelow (length names) d → Derives names d s e s2
     → NamesBelow (length names) e
 step_named names d s e s2 h x =
     step_too (NamesBelow (length names)) (below_down (length names)) names (below_up (length names)) d s e s2 h x
