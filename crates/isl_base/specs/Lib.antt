@@ -6,6 +6,7 @@ pub mod Sure
 pub mod formers
 pub mod Data
 pub mod model
+pub mod bridge
 pub mod DataMeasures
 pub mod DataFormed
 pub mod DataParts

@@ -33,14 +33,12 @@ impl FixedBuffer {
     pub(crate) fn new(alloc: Global, capacity: usize) -> Result<FixedBuffer, NoMemory>
         ensures { IfOk result (λ buffer. buffer ≡ empty_buffer capacity) }
     {
-        match Vec::with_capacity(alloc, capacity) {
-            Ok(items) => Ok(FixedBuffer {
-                items,
-                capacity,
-                writes: 0,
-            }),
-            Err(_) => Err(NoMemory),
-        }
+        let items = Vec::with_capacity(alloc, capacity)?;
+        Ok(FixedBuffer {
+            items,
+            capacity,
+            writes: 0,
+        })
     }
 
     /// How many bytes more there is room for.

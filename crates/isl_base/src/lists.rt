@@ -61,10 +61,8 @@ impl<T: Drop> ItemList<T> {
         ensures ok { OnOk result (self.new ≡ self.old ++ item ∷ []) }
         ensures err { OnErr result (self.new ≡ self.old) }
     {
-        match self.items.push(item) {
-            Ok(()) => Ok(()),
-            Err(_) => Err(NoMemory),
-        }
+        self.items.push(item)?;
+        Ok(())
     }
 
     /// Its first `len` items stay; takes no memory.
@@ -95,10 +93,8 @@ impl<T: Drop> ItemList<T> {
         ensures err { OnErr result (self.new ≡ self.old) }
     {
         let mut items = more.items;
-        match self.items.append(&mut items) {
-            Ok(()) => Ok(()),
-            Err(_) => Err(NoMemory),
-        }
+        self.items.append(&mut items)?;
+        Ok(())
     }
 }
 
@@ -107,10 +103,8 @@ impl ItemList<u8> {
     pub fn from_slice(alloc: Global, bytes: &[u8]) -> Result<Bytes, NoMemory>
         ensures { IfOk result (λ list. list ≡ bytes.now) }
     {
-        match Vec::from_slice(alloc, bytes) {
-            Ok(items) => Ok(ItemList { items }),
-            Err(_) => Err(NoMemory),
-        }
+        let items = Vec::from_slice(alloc, bytes)?;
+        Ok(ItemList { items })
     }
 
     /// Appends all these bytes. After `NoMemory` the list is unchanged.
@@ -118,10 +112,8 @@ impl ItemList<u8> {
         ensures ok { OnOk result (self.new ≡ self.old ++ bytes.now) }
         ensures err { OnErr result (self.new ≡ self.old) }
     {
-        match self.items.extend_from_slice(bytes) {
-            Ok(()) => Ok(()),
-            Err(_) => Err(NoMemory),
-        }
+        self.items.extend_from_slice(bytes)?;
+        Ok(())
     }
 }
 

@@ -38,13 +38,9 @@ impl Words {
         ensures ok { OnOk result (self.new ≡ self.old ++ word.now ∷ []) }
         ensures err { OnErr result (self.new ≡ self.old) }
     {
-        let Ok(owned) = String::from_str(self.alloc, word) else {
-            return Err(NoMemory);
-        };
-        match self.words.push(owned) {
-            Ok(()) => Ok(()),
-            Err(_) => Err(NoMemory),
-        }
+        let owned = String::from_str(self.alloc, word)?;
+        self.words.push(owned)?;
+        Ok(())
     }
 
     /// The number of words.

@@ -1,11 +1,11 @@
 -- Comparisons: what is cut off above a bound passes it just where the number does.
 use Rattle.std.proofs.Common.{◌≡◌, ℕ, ◌<◌, nat_le, min, arith, sym}
+use Rattle.std.specs.List.{sum_by}
 use Rattle.std.proofs.lemmas.Bool.Decides.{nat_tests}
 use Rattle.isl_meaning.specs.declared.program.ProgramRows.{ProgramRows}
 use Rattle.isl_meaning.specs.Cells.{generic_cells, program_cells}
 use Rattle.isl_dispatch.specs.OfClasses.{with_classes, cells_by_classes}
-use Rattle.isl_meaning.specs.ProgramCounts.{total}
-use Rattle.isl_meaning.specs.bridge.Totals.{total_alike}
+use Rattle.isl_base.specs.bridge.Counted.{sum_alike}
 
 cut_off : (d r bound most : ℕ) → r ≡ min d most → bound < most → nat_le r bound ≡ nat_le d bound
 cut_off d r bound most h b = grind (arith, nat_tests)
@@ -20,5 +20,5 @@ pub cells_within : (d r : ℕ) → r ≡ min d 262145 → nat_le r 262144 ≡ na
 cells_within d r h = cut_off d r 262144 262145 h (omega arith)
 
 -- the cells of a program depend on its classes alone
-pub cells_alike : (rows : ProgramRows) → total (generic_cells (with_classes rows.classes)) rows.generics ≡ program_cells rows
-cells_alike rows = sym (total_alike (generic_cells rows) (generic_cells (with_classes rows.classes)) (cells_by_classes rows) rows.generics)
+pub cells_alike : (rows : ProgramRows) → sum_by (generic_cells (with_classes rows.classes)) rows.generics ≡ program_cells rows
+cells_alike rows = sym (sum_alike (generic_cells rows) (generic_cells (with_classes rows.classes)) (cells_by_classes rows) rows.generics)

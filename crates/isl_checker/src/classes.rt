@@ -1,14 +1,14 @@
 // What the rows of classes have to be: the built-in classes come first.
 
 ghost use Rattle.std.specs.Prelude.{◌≡◌, nat_lt, slice_index_or, [], ◌∷◌, length, ◌<◌, IfOk};
+ghost use Rattle.std.specs.Str.{bytes_eq};
 ghost use Rattle.std.specs.List.{list_all};
 ghost use Rattle.isl_meaning.specs.BuiltIn.{built_in_precedence, built_in_slots};
 ghost use Rattle.isl_meaning.specs.Facts.{initform_fits, class_fits, is_one, is_plain_slot, is_row, begins_with_built_in};
-ghost use Rattle.isl_meaning.specs.Values.{same_text};
 
 use crate::bodies::is_alone;
 use isl_base::{Name, NoMemory};
-use isl_meaning::{ClassRow, ProcedureId, ProgramRows, SlotRow, built_in_class};
+use isl_meaning::{BUILT_IN_CLASSES, ClassRow, ProcedureId, ProgramRows, SlotRow, built_in_class};
 use std::alloc::Global;
 
 pub fn classes_fit(alloc: Global, rows: &ProgramRows) -> Result<bool, NoMemory>
@@ -70,7 +70,7 @@ fn initform_fits(
 pub fn begins_with_built_in(classes: &[ClassRow]) -> bool
     ensures { result ≡ begins_with_built_in classes.now built_in_precedence built_in_slots }
 {
-    for number in 0..34 {
+    for number in 0..BUILT_IN_CLASSES {
         let Some(class) = classes.get(number) else {
             return false;
         };
@@ -92,7 +92,7 @@ fn is_class(class: &ClassRow, number: usize, above: &[usize], slots: usize) -> b
 }
 
 fn is_line(list: &[usize], first: usize, others: &[usize]) -> bool
-    ensures { result ≡ same_text list.now (first ∷ others.now) }
+    ensures { result ≡ bytes_eq list.now (first ∷ others.now) }
 {
     match list {
         [] => false,
@@ -102,7 +102,7 @@ fn is_line(list: &[usize], first: usize, others: &[usize]) -> bool
 
 // Whether both lists are the same numbers.
 pub fn same_numbers(a: &[usize], b: &[usize]) -> bool
-    ensures { result ≡ same_text a.now b.now }
+    ensures { result ≡ bytes_eq a.now b.now }
 {
     a == b
 }

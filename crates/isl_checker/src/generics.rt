@@ -4,7 +4,7 @@ ghost use Rattle.std.specs.Prelude.{◌≡◌, ◌==◌, ◌&&◌, nat_lt, slice
 ghost use Rattle.std.specs.List.{list_all, list_any};
 ghost use Rattle.isl_meaning.specs.Classes.{is_qualifier};
 ghost use Rattle.isl_meaning.specs.Facts.{is_congruent, knows_next, method_fits, same_method, generic_fits};
-ghost use Rattle.isl_meaning.specs.Lookup.{some_of, all_differ};
+ghost use Rattle.isl_meaning.specs.Lookup.{all_differ};
 
 use crate::bodies::is_alone;
 use crate::classes::{are_classes, same_numbers};
@@ -115,14 +115,7 @@ fn same_qualifier(a: Qualifier, b: Qualifier) -> bool
     }
 }
 
-#[tactic(auto, using(crate::proofs::Lists::any_is_some))]
 fn has_method(method: &MethodRow, methods: &[MethodRow]) -> bool
-    ensures { result ≡ some_of (same_method method.now) methods.now }
-{
-    any_method(method, methods)
-}
-
-fn any_method(method: &MethodRow, methods: &[MethodRow]) -> bool
     ensures { result ≡ list_any (same_method method.now) methods.now }
 {
     methods.iter().any(|m| same_method(method, m))

@@ -5,7 +5,6 @@ mod bodies;
 mod classes;
 mod fits;
 mod generics;
-mod mentions;
 mod parts;
 mod procedures;
 mod rows;

@@ -4,19 +4,7 @@ ghost use Rattle.std.specs.Prelude.{◌≡◌};
 ghost use Rattle.std.specs.List.{list_any};
 ghost use Rattle.isl_meaning.specs.Mentions.{same_part, comes_before};
 
-use isl_meaning::Part;
-
-/// Whether both are the same part.
-pub fn same_part(part: Part, other: Part) -> bool
-    ensures { result ≡ same_part part other }
-{
-    match (part, other) {
-        (Part::Variable(v), Part::Variable(w)) => v == w,
-        (Part::Exit(x), Part::Exit(y)) => x == y,
-        (Part::Method, Part::Method) => true,
-        _ => false,
-    }
-}
+use isl_meaning::{Part, same_part};
 
 /// Whether it comes before the other: variables by rising number, then exits by rising number, then
 /// the method.

@@ -3,7 +3,7 @@
 ghost use Rattle.std.specs.Prelude.{◌≡◌, IfOk};
 ghost use Rattle.std.specs.List.{list_all, list_any};
 ghost use Rattle.isl_meaning.specs.Facts.{literal_fits, callee_fits, same_name};
-ghost use Rattle.isl_meaning.specs.Lookup.{some_of, all_differ};
+ghost use Rattle.isl_meaning.specs.Lookup.{all_differ};
 
 use crate::bodies::is_alone;
 use isl_base::NoMemory;
@@ -49,14 +49,7 @@ fn callee_fits(alloc: Global, rows: &ProgramRows, callee: Callee) -> Result<bool
     }
 }
 
-#[tactic(auto, using(crate::proofs::Lists::any_is_some))]
 fn has_name(function: &FunctionRow, functions: &[FunctionRow]) -> bool
-    ensures { result ≡ some_of (same_name function.now) functions.now }
-{
-    any_name(function, functions)
-}
-
-fn any_name(function: &FunctionRow, functions: &[FunctionRow]) -> bool
     ensures { result ≡ list_any (same_name function.now) functions.now }
 {
     functions.iter().any(|f| function.name.0 == f.name.0)

@@ -5,14 +5,15 @@ ghost use Rattle.std.specs.List.{list_all};
 ghost use Rattle.isl_meaning.specs.Mentions.{is_next, in_order};
 ghost use Rattle.isl_meaning.specs.Standing.{is_bound, is_free, are_captured, around_inner, stands_itself, stands};
 
-use crate::mentions::{mentions, owns};
 use crate::parts::comes_before;
 use crate::scope::{
     binds, has_block, has_segment, has_variable, parameters, seen, variables_bound, with_around,
     with_variables,
 };
 use isl_base::NoMemory;
-use isl_meaning::{Around, Core, CoreForm, LexicalScope, Part, PartList, Subforms, Var, VarList};
+use isl_meaning::{
+    Around, Core, CoreForm, LexicalScope, Part, PartList, Subforms, Var, VarList, mentions, owns,
+};
 use std::alloc::Global;
 
 // Whether all names in a form are bound.

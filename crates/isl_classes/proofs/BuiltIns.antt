@@ -1,5 +1,7 @@
 -- The built-in classes, one after the other.
-use Rattle.std.proofs.Common.{◌≡◌, ℕ, ◌+◌, ◌<◌, ◌≤◌, ⊎_elim, zero, suc, Bool, true, false, ◌&&◌, ◌==◌, not, nat_le, nat_lt, List, [], ◌∷◌, ◌++◌, Option, Some, None, All, map, length, slice_get, get_or, refl, sym, ap, subst, ◌∙◌, if◌then◌else◌, length-append, add-one, add-zero, arith}
+use Rattle.std.proofs.Common.{◌≡◌, ℕ, ◌+◌, ◌<◌, ◌≤◌, ⊎_elim, zero, suc, Bool, true, false, ◌&&◌, ◌==◌, not, nat_le, nat_lt, List, [], ◌∷◌, ◌++◌, Option, Some, None, All, map, length, slice_get, get_or, refl, sym, ap, subst, ◌∙◌, if◌then◌else◌, length-append, add-one, add-zero, arith, ◌||◌}
+use Rattle.std.specs.Str.{bytes_eq}
+use Rattle.std.specs.List.{list_all, list_any}
 use Rattle.std.specs.Option.{option_map}
 use Rattle.std.proofs.lemmas.Option.{slice_get_within, slice_get-get_or}
 use Rattle.std.proofs.lemmas.Bool.{eqb-true, eq-eqb, leb-true, ltb-true, and_parts, not-true}
@@ -9,9 +11,7 @@ use Rattle.isl_base.specs.Names.{Extends, Extends-then, text_stays, slice_get-pu
 use Rattle.isl_meaning.specs.declared.program.ClassRow.{ClassRow}
 use Rattle.isl_meaning.specs.declared.program.SlotRow.{SlotRow}
 use Rattle.isl_meaning.specs.BuiltIn.{built_in_precedence, built_in_slots, class_texts}
-use Rattle.isl_meaning.specs.Lookup.{all_of, all_differ}
-use Rattle.isl_meaning.specs.Lookup.{some_of}
-use Rattle.isl_meaning.specs.Values.{same_text}
+use Rattle.isl_meaning.specs.Lookup.{all_differ}
 use Rattle.isl_classes.specs.InheritedSlots.{same_name, has_name, each_first, without_name, names_of, said_by, own_slots, united}
 use Rattle.isl_classes.specs.InheritedClasses.{Hierarchy, IsRow, AreClasses, IsBuiltIn, class_named, slot_limit}
 use Rattle.isl_classes.specs.InheritedBuiltIn.{SaysSlots, AreBuiltIn, built_in_own, own_initarg, texts_of}
@@ -20,17 +20,17 @@ use Rattle.isl_classes.proofs.Names.{either}
 use Rattle.isl_classes.proofs.Defining.{said-own, length-united, names-append}
 
 -- what passes for all passes for each
-all_of-get : {X : Type 0} (p : X → Bool) (xs : List X) (i : ℕ) (x : X) → all_of p xs ≡ true → slice_get xs i ≡ Some x → p x ≡ true
-all_of-get p [] i x a h = absurd (cc)
-all_of-get p (y ∷ ys) zero x a h = let e : y ≡ x = cc in subst (λ z. p z ≡ true) e (and_parts (p y) (all_of p ys) a).0
-all_of-get p (y ∷ ys) (suc i) x a h = all_of-get p ys i x (and_parts (p y) (all_of p ys) a).1 h
+list_all-get : {X : Type 0} (p : X → Bool) (xs : List X) (i : ℕ) (x : X) → list_all p xs ≡ true → slice_get xs i ≡ Some x → p x ≡ true
+list_all-get p [] i x a h = absurd (cc)
+list_all-get p (y ∷ ys) zero x a h = let e : y ≡ x = cc in subst (λ z. p z ≡ true) e (and_parts (p y) (list_all p ys) a).0
+list_all-get p (y ∷ ys) (suc i) x a h = list_all-get p ys i x (and_parts (p y) (list_all p ys) a).1 h
 
 -- the names of classes are short
-all_short : all_of (λ t. nat_le (length t) 263) class_texts ≡ true
+all_short : list_all (λ t. nat_le (length t) 263) class_texts ≡ true
 all_short = refl
 
 pub text_short : (c : ℕ) (t : List ℕ) → slice_get class_texts c ≡ Some t → length t ≤ 263
-text_short c t h = leb-true (length t) 263 (all_of-get (λ s. nat_le (length s) 263) class_texts c t all_short h)
+text_short c t h = leb-true (length t) 263 (list_all-get (λ s. nat_le (length s) 263) class_texts c t all_short h)
 
 -- slots say the same in a later table of names
 texts-stay : (old new : List (List ℕ)) (ns : List Name) (ts : List (List ℕ)) → Extends old new → texts_of old ns ≡ map (λ t. Some t) ts → texts_of new ns ≡ map (λ t. Some t) ts
@@ -78,12 +78,12 @@ says-more old new ts slots slots' n t x h e s = rw e (record {
 
 -- texts that differ have names that differ
 
-same_text-refl : (t : List ℕ) → same_text t t ≡ true
-same_text-refl [] = refl
-same_text-refl (x ∷ xs) = rw (eq-eqb x x refl) (same_text-refl xs)
+bytes_eq-refl : (t : List ℕ) → bytes_eq t t ≡ true
+bytes_eq-refl [] = refl
+bytes_eq-refl (x ∷ xs) = rw (eq-eqb x x refl) (bytes_eq-refl xs)
 
 other_name : (texts : List (List ℕ)) (n : Name) (t : List ℕ) (ns : List Name) (ts : List (List ℕ)) → slice_get texts n.0 ≡ Some t
-    → texts_of texts ns ≡ map (λ s. Some s) ts → some_of (same_text t) ts ≡ false → has_name n ns ≡ false
+    → texts_of texts ns ≡ map (λ s. Some s) ts → list_any (bytes_eq t) ts ≡ false → has_name n ns ≡ false
 other_name texts n t [] ts h e d = refl
 other_name texts n t (m ∷ ns) [] h e d = absurd (cc)
 other_name texts n t (m ∷ ns) (s ∷ ts) h e d =
@@ -92,21 +92,21 @@ other_name texts n t (m ∷ ns) (s ∷ ts) h e d =
     ⊎_elim
     (λ a. absurd (both a))
     (λ a.
-    let later : some_of (same_text t) ts ≡ false = ap (λ b. if b then true else some_of (same_text t) ts) (sym a) ∙ d in
+    let later : list_any (bytes_eq t) ts ≡ false = ap (λ b. b || list_any (bytes_eq t) ts) (sym a) ∙ d in
     rw (apart there a) (other_name texts n t ns ts h others later))
-    (either (same_text t s))
+    (either (bytes_eq t s))
   where
-    both : same_text t s ≡ true → ⊥
-    both a = let w : (if same_text t s then true else some_of (same_text t) ts) ≡ true = ap (λ b. if b then true else some_of (same_text t) ts) a in cc
+    both : bytes_eq t s ≡ true → ⊥
+    both a = let w : (bytes_eq t s || list_any (bytes_eq t) ts) ≡ true = ap (λ b. b || list_any (bytes_eq t) ts) a in cc
 
-    apart : slice_get texts m.0 ≡ Some s → same_text t s ≡ false → same_name n m ≡ false
+    apart : slice_get texts m.0 ≡ Some s → bytes_eq t s ≡ false → same_name n m ≡ false
     apart there a =
         ⊎_elim
         (λ k.
         let e : n.0 ≡ m.0 = eqb-true n.0 m.0 k in
         let one : Some t ≡ Some s = sym h ∙ ap (slice_get texts) e ∙ there in
         let same : t ≡ s = cc in
-        let yes : same_text t s ≡ true = subst (λ u. same_text t u ≡ true) same (same_text-refl t) in
+        let yes : bytes_eq t s ≡ true = subst (λ u. bytes_eq t u ≡ true) same (bytes_eq-refl t) in
         absurd (cc))
         (λ k. k)
         (either (same_name n m))
@@ -115,13 +115,13 @@ without-other : (n : Name) (ns : List Name) → has_name n ns ≡ false → with
 without-other n [] h = refl
 without-other n (m ∷ ns) h =
     ⊎_elim
-    (λ a. let w : (if same_name n m then true else has_name n ns) ≡ true = ap (λ b. if b then true else has_name n ns) a in absurd (cc))
+    (λ a. let w : (same_name n m || has_name n ns) ≡ true = ap (λ b. b || has_name n ns) a in absurd (cc))
     (λ a.
-    let later : has_name n ns ≡ false = ap (λ b. if b then true else has_name n ns) (sym a) ∙ h in
+    let later : has_name n ns ≡ false = ap (λ b. b || has_name n ns) (sym a) ∙ h in
     rw a (ap (λ ms. m ∷ ms) (without-other n ns later)))
     (either (same_name n m))
 
-all_different : (texts : List (List ℕ)) (ns : List Name) (ts : List (List ℕ)) → texts_of texts ns ≡ map (λ s. Some s) ts → all_differ same_text ts ≡ true
+all_different : (texts : List (List ℕ)) (ns : List Name) (ts : List (List ℕ)) → texts_of texts ns ≡ map (λ s. Some s) ts → all_differ bytes_eq ts ≡ true
     → (each_first ns ≡ ns) × (length ns ≡ length ts)
 all_different texts [] [] e d = (refl, refl)
 all_different texts [] (t ∷ ts) e d = absurd (cc)
@@ -129,9 +129,9 @@ all_different texts (n ∷ ns) [] e d = absurd (cc)
 all_different texts (n ∷ ns) (t ∷ ts) e d =
     let here : slice_get texts n.0 ≡ Some t = cc in
     let others : texts_of texts ns ≡ map (λ s. Some s) ts = cc in
-    let parts = and_parts (not (some_of (same_text t) ts)) (all_differ same_text ts) d in
+    let parts = and_parts (not (list_any (bytes_eq t) ts)) (all_differ bytes_eq ts) d in
     let rest : (each_first ns ≡ ns) × (length ns ≡ length ts) = all_different texts ns ts others parts.1 in
-    let new : has_name n ns ≡ false = other_name texts n t ns ts here others (not-true (some_of (same_text t) ts) parts.0) in
+    let new : has_name n ns ≡ false = other_name texts n t ns ts here others (not-true (list_any (bytes_eq t) ts) parts.0) in
     (ap (λ ms. n ∷ without_name n ms) rest.0 ∙ ap (λ ms. n ∷ ms) (without-other n ns new), ap suc rest.1)
 
 -- what the built-in classes of a precedence list say of slots, by their texts
@@ -159,7 +159,7 @@ said-texts texts own (c ∷ line) s a =
 is_good : ℕ → List ℕ → ℕ → Bool
 is_good c [] n = false
 is_good c (d ∷ ds) n =
-    all_of (λ e. nat_lt e c) ds && length (said_texts (d ∷ ds)) == n && nat_le n slot_limit && all_differ same_text (said_texts (d ∷ ds))
+    list_all (λ e. nat_lt e c) ds && length (said_texts (d ∷ ds)) == n && nat_le n slot_limit && all_differ bytes_eq (said_texts (d ∷ ds))
 
 all_good : ℕ → List (List ℕ) → List ℕ → Bool
 all_good c [] [] = true
@@ -203,28 +203,28 @@ named-some (r ∷ rows) n c h = by (same_name n r.name) (class_named rows n) ref
         let w : (row : ClassRow) × (slice_get rows k ≡ Some row) × (same_name n row.name ≡ true) = f k e in
         (w.0, rw (← z) (rw add-one w.1), w.2)
 
-some_of-get : {X : Type 0} (p : X → Bool) (xs : List X) (i : ℕ) (x : X) → slice_get xs i ≡ Some x → p x ≡ true → some_of p xs ≡ true
-some_of-get p [] i x h a = absurd (cc)
-some_of-get p (y ∷ ys) zero x h a = let e : y ≡ x = cc in rw (e, a) refl
-some_of-get p (y ∷ ys) (suc i) x h a = rw (some_of-get p ys i x h a) (by (p y))
+list_any-get : {X : Type 0} (p : X → Bool) (xs : List X) (i : ℕ) (x : X) → slice_get xs i ≡ Some x → p x ≡ true → list_any p xs ≡ true
+list_any-get p [] i x h a = absurd (cc)
+list_any-get p (y ∷ ys) zero x h a = let e : y ≡ x = cc in rw (e, a) refl
+list_any-get p (y ∷ ys) (suc i) x h a = rw (list_any-get p ys i x h a) (by (p y))
   where
-    by : (b : Bool) → (if b then true else true) ≡ true
+    by : (b : Bool) → (b || true) ≡ true
     by true = refl
     by false = refl
 
-differ-at : (ts : List (List ℕ)) (i j : ℕ) (t : List ℕ) → all_differ same_text ts ≡ true → slice_get ts i ≡ Some t → slice_get ts j ≡ Some t → i < j → ⊥
+differ-at : (ts : List (List ℕ)) (i j : ℕ) (t : List ℕ) → all_differ bytes_eq ts ≡ true → slice_get ts i ≡ Some t → slice_get ts j ≡ Some t → i < j → ⊥
 differ-at [] i j t d h k l = cc
 differ-at (s ∷ ts) i zero t d h k l = omega arith
 differ-at (s ∷ ts) zero (suc j) t d h k l =
     let e : s ≡ t = cc in
-    let same : same_text s t ≡ true = subst (λ u. same_text u t ≡ true) (sym e) (same_text-refl t) in
-    let there : some_of (same_text s) ts ≡ true = some_of-get (same_text s) ts j t k same in
-    let absent : some_of (same_text s) ts ≡ false = not-true (some_of (same_text s) ts) (and_parts (not (some_of (same_text s) ts)) (all_differ same_text ts) d).0 in
+    let same : bytes_eq s t ≡ true = subst (λ u. bytes_eq u t ≡ true) (sym e) (bytes_eq-refl t) in
+    let there : list_any (bytes_eq s) ts ≡ true = list_any-get (bytes_eq s) ts j t k same in
+    let absent : list_any (bytes_eq s) ts ≡ false = not-true (list_any (bytes_eq s) ts) (and_parts (not (list_any (bytes_eq s) ts)) (all_differ bytes_eq ts) d).0 in
     cc
 differ-at (s ∷ ts) (suc i) (suc j) t d h k l =
-    differ-at ts i j t (and_parts (not (some_of (same_text s) ts)) (all_differ same_text ts) d).1 h k (omega arith)
+    differ-at ts i j t (and_parts (not (list_any (bytes_eq s) ts)) (all_differ bytes_eq ts) d).1 h k (omega arith)
 
-texts_differ : all_differ same_text class_texts ≡ true
+texts_differ : all_differ bytes_eq class_texts ≡ true
 texts_differ = refl
 
 module _ (texts : List (List ℕ)) (h : Hierarchy) (n : ℕ) (first : AreFirst texts h n) (below : n < 34) (row : ClassRow) (own : List SlotRow)
@@ -270,10 +270,10 @@ module _ (texts : List (List ℕ)) (h : Hierarchy) (n : ℕ) (first : AreFirst t
     unfolding is_good
     above_less = all_less made.above (and_parts _ _ (and_parts _ _ (and_parts _ _ good).0).0).0
       where
-        all_less : (cs : List ℕ) → all_of (λ e. nat_lt e n) cs ≡ true → All (λ d. d < n) cs
+        all_less : (cs : List ℕ) → list_all (λ e. nat_lt e n) cs ≡ true → All (λ d. d < n) cs
         all_less [] a = All-nil (λ d. d < n)
         all_less (c ∷ cs) a =
-            let parts = and_parts (nat_lt c n) (all_of (λ e. nat_lt e n) cs) a in
+            let parts = and_parts (nat_lt c n) (list_all (λ e. nat_lt e n) cs) a in
             All-cons (λ d. d < n) c cs (ltb-true c n parts.0) (all_less cs parts.1)
 
     own_number : length h.own ≡ n

@@ -1,5 +1,5 @@
 -- A class has each slot once, and each slot of the classes above it.
-use Rattle.std.proofs.Common.{◌≡◌, ℕ, zero, suc, ◌+◌, ◌==◌, ◌<◌, ◌≤◌, Bool, true, false, not, ◌&&◌, cond, List, [], ◌∷◌, ◌++◌, Option, Some, None, take, slice_get, if◌then◌else◌, refl, sym, ap, ◌∙◌, arith}
+use Rattle.std.proofs.Common.{◌≡◌, ℕ, zero, suc, ◌+◌, ◌==◌, ◌<◌, ◌≤◌, Bool, true, false, not, ◌&&◌, cond, List, [], ◌∷◌, ◌++◌, Option, Some, None, take, slice_get, if◌then◌else◌, refl, sym, ap, ◌∙◌, arith, ◌||◌}
 use Rattle.std.proofs.lemmas.Bool.Decides.{nat_tests}
 use Rattle.isl_base.specs.declared.datum.Name.{Name}
 use Rattle.isl_meaning.specs.declared.program.ClassRow.{ClassRow}
@@ -26,16 +26,16 @@ has_without k m [] e = refl
 has_without k m (n ∷ ns) e = by (has_without k m ns e) (same_name m n) refl
   where
     by : has_name k (without_name m ns) ≡ has_name k ns → (b : Bool) → same_name m n ≡ b
-        → has_name k (cond (not b) (n ∷ without_name m ns) (without_name m ns)) ≡ (if same_name k n then true else has_name k ns)
-    by rest true f = rest ∙ ap (λ b. if b then true else has_name k ns) (sym (same_turns k m n e f))
-    by rest false f = ap (λ b. if same_name k n then true else b) rest
+        → has_name k (cond (not b) (n ∷ without_name m ns) (without_name m ns)) ≡ (same_name k n || has_name k ns)
+    by rest true f = rest ∙ ap (λ b. b || has_name k ns) (sym (same_turns k m n e f))
+    by rest false f = ap (λ b. same_name k n || b) rest
 
 has_first : (k : Name) (ns : List Name) → has_name k (each_first ns) ≡ has_name k ns
 has_first k [] = refl
 has_first k (n ∷ ns) = by (has_first k ns) (same_name k n) refl
   where
     by : has_name k (each_first ns) ≡ has_name k ns → (b : Bool) → same_name k n ≡ b
-        → (if b then true else has_name k (without_name n (each_first ns))) ≡ (if b then true else has_name k ns)
+        → (b || has_name k (without_name n (each_first ns))) ≡ (b || has_name k ns)
     by rest true e = refl
     by rest false e = has_without k n (each_first ns) e ∙ rest
 
@@ -47,19 +47,19 @@ gone m (n ∷ ns) = by (gone m ns) (same_name m n) refl
     by : has_name m (without_name m ns) ≡ false → (b : Bool) → same_name m n ≡ b
         → has_name m (cond (not b) (n ∷ without_name m ns) (without_name m ns)) ≡ false
     by rest true e = rest
-    by rest false e = ap (λ b. if b then true else has_name m (without_name m ns)) e ∙ rest
+    by rest false e = ap (λ b. b || has_name m (without_name m ns)) e ∙ rest
 
 fewer : (k m : Name) (ns : List Name) → has_name k ns ≡ false → has_name k (without_name m ns) ≡ false
 fewer k m [] h = refl
 fewer k m (n ∷ ns) h = by (λ l. fewer k m ns l) (same_name k n) refl h
   where
     by : (has_name k ns ≡ false → has_name k (without_name m ns) ≡ false) → (b : Bool) → same_name k n ≡ b
-        → (if b then true else has_name k ns) ≡ false → has_name k (without_name m (n ∷ ns)) ≡ false
+        → (b || has_name k ns) ≡ false → has_name k (without_name m (n ∷ ns)) ≡ false
     by rest true e l = absurd (cc)
     by rest false e l =
         elim (same_name m n) as (λ c. has_name k (cond (not c) (n ∷ without_name m ns) (without_name m ns)) ≡ false) [
           | true ↦ rest l
-          | false ↦ ap (λ b. if b then true else has_name k (without_name m ns)) e ∙ rest l
+          | false ↦ ap (λ b. b || has_name k (without_name m ns)) e ∙ rest l
         ]
 
 not_true : (b : Bool) → not b ≡ true → b ≡ false
@@ -104,14 +104,14 @@ pub record IsSaid (own : List (List SlotRow)) (classes : List ℕ) (n : Name) : 
   pub there : is_in class classes ≡ true
   pub says : has_name n (names_of (own_slots own class)) ≡ true
 
-has_append : (k : Name) (ms ns : List Name) → has_name k (ms ++ ns) ≡ (if has_name k ms then true else has_name k ns)
+has_append : (k : Name) (ms ns : List Name) → has_name k (ms ++ ns) ≡ (has_name k ms || has_name k ns)
 has_append k [] ns = refl
 has_append k (m ∷ ms) ns =
-    let rest : has_name k (ms ++ ns) ≡ (if has_name k ms then true else has_name k ns) = has_append k ms ns in
-    elim (same_name k m) as (λ b. (if b then true else has_name k (ms ++ ns)) ≡ (if (if b then true else has_name k ms) then true else has_name k ns)) [ true ↦ refl | false ↦ rest ]
+    let rest : has_name k (ms ++ ns) ≡ (has_name k ms || has_name k ns) = has_append k ms ns in
+    elim (same_name k m) as (λ b. (b || has_name k (ms ++ ns)) ≡ ((b || has_name k ms) || has_name k ns)) [ true ↦ refl | false ↦ rest ]
 
 said_more : (own : List (List SlotRow)) (c : ℕ) (cs : List ℕ) (n : Name)
-    → has_name n (names_of (said_by own (c ∷ cs))) ≡ (if has_name n (names_of (said_by own cs)) then true else has_name n (names_of (own_slots own c)))
+    → has_name n (names_of (said_by own (c ∷ cs))) ≡ (has_name n (names_of (said_by own cs)) || has_name n (names_of (own_slots own c)))
 said_more own c cs n =
     ap (has_name n) (names-append (said_by own cs) (own_slots own c)) ∙ has_append n (names_of (said_by own cs)) (names_of (own_slots own c))
 
@@ -120,24 +120,24 @@ from_said own [] n h = absurd (cc)
 from_said own (c ∷ cs) n h = by (λ l. from_said own cs n l) (has_name n (names_of (said_by own cs))) refl (sym (said_more own c cs n) ∙ h)
   where
     by : (has_name n (names_of (said_by own cs)) ≡ true → IsSaid own cs n) → (b : Bool) → has_name n (names_of (said_by own cs)) ≡ b
-        → (if b then true else has_name n (names_of (own_slots own c))) ≡ true → IsSaid own (c ∷ cs) n
+        → (b || has_name n (names_of (own_slots own c))) ≡ true → IsSaid own (c ∷ cs) n
     by rest true e l = let r = rest e in record { class = r.class; there = or_right (r.class == c) (is_in r.class cs) r.there; says = r.says }
     by rest false e l =
         let here : (c == c) ≡ true = grind (arith, nat_tests) in
-        record { class = c; there = ap (λ b. if b then true else is_in c cs) here; says = l }
+        record { class = c; there = ap (λ b. b || is_in c cs) here; says = l }
 
 into_said : (own : List (List SlotRow)) (cs : List ℕ) (n : Name) (e : ℕ) → is_in e cs ≡ true → has_name n (names_of (own_slots own e)) ≡ true
     → has_name n (names_of (said_by own cs)) ≡ true
 into_said own [] n e h k = absurd (cc)
 into_said own (c ∷ cs) n e h k = by (λ l. into_said own cs n e l k) (e == c) refl h
   where
-    by : (is_in e cs ≡ true → has_name n (names_of (said_by own cs)) ≡ true) → (b : Bool) → (e == c) ≡ b → (if b then true else is_in e cs) ≡ true
+    by : (is_in e cs ≡ true → has_name n (names_of (said_by own cs)) ≡ true) → (b : Bool) → (e == c) ≡ b → (b || is_in e cs) ≡ true
         → has_name n (names_of (said_by own (c ∷ cs))) ≡ true
     by rest true f l =
         let here : has_name n (names_of (own_slots own c)) ≡ true = ap (λ d. has_name n (names_of (own_slots own d))) (sym (number_is e c f)) ∙ k in
         said_more own c cs n ∙ or_right (has_name n (names_of (said_by own cs))) (has_name n (names_of (own_slots own c))) here
     by rest false f l =
-        said_more own c cs n ∙ ap (λ b. if b then true else has_name n (names_of (own_slots own c))) (rest l)
+        said_more own c cs n ∙ ap (λ b. b || has_name n (names_of (own_slots own c))) (rest l)
 
 taken_slots : (n : ℕ) (own : List (List SlotRow)) (e : ℕ) → e < n → slice_get (take n own) e ≡ slice_get own e
 taken_slots zero own e l = absurd (omega arith)

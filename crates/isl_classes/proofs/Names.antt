@@ -1,5 +1,5 @@
 -- Lists of names and of slots with one more at their end.
-use Rattle.std.proofs.Common.{◌≡◌, ℕ, ◌+◌, ◌<◌, length, get_or, ◌⊎◌, inl, inr, ⊎_elim, Bool, true, false, List, [], ◌∷◌, ◌++◌, Option, Some, None, flat_map, take, is_some, refl, sym, ap, ◌∙◌, if◌then◌else◌, append_assoc, append-nil}
+use Rattle.std.proofs.Common.{◌≡◌, ℕ, ◌+◌, ◌<◌, length, get_or, ◌⊎◌, inl, inr, ⊎_elim, Bool, true, false, List, [], ◌∷◌, ◌++◌, Option, Some, None, flat_map, take, is_some, refl, sym, ap, ◌∙◌, if◌then◌else◌, append_assoc, append-nil, ◌||◌}
 use Rattle.std.proofs.lemmas.Bool.{eqb-true, eq-eqb}
 use Rattle.std.proofs.lemmas.List.{take_more}
 use Rattle.std.proofs.lemmas.List.Elements.{filter-append}
@@ -30,7 +30,7 @@ has-without m n [] h = refl
 has-without m n (x ∷ xs) h =
     ⊎_elim
     (λ k. let a : same_name m x ≡ false = same_name-apart m n x h k in rw (k, a) (has-without m n xs h))
-    (λ k. rw k (ap (λ b. if same_name m x then true else b) (has-without m n xs h)))
+    (λ k. rw k (ap (λ b. same_name m x || b) (has-without m n xs h)))
     (either (same_name n x))
 
 -- names, each at its first place, with one more

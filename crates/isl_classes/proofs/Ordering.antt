@@ -1,13 +1,13 @@
 -- Precedence lists are an order of the classes.
-use Rattle.std.proofs.Common.{◌≡◌, ℕ, zero, suc, ◌+◌, ◌==◌, ◌<◌, ◌≤◌, ◌⊎◌, inl, inr, ⊎_elim, Bool, true, false, ◌&&◌, List, [], ◌∷◌, ◌++◌, Option, Some, None, All, length, take, slice_get, slice_index_or, if◌then◌else◌, refl, sym, ap, ◌∙◌, arith}
+use Rattle.std.proofs.Common.{◌≡◌, ℕ, zero, suc, ◌+◌, ◌==◌, ◌<◌, ◌≤◌, ◌⊎◌, inl, inr, ⊎_elim, Bool, true, false, ◌&&◌, List, [], ◌∷◌, ◌++◌, Option, Some, None, All, length, take, slice_get, slice_index_or, if◌then◌else◌, refl, sym, ap, ◌∙◌, arith, ◌||◌}
+use Rattle.std.specs.List.{list_all, range_with_len}
 use Rattle.std.proofs.lemmas.Bool.Decides.{nat_tests}
 use Rattle.std.proofs.lemmas.Option.{get_or_from_slice_get}
 use Rattle.std.proofs.lemmas.List.Elements.{All-head, All-tail}
 use Rattle.isl_meaning.specs.declared.program.ClassRow.{ClassRow}
 use Rattle.isl_meaning.specs.BuiltIn.{built_in_precedence}
 use Rattle.isl_meaning.specs.Classes.{precedence_of}
-use Rattle.isl_meaning.specs.Lookup.{all_of, all_differ, is_in}
-use Rattle.isl_meaning.specs.Objects.{count_up}
+use Rattle.isl_meaning.specs.Lookup.{all_differ, is_in}
 use Rattle.isl_classes.specs.InheritedPrecedence.{above, each_last, joined, superclasses, precedence_below}
 use Rattle.isl_classes.specs.InheritedClasses.{Hierarchy, IsHierarchy, IsBelow}
 use Rattle.isl_classes.specs.Lines.{line}
@@ -18,31 +18,31 @@ number_is a b h = grind (arith, nat_tests)
 number_itself : (a : ℕ) → (a == a) ≡ true
 number_itself a = grind (arith, nat_tests)
 
-pub or_right : (a b : Bool) → b ≡ true → (if a then true else b) ≡ true
+pub or_right : (a b : Bool) → b ≡ true → (a || b) ≡ true
 or_right true b h = refl
 or_right false b h = h
 
 -- what is in a list
 
 in_here : (x : ℕ) (xs : List ℕ) → is_in x (x ∷ xs) ≡ true
-in_here x xs = ap (λ b. if b then true else is_in x xs) (number_itself x)
+in_here x xs = ap (λ b. b || is_in x xs) (number_itself x)
 
-in_append : (x : ℕ) (cs ds : List ℕ) → is_in x (cs ++ ds) ≡ (if is_in x cs then true else is_in x ds)
+in_append : (x : ℕ) (cs ds : List ℕ) → is_in x (cs ++ ds) ≡ (is_in x cs || is_in x ds)
 in_append x [] ds = refl
 in_append x (c ∷ cs) ds =
-    let rest : is_in x (cs ++ ds) ≡ (if is_in x cs then true else is_in x ds) = in_append x cs ds in
-    elim (x == c) as (λ b. (if b then true else is_in x (cs ++ ds)) ≡ (if (if b then true else is_in x cs) then true else is_in x ds)) [ true ↦ refl | false ↦ rest ]
+    let rest : is_in x (cs ++ ds) ≡ (is_in x cs || is_in x ds) = in_append x cs ds in
+    elim (x == c) as (λ b. (b || is_in x (cs ++ ds)) ≡ ((b || is_in x cs) || is_in x ds)) [ true ↦ refl | false ↦ rest ]
 
 in_each_last : (x : ℕ) (cs : List ℕ) → is_in x (each_last cs) ≡ is_in x cs
 in_each_last x [] = refl
 in_each_last x (c ∷ cs) = by (in_each_last x cs) (is_in c cs) refl (x == c) refl
   where
     by : is_in x (each_last cs) ≡ is_in x cs → (a : Bool) → is_in c cs ≡ a → (b : Bool) → (x == c) ≡ b
-        → is_in x (if a then each_last cs else c ∷ each_last cs) ≡ (if b then true else is_in x cs)
+        → is_in x (if a then each_last cs else c ∷ each_last cs) ≡ (b || is_in x cs)
     by rest true p true q = rest ∙ ap (λ y. is_in y cs) (number_is x c q) ∙ p
     by rest true p false q = rest
-    by rest false p true q = ap (λ b. if b then true else is_in x (each_last cs)) q
-    by rest false p false q = ap (λ b. if b then true else is_in x (each_last cs)) q ∙ rest
+    by rest false p true q = ap (λ b. b || is_in x (each_last cs)) q
+    by rest false p false q = ap (λ b. b || is_in x (each_last cs)) q ∙ rest
 
 once_each_last : (cs : List ℕ) → all_differ (λ d e. d == e) (each_last cs) ≡ true
 once_each_last [] = refl
@@ -66,7 +66,7 @@ from_joined rows x (s ∷ ss) h =
     by (λ k. from_joined rows x ss k) (is_in x (precedence_of (slice_get rows s))) refl (sym (in_append x (precedence_of (slice_get rows s)) (joined rows ss)) ∙ h)
   where
     by : (is_in x (joined rows ss) ≡ true → HasOne rows ss x) → (b : Bool) → is_in x (precedence_of (slice_get rows s)) ≡ b
-        → (if b then true else is_in x (joined rows ss)) ≡ true → HasOne rows (s ∷ ss) x
+        → (b || is_in x (joined rows ss)) ≡ true → HasOne rows (s ∷ ss) x
     by rest true e k = record { super = s; there = in_here s ss; holds = e }
     by rest false e k = let r = rest k in record { super = r.super; there = or_right (r.super == s) (is_in r.super ss) r.there; holds = r.holds }
 
@@ -75,11 +75,11 @@ into_joined : (rows : List ClassRow) (x s : ℕ) (ss : List ℕ) → is_in s ss 
 into_joined rows x s [] h k = absurd (cc)
 into_joined rows x s (t ∷ ss) h k = by (λ l. into_joined rows x s ss l k) (s == t) refl h
   where
-    by : (is_in s ss ≡ true → is_in x (joined rows ss) ≡ true) → (b : Bool) → (s == t) ≡ b → (if b then true else is_in s ss) ≡ true
+    by : (is_in s ss ≡ true → is_in x (joined rows ss) ≡ true) → (b : Bool) → (s == t) ≡ b → (b || is_in s ss) ≡ true
         → is_in x (joined rows (t ∷ ss)) ≡ true
     by rest true e l =
         let here : is_in x (precedence_of (slice_get rows t)) ≡ true = ap (λ u. is_in x (precedence_of (slice_get rows u))) (sym (number_is s t e)) ∙ k in
-        in_append x (precedence_of (slice_get rows t)) (joined rows ss) ∙ ap (λ b. if b then true else is_in x (joined rows ss)) here
+        in_append x (precedence_of (slice_get rows t)) (joined rows ss) ∙ ap (λ b. b || is_in x (joined rows ss)) here
     by rest false e l =
         in_append x (precedence_of (slice_get rows t)) (joined rows ss)
         ∙ or_right (is_in x (precedence_of (slice_get rows t))) (is_in x (joined rows ss)) (rest l)
@@ -91,7 +91,7 @@ in_below : (rows : List ClassRow) (c : ℕ) (supers : List ℕ) (x : ℕ) → is
 unfolding above
 in_below rows c supers x h = by (x == c) refl h
   where
-    by : (b : Bool) → (x == c) ≡ b → (if b then true else is_in x (each_last (joined rows (superclasses supers)))) ≡ true
+    by : (b : Bool) → (x == c) ≡ b → (b || is_in x (each_last (joined rows (superclasses supers)))) ≡ true
         → (x ≡ c) ⊎ HasOne rows (superclasses supers) x
     by true e k = inl (number_is x c e)
     by false e k = inr (from_joined rows x (superclasses supers) (sym (in_each_last x (joined rows (superclasses supers))) ∙ k))
@@ -138,7 +138,7 @@ in_all n x [] a h = absurd (cc)
 in_all n x (y ∷ ys) a h =
     by (in_all n x ys (All-tail (λ d. d ≤ n) y ys a)) (All-head (λ d. d ≤ n) y ys a) (x == y) refl h
   where
-    by : (is_in x ys ≡ true → x ≤ n) → y ≤ n → (b : Bool) → (x == y) ≡ b → (if b then true else is_in x ys) ≡ true → x ≤ n
+    by : (is_in x ys ≡ true → x ≤ n) → y ≤ n → (b : Bool) → (x == y) ≡ b → (b || is_in x ys) ≡ true → x ≤ n
     by rest here true e k = let same : x ≡ y = number_is x y e in omega arith
     by rest here false e k = rest k
 
@@ -160,49 +160,49 @@ first_and_rest : (a b : Bool) → (a && b) ≡ true → (a ≡ true) × (b ≡ t
 first_and_rest true b h = (refl, h)
 first_and_rest false b h = absurd (cc)
 
-all_at : {X : Type 0} (p : X → Bool) (xs : List X) (i : ℕ) (x : X) → all_of p xs ≡ true → slice_get xs i ≡ Some x → p x ≡ true
+all_at : {X : Type 0} (p : X → Bool) (xs : List X) (i : ℕ) (x : X) → list_all p xs ≡ true → slice_get xs i ≡ Some x → p x ≡ true
 all_at p [] i x h k = absurd (cc)
 all_at p (y ∷ ys) zero x h k =
     let same : y ≡ x = cc in
-    ap p (sym same) ∙ (first_and_rest (p y) (all_of p ys) h).0
-all_at p (y ∷ ys) (suc i) x h k = all_at p ys i x (first_and_rest (p y) (all_of p ys) h).1 k
+    ap p (sym same) ∙ (first_and_rest (p y) (list_all p ys) h).0
+all_at p (y ∷ ys) (suc i) x h k = all_at p ys i x (first_and_rest (p y) (list_all p ys) h).1 k
 
-all_in : (p : ℕ → Bool) (xs : List ℕ) (x : ℕ) → all_of p xs ≡ true → is_in x xs ≡ true → p x ≡ true
+all_in : (p : ℕ → Bool) (xs : List ℕ) (x : ℕ) → list_all p xs ≡ true → is_in x xs ≡ true → p x ≡ true
 all_in p [] x h k = absurd (cc)
 all_in p (y ∷ ys) x h k =
-    let parts : (p y ≡ true) × (all_of p ys ≡ true) = first_and_rest (p y) (all_of p ys) h in
+    let parts : (p y ≡ true) × (list_all p ys ≡ true) = first_and_rest (p y) (list_all p ys) h in
     by parts.0 (λ l. all_in p ys x parts.1 l) (x == y) refl k
   where
-    by : p y ≡ true → (is_in x ys ≡ true → p x ≡ true) → (c : Bool) → (x == y) ≡ c → (if c then true else is_in x ys) ≡ true → p x ≡ true
+    by : p y ≡ true → (is_in x ys ≡ true → p x ≡ true) → (c : Bool) → (x == y) ≡ c → (c || is_in x ys) ≡ true → p x ≡ true
     by here rest true f k = ap p (number_is x y f) ∙ here
     by here rest false f k = rest k
 
 abbrev list_of : ℕ → List ℕ
 list_of c = slice_index_or built_in_precedence c []
 
-looked_through : all_of (λ l. all_of (λ d. all_of (λ e. is_in e l) (list_of d)) l) built_in_precedence ≡ true
+looked_through : list_all (λ l. list_all (λ d. list_all (λ e. is_in e l) (list_of d)) l) built_in_precedence ≡ true
 looked_through = refl
 
-looked_once : all_of (λ l. all_differ (λ d e. d == e) l) built_in_precedence ≡ true
+looked_once : list_all (λ l. all_differ (λ d e. d == e) l) built_in_precedence ≡ true
 looked_once = refl
 
-looked_itself : all_of (λ c. is_in c (list_of c)) (count_up 0 34) ≡ true
+looked_itself : list_all (λ c. is_in c (list_of c)) (range_with_len 0 34) ≡ true
 looked_itself = refl
 
 built_in_through : (c d e : ℕ) (l m : List ℕ) → slice_get built_in_precedence c ≡ Some l → slice_get built_in_precedence d ≡ Some m
     → is_in d l ≡ true → is_in e m ≡ true → is_in e l ≡ true
 built_in_through c d e l m h k p q =
-    let here : all_of (λ d. all_of (λ e. is_in e l) (list_of d)) l ≡ true =
-    all_at (λ l. all_of (λ d. all_of (λ e. is_in e l) (list_of d)) l) built_in_precedence c l looked_through h in
-    let there : all_of (λ e. is_in e l) (list_of d) ≡ true = all_in (λ d. all_of (λ e. is_in e l) (list_of d)) l d here p in
+    let here : list_all (λ d. list_all (λ e. is_in e l) (list_of d)) l ≡ true =
+    all_at (λ l. list_all (λ d. list_all (λ e. is_in e l) (list_of d)) l) built_in_precedence c l looked_through h in
+    let there : list_all (λ e. is_in e l) (list_of d) ≡ true = all_in (λ d. list_all (λ e. is_in e l) (list_of d)) l d here p in
     let is : list_of d ≡ m = get_or_from_slice_get built_in_precedence d m [] k in
-    all_in (λ e. is_in e l) m e (ap (all_of (λ e. is_in e l)) (sym is) ∙ there) q
+    all_in (λ e. is_in e l) m e (ap (list_all (λ e. is_in e l)) (sym is) ∙ there) q
 
-counted : (c at n : ℕ) → at ≤ c → c < at + n → is_in c (count_up at n) ≡ true
+counted : (c at n : ℕ) → at ≤ c → c < at + n → is_in c (range_with_len at n) ≡ true
 counted c at zero h k = absurd (omega arith)
 counted c at (suc n) h k = by (λ l. counted c (at + 1) n l (omega arith)) (c == at) refl
   where
-    by : (at + 1 ≤ c → is_in c (count_up (at + 1) n) ≡ true) → (b : Bool) → (c == at) ≡ b → (if b then true else is_in c (count_up (at + 1) n)) ≡ true
+    by : (at + 1 ≤ c → is_in c (range_with_len (at + 1) n) ≡ true) → (b : Bool) → (c == at) ≡ b → (b || is_in c (range_with_len (at + 1) n)) ≡ true
     by rest true e = refl
     by rest false e = rest (grind (arith, nat_tests))
 
@@ -235,7 +235,7 @@ module _ (h : Hierarchy) (x : IsHierarchy h) where
       by (Some row) e = ⊎_elim
           (λ b.
           let is : list_of c ≡ row.precedence = get_or_from_slice_get built_in_precedence c row.precedence [] (x.built_in c row b e).precedence in
-          ap (is_in c) (sym is) ∙ all_in (λ c. is_in c (list_of c)) (count_up 0 34) c looked_itself (counted c 0 34 (omega arith) (omega arith)))
+          ap (is_in c) (sym is) ∙ all_in (λ c. is_in c (list_of c)) (range_with_len 0 34) c looked_itself (counted c 0 34 (omega arith) (omega arith)))
           (λ b. let own = own_class c row e b in ap (is_in c) own.is ∙ in_here c (above (take c h.rows) own.supers))
           (either c)
 

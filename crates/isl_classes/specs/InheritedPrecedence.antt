@@ -1,9 +1,10 @@
 -- Precedence lists of a file's own classes, and below which classes they may stand (ISO/IEC 13816:2007, 15).
 use Rattle.std.specs.Prelude.{ℕ, ◌==◌, Bool, not, ◌||◌, ◌&&◌, nat_le, List, [], ◌∷◌, flat_map, slice_get, if◌then◌else◌}
+use Rattle.std.specs.List.{list_all, list_any}
 use Rattle.isl_meaning.specs.declared.program.ClassRow.{ClassRow}
 use Rattle.isl_meaning.specs.Classes.{precedence_of}
-use Rattle.isl_meaning.specs.Lookup.{all_of, all_differ}
-use Rattle.isl_meaning.specs.Lookup.{some_of, is_in}
+use Rattle.isl_meaning.specs.Lookup.{all_differ}
+use Rattle.isl_meaning.specs.Lookup.{is_in}
 use Rattle.isl_meaning.specs.Objects.{standard_object_class, built_in_classes}
 
 abbrev pub object_class : ℕ
@@ -47,11 +48,11 @@ abbrev pub is_common : ℕ → Bool
 is_common c = c == standard_object_class || c == object_class
 
 abbrev pub share_more : List ℕ → List ℕ → Bool
-share_more cs ds = some_of (λ c. not (is_common c) && is_in c ds) cs
+share_more cs ds = list_any (λ c. not (is_common c) && is_in c ds) cs
 
 -- two direct superclasses do not go together where they are one class or share more
 abbrev pub clash : List ClassRow → ℕ → ℕ → Bool
 clash rows a b = a == b || share_more (precedence_of (slice_get rows a)) (precedence_of (slice_get rows b))
 
 unfoldable pub supers_fit : List ClassRow → List ℕ → Bool
-supers_fit rows supers = all_of is_open supers && all_differ (clash rows) supers
+supers_fit rows supers = list_all is_open supers && all_differ (clash rows) supers

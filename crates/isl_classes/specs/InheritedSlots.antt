@@ -1,14 +1,14 @@
 -- Slots that a class has by its own definition and by those of the classes above it (ISO/IEC 13816:2007, 15).
 use Rattle.std.specs.Prelude.{ℕ, ◌==◌, Bool, not, List, [], ◌∷◌, ◌++◌, Option, Some, None, map, filter, flat_map, slice_get, is_some, if◌then◌else◌}
+use Rattle.std.specs.List.{list_any}
 use Rattle.isl_base.specs.declared.datum.Name.{Name}
 use Rattle.isl_meaning.specs.declared.program.SlotRow.{SlotRow}
-use Rattle.isl_meaning.specs.Lookup.{some_of}
 
 abbrev pub same_name : Name → Name → Bool
 same_name m n = m.0 == n.0
 
 abbrev pub has_name : Name → List Name → Bool
-has_name n ns = some_of (same_name n) ns
+has_name n ns = list_any (same_name n) ns
 
 -- each name kept at its first place
 abbrev pub without_name : Name → List Name → List Name

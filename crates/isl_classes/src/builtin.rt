@@ -10,11 +10,10 @@ use crate::row::row_of;
 use crate::slots::said_by;
 use crate::table::ClassTable;
 use isl_base::{Name, NameList, Names, NoMemory};
-use isl_meaning::{ClassId, ClassRow, SlotRow, SlotRows, built_in_class, class_text};
+use isl_meaning::{
+    BUILT_IN_CLASSES, ClassId, ClassRow, SlotRow, SlotRows, built_in_class, class_text,
+};
 use std::alloc::Global;
-
-/// How many classes are built in.
-const BUILT_IN: u32 = 34;
 
 /// All built-in classes, their names taken up by the table of names, which keeps its names and may
 /// have gained some after `NoMemory` too.
@@ -23,7 +22,7 @@ pub fn all_built_in(alloc: Global, names: &mut Names) -> Result<ClassTable, NoMe
     ensures extends { Extends names.old names.new }
 {
     let mut table = ClassTable::new(alloc);
-    for class in 0..BUILT_IN {
+    for class in 0..BUILT_IN_CLASSES as u32 {
         add_built_in(alloc, &mut table, names, class)?;
     }
     Ok(table)

@@ -1,13 +1,14 @@
 // What stands above a class: the superclasses that go together, and their precedence lists joined.
 
 ghost use Rattle.std.specs.Prelude.{◌≡◌, ◌+◌, ◌<◌, ◌++◌, OnOk, OnErr, IfOk, drop, get_or, length, slice_get};
+ghost use Rattle.std.specs.List.{list_all, list_any};
 ghost use Rattle.isl_meaning.specs.Classes.{precedence_of};
-ghost use Rattle.isl_meaning.specs.Lookup.{all_of, all_differ};
-ghost use Rattle.isl_meaning.specs.Lookup.{some_of, is_in};
+ghost use Rattle.isl_meaning.specs.Lookup.{all_differ};
+ghost use Rattle.isl_meaning.specs.Lookup.{is_in};
 ghost use Rattle.isl_classes.specs.InheritedPrecedence as inherited;
 
 use isl_base::NoMemory;
-use isl_meaning::{ClassId, ClassIds, ClassRows};
+use isl_meaning::{BUILT_IN_CLASSES, ClassId, ClassIds, ClassRows};
 use std::alloc::Global;
 
 /// The number of `<object>`.
@@ -21,9 +22,6 @@ const ERROR: ClassId = 19;
 
 /// The number of `<simple-error>`.
 const SIMPLE_ERROR: ClassId = 25;
-
-/// The number of the first class of a file.
-const FIRST_OWN: ClassId = 34;
 
 /// The precedence list of a class, empty where there is no such class.
 pub fn precedence_of(rows: &ClassRows, class: ClassId) -> &[ClassId]
@@ -59,11 +57,11 @@ pub fn supers_fit(rows: &ClassRows, supers: &[ClassId]) -> bool
 fn is_open(class: ClassId) -> bool
     ensures { result ≡ inherited.is_open class }
 {
-    class == STANDARD_OBJECT || class == ERROR || class == SIMPLE_ERROR || FIRST_OWN <= class
+    class == STANDARD_OBJECT || class == ERROR || class == SIMPLE_ERROR || BUILT_IN_CLASSES <= class
 }
 
 fn all_open(supers: &[ClassId]) -> bool
-    ensures { result ≡ all_of inherited.is_open supers.now }
+    ensures { result ≡ list_all inherited.is_open supers.now }
 {
     for class in supers {
         if !is_open(*class) {
@@ -99,7 +97,7 @@ fn clash(rows: &ClassRows, one: ClassId, other: ClassId) -> bool
 }
 
 fn clashes(rows: &ClassRows, one: ClassId, others: &[ClassId]) -> bool
-    ensures { result ≡ some_of (inherited.clash rows.now one) others.now }
+    ensures { result ≡ list_any (inherited.clash rows.now one) others.now }
 {
     for other in others {
         if clash(rows, one, *other) {

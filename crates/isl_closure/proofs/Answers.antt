@@ -1,5 +1,6 @@
 -- What the primitives answer in two states that are alike.
 use Rattle.std.proofs.Common.{◌≡◌, ℕ, ◌+◌, Bool, true, false, List, [], ◌∷◌, ◌++◌, refl, sym, ap, subst, ◌∙◌, ⊎_elim, Option, Some, None, length}
+use Rattle.std.specs.List.{position_or_len}
 use Rattle.std.specs.Prelude.{⊤, ℤ, pos, ◌+ℤ◌, ◌-ℤ◌, ◌*ℤ◌, is_some, slice_get, slice_set, replicate, if◌then◌else◌, ◌==◌}
 use Rattle.isl_meaning.specs.declared.primitive.Primitive.{Primitive}
 use Rattle.isl_meaning.specs.declared.primitive.Primitive.TheVariants.{Add, Subtract, Multiply, Divide, Modulo, NumberEqual, NumberNotEqual, NumberLess, NumberAtMost, NumberGreater, NumberAtLeast, Same, IsNull, IsCons, IsInteger, IsSymbol, IsCharacter, IsString, IsVector, IsFunction, IsGeneric, Cons, Car, Cdr, SetCar, SetCdr, MakeString, MakeVector, StringLength, VectorLength, CharAt, VectorRef, SetCharAt, SetVectorRef, CharCode, CodeChar, SymbolName, SymbolSerial, Gensym, ClassOf, ClassName, IsSubclass, IsInstance, Allocate, SlotCount, SlotPlace, SlotRef, SlotSet, SlotBound, SlotInitargs, SlotInitform, Continuable, StandardInput, StandardOutput, PutChar, IsFreshLine, GetByte, PeekByte}
@@ -9,7 +10,7 @@ use Rattle.isl_meaning.specs.Form.{Form}
 use Rattle.isl_meaning.specs.Values.{Value, integer, character, symbol, nil, object, truth, named, unnamed, in_range, int_equal}
 use Rattle.isl_meaning.specs.Objects.{Object, Environment, cons, string, vector, instance, function, closure, fresh_symbol, serious_condition_class}
 use Rattle.isl_meaning.specs.State.{State, charged, changed}
-use Rattle.isl_meaning.specs.Lookup.{passed, place_in}
+use Rattle.isl_meaning.specs.Lookup.{passed}
 use Rattle.isl_meaning.specs.Classes.{fetch, class_of, class_of_object, precedence, slots, is_below, is_condition}
 use Rattle.isl_meaning.specs.Layout.{class_value}
 use Rattle.isl_meaning.specs.Primitives.{Answer, result, makes, makes_symbol, fails, domain_error, needs, as_integer, as_character, as_cons, as_string, as_vector, as_class, as_instance, as_stream, as_symbol, fresh_in, is_function, is_generic, integer_result, floor_quotient, floor_remainder, division, index_of, length_of, byte_of, change, other_bytes, first_byte, is_fresh_line, can_be_made, is_slot, slot_place, slot_value, a_slot, of_none, of_one, of_two, of_three, of_integers, primitive}
@@ -20,15 +21,7 @@ use Rattle.isl_closure.proofs.Combined.{IsDatum, changed_related}
 
 -- a program without its bodies
 abbrev pub bare : ProgramRows → ProgramRows
-bare program = record {
-  literals = program.literals;
-  procedures = [];
-  classes = program.classes;
-  generics = program.generics;
-  functions = program.functions;
-  main = [];
-  sites = program.sites;
-}
+bare program = record program { procedures = []; main = [] }
 
 -- the state of an answer, and another one in its place
 abbrev pub state_of : Answer → State
@@ -228,7 +221,7 @@ module _ (ps : List FlatProcedure) (w : World) (cs : List (ℕ × List Captured)
 
   place_alike : (rows : List SlotRow) (p : SlotRow → Bool) (z y : State) → Twins z y → AnswersAlike (slot_place rows p z) (slot_place rows p y)
   place_alike rows p z y t =
-      needed (index_of (pos (place_in p rows)) (length rows)) _ refl (fail (charge t (length rows)) 24 []) (λ i. at (charge t (i + 1)) (integer (pos i)))
+      needed (index_of (pos (position_or_len p rows)) (length rows)) _ refl (fail (charge t (length rows)) 24 []) (λ i. at (charge t (i + 1)) (integer (pos i)))
 
   value_alike : (o : Option (Option Value)) (z y : State) → Twins z y → AnswersAlike (slot_value o z) (slot_value o y)
   value_alike (Some (Some v)) z y t = at t v

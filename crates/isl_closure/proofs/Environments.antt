@@ -1,5 +1,6 @@
 -- Environments that match: with new variables, with a new exit, and those of functions.
 use Rattle.std.proofs.Common.{◌≡◌, ℕ, zero, suc, ◌+◌, ◌==◌, Bool, true, false, List, [], ◌∷◌, ◌++◌, refl, sym, ap, subst, ◌∙◌, Option, Some, None, length, map, arith, length-append}
+use Rattle.std.specs.List.{range_with_len}
 use Rattle.std.proofs.lemmas.Bool.{eqb-true}
 use Rattle.std.proofs.lemmas.Option.{get_or_from_slice_get}
 use Rattle.std.specs.Prelude.{not, slice_get, slice_index_or, if◌then◌else◌}
@@ -9,7 +10,7 @@ use Rattle.isl_meaning.specs.Form.{Form}
 use Rattle.isl_meaning.specs.Captured.{has_cell, sets}
 use Rattle.isl_meaning.specs.Subforms.{Each}
 use Rattle.isl_meaning.specs.Values.{Value, nil}
-use Rattle.isl_meaning.specs.Objects.{Environment, count_up}
+use Rattle.isl_meaning.specs.Objects.{Environment}
 use Rattle.isl_meaning.specs.State.{State, Surroundings, Evaluated, Act, Limit, request, charged}
 use Rattle.isl_meaning.specs.Lookup.{under_number, numbered, value_at, set_at, with_variables, with_values, with_exit}
 use Rattle.isl_meaning.specs.Signals.{with_cells}
@@ -131,7 +132,7 @@ number_after n m x xs h = ap (λ b. if b then Some x else under_number n xs) h
 found : (w : World) (e : FlatEnvironment) (known : List (ℕ × Known)) (around : List (ℕ × ℕ))
     → ((v : ℕ) (k : Known) → under v known ≡ Some k → VariableAt w e k (under_number v around))
     → (vs : List ℕ) (body : Form) (ws : List Value) → length ws ≡ length vs → (n i : ℕ)
-    → ((j l : ℕ) → slice_get (count_up i (length vs)) j ≡ Some l → slice_get e.slots (n + j) ≡ Some l)
+    → ((j l : ℕ) → slice_get (range_with_len i (length vs)) j ≡ Some l → slice_get e.slots (n + j) ≡ Some l)
     → ((j : ℕ) (x : Option Value) → slice_get (kept vs body ws) j ≡ Some x → slice_get w (i + j) ≡ Some x)
     → (v : ℕ) (k : Known) → under v (in_slots vs body n ++ known) ≡ Some k
     → VariableAt w e k (under_number v (numbered vs i ++ around))
@@ -155,7 +156,7 @@ found w e known around rest (u ∷ vs) body (x ∷ ws) len n i slots values v k 
     (λ j y g. let q : i + suc j ≡ (i + 1) + j = omega arith in subst (λ m. slice_get w m ≡ Some y) q (values (suc j) y g))
     v k (sym (under_after v u _ (in_slots vs body (n + 1) ++ known) f) ∙ h)))
 
-pub length-count : (i n : ℕ) → length (count_up i n) ≡ n
+pub length-count : (i n : ℕ) → length (range_with_len i n) ≡ n
 length-count i zero = refl
 length-count i (suc n) = ap suc (length-count (i + 1) n)
 
@@ -167,25 +168,25 @@ bound_matches : {w : World} {s : Scope} {env : Environment} {e : FlatEnvironment
     → (vs : List ℕ) (body : Form) (ws : List Value) → length ws ≡ length vs → (u : World) (i : ℕ) → length u ≡ i → Later w u
     → (variables : List (ℕ × ℕ)) → variables ≡ numbered vs i ++ env.variables
     → Matches (u ++ kept vs body ws) (with_bound vs body s) (record env { variables = variables })
-    (record e { slots = e.slots ++ count_up i (length vs) })
+    (record e { slots = e.slots ++ range_with_len i (length vs) })
 bound_matches {w} {s} {env} {e} m vs body ws len u i count later variables is =
     let l : Later w (u ++ kept vs body ws) = after_that later (with_more u (kept vs body ws)) in
-    let more : FlatEnvironment = record e { slots = e.slots ++ count_up i (length vs) } in record {
+    let more : FlatEnvironment = record e { slots = e.slots ++ range_with_len i (length vs) } in record {
       variables = λ v k h.
           subst (λ vars. VariableAt (u ++ kept vs body ws) more k (under_number v vars)) (sym is)
           (found (u ++ kept vs body ws) more s.variables env.variables
-          (λ x q g. variable_more (u ++ kept vs body ws) e (count_up i (length vs)) q (under_number x env.variables) ((matches_later l m).variables x q g))
+          (λ x q g. variable_more (u ++ kept vs body ws) e (range_with_len i (length vs)) q (under_number x env.variables) ((matches_later l m).variables x q g))
           vs body ws len s.slots i
-          (λ j y g. subst (λ n. slice_get (e.slots ++ count_up i (length vs)) (n + j) ≡ Some y) m.slots (behind e.slots (count_up i (length vs)) j ∙ g))
+          (λ j y g. subst (λ n. slice_get (e.slots ++ range_with_len i (length vs)) (n + j) ≡ Some y) m.slots (behind e.slots (range_with_len i (length vs)) j ∙ g))
           (λ j y g. subst (λ n. slice_get (u ++ kept vs body ws) (n + j) ≡ Some y) count (behind u (kept vs body ws) j ∙ g))
           v k h);
       exits = λ x p h. record {
         number = (m.exits x p h).number;
         one = (m.exits x p h).one;
-        other = exit_slots e (e.slots ++ count_up i (length vs)) p ∙ (m.exits x p h).other;
+        other = exit_slots e (e.slots ++ range_with_len i (length vs)) p ∙ (m.exits x p h).other;
       };
-      method = λ p h. method_slots e (e.slots ++ count_up i (length vs)) p ∙ m.method p h;
-      slots = length-append e.slots (count_up i (length vs)) ∙ ap (λ n. n + length (count_up i (length vs))) m.slots ∙ ap (λ n. s.slots + n) (length-count i (length vs));
+      method = λ p h. method_slots e (e.slots ++ range_with_len i (length vs)) p ∙ m.method p h;
+      slots = length-append e.slots (range_with_len i (length vs)) ∙ ap (λ n. n + length (range_with_len i (length vs))) m.slots ∙ ap (λ n. s.slots + n) (length-count i (length vs));
       own = m.own;
     }
 
@@ -353,7 +354,7 @@ module _ {ps : List FlatProcedure} where
       at_twin (λ now. Sim ps w (run (with_variables vs ready env) around (with_values ws ready))
       (run' (flat_signals.with_slots (homes_of vs body) now e) around (flat_state.with_values ws now))) a (λ t.
       subst (λ n. Sim ps w (run (with_variables vs ready env) around (with_values ws ready))
-      (run' (record e { slots = e.slots ++ count_up (length ready.variables) n }) around (flat_state.with_values ws (twin ps ready a.store a.captured))))
+      (run' (record e { slots = e.slots ++ range_with_len (length ready.variables) n }) around (flat_state.with_values ws (twin ps ready a.store a.captured))))
       (sym (length-homes vs body))
       (sooner (after_that t.later (with_more t.world (kept vs body ws)))
       (r (t.world ++ kept vs body ws) _ _

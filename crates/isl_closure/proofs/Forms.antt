@@ -1,5 +1,6 @@
 -- Forms, and tasks, of a program and of it made flat.
 use Rattle.std.proofs.Common.{◌≡◌, ℕ, zero, suc, ◌+◌, ◌-◌, ◌==◌, Bool, false, T, List, [], ◌∷◌, ◌++◌, refl, sym, ap, subst, ◌∙◌, inr, Option, Some, None, length, map, arith, length-append}
+use Rattle.std.specs.Str.{bytes_eq}
 use Rattle.std.proofs.Math.Dec.{eqb_refl}
 use Rattle.std.specs.Prelude.{slice_get, if◌then◌else◌}
 use Rattle.isl_meaning.specs.declared.part.Part.{Part}
@@ -9,7 +10,7 @@ use Rattle.isl_meaning.specs.Form.{Form, Forms, ClauseForms, MaybeForm, BindingF
 use Rattle.isl_meaning.specs.Form as core
 use Rattle.isl_meaning.specs.Counts as core_counts
 use Rattle.isl_meaning.specs.Subforms.{Each}
-use Rattle.isl_meaning.specs.Values.{Value, integer, character, symbol, named, nil, object, truth, is_true, same_text}
+use Rattle.isl_meaning.specs.Values.{Value, integer, character, symbol, named, nil, object, truth, is_true}
 use Rattle.isl_meaning.specs.Objects.{Called, Environment, no_environment, Object, cons, string, vector, instance, generic_function, class_object, input_stream, output_stream, fresh_symbol, closure, function, function_class, list_class, serious_condition_class, control_error_class, unbound_variable_class}
 use Rattle.isl_meaning.specs.State.{State, Surroundings, block_exit, catch_exit, Landing, at_segment, value, Evaluated, gives, Act, inside, exit_made, charged, caught, Limit, make, stored}
 use Rattle.isl_meaning.specs.Lookup.{text, is_in, under_text, under_number, value_at, set_at, numbered, with_values, with_exit}
@@ -229,7 +230,7 @@ module _ (r : Both) where
 
   dynamics : (w : World) (name : List ℕ) → Acts r.lambdas w (mean_dynamic (one r) name) (flat_meaning.mean_dynamic (other r) name)
   dynamics w name around free z y x =
-      searches (λ (b : List ℕ × ℕ). same_text name b.0)
+      searches (λ (b : List ℕ × ℕ). bytes_eq name b.0)
       (λ b c d e.
       at_twin (λ q. Sim r.lambdas w (gives (value_at (Some b.1) c) c) (flat_state.gives (value_at (Some b.1) q.state) q)) e (λ t. given (value_at (Some b.1) c) t))
       (λ c d e. outermost w name (λ v a free_a f g h. given v h) around free c d e)
@@ -249,7 +250,7 @@ module _ (r : Both) where
 
   dynamics_set : (w : World) (name : List ℕ) (v : Value) → Acts r.lambdas w (set_dynamic_to (one r) name v) (flat_meaning.set_dynamic_to (other r) name v)
   dynamics_set w name v around free z y x =
-      bindings_searched w (λ (b : List ℕ × ℕ). same_text name b.0)
+      bindings_searched w (λ (b : List ℕ × ℕ). bytes_eq name b.0)
       (λ b h c d e. given v (variable_set b.1 v h e))
       (λ c d e. outermost w name (λ old a free_a f g h.
       given v (step (λ (q : State). record q { dynamics = (name, v) ∷ q.dynamics }) h (λ q. refl) (λ q. refl) (λ q os. refl))) around free c d e)

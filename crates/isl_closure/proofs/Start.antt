@@ -1,5 +1,6 @@
 -- Before the first form there is no function that a form made.
 use Rattle.std.proofs.Common.{◌≡◌, ℕ, zero, suc, ◌+◌, ◌-◌, List, [], ◌∷◌, ◌++◌, refl, subst, inl, Option, Some, None, length, map}
+use Rattle.std.specs.List.{range_with_len}
 use Rattle.std.specs.Prelude.{slice_get, flat_map}
 use Rattle.isl_base.specs.Data as datum
 use Rattle.isl_meaning.specs.declared.program.ProgramRows.{ProgramRows}
@@ -14,7 +15,7 @@ use Rattle.isl_meaning.specs.declared.program.ClassRow.{ClassRow}
 use Rattle.isl_meaning.specs.Lookup.{text, numbered}
 use Rattle.isl_meaning.specs.Literals.{Laid, lay, lay_content, lay_items, lay_list, lay_tail}
 use Rattle.isl_meaning.specs.Layout.{Key, class, function_of, literal, input, output, single, Keyed, Thing, keyed, laid_out, layout, things, objects_at_start, class_things, function_things, function_object, literal_things, literal_objects, initargs_list, initform_objects, slot_things}
-use Rattle.isl_meaning.specs.Objects.{Object, Environment, closure, class_object, input_stream, output_stream, count_up, built_in_classes}
+use Rattle.isl_meaning.specs.Objects.{Object, Environment, closure, class_object, input_stream, output_stream, built_in_classes}
 use Rattle.isl_meaning.specs.Subforms.{Each}
 use Rattle.isl_closure.specs.declared.program.FlatProcedure.{FlatProcedure}
 use Rattle.isl_closure.proofs.Alike.{Related}
@@ -107,9 +108,9 @@ slot_plain names c s = ((λ n. content_laid names (initargs_list s.0) n), ((λ n
 
 things_plain : (names : List (List ℕ)) (program : ProgramRows) → Each Plain (things names program)
 things_plain names program =
-    let first : List Thing = class_things (count_up 0 built_in_classes) in
+    let first : List Thing = class_things (range_with_len 0 built_in_classes) in
     let streams : List Thing = single input input_stream ∷ single output output_stream ∷ [] in
-    let others : List Thing = class_things (count_up built_in_classes (length program.classes - built_in_classes)) in
+    let others : List Thing = class_things (range_with_len built_in_classes (length program.classes - built_in_classes)) in
     let functions : List Thing = function_things names program.functions in
     let literals : List Thing = literal_things names program.literals in
     let slots : List Thing = flat_map (λ (c : ClassRow × ℕ). flat_map (slot_things names c.1) (numbered c.0.slots 0)) (numbered program.classes 0) in
@@ -127,8 +128,8 @@ things_plain names program =
     (both Plain (first ++ streams ++ others ++ functions) literals
     (both Plain (first ++ streams ++ others) functions
     (both Plain (first ++ streams) others
-    (both Plain first streams (classes_plain (count_up 0 built_in_classes)) streams_plain)
-    (classes_plain (count_up built_in_classes (length program.classes - built_in_classes)))) functions_plain) literals_plain) slots_plain
+    (both Plain first streams (classes_plain (range_with_len 0 built_in_classes)) streams_plain)
+    (classes_plain (range_with_len built_in_classes (length program.classes - built_in_classes)))) functions_plain) literals_plain) slots_plain
 
 objects_plain : (ks : List Keyed) → Each KeyedPlain ks → (i : ℕ) (o : Object) → slice_get (map (λ k. k.object) ks) i ≡ Some o → NoClosure o
 objects_plain [] e i o h = absurd (cc h)

@@ -1,10 +1,11 @@
 -- What flat forms and flat programs mean: a row for each form, as in the meaning of core forms, with the same levels, units
 -- and words.
 use Rattle.std.specs.Prelude.{ℕ, zero, suc, ◌+◌, List, [], ◌∷◌, ◌++◌, Option, Some, None, length, map, slice_get, if◌then◌else◌}
+use Rattle.std.specs.Str.{bytes_eq}
 use Rattle.isl_meaning.specs.declared.program.LiteralRow.{LiteralRow}
 use Rattle.isl_meaning.specs.declared.program.LiteralRow.TheVariants as row
 use Rattle.isl_meaning.specs.Counts.{application_words}
-use Rattle.isl_meaning.specs.Values.{Value, symbol, named, nil, truth, is_true, same_text}
+use Rattle.isl_meaning.specs.Values.{Value, symbol, named, nil, truth, is_true}
 use Rattle.isl_meaning.specs.Objects.{Called, function_class, list_class, serious_condition_class, control_error_class}
 use Rattle.isl_meaning.specs.State.{State, first_state, Surroundings, main_surroundings, block_exit, catch_exit, at_segment, more, Limit}
 use Rattle.isl_meaning.specs.Lookup.{text, under_text, value_at, set_at, numbered}
@@ -77,14 +78,14 @@ module _ (context : FlatContext) where
   -- a dynamic variable (ISO/IEC 13816:2007, 14.3): the innermost binding, else the outermost value
   abbrev pub mean_dynamic : List ℕ → FlatAct
   mean_dynamic name around z =
-      search (λ (b : List ℕ × ℕ). same_text name b.0) (λ b y. gives (value_at (Some b.1) y.state) y)
+      search (λ (b : List ℕ × ℕ). bytes_eq name b.0) (λ b y. gives (value_at (Some b.1) y.state) y)
       (λ y. with_some (under_text name y.state.dynamics) (unbound_variable (signal context) name)
       (λ v a x. gives v x) around y)
       around.bindings z
 
   abbrev pub set_dynamic_to : List ℕ → Value → FlatAct
   set_dynamic_to name v around z =
-      search (λ (b : List ℕ × ℕ). same_text name b.0) (λ b y. gives v (on_state (λ x. set_at (Some b.1) v x) y))
+      search (λ (b : List ℕ × ℕ). bytes_eq name b.0) (λ b y. gives v (on_state (λ x. set_at (Some b.1) v x) y))
       (λ y. with_some (under_text name y.state.dynamics) (unbound_variable (signal context) name)
       (λ old a x. gives v (on_state (λ (w : State). record w { dynamics = (name, v) ∷ w.dynamics }) x)) around y)
       around.bindings z

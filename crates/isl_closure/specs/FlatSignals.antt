@@ -1,13 +1,14 @@
 -- Applications, signals and transfers of flat programs: those of the meaning, but that a function is applied by the number
 -- of its procedure with what it captured.
 use Rattle.std.specs.Prelude.{ℕ, ◌+◌, ◌==◌, Bool, true, false, List, [], ◌∷◌, ◌++◌, length, map, take, drop, Option, Some, None, slice_get, is_some, if◌then◌else◌}
+use Rattle.std.specs.List.{range_with_len}
 use Rattle.isl_meaning.specs.declared.program.GenericRow.{GenericRow}
 use Rattle.isl_meaning.specs.declared.program.FunctionRow.{FunctionRow}
 use Rattle.isl_meaning.specs.declared.program.Callee.{Callee}
 use Rattle.isl_meaning.specs.declared.program.Callee.TheVariants as callee
 use Rattle.isl_meaning.specs.Counts.{application_words}
 use Rattle.isl_meaning.specs.Values.{Value, named, symbol, nil}
-use Rattle.isl_meaning.specs.Objects.{Chain, Called, Object, cons, instance, function, generic_function, fresh_symbol, count_up, function_class, control_error_class, program_error_class, domain_error_class, unbound_variable_class, undefined_function_class}
+use Rattle.isl_meaning.specs.Objects.{Chain, Called, Object, cons, instance, function, generic_function, fresh_symbol, function_class, control_error_class, program_error_class, domain_error_class, unbound_variable_class, undefined_function_class}
 use Rattle.isl_meaning.specs.State.{State, Surroundings, Exit, ExitKind, signal_exit, Landing, at_segment, at_site, Limit}
 use Rattle.isl_meaning.specs.State as base
 use Rattle.isl_meaning.specs.Lookup.{text}
@@ -84,7 +85,7 @@ with_record limit (Some called) keeps z next =
 
 -- new slots, with these homes, of consecutive variables
 abbrev pub with_slots : {X : Type 0} → List X → FlatState → FlatEnvironment → FlatEnvironment
-with_slots hs z env = record env { slots = env.slots ++ count_up (length z.state.variables) (length hs) }
+with_slots hs z env = record env { slots = env.slots ++ range_with_len (length z.state.variables) (length hs) }
 
 -- a fresh exit, innermost
 abbrev pub inside : ExitKind → Surroundings → FlatState → Surroundings

@@ -14,6 +14,7 @@ use Rattle.isl_derived.specs.Pieces.{Piece, word, made, taken, parens, Pieces, n
 use Rattle.isl_derived.specs.Derived.{becomes, derivation, Derives, new_symbols}
 use Rattle.isl_derived.specs.declared.one_step.Step.TheVariants.{Derived}
 use Rattle.isl_derived.specs.Steps.{IsStep, IsWhole}
+use Rattle.isl_derived.specs.GoodSteps.{StepsAreGood}
 use Rattle.isl_derived.specs.Ends.{AllFurther, AllFurtherIn}
 use Rattle.isl_derived.proofs.Parts.{GoesDown, goes_down}
 use Rattle.isl_derived.proofs.Derivations.{OfDerivation}
@@ -81,7 +82,7 @@ formed_up : (n : ℕ) → GoesUp n Formed
 unfolding Formed
 formed_up n = record { over_name = λ p k h. tt; over_fresh = λ p i. tt; over_items = formed_over }
 
-pub step_formed : (names : List (List ℕ)) (d : Item) (s : ℕ) (e : Item) (s2 : ℕ) → Formed d → Derives names d s e s2 → Formed e
+step_formed : (names : List (List ℕ)) (d : Item) (s : ℕ) (e : Item) (s2 : ℕ) → Formed d → Derives names d s e s2 → Formed e
 step_formed names d s e s2 h x = step_too Formed formed_down names (formed_up (length names)) d s e s2 h x
 
 -- names of the table
@@ -103,10 +104,13 @@ below_up : (n : ℕ) → GoesUp n (NamesBelow n)
 unfolding NamesBelow
 below_up n = record { over_name = λ p k h. h; over_fresh = λ p i. tt; over_items = below_over n }
 
-pub step_named : (names : List (List ℕ)) (d : Item) (s : ℕ) (e : Item) (s2 : ℕ) → NamesBelow (length names) d → Derives names d s e s2
+step_named : (names : List (List ℕ)) (d : Item) (s : ℕ) (e : Item) (s2 : ℕ) → NamesBelow (length names) d → Derives names d s e s2
     → NamesBelow (length names) e
 step_named names d s e s2 h x =
     step_too (NamesBelow (length names)) (below_down (length names)) names (below_up (length names)) d s e s2 h x
+
+pub step_good : StepsAreGood
+step_good names d s e s2 g x = record { formed = step_formed names d s e s2 g.formed x; named = step_named names d s e s2 g.named x }
 
 -- a later table
 

@@ -14,3 +14,4 @@ pub mod Setters
 pub mod Templates
 pub mod Ranks
 pub mod Steps
+pub mod GoodSteps

@@ -11,6 +11,7 @@ ghost use Rattle.isl_base.specs.Names.{IsTable, Extends};
 ghost use Rattle.isl_base.specs.DataParts.{AllParts};
 ghost use Rattle.isl_derived.specs.Table.{is_derived};
 ghost use Rattle.isl_derived.specs.Derived.{Derives, plain, becomes, derivation};
+ghost use Rattle.isl_derived.specs.GoodSteps.{StepsAreGood};
 ghost use Rattle.isl_derived.specs.Ends.{AllFurther, Leaves, piece_weight};
 ghost use Rattle.isl_derived.specs.Pieces.{Builds, Piece, word, parens, Pieces, piece_and, Right};
 ghost use Rattle.isl_derived.specs.Ranks.{rank};
@@ -33,6 +34,11 @@ pub fn law_names_apart()
 pub fn law_step_stays()
     ensures { (old new : List (List ℕ)) (d : Item) (s : ℕ) (d2 : Item) (s2 : ℕ) → Extends old new →
         NamesBelow (length old) d → Derives old d s d2 s2 → Derives new d s d2 s2 }
+{}
+
+/// What a datum in form, with all its names in the table, becomes is in form and has all its names there.
+pub fn law_good_steps()
+    ensures { StepsAreGood }
 {}
 
 /// Steps end: there is no endless sequence of data in which each is left to be derived by a step of

@@ -1,5 +1,6 @@
 -- Classes of the same groups have the same methods, in the same order.
-use Rattle.std.specs.Prelude.{◌≡◌, ℕ, zero, suc, ◌+◌, ◌==◌, Bool, true, false, cond, nat_lt, List, [], ◌∷◌, map, filter, drop, slice_index_or, slice_get, Option, Some, None, if◌then◌else◌, refl}
+use Rattle.std.specs.Prelude.{◌≡◌, ℕ, zero, suc, ◌+◌, ◌==◌, Bool, true, false, cond, nat_lt, List, [], ◌∷◌, map, filter, drop, slice_index_or, slice_get, Option, Some, None, if◌then◌else◌, refl, ◌||◌, not}
+use Rattle.std.specs.List.{range_with_len, position_or_len}
 use Rattle.std.proofs.Common.{◌∙◌, sym, ap, arith}
 use Rattle.std.proofs.lemmas.Bool.Decides.{nat_tests}
 use Rattle.std.proofs.lemmas.Option.{get_or_from_slice_get}
@@ -8,8 +9,7 @@ use Rattle.isl_meaning.specs.declared.program.Qualifier.TheVariants.{Primary}
 use Rattle.isl_meaning.specs.declared.program.ProgramRows.{ProgramRows}
 use Rattle.isl_meaning.specs.declared.program.GenericRow.{GenericRow}
 use Rattle.isl_meaning.specs.declared.program.MethodRow.{MethodRow}
-use Rattle.isl_meaning.specs.Objects.{count_up}
-use Rattle.isl_meaning.specs.Lookup.{is_in, place_in}
+use Rattle.isl_meaning.specs.Lookup.{is_in}
 use Rattle.isl_meaning.specs.Classes.{precedence, is_below, applies, more_specific, among, ordered, applicable, chain, chain_of, of_kind}
 use Rattle.isl_meaning.specs.Cells.{argument_classes}
 use Rattle.isl_dispatch.specs.Alike.{AreAlike, columns}
@@ -26,7 +26,7 @@ is_in-step : (q : ℕ → Bool) (n x : ℕ) (rest kept : List ℕ) → q n ≡ t
 is_in-step q n x rest kept h same = by (n == x) refl (q x) refl
   where
     by : (b : Bool) → (n == x) ≡ b → (a : Bool) → q x ≡ a
-        → (if b then true else is_in n rest) ≡ is_in n (cond a (x ∷ kept) kept)
+        → (b || is_in n rest) ≡ is_in n (cond a (x ∷ kept) kept)
     by true e true k = rw e refl
     by true e false k = let eq : n ≡ x = grind (arith) in let no : q n ≡ false = ap q eq ∙ k in absurd (cc)
     by false e true k = rw e same
@@ -38,7 +38,7 @@ is_in-filter q n (x ∷ xs) h = is_in-step q n x xs (filter q xs) h (is_in-filte
 
 -- which of two classes stands earlier
 abbrev pub is_earlier : ℕ → ℕ → List ℕ → Bool
-is_earlier m n xs = nat_lt (place_in (λ d. d == m) xs) (place_in (λ d. d == n) xs)
+is_earlier m n xs = nat_lt (position_or_len (λ d. d == m) xs) (position_or_len (λ d. d == n) xs)
 
 lt-more : (a b : ℕ) → nat_lt (1 + a) (1 + b) ≡ nat_lt a b
 lt-more a b = grind (arith, nat_tests)
@@ -61,18 +61,18 @@ earlier-step : (q : ℕ → Bool) (m n x : ℕ) (rest kept : List ℕ) → q m �
 earlier-step q m n x rest kept h k same = by (x == m) refl (x == n) refl (q x) refl
   where
     by : (b : Bool) → (x == m) ≡ b → (c : Bool) → (x == n) ≡ c → (a : Bool) → q x ≡ a
-        → nat_lt (if b then 0 else 1 + place_in (λ d. d == m) rest) (if c then 0 else 1 + place_in (λ d. d == n) rest)
+        → nat_lt (if not b then 1 + position_or_len (λ d. d == m) rest else 0) (if not c then 1 + position_or_len (λ d. d == n) rest else 0)
         ≡ is_earlier m n (cond a (x ∷ kept) kept)
     by true e c f false g = absurd (kept-there q x m e h g)
     by false e true f false g = absurd (kept-there q x n f k g)
-    by false e false f false g = lt-more (place_in (λ d. d == m) rest) (place_in (λ d. d == n) rest) ∙ same
+    by false e false f false g = lt-more (position_or_len (λ d. d == m) rest) (position_or_len (λ d. d == n) rest) ∙ same
     by true e true f true g = rw (e, f) refl
-    by true e false f true g = rw (e, f) (lt-first (place_in (λ d. d == n) rest) (place_in (λ d. d == n) kept))
-    by false e true f true g = rw (e, f) (lt-last (place_in (λ d. d == m) rest) (place_in (λ d. d == m) kept))
+    by true e false f true g = rw (e, f) (lt-first (position_or_len (λ d. d == n) rest) (position_or_len (λ d. d == n) kept))
+    by false e true f true g = rw (e, f) (lt-last (position_or_len (λ d. d == m) rest) (position_or_len (λ d. d == m) kept))
     by false e false f true g =
         rw (e, f)
-        (lt-more (place_in (λ d. d == m) rest) (place_in (λ d. d == n) rest) ∙ same
-        ∙ sym (lt-more (place_in (λ d. d == m) kept) (place_in (λ d. d == n) kept)))
+        (lt-more (position_or_len (λ d. d == m) rest) (position_or_len (λ d. d == n) rest) ∙ same
+        ∙ sym (lt-more (position_or_len (λ d. d == m) kept) (position_or_len (λ d. d == n) kept)))
 
 earlier-filter : (q : ℕ → Bool) (m n : ℕ) (xs : List ℕ) → q m ≡ true → q n ≡ true → is_earlier m n xs ≡ is_earlier m n (filter q xs)
 earlier-filter q m n [] h k = refl
@@ -182,18 +182,18 @@ among_none [] = tt
 among_none (column ∷ columns) = tt
 
 among_from : (f : ℕ → List ℕ) (l : List ℕ) → ((k : ℕ) → is_in (slice_index_or l k 0) (f k) ≡ true)
-    → (n at : ℕ) → AreAmong (map f (count_up at n)) (drop at l)
+    → (n at : ℕ) → AreAmong (map f (range_with_len at n)) (drop at l)
 among_from f l h zero at = by (drop at l)
   where
     by : (ms : List ℕ) → AreAmong [] ms
     by [] = tt
     by (m ∷ ms) = tt
 among_from f l h (suc n) at =
-    let rest : AreAmong (map f (count_up (at + 1) n)) (drop (at + 1) l) = among_from f l h n (at + 1) in
+    let rest : AreAmong (map f (range_with_len (at + 1) n)) (drop (at + 1) l) = among_from f l h n (at + 1) in
     by rest (slice_get l at) refl
   where
-    by : AreAmong (map f (count_up (at + 1) n)) (drop (at + 1) l) → (o : Option ℕ) → slice_get l at ≡ o → AreAmong (map f (count_up at (suc n))) (drop at l)
-    by rest None e = rw (drop_none l at e) (among_none (map f (count_up at (suc n))))
+    by : AreAmong (map f (range_with_len (at + 1) n)) (drop (at + 1) l) → (o : Option ℕ) → slice_get l at ≡ o → AreAmong (map f (range_with_len at (suc n))) (drop at l)
+    by rest None e = rw (drop_none l at e) (among_none (map f (range_with_len at (suc n))))
     by rest (Some x) e =
         let is : slice_index_or l at 0 ≡ x = get_or_from_slice_get l at x 0 e in
         rw (rest_at l at x e) (rw (← is) (h at), rest)
@@ -206,9 +206,9 @@ in_first : (n : ℕ) (xs : List ℕ) → is_in n (n ∷ xs) ≡ true
 in_first n xs = let e : (n == n) ≡ true = grind (arith, nat_tests) in rw e refl
 
 in_later : (n x : ℕ) (xs : List ℕ) → is_in n xs ≡ true → is_in n (x ∷ xs) ≡ true
-in_later n x xs h = elim (n == x) as (λ b. (if b then true else is_in n xs) ≡ true) [ true ↦ refl | false ↦ h ]
+in_later n x xs h = elim (n == x) as (λ b. (b || is_in n xs) ≡ true) [ true ↦ refl | false ↦ h ]
 
-AllAmong-part : (columns : List (List ℕ)) (f : ℕ → List ℕ) (size : ℕ) → columns ≡ map f (count_up 0 size) → (ms : List MethodRow)
+AllAmong-part : (columns : List (List ℕ)) (f : ℕ → List ℕ) (size : ℕ) → columns ≡ map f (range_with_len 0 size) → (ms : List MethodRow)
     → ((k n : ℕ) → is_in n (column_of ms k) ≡ true → is_in n (f k) ≡ true) → AllAmong columns ms
 AllAmong-part columns f size e [] h = tt
 AllAmong-part columns f size e (m ∷ ms) h = (

@@ -1,5 +1,6 @@
 -- Generic functions and methods are cut, and stand as before they were added.
 use Rattle.std.proofs.Common.{◌≡◌, ℕ, zero, suc, ◌+◌, ◌-◌, ◌≤◌, ◌==◌, Bool, true, false, not, List, [], ◌∷◌, length, Some, None, take, slice_get, slice_set, if◌then◌else◌, refl, sym, ap, subst, ◌∙◌, arith}
+use Rattle.std.specs.List.{list_any, list_all}
 use Rattle.std.specs.Ordering.{nat_cmp}
 use Rattle.std.specs.BTreeMap.{get, BTreeMap, UpdatesBy}
 use Rattle.std.proofs.lemmas.Bool.Decides.{nat_tests}
@@ -8,7 +9,7 @@ use Rattle.std.proofs.lemmas.Option.{slice_get-map}
 use Rattle.isl_meaning.specs.declared.program.GenericRow.{GenericRow}
 use Rattle.isl_meaning.specs.declared.program.MethodRow.{MethodRow}
 use Rattle.isl_meaning.specs.bridge.Prefixes.{of_prefix, in_prefix}
-use Rattle.isl_meaning.specs.Lookup.{some_of, all_of, all_differ}
+use Rattle.isl_meaning.specs.Lookup.{all_differ}
 use Rattle.isl_dispatch.specs.Methods.{names_of, is_same, row_is_whole, methods_at, with_method, with_first_methods}
 use Rattle.isl_dispatch.specs.NameNumbers.{IsIndexed}
 use Rattle.isl_dispatch.proofs.Naming.{at_is-equal}
@@ -77,60 +78,60 @@ names-with_first (g ∷ gs) (suc i) n = ap (λ ns. g.name.0 ∷ ns) (names-with_
 
 -- rows stay whole
 
-all_of-take : {X : Type 0} (p : X → Bool) (n : ℕ) (xs : List X) → all_of p xs ≡ true → all_of p (take n xs) ≡ true
-all_of-take p zero xs h = refl
-all_of-take p (suc n) [] h = refl
-all_of-take p (suc n) (x ∷ xs) h =
-    let parts : (p x ≡ true) × (all_of p xs ≡ true) = both (p x) (all_of p xs) h in
-    let rest : all_of p (take n xs) ≡ true = all_of-take p n xs parts.1 in
+list_all-take : {X : Type 0} (p : X → Bool) (n : ℕ) (xs : List X) → list_all p xs ≡ true → list_all p (take n xs) ≡ true
+list_all-take p zero xs h = refl
+list_all-take p (suc n) [] h = refl
+list_all-take p (suc n) (x ∷ xs) h =
+    let parts : (p x ≡ true) × (list_all p xs ≡ true) = both (p x) (list_all p xs) h in
+    let rest : list_all p (take n xs) ≡ true = list_all-take p n xs parts.1 in
     rw (parts.0, rest) refl
 
-some_of-take : {X : Type 0} (p : X → Bool) (n : ℕ) (xs : List X) → some_of p xs ≡ false → some_of p (take n xs) ≡ false
-some_of-take p zero xs h = refl
-some_of-take p (suc n) [] h = refl
-some_of-take p (suc n) (x ∷ xs) h =
-    let parts : (p x ≡ false) × (some_of p xs ≡ false) = neither (p x) (some_of p xs) h in
-    let rest : some_of p (take n xs) ≡ false = some_of-take p n xs parts.1 in
+list_any-take : {X : Type 0} (p : X → Bool) (n : ℕ) (xs : List X) → list_any p xs ≡ false → list_any p (take n xs) ≡ false
+list_any-take p zero xs h = refl
+list_any-take p (suc n) [] h = refl
+list_any-take p (suc n) (x ∷ xs) h =
+    let parts : (p x ≡ false) × (list_any p xs ≡ false) = neither (p x) (list_any p xs) h in
+    let rest : list_any p (take n xs) ≡ false = list_any-take p n xs parts.1 in
     rw (parts.0, rest) refl
 
 differ-take : (n : ℕ) (ms : List MethodRow) → all_differ is_same ms ≡ true → all_differ is_same (take n ms) ≡ true
 differ-take zero ms h = refl
 differ-take (suc n) [] h = refl
 differ-take (suc n) (m ∷ ms) h =
-    let parts : (not (some_of (is_same m) ms) ≡ true) × (all_differ is_same ms ≡ true) = both (not (some_of (is_same m) ms)) (all_differ is_same ms) h in
-    let here : some_of (is_same m) (take n ms) ≡ false = some_of-take (is_same m) n ms (is_false (some_of (is_same m) ms) parts.0) in
+    let parts : (not (list_any (is_same m) ms) ≡ true) × (all_differ is_same ms ≡ true) = both (not (list_any (is_same m) ms)) (all_differ is_same ms) h in
+    let here : list_any (is_same m) (take n ms) ≡ false = list_any-take (is_same m) n ms (is_false (list_any (is_same m) ms) parts.0) in
     let rest : all_differ is_same (take n ms) ≡ true = differ-take n ms parts.1 in
     rw (here, rest) refl
 
 row-first : (g : GenericRow) (n : ℕ) → row_is_whole g ≡ true → row_is_whole (record g { methods = take n g.methods }) ≡ true
 row-first g n h =
-    let parts : (all_of (λ m. length m.classes == g.required) g.methods ≡ true) × (all_differ is_same g.methods ≡ true) =
-    both (all_of (λ m. length m.classes == g.required) g.methods) (all_differ is_same g.methods) h in
-    let lengths : all_of (λ m. length m.classes == g.required) (take n g.methods) ≡ true =
-    all_of-take (λ m. length m.classes == g.required) n g.methods parts.0 in
+    let parts : (list_all (λ m. length m.classes == g.required) g.methods ≡ true) × (all_differ is_same g.methods ≡ true) =
+    both (list_all (λ m. length m.classes == g.required) g.methods) (all_differ is_same g.methods) h in
+    let lengths : list_all (λ m. length m.classes == g.required) (take n g.methods) ≡ true =
+    list_all-take (λ m. length m.classes == g.required) n g.methods parts.0 in
     let differ : all_differ is_same (take n g.methods) ≡ true = differ-take n g.methods parts.1 in
     rw (lengths, differ) refl
 
-pub whole-first : (rows : List GenericRow) (i n : ℕ) → all_of row_is_whole rows ≡ true → all_of row_is_whole (with_first_methods rows i n) ≡ true
+pub whole-first : (rows : List GenericRow) (i n : ℕ) → list_all row_is_whole rows ≡ true → list_all row_is_whole (with_first_methods rows i n) ≡ true
 whole-first [] i n h = refl
 whole-first (g ∷ gs) zero n h =
-    let parts : (row_is_whole g ≡ true) × (all_of row_is_whole gs ≡ true) = both (row_is_whole g) (all_of row_is_whole gs) h in
+    let parts : (row_is_whole g ≡ true) × (list_all row_is_whole gs ≡ true) = both (row_is_whole g) (list_all row_is_whole gs) h in
     let here : row_is_whole (record g { methods = take n g.methods }) ≡ true = row-first g n parts.0 in
-    let others : all_of row_is_whole gs ≡ true = parts.1 in
+    let others : list_all row_is_whole gs ≡ true = parts.1 in
     rw (here, others) refl
 whole-first (g ∷ gs) (suc i) n h =
-    let parts : (row_is_whole g ≡ true) × (all_of row_is_whole gs ≡ true) = both (row_is_whole g) (all_of row_is_whole gs) h in
+    let parts : (row_is_whole g ≡ true) × (list_all row_is_whole gs ≡ true) = both (row_is_whole g) (list_all row_is_whole gs) h in
     let here : row_is_whole g ≡ true = parts.0 in
-    let others : all_of row_is_whole (with_first_methods gs i n) ≡ true = whole-first gs i n parts.1 in
+    let others : list_all row_is_whole (with_first_methods gs i n) ≡ true = whole-first gs i n parts.1 in
     rw (here, others) refl
 
 -- the first generic functions keep their numbers and are whole
 pub first_keep : (rows : List GenericRow) (len : ℕ) (numbers : BTreeMap ℕ ℕ) → IsIndexed (take len (names_of rows)) numbers
-    → all_of row_is_whole rows ≡ true
-    → IsIndexed (names_of (take len rows)) numbers × (all_of row_is_whole (take len rows) ≡ true)
+    → list_all row_is_whole rows ≡ true
+    → IsIndexed (names_of (take len rows)) numbers × (list_all row_is_whole (take len rows) ≡ true)
 first_keep rows len numbers x whole =
     let P : List ℕ → Type 0 = λ names. IsIndexed names numbers in
-    (subst P (take-map (λ r. r.name.0) len rows) x, all_of-take row_is_whole len rows whole)
+    (subst P (take-map (λ r. r.name.0) len rows) x, list_all-take row_is_whole len rows whole)
 
 -- what was added is gone again
 

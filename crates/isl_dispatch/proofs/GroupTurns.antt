@@ -1,43 +1,31 @@
 -- Class after class: what the groups so far are.
-use Rattle.std.specs.Prelude.{◌≡◌, ◌≢◌, ℕ, zero, suc, ◌+◌, ◌<◌, ◌==◌, Bool, true, false, ◌&&◌, List, [], ◌∷◌, ◌++◌, map, length, slice_get, Some, if◌then◌else◌, refl}
+use Rattle.std.specs.Prelude.{◌≡◌, ◌≢◌, ℕ, zero, suc, ◌+◌, ◌<◌, ◌==◌, Bool, true, false, ◌&&◌, List, [], ◌∷◌, ◌++◌, map, length, slice_get, Some, if◌then◌else◌, refl, ◌||◌}
+use Rattle.std.specs.Str.{bytes_eq}
+use Rattle.std.specs.List.{range_with_len, list_any}
 use Rattle.std.proofs.Common.{◌∙◌, sym, ap, arith, ⊎_elim, append_assoc, append-nil, length-append, add-one}
 use Rattle.std.proofs.lemmas.Bool.Decides.{nat_tests}
+use Rattle.std.proofs.lemmas.Slice.Eq.{bytes_eq-Decides}
 use Rattle.std.proofs.lemmas.Option.{slice_get-map}
 use Rattle.isl_base.specs.Names.{slice_get-front, slice_get-behind, slice_get-push}
-use Rattle.isl_meaning.specs.Objects.{count_up}
-use Rattle.isl_meaning.specs.Lookup.{some_of}
-use Rattle.isl_meaning.specs.Values.{same_text}
 use Rattle.isl_meaning.specs.Cells.{one_of_each}
 use Rattle.isl_dispatch.specs.declared.groups.Grouping.{Grouping}
 use Rattle.isl_dispatch.specs.GroupNumbers.{NumbersGroups, IsTaken}
 
-same_text-itself : (a : List ℕ) → same_text a a ≡ true
-same_text-itself [] = refl
-same_text-itself (x ∷ xs) =
-    let e : (x == x) ≡ true = grind (arith, nat_tests) in
-    let rest : same_text xs xs ≡ true = same_text-itself xs in
-    rw (e, rest) refl
+bytes_eq-itself : (a : List ℕ) → bytes_eq a a ≡ true
+bytes_eq-itself a = (bytes_eq-Decides a a).1 refl
 
 both : (a b : Bool) → (a && b) ≡ true → (a ≡ true) × (b ≡ true)
 both true b h = (refl, h)
 both false b h = absurd (cc)
 
-pub same_text-is : (a b : List ℕ) → same_text a b ≡ true → a ≡ b
-same_text-is [] [] h = refl
-same_text-is [] (y ∷ ys) h = absurd (cc)
-same_text-is (x ∷ xs) [] h = absurd (cc)
-same_text-is (x ∷ xs) (y ∷ ys) h =
-    let p : ((x == y) ≡ true) × (same_text xs ys ≡ true) = both (x == y) (same_text xs ys) h in
-    let first : (x == y) ≡ true = p.0 in
-    let e : x ≡ y = grind (arith) in
-    let rest : xs ≡ ys = same_text-is xs ys p.1 in
-    rw (e, rest) refl
+pub bytes_eq-is : (a b : List ℕ) → bytes_eq a b ≡ true → a ≡ b
+bytes_eq-is a b h = (bytes_eq-Decides a b).0 h
 
-same_text-not : (a b : List ℕ) → (a ≡ b → ⊥) → same_text a b ≡ false
-same_text-not a b h = by (same_text a b) refl
+bytes_eq-not : (a b : List ℕ) → (a ≡ b → ⊥) → bytes_eq a b ≡ false
+bytes_eq-not a b h = by (bytes_eq a b) refl
   where
-    by : (v : Bool) → same_text a b ≡ v → v ≡ false
-    by true e = absurd (h (same_text-is a b e))
+    by : (v : Bool) → bytes_eq a b ≡ v → v ≡ false
+    by true e = absurd (h (bytes_eq-is a b e))
     by false e = refl
 
 -- the classes below one, the last first
@@ -45,26 +33,26 @@ abbrev pub below : ℕ → List ℕ
 below zero = []
 below (suc n) = n ∷ below n
 
-some-below : (p : ℕ → Bool) (n r : ℕ) → r < n → p r ≡ true → some_of p (below n) ≡ true
+some-below : (p : ℕ → Bool) (n r : ℕ) → r < n → p r ≡ true → list_any p (below n) ≡ true
 some-below p zero r h k = absurd (omega arith)
 some-below p (suc n) r h k = by (p n) refl (r == n) refl (λ l. some-below p n r l k)
   where
-    by : (b : Bool) → p n ≡ b → (c : Bool) → (r == n) ≡ c → (r < n → some_of p (below n) ≡ true) → (if b then true else some_of p (below n)) ≡ true
+    by : (b : Bool) → p n ≡ b → (c : Bool) → (r == n) ≡ c → (r < n → list_any p (below n) ≡ true) → (b || list_any p (below n)) ≡ true
     by true e c f g = refl
     by false e true f g = let same : r ≡ n = grind (arith) in let yes : p n ≡ true = ap p (sym same) ∙ k in absurd (cc)
     by false e false f g = g (grind (arith))
 
-none-below : (p : ℕ → Bool) (n : ℕ) → ((r : ℕ) → r < n → p r ≡ false) → some_of p (below n) ≡ false
+none-below : (p : ℕ → Bool) (n : ℕ) → ((r : ℕ) → r < n → p r ≡ false) → list_any p (below n) ≡ false
 none-below p zero h = refl
 none-below p (suc n) h =
     let here : p n ≡ false = h n (omega arith) in
-    let rest : some_of p (below n) ≡ false = none-below p n (λ r l. h r (omega arith)) in
+    let rest : list_any p (below n) ≡ false = none-below p n (λ r l. h r (omega arith)) in
     rw (here, rest) refl
 
 -- so far: the firsts with their groups, and the numbers of the classes below one
 pub record Progress (group : ℕ → List ℕ) (n : ℕ) (firsts : List ℕ) (kept : List (List ℕ)) (numbers : List ℕ) (at : ℕ) : Type 0 where
   pub count : length numbers ≡ at
-  pub left : (m : ℕ) → at + m ≡ n → firsts ++ one_of_each group (below at) (count_up at m) ≡ one_of_each group [] (count_up 0 n)
+  pub left : (m : ℕ) → at + m ≡ n → firsts ++ one_of_each group (below at) (range_with_len at m) ≡ one_of_each group [] (range_with_len 0 n)
   pub groups : kept ≡ map group firsts
   pub earlier : (k r : ℕ) → slice_get firsts k ≡ Some r → r < at
   pub numbered : NumbersGroups group firsts numbers
@@ -80,7 +68,7 @@ progress_none group n = record {
 
 -- at the end the firsts are one of each group
 pub progress_all : (group : ℕ → List ℕ) (n : ℕ) (firsts : List ℕ) (kept : List (List ℕ)) (numbers : List ℕ) (at : ℕ)
-    → Progress group n firsts kept numbers at → at ≡ n → firsts ≡ one_of_each group [] (count_up 0 n)
+    → Progress group n firsts kept numbers at → at ≡ n → firsts ≡ one_of_each group [] (range_with_len 0 n)
 progress_all group n firsts kept numbers at x e = sym (append-nil firsts) ∙ x.left 0 (omega arith)
 
 slice_get_there : (xs : List ℕ) (i : ℕ) → i < length xs → (x : ℕ) × (slice_get xs i ≡ Some x)
@@ -103,12 +91,12 @@ first_at group (x ∷ xs) zero g h = (x, refl, cc)
 first_at group (x ∷ xs) (suc k) g h = first_at group xs k g h
 
 -- a turn passes a class, and keeps it where it is the first of its group
-turn : (group : ℕ → List ℕ) (firsts : List ℕ) (at m : ℕ) (b : Bool) → some_of (λ d. same_text (group at) (group d)) (below at) ≡ b
-    → (firsts ++ (if b then [] else at ∷ [])) ++ one_of_each group (below (at + 1)) (count_up (at + 1) m)
-    ≡ firsts ++ one_of_each group (below at) (count_up at (suc m))
+turn : (group : ℕ → List ℕ) (firsts : List ℕ) (at m : ℕ) (b : Bool) → list_any (λ d. bytes_eq (group at) (group d)) (below at) ≡ b
+    → (firsts ++ (if b then [] else at ∷ [])) ++ one_of_each group (below (at + 1)) (range_with_len (at + 1) m)
+    ≡ firsts ++ one_of_each group (below at) (range_with_len at (suc m))
 turn group firsts at m b e =
     let next : below (at + 1) ≡ at ∷ below at = ap below (add-one at) in
-    rw (e, next) (append_assoc firsts (if b then [] else at ∷ []) (one_of_each group (at ∷ below at) (count_up (at + 1) m)))
+    rw (e, next) (append_assoc firsts (if b then [] else at ∷ []) (one_of_each group (at ∷ below at) (range_with_len (at + 1) m)))
 
 group_is_there : (group : ℕ → List ℕ) (firsts : List ℕ) (kept : List (List ℕ)) (at k : ℕ) → kept ≡ map group firsts
     → ((j r : ℕ) → slice_get firsts j ≡ Some r → r < at) → slice_get kept k ≡ Some (group at)
@@ -141,14 +129,14 @@ pub progress_found : (group : ℕ → List ℕ) (n : ℕ) (firsts : List ℕ) (k
     → Progress group n firsts kept (numbers ++ k ∷ []) (at + 1)
 progress_found group n firsts kept numbers at k x h =
     let there : (r : ℕ) × (slice_get firsts k ≡ Some r) × (group r ≡ group at) = group_is_there group firsts kept at k x.groups x.earlier h in
-    let same : same_text (group at) (group there.0) ≡ true = ap (λ g. same_text (group at) g) there.2 ∙ same_text-itself (group at) in
-    let seen : some_of (λ d. same_text (group at) (group d)) (below at) ≡ true =
-    some-below (λ d. same_text (group at) (group d)) at there.0 (x.earlier k there.0 there.1) same in
+    let same : bytes_eq (group at) (group there.0) ≡ true = ap (λ g. bytes_eq (group at) g) there.2 ∙ bytes_eq-itself (group at) in
+    let seen : list_any (λ d. bytes_eq (group at) (group d)) (below at) ≡ true =
+    some-below (λ d. bytes_eq (group at) (group d)) at there.0 (x.earlier k there.0 there.1) same in
     record {
       count = omega (arith, length-append numbers (k ∷ []), x.count);
       left = λ m e.
-          let whole : firsts ++ one_of_each group (below at) (count_up at (suc m)) ≡ one_of_each group [] (count_up 0 n) = x.left (suc m) (omega arith) in
-          ap (λ f. f ++ one_of_each group (below (at + 1)) (count_up (at + 1) m)) (sym (append-nil firsts)) ∙ turn group firsts at m true seen ∙ whole;
+          let whole : firsts ++ one_of_each group (below at) (range_with_len at (suc m)) ≡ one_of_each group [] (range_with_len 0 n) = x.left (suc m) (omega arith) in
+          ap (λ f. f ++ one_of_each group (below (at + 1)) (range_with_len (at + 1) m)) (sym (append-nil firsts)) ∙ turn group firsts at m true seen ∙ whole;
       groups = x.groups;
       earlier = λ j r g. let l : r < at = x.earlier j r g in omega arith;
       numbered = numbers_push group firsts numbers at k there.0 x.numbered x.count there.1 there.2;
@@ -159,13 +147,13 @@ pub progress_new : (group : ℕ → List ℕ) (n : ℕ) (firsts : List ℕ) (kep
     → Progress group n firsts kept numbers at → ((k : ℕ) (g : List ℕ) → slice_get kept k ≡ Some g → g ≡ group at → ⊥)
     → Progress group n (firsts ++ at ∷ []) (kept ++ group at ∷ []) (numbers ++ length firsts ∷ []) (at + 1)
 progress_new group n firsts kept numbers at x h =
-    let seen : some_of (λ d. same_text (group at) (group d)) (below at) ≡ false =
-    none-below (λ d. same_text (group at) (group d)) at
-    (λ r l. same_text-not (group at) (group r) (λ e. new_group r l e)) in
+    let seen : list_any (λ d. bytes_eq (group at) (group d)) (below at) ≡ false =
+    none-below (λ d. bytes_eq (group at) (group d)) at
+    (λ r l. bytes_eq-not (group at) (group r) (λ e. new_group r l e)) in
     record {
       count = omega (arith, length-append numbers (length firsts ∷ []), x.count);
       left = λ m e.
-          let whole : firsts ++ one_of_each group (below at) (count_up at (suc m)) ≡ one_of_each group [] (count_up 0 n) = x.left (suc m) (omega arith) in
+          let whole : firsts ++ one_of_each group (below at) (range_with_len at (suc m)) ≡ one_of_each group [] (range_with_len 0 n) = x.left (suc m) (omega arith) in
           turn group firsts at m false seen ∙ whole;
       groups = rw x.groups (sym (map-append group firsts (at ∷ [])));
       earlier = λ j r g.

@@ -1,5 +1,4 @@
 pub mod Alike
-pub mod Texts
 pub mod Naming
 pub mod Taking
 pub mod Cutting

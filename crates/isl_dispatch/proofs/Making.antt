@@ -1,11 +1,12 @@
 -- What the turns make: maps of arguments, tables, and lists of them.
 use Rattle.std.proofs.Common.{◌≡◌, ℕ, zero, suc, ◌+◌, ◌≤◌, List, [], ◌∷◌, ◌++◌, length, map, drop, Some, slice_get, refl, ap, subst, ◌∙◌, ⊎_elim, arith, append_assoc}
+use Rattle.std.specs.List.{sum_by}
+use Rattle.std.proofs.lemmas.List.Sums.{sum_by-cons}
 use Rattle.isl_base.specs.Names.{slice_get-push}
 use Rattle.isl_base.specs.model.DataRest.{rest_at}
 use Rattle.isl_meaning.specs.declared.program.ProgramRows.{ProgramRows}
 use Rattle.isl_meaning.specs.declared.program.GenericRow.{GenericRow}
 use Rattle.isl_dispatch.specs.declared.groups.ArgumentGroups.{ArgumentGroups}
-use Rattle.isl_meaning.specs.ProgramCounts.{total}
 use Rattle.isl_meaning.specs.Cells.{argument_classes, group_of}
 use Rattle.isl_dispatch.specs.GroupNumbers.{AreGroups, NumbersGroups}
 use Rattle.isl_dispatch.specs.declared.table.ArgumentMap.{ArgumentMap}
@@ -49,10 +50,10 @@ tables_more program generics tables next at g t x count here one e i h s row the
     (slice_get-push tables t i s pushed)
 
 -- one of a sum is at most the sum
-pub one_of_total : {X : Type 0} (f : X → ℕ) (xs : List X) (i : ℕ) (x : X) → slice_get xs i ≡ Some x → f x ≤ total f xs
-one_of_total f [] i x h = absurd (cc)
-one_of_total f (y ∷ ys) zero x h = let same : y ≡ x = cc in let e : f y ≡ f x = ap f same in omega arith
-one_of_total f (y ∷ ys) (suc i) x h = omega (arith, one_of_total f ys i x h)
+pub one_of_sum : {X : Type 0} (f : X → ℕ) (xs : List X) (i : ℕ) (x : X) → slice_get xs i ≡ Some x → f x ≤ sum_by f xs
+one_of_sum f [] i x h = absurd (cc)
+one_of_sum f (y ∷ ys) zero x h = let same : y ≡ x = cc in let e : f y ≡ f x = ap f same in omega (arith, sum_by-cons f y ys)
+one_of_sum f (y ∷ ys) (suc i) x h = omega (arith, sum_by-cons f y ys, one_of_sum f ys i x h)
 
 pub map-more : {X Y : Type 0} (f : X → Y) (xs : List X) (x : X) → map f (xs ++ x ∷ []) ≡ map f xs ++ f x ∷ []
 map-more f [] x = refl

@@ -1,5 +1,5 @@
 -- The numbers of names, and what a new name does to them.
-use Rattle.std.proofs.Common.{◌≡◌, ℕ, zero, suc, ◌==◌, Bool, true, false, List, [], ◌∷◌, ◌++◌, length, Some, None, slice_get, if◌then◌else◌, refl, sym, ap, subst, ◌∙◌, ⊎_elim, arith}
+use Rattle.std.proofs.Common.{◌≡◌, ℕ, zero, suc, ◌==◌, Bool, true, false, List, [], ◌∷◌, ◌++◌, length, Some, None, slice_get, if◌then◌else◌, refl, sym, ap, subst, ◌∙◌, ⊎_elim, arith, ◌||◌}
 use Rattle.std.specs.Ordering.{nat_cmp}
 use Rattle.std.specs.BTreeMap.{get, BTreeMap, is_at}
 use Rattle.std.proofs.lemmas.List.{length-map}
@@ -36,7 +36,7 @@ is_in-name n zero (m ∷ ms) h =
     rw here refl
 is_in-name n (suc i) (m ∷ ms) h =
     let rest : is_in n ms ≡ true = is_in-name n i ms h in
-    elim (n == m) as (λ b. (if b then true else is_in n ms) ≡ true) [ true ↦ refl | false ↦ rest ]
+    elim (n == m) as (λ b. (b || is_in n ms) ≡ true) [ true ↦ refl | false ↦ rest ]
 
 -- a name without a number is not there
 pub no_name : (names : List ℕ) (numbers : BTreeMap ℕ ℕ) (n : ℕ) → IsIndexed names numbers → get nat_cmp numbers n ≡ None → is_in n names ≡ false

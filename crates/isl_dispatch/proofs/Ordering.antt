@@ -1,14 +1,15 @@
 -- The methods that apply are ordered: each stands before the less specific ones.
-use Rattle.std.proofs.Common.{◌≡◌, ℕ, zero, suc, ◌+◌, ◌==◌, ◌<◌, Bool, true, false, cond, not, nat_lt, List, [], ◌∷◌, length, filter, Some, slice_get, if◌then◌else◌, refl, sym, ap, ◌∙◌, arith}
+use Rattle.std.proofs.Common.{◌≡◌, ℕ, zero, suc, ◌+◌, ◌==◌, ◌<◌, Bool, true, false, cond, not, nat_lt, List, [], ◌∷◌, length, filter, Some, slice_get, if◌then◌else◌, refl, sym, ap, ◌∙◌, arith, ◌||◌}
+use Rattle.std.specs.List.{list_any, list_all, position_or_len, sum_by}
+use Rattle.std.specs.Str.{bytes_eq}
 use Rattle.std.proofs.lemmas.Bool.Decides.{nat_tests}
+use Rattle.std.proofs.lemmas.List.Sums.{sum_by-cons}
 use Rattle.isl_meaning.specs.declared.program.ProgramRows.{ProgramRows}
 use Rattle.isl_meaning.specs.declared.program.GenericRow.{GenericRow}
 use Rattle.isl_meaning.specs.declared.program.MethodRow.{MethodRow}
 use Rattle.isl_meaning.specs.declared.program.Qualifier.{Qualifier}
 use Rattle.isl_meaning.specs.declared.program.Qualifier.TheVariants.{Primary, Around, Before, After}
-use Rattle.isl_meaning.specs.Values.{same_text}
-use Rattle.isl_meaning.specs.Lookup.{is_in, place_in, some_of, all_of, all_differ}
-use Rattle.isl_meaning.specs.ProgramCounts.{total}
+use Rattle.isl_meaning.specs.Lookup.{is_in, all_differ}
 use Rattle.isl_meaning.specs.Classes.{precedence, is_below, applies, more_specific, among, ordered, applicable, is_qualifier}
 use Rattle.isl_dispatch.specs.Methods.{is_same, row_is_whole}
 use Rattle.isl_dispatch.proofs.Taking.{both, neither, is_false}
@@ -16,7 +17,7 @@ use Rattle.isl_dispatch.proofs.Taking.{both, neither, is_false}
 -- the place of a class
 
 abbrev place : List ℕ → ℕ → ℕ
-place l x = place_in (λ d. d == x) l
+place l x = position_or_len (λ d. d == x) l
 
 -- a class that is there has a place of its own
 place_same : (x y : ℕ) (l : List ℕ) → is_in x l ≡ true → place l x ≡ place l y → x ≡ y
@@ -26,7 +27,7 @@ place_same x y (d ∷ l) h e =
     by rest (d == x) refl (d == y) refl h e
   where
     by : (is_in x l ≡ true → place l x ≡ place l y → x ≡ y) → (a : Bool) → (d == x) ≡ a → (b : Bool) → (d == y) ≡ b
-        → (if x == d then true else is_in x l) ≡ true → (if a then 0 else 1 + place l x) ≡ (if b then 0 else 1 + place l y) → x ≡ y
+        → (x == d || is_in x l) ≡ true → (if not a then 1 + place l x else 0) ≡ (if not b then 1 + place l y else 0) → x ≡ y
     by rest true p true q h e = grind (arith, nat_tests)
     by rest true p false q h e = absurd (omega arith)
     by rest false p true q h e = absurd (omega arith)
@@ -147,20 +148,20 @@ other_way program (c ∷ cs) (m ∷ ms) (n ∷ ns) x y d h =
 
 -- the same methods, each as often
 
-total-among : (count : MethodRow → ℕ) (before : MethodRow → MethodRow → Bool) (m : MethodRow) (ns : List MethodRow)
-    → total count (among before m ns) ≡ count m + total count ns
-total-among count before m [] = refl
-total-among count before m (n ∷ ns) =
-    let rest : total count (among before m ns) ≡ count m + total count ns = total-among count before m ns in
-    elim (before m n) as (λ b. total count (if b then m ∷ n ∷ ns else n ∷ among before m ns) ≡ count m + (count n + total count ns)) [
-      | true ↦ refl
-      | false ↦ omega (arith, rest)
+sum_by-among : (count : MethodRow → ℕ) (before : MethodRow → MethodRow → Bool) (m : MethodRow) (ns : List MethodRow)
+    → sum_by count (among before m ns) ≡ count m + sum_by count ns
+sum_by-among count before m [] = sum_by-cons count m []
+sum_by-among count before m (n ∷ ns) =
+    let rest : sum_by count (among before m ns) ≡ count m + sum_by count ns = sum_by-among count before m ns in
+    elim (before m n) as (λ b. sum_by count (if b then m ∷ n ∷ ns else n ∷ among before m ns) ≡ count m + sum_by count (n ∷ ns)) [
+      | true ↦ sum_by-cons count m (n ∷ ns)
+      | false ↦ omega (arith, sum_by-cons count n (among before m ns), sum_by-cons count n ns, rest)
     ]
 
-pub total-ordered : (count : MethodRow → ℕ) (before : MethodRow → MethodRow → Bool) (ms : List MethodRow)
-    → total count (ordered before ms) ≡ total count ms
-total-ordered count before [] = refl
-total-ordered count before (m ∷ ms) = total-among count before m (ordered before ms) ∙ ap (λ k. count m + k) (total-ordered count before ms)
+pub sum_by-ordered : (count : MethodRow → ℕ) (before : MethodRow → MethodRow → Bool) (ms : List MethodRow)
+    → sum_by count (ordered before ms) ≡ sum_by count ms
+sum_by-ordered count before [] = refl
+sum_by-ordered count before (m ∷ ms) = sum_by-among count before m (ordered before ms) ∙ ap (λ k. count m + k) (sum_by-ordered count before ms) ∙ sym (sum_by-cons count m ms)
 
 -- methods of which each passes, of which each stands before the less specific ones, and of which no two are alike
 
@@ -252,28 +253,28 @@ qualifier_itself Around = refl
 qualifier_itself Before = refl
 qualifier_itself After = refl
 
-text_itself : (xs : List ℕ) → same_text xs xs ≡ true
+text_itself : (xs : List ℕ) → bytes_eq xs xs ≡ true
 text_itself [] = refl
 text_itself (x ∷ xs) = let here : (x == x) ≡ true = grind (arith, nat_tests) in rw (here, text_itself xs) refl
 
 apart : (m n : MethodRow) → is_same m n ≡ false → AreApart m n
 apart m n h e f =
     let qualifiers : is_qualifier m.qualifier n.qualifier ≡ true = ap (is_qualifier m.qualifier) (sym e) ∙ qualifier_itself m.qualifier in
-    let texts : same_text m.classes n.classes ≡ true = ap (same_text m.classes) (sym f) ∙ text_itself m.classes in
+    let texts : bytes_eq m.classes n.classes ≡ true = ap (bytes_eq m.classes) (sym f) ∙ text_itself m.classes in
     let same : is_same m n ≡ true = rw (qualifiers, texts) refl in
     cc
 
-IsApart-none : (m : MethodRow) (ns : List MethodRow) → some_of (is_same m) ns ≡ false → IsApart m ns
+IsApart-none : (m : MethodRow) (ns : List MethodRow) → list_any (is_same m) ns ≡ false → IsApart m ns
 IsApart-none m [] h = tt
 IsApart-none m (n ∷ ns) h =
-    let parts = neither (is_same m n) (some_of (is_same m) ns) h in
+    let parts = neither (is_same m n) (list_any (is_same m) ns) h in
     (apart m n parts.0, IsApart-none m ns parts.1)
 
 AllApart-differ : (ms : List MethodRow) → all_differ is_same ms ≡ true → AllApart ms
 AllApart-differ [] h = tt
 AllApart-differ (m ∷ ms) h =
-    let parts = both (not (some_of (is_same m) ms)) (all_differ is_same ms) h in
-    (IsApart-none m ms (is_false (some_of (is_same m) ms) parts.0), AllApart-differ ms parts.1)
+    let parts = both (not (list_any (is_same m) ms)) (all_differ is_same ms) h in
+    (IsApart-none m ms (is_false (list_any (is_same m) ms) parts.0), AllApart-differ ms parts.1)
 
 -- what is read of such lists
 
@@ -351,7 +352,7 @@ module _ (program : ProgramRows) (cs : List ℕ) where
       → slice_get (applicable program cs g.methods) i ≡ Some m → slice_get (applicable program cs g.methods) j ≡ Some n
       → m.qualifier ≡ n.qualifier → earlier m n ≡ true
   in_order g i j m n whole l h k q =
-      let differ = both (all_of (λ n. length n.classes == g.required) g.methods) (all_differ is_same g.methods) whole in
+      let differ = both (list_all (λ n. length n.classes == g.required) g.methods) (all_differ is_same g.methods) whole in
       let found : List MethodRow = filter passes g.methods in
       let pass : AllPass passes (ordered earlier found) = AllPass-ordered passes earlier found (AllPass-filter passes g.methods) in
       let apart_all : AllApart (ordered earlier found) = AllApart-ordered earlier found (AllApart-filter passes g.methods (AllApart-differ g.methods differ.1)) in
@@ -361,6 +362,6 @@ module _ (program : ProgramRows) (cs : List ℕ) where
       (apart_here q) no
 
 pub same_methods : (program : ProgramRows) (g : GenericRow) (cs : List ℕ) (count : MethodRow → ℕ)
-    → total count (applicable program cs g.methods) ≡ total count (filter (λ m. applies program cs m.classes) g.methods)
+    → sum_by count (applicable program cs g.methods) ≡ sum_by count (filter (λ m. applies program cs m.classes) g.methods)
 same_methods program g cs count =
-    total-ordered count (λ m n. more_specific program cs m.classes n.classes) (filter (λ m. applies program cs m.classes) g.methods)
+    sum_by-ordered count (λ m n. more_specific program cs m.classes n.classes) (filter (λ m. applies program cs m.classes) g.methods)

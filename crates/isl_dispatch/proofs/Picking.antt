@@ -1,5 +1,6 @@
 -- Methods by their numbers, and the places of items in what is left of a list.
-use Rattle.std.proofs.Common.{◌≡◌, ℕ, zero, suc, ◌+◌, ◌==◌, ◌≤◌, ◌<◌, get_or, Bool, true, false, nat_lt, List, [], ◌∷◌, ◌++◌, length, map, filter, reverse, take, drop, Option, Some, None, slice_get, insert, if◌then◌else◌, refl, sym, ap, ◌∙◌, append_assoc, arith}
+use Rattle.std.proofs.Common.{◌≡◌, ℕ, zero, suc, ◌+◌, ◌==◌, ◌≤◌, ◌<◌, get_or, Bool, true, false, not, nat_lt, List, [], ◌∷◌, ◌++◌, length, map, filter, reverse, take, drop, Option, Some, None, slice_get, insert, if◌then◌else◌, refl, sym, ap, ◌∙◌, append_assoc, arith}
+use Rattle.std.specs.List.{position_or_len}
 use Rattle.std.proofs.lemmas.Bool.Decides.{nat_tests}
 use Rattle.std.proofs.lemmas.List.{drop_all, length-map, reverse-append}
 use Rattle.std.proofs.lemmas.Option.{slice_get-map, slice_get_past, slice_get-get_or}
@@ -8,20 +9,19 @@ use Rattle.isl_base.specs.model.DataRest.{rest_at, take_at}
 use Rattle.isl_meaning.specs.declared.program.ProgramRows.{ProgramRows}
 use Rattle.isl_meaning.specs.declared.program.MethodRow.{MethodRow}
 use Rattle.isl_meaning.specs.declared.program.Qualifier.{Qualifier}
-use Rattle.isl_meaning.specs.Lookup.{place_in}
 use Rattle.isl_meaning.specs.Classes.{precedence, more_specific, among, ordered, is_qualifier, of_kind}
 use Rattle.isl_dispatch.specs.Chains.{ArePicked}
 
 -- places
 
-pub place_here : {X : Type 0} (p : X → Bool) (xs : List X) (i : ℕ) (x : X) → slice_get xs i ≡ Some x → p x ≡ true → place_in p (drop i xs) ≡ 0
+pub place_here : {X : Type 0} (p : X → Bool) (xs : List X) (i : ℕ) (x : X) → slice_get xs i ≡ Some x → p x ≡ true → position_or_len p (drop i xs) ≡ 0
 place_here p xs i x h k = rw (rest_at xs i x h, k) refl
 
 pub place_later : {X : Type 0} (p : X → Bool) (xs : List X) (i : ℕ) (x : X) → slice_get xs i ≡ Some x → p x ≡ false
-    → place_in p (drop i xs) ≡ 1 + place_in p (drop (i + 1) xs)
+    → position_or_len p (drop i xs) ≡ 1 + position_or_len p (drop (i + 1) xs)
 place_later p xs i x h k = rw (rest_at xs i x h, k) refl
 
-pub place_past : {X : Type 0} (p : X → Bool) (xs : List X) (i : ℕ) → length xs ≤ i → place_in p (drop i xs) ≡ 0
+pub place_past : {X : Type 0} (p : X → Bool) (xs : List X) (i : ℕ) → length xs ≤ i → position_or_len p (drop i xs) ≡ 0
 place_past p xs i h = rw (drop_all i xs h) refl
 
 pub number_here : (x n : ℕ) → x ≡ n → (x == n) ≡ true
@@ -48,7 +48,7 @@ short_other program (c ∷ cs) (m ∷ ms) = refl
 pub differ_here : (program : ProgramRows) (cs ms ns : List ℕ) (i c m n : ℕ) → slice_get cs i ≡ Some c → slice_get ms i ≡ Some m → slice_get ns i ≡ Some n
     → (m == n) ≡ false
     → more_specific program (drop i cs) (drop i ms) (drop i ns)
-    ≡ nat_lt (place_in (λ d. d == m) (precedence program c)) (place_in (λ d. d == n) (precedence program c))
+    ≡ nat_lt (position_or_len (λ d. d == m) (precedence program c)) (position_or_len (λ d. d == n) (precedence program c))
 differ_here program cs ms ns i c m n h k l e = rw (rest_at cs i c h, rest_at ms i m k, rest_at ns i n l, e) refl
 
 pub same_here : (program : ProgramRows) (cs ms ns : List ℕ) (i c m n : ℕ) → slice_get cs i ≡ Some c → slice_get ms i ≡ Some m → slice_get ns i ≡ Some n
@@ -95,17 +95,17 @@ insert-later : {X : Type 0} (y : X) (ys : List X) (i : ℕ) (x : X) → insert (
 insert-later y ys i x = let e : 1 + i ≡ suc i = omega arith in rw e refl
 
 pub among-insert : (before : MethodRow → MethodRow → Bool) (m : MethodRow) (ns : List MethodRow)
-    → among before m ns ≡ insert ns (place_in (λ n. before m n) ns) m
+    → among before m ns ≡ insert ns (position_or_len (λ n. before m n) ns) m
 among-insert before m [] = refl
 among-insert before m (n ∷ ns) =
-    let rest : among before m ns ≡ insert ns (place_in (λ n. before m n) ns) m = among-insert before m ns in
-    elim (before m n) as (λ b. (if b then m ∷ n ∷ ns else n ∷ among before m ns) ≡ insert (n ∷ ns) (if b then 0 else 1 + place_in (λ n. before m n) ns) m) [
+    let rest : among before m ns ≡ insert ns (position_or_len (λ n. before m n) ns) m = among-insert before m ns in
+    elim (before m n) as (λ b. (if b then m ∷ n ∷ ns else n ∷ among before m ns) ≡ insert (n ∷ ns) (if not b then 1 + position_or_len (λ n. before m n) ns else 0) m) [
       | true ↦ refl
-      | false ↦ ap (λ l. n ∷ l) rest ∙ sym (insert-later n ns (place_in (λ n. before m n) ns) m)
+      | false ↦ ap (λ l. n ∷ l) rest ∙ sym (insert-later n ns (position_or_len (λ n. before m n) ns) m)
     ]
 
 pub picked-insert : (before : MethodRow → MethodRow → Bool) (ms xs : List MethodRow) (ns : List ℕ) (n place : ℕ) (m : MethodRow) → ArePicked ms ns xs
-    → slice_get ms n ≡ Some m → place ≡ place_in (λ n. before m n) xs → ArePicked ms (insert ns place n) (among before m xs)
+    → slice_get ms n ≡ Some m → place ≡ position_or_len (λ n. before m n) xs → ArePicked ms (insert ns place n) (among before m xs)
 picked-insert before ms xs ns n place m x h e =
     map-insert (slice_get ms) ns place n
     ∙ ap (λ l. insert l place (slice_get ms n)) x
@@ -141,7 +141,7 @@ number_at xs ys i n e h k = rw (← e) (slice_get-get_or xs i n h ∙ ap Some (s
 -- a method that applies goes to its place, and one that does not is passed
 pub applicable_turn : (before : MethodRow → MethodRow → Bool) (p : MethodRow → Bool) (ms : List MethodRow) (ns next : List ℕ) (k at place : ℕ) (m : MethodRow)
     → at ≡ k → slice_get ms at ≡ Some m → p m ≡ true → ArePicked ms ns (ordered before (filter p (drop (k + 1) ms)))
-    → place ≡ place_in (λ n. before m n) (ordered before (filter p (drop (k + 1) ms))) → next ≡ insert ns place at
+    → place ≡ position_or_len (λ n. before m n) (ordered before (filter p (drop (k + 1) ms))) → next ≡ insert ns place at
     → ArePicked ms next (ordered before (filter p (drop k ms)))
 applicable_turn before p ms ns next k at place m e h passes x is put =
     let here : slice_get ms k ≡ Some m = rw e at h in

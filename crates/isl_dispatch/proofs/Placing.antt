@@ -1,11 +1,12 @@
 -- The number of a tuple of groups, argument by argument.
 use Rattle.std.proofs.Common.{◌≡◌, ℕ, zero, suc, ◌+◌, ◌*◌, ◌==◌, ◌<◌, ◌≤◌, ◌⊎◌, min, Bool, true, false, List, [], ◌∷◌, length, map, drop, Option, Some, slice_get, slice_index_or, refl, sym, ap, subst, ◌∙◌, arith, inl, inr, ⊎_elim}
+use Rattle.std.specs.List.{range_with_len}
 use Rattle.std.proofs.lemmas.Option.{slice_get-map, slice_get_within, get_or_from_slice_get}
 use Rattle.std.specs.Option.{option_map}
 use Rattle.std.proofs.lemmas.List.{drop_all, length-map}
 use Rattle.isl_meaning.specs.declared.program.ProgramRows.{ProgramRows}
 use Rattle.isl_meaning.specs.declared.program.GenericRow.{GenericRow}
-use Rattle.isl_meaning.specs.Objects.{Chain, count_up}
+use Rattle.isl_meaning.specs.Objects.{Chain}
 use Rattle.isl_meaning.specs.Classes.{chain}
 use Rattle.isl_meaning.specs.Cells.{argument_classes, group_of, groups}
 use Rattle.isl_base.specs.model.DataRest.{rest_at}
@@ -130,13 +131,13 @@ indexing_more program g cs index at a c first next x am h below f s =
           let n = length (groups program g at) in
           let rest = length (tuples_from program g (at + 1) m) in
           let tuple : slice_get (tuples_from program g at (suc m)) (k * rest + j) ≡ Some (group.first ∷ ts) =
-          tuple_at (groups program g at) (map (groups program g) (count_up (at + 1) m)) k j group.first ts group.there there in
+          tuple_at (groups program g at) (map (groups program g) (range_with_len (at + 1) m)) k j group.first ts group.there there in
           let same : AreAlike program (columns_from g at (suc m)) (group.first ∷ ts) (drop at cs) =
           rw (rest_at cs at c h) (group.same, alike) in
           let whole : IsPlaceOf program g cs (x.number * length (tuples_from program g at (suc m)) + (k * rest + j)) =
           x.placed (suc m) (omega arith) (k * rest + j) (group.first ∷ ts) tuple same in
           let size : length (tuples_from program g at (suc m)) ≡ n * rest =
-          length-tuples (groups program g at) (map (groups program g) (count_up (at + 1) m)) in
+          length-tuples (groups program g at) (map (groups program g) (range_with_len (at + 1) m)) in
           let index_is : x.number * length (tuples_from program g at (suc m)) + (k * rest + j) ≡ (x.number * count_in a + k) * rest + j =
           ap (λ l. x.number * l + (k * rest + j)) size ∙ regrouped x.number n rest k j ∙ ap (λ l. (x.number * l + k) * rest + j) (sym group.count) in
           let P : ℕ → Type 0 = λ i. IsPlaceOf program g cs i in

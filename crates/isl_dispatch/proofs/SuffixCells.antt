@@ -1,19 +1,21 @@
 -- The cells of tuples are counted argument by argument.
 use Rattle.std.proofs.Common.{◌≡◌, ◌∙◌, ℕ, zero, suc, ◌+◌, Bool, true, false, ◌&&◌, List, [], ◌∷◌, ◌++◌, Some, length, nat_le, map, filter, drop, slice_get, refl, sym, ap, arith, ◌≤◌, ◌<◌, ◌-◌, get_or, take}
+use Rattle.std.specs.List.{sum_by}
 use Rattle.std.proofs.lemmas.Bool.Decides.{nat_tests}
 use Rattle.std.proofs.lemmas.List.{take_rest}
+use Rattle.std.proofs.lemmas.List.Folds.{fold-map}
+use Rattle.std.proofs.lemmas.List.Sums.{sum_by-append}
 use Rattle.isl_meaning.specs.declared.program.ProgramRows.{ProgramRows}
 use Rattle.isl_meaning.specs.declared.program.GenericRow.{GenericRow}
 use Rattle.isl_meaning.specs.declared.program.MethodRow.{MethodRow}
 use Rattle.isl_meaning.specs.declared.program.Qualifier.TheVariants.{Primary}
 use Rattle.isl_meaning.specs.Classes.{applies, of_kind}
 use Rattle.isl_meaning.specs.Cells.{tuples, tuple_cells}
-use Rattle.isl_meaning.specs.ProgramCounts.{total}
 use Rattle.isl_base.specs.model.DataRest.{rest_at}
 use Rattle.isl_dispatch.specs.Suffixes.{is_below_some, passes, applies_from, chain_size, rest_cells}
 use Rattle.isl_dispatch.proofs.TuplePlaces.{fan}
 use Rattle.isl_dispatch.proofs.ChainCounts.{chain_length_is, length_of-chain, size_of}
-use Rattle.isl_meaning.specs.bridge.Totals.{total_alike}
+use Rattle.isl_base.specs.bridge.Counted.{sum_alike}
 
 -- the size of a chain, counted
 pub chain_size_is : (ms : List MethodRow) → chain_size ms ≡ size_of ms
@@ -29,8 +31,8 @@ tuple_by_rest program g cs =
     ap (λ n. 1 + n) (chain_length_is program g cs ∙ sym (chain_size_is (filter (λ m. applies program cs m.classes) g.methods)))
 
 pub tuples_by_rest : (program : ProgramRows) (g : GenericRow) (ts : List (List ℕ))
-    → total (tuple_cells program g) ts ≡ total (rest_cells program 0 g.methods) ts
-tuples_by_rest program g ts = total_alike (tuple_cells program g) (rest_cells program 0 g.methods) (tuple_by_rest program g) ts
+    → sum_by (tuple_cells program g) ts ≡ sum_by (rest_cells program 0 g.methods) ts
+tuples_by_rest program g ts = sum_alike (tuple_cells program g) (rest_cells program 0 g.methods) (tuple_by_rest program g) ts
 
 -- what applies to a class and the rest passes the class, and applies to the rest from the next argument on
 pub applies_next : (program : ProgramRows) (c : ℕ) (cs ds : List ℕ) (argument : ℕ)
@@ -63,27 +65,22 @@ rest_next program argument c ms cs =
     (filter_both (passes program argument c) (applies_from program (argument + 1) cs) (applies_from program argument (c ∷ cs))
     (λ m. applies_next program c cs m.classes argument) ms)
 
--- sums over lists that are joined, and over images
-total-append : {X : Type 0} (f : X → ℕ) (xs ys : List X) → total f (xs ++ ys) ≡ total f xs + total f ys
-total-append f [] ys = omega arith
-total-append f (x ∷ xs) ys = omega (arith, total-append f xs ys)
-
-total-front : (f : List ℕ → ℕ) (c : ℕ) (ts : List (List ℕ)) → total f (map (λ t. c ∷ t) ts) ≡ total (λ t. f (c ∷ t)) ts
-total-front f c [] = refl
-total-front f c (t ∷ ts) = ap (λ n. f (c ∷ t) + n) (total-front f c ts)
+-- the sum over an image
+sum_by-front : (f : List ℕ → ℕ) (c : ℕ) (ts : List (List ℕ)) → sum_by f (map (λ t. c ∷ t) ts) ≡ sum_by (λ t. f (c ∷ t)) ts
+sum_by-front f c ts = fold-map (λ (n : ℕ) (t : List ℕ). n + f t) (λ (t : List ℕ). c ∷ t) 0 ts
 
 -- the tuples that begin with one class, and then those of the classes behind it
 pub fan_turn : (program : ProgramRows) (argument : ℕ) (ms : List MethodRow) (cs : List ℕ) (ts : List (List ℕ)) (i c : ℕ) → slice_get cs i ≡ Some c
-    → total (rest_cells program argument ms) (fan (drop i cs) ts)
-    ≡ total (rest_cells program (argument + 1) (filter (passes program argument c) ms)) ts + total (rest_cells program argument ms) (fan (drop (i + 1) cs) ts)
+    → sum_by (rest_cells program argument ms) (fan (drop i cs) ts)
+    ≡ sum_by (rest_cells program (argument + 1) (filter (passes program argument c) ms)) ts + sum_by (rest_cells program argument ms) (fan (drop (i + 1) cs) ts)
 fan_turn program argument ms cs ts i c h =
     let f = rest_cells program argument ms in
     let rest : List ℕ = drop (i + 1) cs in
-    let same : total (λ t. f (c ∷ t)) ts ≡ total (rest_cells program (argument + 1) (filter (passes program argument c) ms)) ts =
-    total_alike (λ t. f (c ∷ t)) (rest_cells program (argument + 1) (filter (passes program argument c) ms)) (rest_next program argument c ms) ts in
-    ap (λ l. total f (fan l ts)) (rest_at cs i c h)
-    ∙ total-append f (map (λ t. c ∷ t) ts) (fan rest ts)
-    ∙ ap (λ n. n + total f (fan rest ts)) (total-front f c ts ∙ same)
+    let same : sum_by (λ t. f (c ∷ t)) ts ≡ sum_by (rest_cells program (argument + 1) (filter (passes program argument c) ms)) ts =
+    sum_alike (λ t. f (c ∷ t)) (rest_cells program (argument + 1) (filter (passes program argument c) ms)) (rest_next program argument c ms) ts in
+    ap (λ l. sum_by f (fan l ts)) (rest_at cs i c h)
+    ∙ sum_by-append f (map (λ t. c ∷ t) ts) (fan rest ts)
+    ∙ ap (λ n. n + sum_by f (fan rest ts)) (sum_by-front f c ts ∙ same)
 
 -- behind the last argument those apply that have no class left
 none_left : (program : ProgramRows) (argument : ℕ) (ds : List ℕ) → applies program [] (drop argument ds) ≡ nat_le (length ds) argument
@@ -107,7 +104,7 @@ rest_ended program argument ms =
     ap (λ l. 1 + chain_size l) (filter_same (applies_from program argument []) (λ m. nat_le (length m.classes) argument) (λ m. none_left program argument m.classes) ms)
 
 -- no list, and a list in front of the others
-pub no_lists : (f : List ℕ → ℕ) (lists : List (List ℕ)) → length lists < 1 → total f (tuples lists) ≡ f []
+pub no_lists : (f : List ℕ → ℕ) (lists : List (List ℕ)) → length lists < 1 → sum_by f (tuples lists) ≡ f []
 no_lists f [] h = omega arith
 no_lists f (cs ∷ lists) h = absurd (omega arith)
 
@@ -116,5 +113,5 @@ first_and_rest [] x h e = absurd (omega arith)
 first_and_rest (y ∷ ys) x h e = rw (take_rest (y ∷ ys) 1) (ap (λ z. z ∷ ys) (sym e))
 
 pub fan_of_first : (f : List ℕ → ℕ) (lists : List (List ℕ)) (cs : List ℕ) → 1 ≤ length lists → cs ≡ get_or lists 0 cs
-    → total f (tuples lists) ≡ total f (fan cs (tuples (take (length lists - 1) (drop 1 lists))))
-fan_of_first f lists cs h e = ap (λ l. total f (tuples l)) (first_and_rest lists cs h e)
+    → sum_by f (tuples lists) ≡ sum_by f (fan cs (tuples (take (length lists - 1) (drop 1 lists))))
+fan_of_first f lists cs h e = ap (λ l. sum_by f (tuples l)) (first_and_rest lists cs h e)

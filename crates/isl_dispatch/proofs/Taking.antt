@@ -1,15 +1,15 @@
 -- Rows stay whole when a generic function is added, or a method that it takes.
-use Rattle.std.proofs.Common.{◌≡◌, ℕ, zero, suc, ◌==◌, Bool, true, false, not, ◌&&◌, List, [], ◌∷◌, ◌++◌, length, Some, Result, Ok, Err, OnOk, OnErr, slice_get, slice_set, if◌then◌else◌, refl, ap, ◌∙◌, arith}
+use Rattle.std.proofs.Common.{◌≡◌, ℕ, zero, suc, ◌==◌, Bool, true, false, not, ◌&&◌, List, [], ◌∷◌, ◌++◌, length, Some, Result, Ok, Err, OnOk, OnErr, slice_get, slice_set, refl, ap, ◌∙◌, arith, ◌||◌}
+use Rattle.std.specs.List.{list_any, list_all}
+use Rattle.std.specs.Str.{bytes_eq}
 use Rattle.std.proofs.lemmas.Bool.Decides.{nat_tests}
 use Rattle.isl_base.specs.declared.datum.Name.{Name}
 use Rattle.isl_meaning.specs.declared.program.GenericRow.{GenericRow}
 use Rattle.isl_meaning.specs.declared.program.MethodRow.{MethodRow}
 use Rattle.isl_meaning.specs.declared.program.Qualifier.{Qualifier}
 use Rattle.isl_meaning.specs.declared.program.Qualifier.TheVariants.{Primary, Around, Before, After}
-use Rattle.isl_meaning.specs.Values.{same_text}
-use Rattle.isl_meaning.specs.Lookup.{some_of}
 use Rattle.isl_meaning.specs.Classes.{is_qualifier}
-use Rattle.isl_meaning.specs.Lookup.{all_of, all_differ}
+use Rattle.isl_meaning.specs.Lookup.{all_differ}
 use Rattle.isl_dispatch.specs.Methods.{new_row, is_same, same_truth, takes, takes_at, with_method, row_is_whole}
 
 -- a row put in another's place and back
@@ -28,11 +28,11 @@ pub both : (a b : Bool) → (a && b) ≡ true → (a ≡ true) × (b ≡ true)
 both true b h = (refl, h)
 both false b h = absurd (cc)
 
-all_of-more : {X : Type 0} (p : X → Bool) (xs : List X) (x : X) → all_of p xs ≡ true → p x ≡ true → all_of p (xs ++ x ∷ []) ≡ true
-all_of-more p [] x h k = rw k refl
-all_of-more p (y ∷ ys) x h k =
-    let parts : (p y ≡ true) × (all_of p ys ≡ true) = both (p y) (all_of p ys) h in
-    let rest : all_of p (ys ++ x ∷ []) ≡ true = all_of-more p ys x parts.1 k in
+list_all-more : {X : Type 0} (p : X → Bool) (xs : List X) (x : X) → list_all p xs ≡ true → p x ≡ true → list_all p (xs ++ x ∷ []) ≡ true
+list_all-more p [] x h k = rw k refl
+list_all-more p (y ∷ ys) x h k =
+    let parts : (p y ≡ true) × (list_all p ys ≡ true) = both (p y) (list_all p ys) h in
+    let rest : list_all p (ys ++ x ∷ []) ≡ true = list_all-more p ys x parts.1 k in
     rw (parts.0, rest) refl
 
 -- being the same goes both ways
@@ -57,72 +57,72 @@ qualifier-sym After After = refl
 equal-sym : (x y : ℕ) → (x == y) ≡ (y == x)
 equal-sym x y = grind (arith, nat_tests)
 
-text-sym : (a b : List ℕ) → same_text a b ≡ same_text b a
+text-sym : (a b : List ℕ) → bytes_eq a b ≡ bytes_eq b a
 text-sym [] [] = refl
 text-sym [] (y ∷ ys) = refl
 text-sym (x ∷ xs) [] = refl
-text-sym (x ∷ xs) (y ∷ ys) = let e : (x == y) ≡ (y == x) = equal-sym x y in let r : same_text xs ys ≡ same_text ys xs = text-sym xs ys in rw (e, r) refl
+text-sym (x ∷ xs) (y ∷ ys) = let e : (x == y) ≡ (y == x) = equal-sym x y in let r : bytes_eq xs ys ≡ bytes_eq ys xs = text-sym xs ys in rw (e, r) refl
 
 same-sym : (m n : MethodRow) → is_same m n ≡ is_same n m
 same-sym m n = rw (qualifier-sym m.qualifier n.qualifier, text-sym m.classes n.classes) refl
 
-pub neither : (a b : Bool) → (if a then true else b) ≡ false → (a ≡ false) × (b ≡ false)
+pub neither : (a b : Bool) → (a || b) ≡ false → (a ≡ false) × (b ≡ false)
 neither true b h = absurd (cc)
 neither false b h = (refl, h)
 
-some_of-more : {X : Type 0} (p : X → Bool) (xs : List X) (x : X) → some_of p xs ≡ false → p x ≡ false → some_of p (xs ++ x ∷ []) ≡ false
-some_of-more p [] x h k = rw k refl
-some_of-more p (y ∷ ys) x h k =
-    let parts : (p y ≡ false) × (some_of p ys ≡ false) = neither (p y) (some_of p ys) h in
-    let rest : some_of p (ys ++ x ∷ []) ≡ false = some_of-more p ys x parts.1 k in
+list_any-more : {X : Type 0} (p : X → Bool) (xs : List X) (x : X) → list_any p xs ≡ false → p x ≡ false → list_any p (xs ++ x ∷ []) ≡ false
+list_any-more p [] x h k = rw k refl
+list_any-more p (y ∷ ys) x h k =
+    let parts : (p y ≡ false) × (list_any p ys ≡ false) = neither (p y) (list_any p ys) h in
+    let rest : list_any p (ys ++ x ∷ []) ≡ false = list_any-more p ys x parts.1 k in
     rw (parts.0, rest) refl
 
 pub is_false : (a : Bool) → not a ≡ true → a ≡ false
 is_false true h = absurd (cc)
 is_false false h = refl
 
-differ-more : (ms : List MethodRow) (m : MethodRow) → all_differ is_same ms ≡ true → some_of (is_same m) ms ≡ false → all_differ is_same (ms ++ m ∷ []) ≡ true
+differ-more : (ms : List MethodRow) (m : MethodRow) → all_differ is_same ms ≡ true → list_any (is_same m) ms ≡ false → all_differ is_same (ms ++ m ∷ []) ≡ true
 differ-more [] m h k = refl
 differ-more (n ∷ ns) m h k =
-    let parts : (not (some_of (is_same n) ns) ≡ true) × (all_differ is_same ns ≡ true) = both (not (some_of (is_same n) ns)) (all_differ is_same ns) h in
-    let no : (is_same m n ≡ false) × (some_of (is_same m) ns ≡ false) = neither (is_same m n) (some_of (is_same m) ns) k in
-    let here : some_of (is_same n) (ns ++ m ∷ []) ≡ false =
-    some_of-more (is_same n) ns m (is_false (some_of (is_same n) ns) parts.0) (same-sym n m ∙ no.0) in
+    let parts : (not (list_any (is_same n) ns) ≡ true) × (all_differ is_same ns ≡ true) = both (not (list_any (is_same n) ns)) (all_differ is_same ns) h in
+    let no : (is_same m n ≡ false) × (list_any (is_same m) ns ≡ false) = neither (is_same m n) (list_any (is_same m) ns) k in
+    let here : list_any (is_same n) (ns ++ m ∷ []) ≡ false =
+    list_any-more (is_same n) ns m (is_false (list_any (is_same n) ns) parts.0) (same-sym n m ∙ no.0) in
     let rest : all_differ is_same (ns ++ m ∷ []) ≡ true = differ-more ns m parts.1 no.1 in
     rw (here, rest) refl
 
 row-more : (g : GenericRow) (rest : Bool) (m : MethodRow) → row_is_whole g ≡ true → takes g rest m ≡ true
     → row_is_whole (record g { methods = g.methods ++ m ∷ [] }) ≡ true
 row-more g rest m h k =
-    let whole : (all_of (λ n. length n.classes == g.required) g.methods ≡ true) × (all_differ is_same g.methods ≡ true) =
-    both (all_of (λ n. length n.classes == g.required) g.methods) (all_differ is_same g.methods) h in
-    let fits = both ((length m.classes == g.required) && same_truth rest g.rest) (not (some_of (is_same m) g.methods)) k in
+    let whole : (list_all (λ n. length n.classes == g.required) g.methods ≡ true) × (all_differ is_same g.methods ≡ true) =
+    both (list_all (λ n. length n.classes == g.required) g.methods) (all_differ is_same g.methods) h in
+    let fits = both ((length m.classes == g.required) && same_truth rest g.rest) (not (list_any (is_same m) g.methods)) k in
     let number = both (length m.classes == g.required) (same_truth rest g.rest) fits.0 in
-    let lengths : all_of (λ n. length n.classes == g.required) (g.methods ++ m ∷ []) ≡ true =
-    all_of-more (λ n. length n.classes == g.required) g.methods m whole.0 number.0 in
+    let lengths : list_all (λ n. length n.classes == g.required) (g.methods ++ m ∷ []) ≡ true =
+    list_all-more (λ n. length n.classes == g.required) g.methods m whole.0 number.0 in
     let differ : all_differ is_same (g.methods ++ m ∷ []) ≡ true =
-    differ-more g.methods m whole.1 (is_false (some_of (is_same m) g.methods) fits.1) in
+    differ-more g.methods m whole.1 (is_false (list_any (is_same m) g.methods) fits.1) in
     rw (lengths, differ) refl
 
 -- with a method that is taken
-pub whole-with_method : (rows : List GenericRow) (i : ℕ) (rest : Bool) (m : MethodRow) → all_of row_is_whole rows ≡ true
-    → takes_at rows i rest m ≡ true → all_of row_is_whole (with_method rows i m) ≡ true
+pub whole-with_method : (rows : List GenericRow) (i : ℕ) (rest : Bool) (m : MethodRow) → list_all row_is_whole rows ≡ true
+    → takes_at rows i rest m ≡ true → list_all row_is_whole (with_method rows i m) ≡ true
 whole-with_method [] i rest m h k = refl
 whole-with_method (g ∷ gs) zero rest m h k =
-    let parts : (row_is_whole g ≡ true) × (all_of row_is_whole gs ≡ true) = both (row_is_whole g) (all_of row_is_whole gs) h in
+    let parts : (row_is_whole g ≡ true) × (list_all row_is_whole gs ≡ true) = both (row_is_whole g) (list_all row_is_whole gs) h in
     let here : row_is_whole (record g { methods = g.methods ++ m ∷ [] }) ≡ true = row-more g rest m parts.0 k in
-    let others : all_of row_is_whole gs ≡ true = parts.1 in
+    let others : list_all row_is_whole gs ≡ true = parts.1 in
     rw (here, others) refl
 whole-with_method (g ∷ gs) (suc i) rest m h k =
-    let parts : (row_is_whole g ≡ true) × (all_of row_is_whole gs ≡ true) = both (row_is_whole g) (all_of row_is_whole gs) h in
+    let parts : (row_is_whole g ≡ true) × (list_all row_is_whole gs ≡ true) = both (row_is_whole g) (list_all row_is_whole gs) h in
     let here : row_is_whole g ≡ true = parts.0 in
-    let others : all_of row_is_whole (with_method gs i m) ≡ true = whole-with_method gs i rest m parts.1 k in
+    let others : list_all row_is_whole (with_method gs i m) ≡ true = whole-with_method gs i rest m parts.1 k in
     rw (here, others) refl
 
 -- with a new generic function
-pub whole-new_row : (rows : List GenericRow) (name : Name) (required : ℕ) (rest : Bool) → all_of row_is_whole rows ≡ true
-    → all_of row_is_whole (rows ++ new_row name required rest ∷ []) ≡ true
-whole-new_row rows name required rest h = all_of-more row_is_whole rows (new_row name required rest) h refl
+pub whole-new_row : (rows : List GenericRow) (name : Name) (required : ℕ) (rest : Bool) → list_all row_is_whole rows ≡ true
+    → list_all row_is_whole (rows ++ new_row name required rest ∷ []) ≡ true
+whole-new_row rows name required rest h = list_all-more row_is_whole rows (new_row name required rest) h refl
 
 -- a row that was taken out is put back, with the method or as it was
 pub method_put : (rows held_rows new : List GenericRow) (i : ℕ) (g held : GenericRow) (methods : List MethodRow) (m : MethodRow)

@@ -1,13 +1,13 @@
 -- Tuples of one class of each list, by their numbers: the first list counts most.
 use Rattle.std.specs.Prelude.{◌≡◌, ℕ, zero, suc, ◌+◌, ◌*◌, ◌≤◌, List, [], ◌∷◌, ◌++◌, length, map, flat_map, Some, slice_get}
+use Rattle.std.specs.List.{range_with_len, sum_by}
 use Rattle.std.proofs.Common.{◌∙◌, ap, arith, length-append}
 use Rattle.std.proofs.lemmas.List.{length-map}
+use Rattle.std.proofs.lemmas.List.Sums.{sum_by-cons}
 use Rattle.std.proofs.lemmas.Option.{slice_get-map}
 use Rattle.isl_base.specs.Names.{slice_get-front}
 use Rattle.isl_meaning.specs.declared.program.ProgramRows.{ProgramRows}
 use Rattle.isl_meaning.specs.declared.program.GenericRow.{GenericRow}
-use Rattle.isl_meaning.specs.Objects.{count_up}
-use Rattle.isl_meaning.specs.ProgramCounts.{total}
 use Rattle.isl_meaning.specs.Cells.{tuples, groups, tuple_cells, generic_cells}
 
 -- an item behind some others
@@ -48,16 +48,16 @@ pub tuple_at : (cs : List ℕ) (lists : List (List ℕ)) (k j c : ℕ) (t : List
 tuple_at cs lists k j c t h g = fan_at cs (tuples lists) k j c t h g
 
 -- what counts at least one each counts at least as many as there are
-pub total_above : {X : Type 0} (f : X → ℕ) → ((x : X) → 1 ≤ f x) → (xs : List X) → length xs ≤ total f xs
-total_above f h [] = omega arith
-total_above f h (x ∷ xs) = omega (arith, h x, total_above f h xs)
+pub sum_above : {X : Type 0} (f : X → ℕ) → ((x : X) → 1 ≤ f x) → (xs : List X) → length xs ≤ sum_by f xs
+sum_above f h [] = omega arith
+sum_above f h (x ∷ xs) = omega (arith, sum_by-cons f x xs, h x, sum_above f h xs)
 
 -- there are at most as many tuples as cells
 pub tuples-le-cells : (program : ProgramRows) (g : GenericRow)
-    → length (tuples (map (groups program g) (count_up 0 g.required))) ≤ generic_cells program g
+    → length (tuples (map (groups program g) (range_with_len 0 g.required))) ≤ generic_cells program g
 tuples-le-cells program g =
     omega (
       arith,
-      total_above (tuple_cells program g) (λ (t : List ℕ). let one : 1 ≤ tuple_cells program g t = omega arith in one)
-          (tuples (map (groups program g) (count_up 0 g.required))),
+      sum_above (tuple_cells program g) (λ (t : List ℕ). let one : 1 ≤ tuple_cells program g t = omega arith in one)
+          (tuples (map (groups program g) (range_with_len 0 g.required))),
     )

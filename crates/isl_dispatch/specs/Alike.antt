@@ -1,13 +1,13 @@
 -- Tuples of classes of the same groups.
 use Rattle.std.specs.Prelude.{◌≡◌, ℕ, List, [], ◌∷◌, map}
+use Rattle.std.specs.List.{range_with_len}
 use Rattle.isl_meaning.specs.declared.program.ProgramRows.{ProgramRows}
 use Rattle.isl_meaning.specs.declared.program.GenericRow.{GenericRow}
-use Rattle.isl_meaning.specs.Objects.{count_up}
 use Rattle.isl_meaning.specs.Cells.{argument_classes, group_of}
 
 -- the classes of the arguments from one on
 abbrev pub columns_from : GenericRow → ℕ → ℕ → List (List ℕ)
-columns_from g at n = map (argument_classes g) (count_up at n)
+columns_from g at n = map (argument_classes g) (range_with_len at n)
 
 -- the classes of all required arguments
 abbrev pub columns : GenericRow → List (List ℕ)

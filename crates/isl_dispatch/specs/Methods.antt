@@ -1,5 +1,7 @@
 -- Generic functions and the methods that they take (ISO/IEC 13816:2007, 15.3).
 use Rattle.std.specs.Prelude.{◌≡◌, ℕ, zero, suc, ◌==◌, Bool, true, false, not, ◌&&◌, List, [], ◌∷◌, ◌++◌, length, map, take, Option, Some, None, slice_get}
+use Rattle.std.specs.List.{list_any, list_all}
+use Rattle.std.specs.Str.{bytes_eq}
 use Rattle.isl_base.specs.declared.datum.Name.{Name}
 use Rattle.isl_base.specs.declared.place.Place.{Place}
 use Rattle.isl_base.specs.declared.reason.Reason.TheVariants.{BadMethod}
@@ -7,10 +9,8 @@ use Rattle.isl_base.specs.declared.reason.Stop.{Stop}
 use Rattle.isl_base.specs.declared.reason.Stop.TheVariants.{Refused, NoMemory}
 use Rattle.isl_meaning.specs.declared.program.GenericRow.{GenericRow}
 use Rattle.isl_meaning.specs.declared.program.MethodRow.{MethodRow}
-use Rattle.isl_meaning.specs.Values.{same_text}
-use Rattle.isl_meaning.specs.Lookup.{some_of}
 use Rattle.isl_meaning.specs.Classes.{is_qualifier}
-use Rattle.isl_meaning.specs.Lookup.{all_of, all_differ}
+use Rattle.isl_meaning.specs.Lookup.{all_differ}
 
 -- the names, each at the number of its generic function
 abbrev pub names_of : List GenericRow → List ℕ
@@ -26,7 +26,7 @@ new_row name required rest = record { name = name; required = required; rest = r
 
 -- two methods with the same qualifier and classes
 abbrev pub is_same : MethodRow → MethodRow → Bool
-is_same m n = is_qualifier m.qualifier n.qualifier && same_text m.classes n.classes
+is_same m n = is_qualifier m.qualifier n.qualifier && bytes_eq m.classes n.classes
 
 abbrev pub same_truth : Bool → Bool → Bool
 same_truth true b = b
@@ -38,7 +38,7 @@ is_congruent g rest m = length m.classes == g.required && same_truth rest g.rest
 
 -- a generic function takes a congruent method whose qualifier and classes no other of its methods has
 abbrev pub takes : GenericRow → Bool → MethodRow → Bool
-takes g rest m = is_congruent g rest m && not (some_of (is_same m) g.methods)
+takes g rest m = is_congruent g rest m && not (list_any (is_same m) g.methods)
 
 abbrev pub taken_by : Option GenericRow → Bool → MethodRow → Bool
 taken_by (Some g) rest m = takes g rest m
@@ -69,7 +69,7 @@ with_first_methods (g ∷ gs) (suc i) n = g ∷ with_first_methods gs i n
 
 -- each method has one class for each required argument, and no two have the same qualifier and classes
 abbrev pub row_is_whole : GenericRow → Bool
-row_is_whole g = all_of (λ m. length m.classes == g.required) g.methods && all_differ is_same g.methods
+row_is_whole g = list_all (λ m. length m.classes == g.required) g.methods && all_differ is_same g.methods
 
 -- a method that is not taken is refused at its place; want of memory comes only for one that is
 abbrev pub IsRefusal : Place → Bool → Stop → Type 0

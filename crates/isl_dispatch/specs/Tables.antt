@@ -1,8 +1,8 @@
 -- Dispatch tables: groups of classes at each argument, and one cell for each tuple of groups.
 use Rattle.std.specs.Prelude.{◌≡◌, ℕ, ◌==◌, ◌<◌, ◌≤◌, List, map, length, Some, slice_get, slice_index_or, if◌then◌else◌}
+use Rattle.std.specs.List.{range_with_len}
 use Rattle.isl_meaning.specs.declared.program.ProgramRows.{ProgramRows}
 use Rattle.isl_meaning.specs.declared.program.GenericRow.{GenericRow}
-use Rattle.isl_meaning.specs.Objects.{count_up}
 use Rattle.isl_meaning.specs.Classes.{chain}
 use Rattle.isl_meaning.specs.Cells.{argument_classes, group_of, groups, tuples}
 use Rattle.isl_dispatch.specs.GroupNumbers.{NumbersGroups}
@@ -40,7 +40,7 @@ pub record AreMapsOf (program : ProgramRows) (g : GenericRow) (arguments : List 
 
 -- the tuples of groups from an argument on, each group by its first class; and those of all arguments
 abbrev pub tuples_from : ProgramRows → GenericRow → ℕ → ℕ → List (List ℕ)
-tuples_from program g at n = tuples (map (groups program g) (count_up at n))
+tuples_from program g at n = tuples (map (groups program g) (range_with_len at n))
 
 abbrev pub tuples_of : ProgramRows → GenericRow → List (List ℕ)
 tuples_of program g = tuples_from program g 0 g.required

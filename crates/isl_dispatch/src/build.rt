@@ -1,8 +1,8 @@
 // Dispatch tables are made.
 
 ghost use Rattle.std.specs.Prelude.{◌≤◌, IfOk};
+ghost use Rattle.std.specs.List.{sum_by};
 ghost use Rattle.isl_meaning.specs.Cells.{generic_cells};
-ghost use Rattle.isl_meaning.specs.ProgramCounts.{total};
 ghost use Rattle.isl_dispatch.specs.OfClasses.{with_classes};
 ghost use Rattle.isl_dispatch.specs.Tables.{AreTablesOf};
 
@@ -19,7 +19,7 @@ pub fn tables(
     generics: &GenericRows,
     classes: &ClassRows,
 ) -> Result<Tables, NoMemory>
-    requires { total (generic_cells (with_classes classes.now)) generics.now ≤ 262144 }
+    requires { sum_by (generic_cells (with_classes classes.now)) generics.now ≤ 262144 }
     ensures { IfOk result
         (λ found. AreTablesOf (with_classes classes.now) generics.now found) }
 {

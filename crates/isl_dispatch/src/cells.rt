@@ -1,8 +1,7 @@
 // The cells of dispatch tables, counted without the tables.
 
 ghost use Rattle.std.specs.Prelude.{◌≡◌, ◌+◌, ◌<◌, ◌^◌, IfOk, length, map, filter, min};
-ghost use Rattle.isl_meaning.specs.Objects.{count_up};
-ghost use Rattle.isl_meaning.specs.ProgramCounts.{total};
+ghost use Rattle.std.specs.List.{range_with_len, sum_by};
 ghost use Rattle.isl_meaning.specs.Cells.{groups, is_specialised, tuples, tuple_cells, generic_cells};
 ghost use Rattle.isl_dispatch.specs.OfClasses.{with_classes};
 ghost use Rattle.isl_dispatch.specs.Suffixes.{rest_cells};
@@ -22,7 +21,7 @@ pub const CELLS_LIMIT: u64 = 262145;
 /// more; what is past it is not counted.
 pub fn cells(alloc: Global, generics: &GenericRows, classes: &ClassRows) -> Result<u64, NoMemory>
     ensures { IfOk result
-        (λ n. n ≡ min (total (generic_cells (with_classes classes.now)) generics.now) 262145) }
+        (λ n. n ≡ min (sum_by (generic_cells (with_classes classes.now)) generics.now) 262145) }
 {
     let mut sum: u64 = 0;
     for at in 0..generics.len() {
@@ -66,9 +65,9 @@ fn generic_groups(
     classes: &ClassRows,
 ) -> Result<GenericGroups, NoMemory>
     ensures lists { IfOk result (λ found. found.lists
-        ≡ map (groups (with_classes classes.now) generic.now) (count_up 0 generic.now.required)) }
+        ≡ map (groups (with_classes classes.now) generic.now) (range_with_len 0 generic.now.required)) }
     ensures specialised { IfOk result (λ found. found.specialised
-        ≡ length (filter (is_specialised generic.now) (count_up 0 generic.now.required))) }
+        ≡ length (filter (is_specialised generic.now) (range_with_len 0 generic.now.required))) }
 {
     let mut lists = ItemList::new(alloc);
     let mut specialised: u32 = 0;
@@ -90,7 +89,7 @@ fn tuples_cells(
     lists: &ItemList<ClassIds>,
 ) -> Result<u64, NoMemory>
     ensures { IfOk result (λ n. n
-        ≡ min (total (tuple_cells (with_classes classes.now) generic.now) (tuples lists.now)) 262145) }
+        ≡ min (sum_by (tuple_cells (with_classes classes.now) generic.now) (tuples lists.now)) 262145) }
 {
     if tuple_count(lists) as u64 >= CELLS_LIMIT {
         return Ok(CELLS_LIMIT);
@@ -109,7 +108,7 @@ fn suffix_cells(
 ) -> Result<u64, NoMemory>
     requires { argument + length lists.now < 2 ^ 64 }
     ensures { IfOk result (λ n. n
-        ≡ min (total (rest_cells (with_classes classes.now) argument methods.now) (tuples lists.now)) 262145) }
+        ≡ min (sum_by (rest_cells (with_classes classes.now) argument methods.now) (tuples lists.now)) 262145) }
 {
     let [firsts, rest @ ..] = lists else {
         return Ok(capped_sum(1, ended_count(methods, argument) as u64));

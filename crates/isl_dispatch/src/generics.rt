@@ -1,9 +1,8 @@
 // Generic functions, found by their names.
 
 ghost use Rattle.std.specs.Prelude.{◌≡◌, ◌++◌, ◌∷◌, [], ◌<◌, ◌≤◌, true, false, List, length, slice_get, Some, OnOk, OnErr, IfOk, IfErr, MatchOption, min, take};
-ghost use Rattle.isl_meaning.specs.Lookup.{all_of};
+ghost use Rattle.std.specs.List.{list_all, sum_by};
 ghost use Rattle.isl_meaning.specs.Lookup.{is_in};
-ghost use Rattle.isl_meaning.specs.ProgramCounts.{total};
 ghost use Rattle.isl_meaning.specs.Cells.{generic_cells};
 ghost use Rattle.isl_dispatch.specs.OfClasses.{with_classes};
 ghost use Rattle.isl_dispatch.specs.Methods.{names_of, new_row, with_method, methods_at, with_first_methods, takes_at, row_is_whole, HaveOwnNames, IsRefusal};
@@ -28,7 +27,7 @@ pub struct Generics {
 
 impl Model for Generics {
     ghost use Rattle.std.specs.Prelude.{◌≡◌, true, List};
-    ghost use Rattle.isl_meaning.specs.Lookup.{all_of};
+    ghost use Rattle.std.specs.List.{list_all};
     ghost use Rattle.isl_meaning.specs.declared.program.GenericRow.{GenericRow};
     ghost use Rattle.isl_dispatch.specs.Methods.{names_of, row_is_whole};
     ghost use Rattle.isl_dispatch.specs.NameNumbers.{IsIndexed};
@@ -38,7 +37,7 @@ impl Model for Generics {
     ghost view = { λ g. g.rows };
 
     ghost invariant = { λ g.
-        IsIndexed (names_of g.rows) g.numbers × (all_of row_is_whole g.rows ≡ true) };
+        IsIndexed (names_of g.rows) g.numbers × (list_all row_is_whole g.rows ≡ true) };
 }
 
 impl Generics {
@@ -144,7 +143,7 @@ impl Generics {
     pub fn rows(&self) -> &GenericRows
         ensures rows { result.now ≡ self.now }
         ensures named { HaveOwnNames self.now }
-        ensures whole { all_of row_is_whole self.now ≡ true }
+        ensures whole { list_all row_is_whole self.now ≡ true }
     {
         &self.rows
     }
@@ -154,7 +153,7 @@ impl Generics {
     /// is more.
     pub fn cells(&self, alloc: Global, classes: &ClassRows) -> Result<u64, NoMemory>
         ensures { IfOk result
-            (λ n. n ≡ min (total (generic_cells (with_classes classes.now)) self.now) 262145) }
+            (λ n. n ≡ min (sum_by (generic_cells (with_classes classes.now)) self.now) 262145) }
     {
         cells(alloc, &self.rows, classes)
     }

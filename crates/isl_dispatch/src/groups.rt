@@ -1,7 +1,8 @@
 // The groups of classes at an argument of a generic function.
 
 ghost use Rattle.std.specs.Prelude.{◌≡◌, ◌≢◌, ◌==◌, not, ℕ, List, [], ◌∷◌, ◌++◌, length, slice_index_or, filter, slice_get, Some, IfOk, OnOk, MatchOption};
-ghost use Rattle.isl_meaning.specs.Lookup.{is_in, some_of};
+ghost use Rattle.std.specs.List.{list_any};
+ghost use Rattle.isl_meaning.specs.Lookup.{is_in};
 ghost use Rattle.isl_meaning.specs.Cells.{argument_classes, is_specialised, group_of};
 ghost use Rattle.isl_dispatch.specs.OfClasses.{with_classes};
 ghost use Rattle.isl_dispatch.specs.GroupNumbers.{AreGroups, IsTaken};
@@ -173,7 +174,7 @@ fn class_at(classes: &ClassIds, argument: usize) -> ClassId
 
 // Whether one of them is not `<object>`.
 fn is_specialised(column: &ClassIds) -> bool
-    ensures { result ≡ some_of (λ c. not (c == 0)) column.now }
+    ensures { result ≡ list_any (λ c. not (c == 0)) column.now }
 {
     for class in column.as_slice() {
         if *class != 0 {

@@ -1,11 +1,11 @@
 // Laws of the methods that apply to a call, for all programs.
 
 ghost use Rattle.std.specs.Prelude.{◌≡◌, ◌≢◌, ◌<◌, ◌≤◌, ℕ, true, false, List, Some, filter, length, slice_get, take};
+ghost use Rattle.std.specs.List.{sum_by};
 ghost use Rattle.isl_meaning.specs.declared.program.ProgramRows.{ProgramRows};
 ghost use Rattle.isl_meaning.specs.declared.program.GenericRow.{GenericRow};
 ghost use Rattle.isl_meaning.specs.declared.program.MethodRow.{MethodRow};
 ghost use Rattle.isl_meaning.specs.Classes.{applies, applicable, more_specific};
-ghost use Rattle.isl_meaning.specs.ProgramCounts.{total};
 ghost use Rattle.isl_dispatch.specs.Methods.{row_is_whole, methods_at, with_method, with_first_methods};
 
 /// The methods that a call finds are the ones that apply, in the order of their specificity (ISO/IEC
@@ -14,8 +14,8 @@ ghost use Rattle.isl_dispatch.specs.Methods.{row_is_whole, methods_at, with_meth
 /// methods at most one is more specific than the other.
 pub fn law_order()
     ensures same { (program : ProgramRows) (g : GenericRow) (cs : List ℕ) (count : MethodRow → ℕ) →
-        total count (applicable program cs g.methods)
-        ≡ total count (filter (λ m. applies program cs m.classes) g.methods) }
+        sum_by count (applicable program cs g.methods)
+        ≡ sum_by count (filter (λ m. applies program cs m.classes) g.methods) }
     ensures order { (program : ProgramRows) (g : GenericRow) (cs : List ℕ) (i j : ℕ) (m n : MethodRow) →
         row_is_whole g ≡ true → i < j →
         slice_get (applicable program cs g.methods) i ≡ Some m →

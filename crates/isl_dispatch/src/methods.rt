@@ -1,8 +1,8 @@
 // Which methods a generic function takes.
 
 ghost use Rattle.std.specs.Prelude.{◌≡◌, ◌<◌, ◌≤◌, length, OnOk, OnErr};
-ghost use Rattle.isl_meaning.specs.Values.{same_text};
-ghost use Rattle.isl_meaning.specs.Lookup.{some_of};
+ghost use Rattle.std.specs.List.{list_any};
+ghost use Rattle.std.specs.Str.{bytes_eq};
 ghost use Rattle.isl_meaning.specs.Classes.{is_qualifier};
 ghost use Rattle.isl_dispatch.specs.Methods.{takes, is_same, with_method, methods_at, with_first_methods};
 
@@ -21,7 +21,7 @@ pub fn takes(row: &GenericRow, rest: bool, method: &MethodRow) -> bool
 
 // Whether one of the methods has the same qualifier and classes.
 fn is_among(methods: &MethodRows, method: &MethodRow) -> bool
-    ensures { result ≡ some_of (is_same method.now) methods.now }
+    ensures { result ≡ list_any (is_same method.now) methods.now }
 {
     for other in methods.as_slice() {
         if is_same(method, other) {
@@ -53,7 +53,7 @@ pub fn is_qualifier(kind: Qualifier, other: Qualifier) -> bool
 
 // Whether both are the same classes.
 fn same_classes(classes: &ClassIds, others: &ClassIds) -> bool
-    ensures { result ≡ same_text classes.now others.now }
+    ensures { result ≡ bytes_eq classes.now others.now }
 {
     classes.as_slice() == others.as_slice()
 }

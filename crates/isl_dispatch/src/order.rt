@@ -1,7 +1,7 @@
 // The methods that apply to a tuple of classes, the most specific one first.
 
 ghost use Rattle.std.specs.Prelude.{◌≡◌, ◌==◌, ◌≤◌, ◌+◌, List, IfOk, MatchOption, length, nat_lt};
-ghost use Rattle.isl_meaning.specs.Lookup.{place_in};
+ghost use Rattle.std.specs.List.{position_or_len};
 ghost use Rattle.isl_meaning.specs.Classes.{precedence, more_specific, applicable};
 ghost use Rattle.isl_dispatch.specs.OfClasses.{with_classes};
 ghost use Rattle.isl_meaning.specs.declared.program.MethodRow.{MethodRow};
@@ -50,7 +50,7 @@ fn place_for(
     ensures within { result ≤ length order.now.items }
     ensures place { (picked : List MethodRow)
         → ArePicked generic.now.methods order.now.items picked
-        → result ≡ place_in (λ n. more_specific (with_classes classes.now) tuple.now
+        → result ≡ position_or_len (λ n. more_specific (with_classes classes.now) tuple.now
         method.now.classes n.classes) picked }
 {
     for at in 0..order.len() {
@@ -118,8 +118,8 @@ fn decision_at(
 // Whether one class stands earlier than another in the precedence list of a third.
 fn stands_earlier(classes: &ClassRows, class: ClassId, first: ClassId, second: ClassId) -> bool
     ensures { result
-        ≡ nat_lt (place_in (λ d. d == first) (precedence (with_classes classes.now) class))
-        (place_in (λ d. d == second) (precedence (with_classes classes.now) class)) }
+        ≡ nat_lt (position_or_len (λ d. d == first) (precedence (with_classes classes.now) class))
+        (position_or_len (λ d. d == second) (precedence (with_classes classes.now) class)) }
 {
     place_above(classes, class, first) < place_above(classes, class, second)
 }
@@ -127,7 +127,7 @@ fn stands_earlier(classes: &ClassRows, class: ClassId, first: ClassId, second: C
 // The place of a class in the precedence list of another.
 fn place_above(classes: &ClassRows, class: ClassId, above: ClassId) -> usize
     ensures { result
-        ≡ place_in (λ d. d == above) (precedence (with_classes classes.now) class) }
+        ≡ position_or_len (λ d. d == above) (precedence (with_classes classes.now) class) }
 {
     match classes.get(class) {
         Some(row) => place_of(&row.precedence, above),
@@ -136,7 +136,7 @@ fn place_above(classes: &ClassRows, class: ClassId, above: ClassId) -> usize
 }
 
 fn place_of(list: &ClassIds, wanted: ClassId) -> usize
-    ensures { result ≡ place_in (λ d. d == wanted) list.now }
+    ensures { result ≡ position_or_len (λ d. d == wanted) list.now }
 {
     for at in 0..list.len() {
         let Some(class) = list.get(at) else {

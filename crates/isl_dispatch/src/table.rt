@@ -1,9 +1,9 @@
 // The table of one generic function.
 
 ghost use Rattle.std.specs.Prelude.{◌≡◌, ◌≤◌, ◌++◌, ◌∷◌, [], IfOk, OnOk, MatchOption, map, length, slice_get, slice_index_or};
+ghost use Rattle.std.specs.List.{range_with_len};
 ghost use Rattle.isl_meaning.specs.declared.program.ProgramRows.{ProgramRows};
 ghost use Rattle.isl_meaning.specs.declared.program.GenericRow.{GenericRow as Generic};
-ghost use Rattle.isl_meaning.specs.Objects.{count_up};
 ghost use Rattle.isl_meaning.specs.Classes.{chain};
 ghost use Rattle.isl_meaning.specs.Cells.{groups, tuples, generic_cells};
 ghost use Rattle.isl_dispatch.specs.OfClasses.{with_classes};
@@ -188,7 +188,7 @@ fn argument_maps(alloc: Global, generic: &GenericRow, classes: &ClassRows) -> Re
     ensures maps { IfOk result
         (λ m. AreMapsOf (with_classes classes.now) generic.now m.arguments) }
     ensures lists { IfOk result (λ m. m.lists
-        ≡ map (groups (with_classes classes.now) generic.now) (count_up 0 generic.now.required)) }
+        ≡ map (groups (with_classes classes.now) generic.now) (range_with_len 0 generic.now.required)) }
 {
     let mut maps = Maps {
         arguments: ItemList::new(alloc),

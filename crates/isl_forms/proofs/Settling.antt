@@ -24,7 +24,7 @@ use Rattle.isl_profile.specs.Marks.{Grows}
 use Rattle.isl_profile.specs.Shapes.{symbol_of}
 use Rattle.isl_profile.specs.bridge.GoodParts.{MaybeGood, good_parts}
 use Rattle.isl_profile.specs.Promises.{Settles, StepsStop}
-use Rattle.isl_profile.specs.bridge.Growing.{grows_same, grows_at_end}
+use Rattle.isl_profile.specs.bridge.Growing.{grows_same, nothing_added, grows_by}
 
 -- the steps so far: whatever the second comes to, with these tables, the first does
 pub record Leads (names : List (List ℕ)) (s : Tables) (d : Item) (t : Tables) (e : Item) : Type 0 where
@@ -140,22 +140,7 @@ stops_there names more s d t e NoMemory l c x h a = tt
 -- the tables grow by new symbols
 
 pub fresh_grows : (mark t : Tables) (added : List Symbol) → Grows mark t → Grows mark (with_symbols (t.fresh ++ added) t)
-fresh_grows mark t added g = record {
-  words = g.words;
-  classes = g.classes;
-  literals = g.literals;
-  procedures = g.procedures;
-  functions = g.functions;
-  prelude = g.prelude;
-  globals = g.globals;
-  set = g.set;
-  dynamics = g.dynamics;
-  sites = g.sites;
-  fresh = grows_at_end mark.fresh t.fresh added g.fresh;
-  main = g.main;
-  variables = g.variables;
-  exits = g.exits;
-}
+fresh_grows mark t added g = grows_by mark t (record nothing_added { fresh = Some added }) g
 
 no_class_of : (names : List (List ℕ)) (t : Tables) (e last : Item) → Good (length names) e → last ≡ e → class_in_front names t (list_items last) ≡ None → NoClass names t e
 no_class_of names t e last g same c = no_class names t e g (subst (λ i. class_in_front names t (list_items i) ≡ None) same c)

@@ -1,4 +1,3 @@
-pub mod MakingWalks
 pub mod MakingLists
 pub mod MakingFound
 pub mod MakingGroups

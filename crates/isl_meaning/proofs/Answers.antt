@@ -1,5 +1,6 @@
 -- What the primitives keep of the state.
 use Rattle.std.proofs.Common.{ℕ, ◌+◌, Bool, true, false, List, [], ◌∷◌, Option, Some, None, length}
+use Rattle.std.specs.List.{position_or_len}
 use Rattle.std.specs.Prelude.{ℤ, pos, ◌+ℤ◌, ◌-ℤ◌, ◌*ℤ◌, slice_get, slice_set, if◌then◌else◌, ◌==◌}
 use Rattle.isl_meaning.specs.declared.primitive.Primitive.{Primitive}
 use Rattle.isl_meaning.specs.declared.primitive.Primitive.TheVariants.{Add, Subtract, Multiply, Divide, Modulo, NumberEqual, NumberNotEqual, NumberLess, NumberAtMost, NumberGreater, NumberAtLeast, Same, IsNull, IsCons, IsInteger, IsSymbol, IsCharacter, IsString, IsVector, IsFunction, IsGeneric, Cons, Car, Cdr, SetCar, SetCdr, MakeString, MakeVector, StringLength, VectorLength, CharAt, VectorRef, SetCharAt, SetVectorRef, CharCode, CodeChar, SymbolName, SymbolSerial, Gensym, ClassOf, ClassName, IsSubclass, IsInstance, Allocate, SlotCount, SlotPlace, SlotRef, SlotSet, SlotBound, SlotInitargs, SlotInitform, Continuable, StandardInput, StandardOutput, PutChar, IsFreshLine, GetByte, PeekByte}
@@ -8,7 +9,7 @@ use Rattle.isl_meaning.specs.declared.program.SlotRow.{SlotRow}
 use Rattle.isl_meaning.specs.Values.{Value, integer, character, symbol, nil, object, in_range, int_equal}
 use Rattle.isl_meaning.specs.Objects.{Object, cons, string, vector, instance}
 use Rattle.isl_meaning.specs.State.{State}
-use Rattle.isl_meaning.specs.Lookup.{passed, place_in}
+use Rattle.isl_meaning.specs.Lookup.{passed}
 use Rattle.isl_meaning.specs.Classes.{fetch, class_of, precedence, slots, is_condition}
 use Rattle.isl_meaning.specs.Primitives.{Answer, result, makes, makes_symbol, fails, domain_error, needs, as_integer, as_character, as_cons, as_string, as_vector, as_class, as_instance, as_stream, as_symbol, integer_result, floor_quotient, floor_remainder, division, index_of, length_of, byte_of, change, other_bytes, can_be_made, is_slot, slot_place, slot_value, a_slot, of_none, of_one, of_two, of_three, of_integers, primitive}
 use Rattle.isl_meaning.proofs.Steps.{IsKept}
@@ -84,7 +85,7 @@ module _ (R : State → State → Type 0) (k : IsKept R) where
 
   place_kept : (rows : List SlotRow) (p : SlotRow → Bool) (z : State) → Keeps z (slot_place rows p z)
   place_kept rows p z =
-      needed (index_of (pos (place_in p rows)) (length rows)) z (at (k.charge (length rows) z)) (λ i. at (k.charge (i + 1) z))
+      needed (index_of (pos (position_or_len p rows)) (length rows)) z (at (k.charge (length rows) z)) (λ i. at (k.charge (i + 1) z))
 
   value_kept : (o : Option (Option Value)) (z : State) → Keeps z (slot_value o z)
   value_kept (Some (Some v)) z = at (k.none z)

@@ -1,12 +1,13 @@
 -- Forms and tasks side by side, over the meaning one level below on both sides: one line a form.
 use Rattle.std.proofs.Common.{ℕ, ◌+◌, ◌-◌, List, [], ◌∷◌, ◌++◌, Option, Some, None, length}
+use Rattle.std.specs.Str.{bytes_eq}
 use Rattle.isl_meaning.specs.declared.program.LiteralRow.{LiteralRow}
 use Rattle.isl_meaning.specs.declared.program.LiteralRow.TheVariants as row
 use Rattle.isl_meaning.specs.Form.{Form, literal, local, set_local, global, set_global, def_global, clauses, sequence, let_form, lambda, call, call_value, apply, prim, while_form, block, return_from, tagbody, go, catch_form, throw, unwind, dynamic_let, dynamic, set_dynamic, def_dynamic, with_handler, signal_form, continue_form, next_method, has_next, sited}
 use Rattle.isl_meaning.specs.Form.{Forms, no_form, form_and, ClauseForms, no_clause, clause_and, MaybeForm, no_body, with_body}
 use Rattle.isl_meaning.specs.Form.{BindingForms, no_binding, binding_and, DynamicForms, no_dynamic, dynamic_and}
 use Rattle.isl_meaning.specs.Counts.{count_forms, count_clauses, count_bindings, count_dynamics}
-use Rattle.isl_meaning.specs.Values.{Value, symbol, named, nil, is_true, same_text}
+use Rattle.isl_meaning.specs.Values.{Value, symbol, named, nil, is_true}
 use Rattle.isl_meaning.specs.Objects.{Called, Environment, fresh_symbol, function_class, list_class, serious_condition_class, control_error_class, unbound_variable_class}
 use Rattle.isl_meaning.specs.State.{State, Surroundings, Exit, block_exit, tagbody_exit, catch_exit, at_segment, Evaluated, Act, inside, exit_made, charged}
 use Rattle.isl_meaning.specs.Lookup.{text, under_text, under_number, value_at, set_at, numbered, with_variables, with_values, with_exit}
@@ -68,7 +69,7 @@ module _ {R : State → State → Type 0} {k : IsKept R} (b : Beside R k) where
 
   dynamics : (name : List ℕ) → Both b (λ context. mean_dynamic context name)
   dynamics name around z =
-      searches around.exits (λ (b : List ℕ × ℕ). same_text name b.0)
+      searches around.exits (λ (b : List ℕ × ℕ). bytes_eq name b.0)
       (λ b y. given around.exits (value_at (Some b.1) y) y (k.none y))
       (λ y. some (under_text name y.dynamics) (unbound name)
       (λ v a x. given a.exits v x (k.none x)) around y)
@@ -80,7 +81,7 @@ module _ {R : State → State → Type 0} {k : IsKept R} (b : Beside R k) where
 
   dynamics_set : (name : List ℕ) (v : Value) → Both b (λ context. set_dynamic_to context name v)
   dynamics_set name v around z =
-      searches around.exits (λ (b : List ℕ × ℕ). same_text name b.0)
+      searches around.exits (λ (b : List ℕ × ℕ). bytes_eq name b.0)
       (λ b y. given around.exits v (set_at (Some b.1) v y) (variable_set (Some b.1) v y))
       (λ y. some (under_text name y.dynamics) (unbound name)
       (λ old a x. given a.exits v (record x { dynamics = (name, v) ∷ x.dynamics }) (k.dynamics _ x)) around y)

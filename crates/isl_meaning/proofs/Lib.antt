@@ -8,3 +8,4 @@ pub mod NamesBound
 pub mod Bounds
 pub mod Counting
 pub mod BuiltInRows
+pub mod Joined

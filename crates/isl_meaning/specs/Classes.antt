@@ -1,5 +1,6 @@
 -- Classes, and the methods that a call runs (ISO/IEC 13816:2007, 15).
 use Rattle.std.specs.Prelude.{ℕ, ◌==◌, Bool, true, false, ◌&&◌, nat_le, nat_lt, List, [], ◌∷◌, Option, Some, None, map, filter, reverse, slice_get, if◌then◌else◌}
+use Rattle.std.specs.List.{position_or_len}
 use Rattle.isl_meaning.specs.declared.program.ProgramRows.{ProgramRows}
 use Rattle.isl_meaning.specs.declared.program.ClassRow.{ClassRow}
 use Rattle.isl_meaning.specs.declared.program.SlotRow.{SlotRow}
@@ -11,7 +12,7 @@ use Rattle.isl_meaning.specs.Values.{Value, integer, character, symbol, nil, obj
 use Rattle.isl_meaning.specs.Objects.{Object, cons, string, vector, instance, function, closure, generic_function, class_object, input_stream, output_stream, fresh_symbol, Chain}
 use Rattle.isl_meaning.specs.Objects.{vector_class, string_class, character_class, function_class, generic_function_class, cons_class, symbol_class, null_class, integer_class, stream_class, built_in_class_class, standard_class_class, serious_condition_class}
 use Rattle.isl_meaning.specs.State.{State}
-use Rattle.isl_meaning.specs.Lookup.{is_in, place_in}
+use Rattle.isl_meaning.specs.Lookup.{is_in}
 
 -- the class of a value (ISO/IEC 13816:2007, 15.5). In this profile the classes numbered 0 to 16 are of
 -- `<built-in-class>`, and all others of `<standard-class>`.
@@ -82,7 +83,7 @@ applies program (c ∷ cs) (m ∷ ms) = is_below program c m && applies program 
 abbrev pub more_specific : ProgramRows → List ℕ → List ℕ → List ℕ → Bool
 more_specific program (c ∷ cs) (m ∷ ms) (n ∷ ns) =
     if m == n then more_specific program cs ms ns
-    else nat_lt (place_in (λ d. d == m) (precedence program c)) (place_in (λ d. d == n) (precedence program c))
+    else nat_lt (position_or_len (λ d. d == m) (precedence program c)) (position_or_len (λ d. d == n) (precedence program c))
 more_specific program cs ms ns = false
 
 -- the methods ordered, the most specific one first

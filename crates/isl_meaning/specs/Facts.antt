@@ -1,6 +1,7 @@
 -- What a program has to be (ISO/IEC 13816:2007, 11, 12 and 15): data in form, ids in range, arguments as many as they are
 -- taken, names bound where they stand, captured parts as they are, and sizes within the limits of this profile.
 use Rattle.std.specs.Prelude.{ℕ, ◌+◌, ◌==◌, Bool, true, false, not, ◌&&◌, ◌||◌, nat_le, nat_lt, List, [], ◌∷◌, Option, Some, None, length, slice_get, is_some, if◌then◌else◌}
+use Rattle.std.specs.Str.{bytes_eq}
 use Rattle.std.specs.List.{list_all, list_any}
 use Rattle.isl_base.specs.declared.datum.Name.{Name}
 use Rattle.isl_base.specs.DataFormed.{is_formed}
@@ -27,7 +28,6 @@ use Rattle.isl_meaning.specs.Fits.{fits}
 use Rattle.isl_meaning.specs.ProgramCounts.{program_nodes}
 use Rattle.isl_meaning.specs.Lookup.{all_differ}
 use Rattle.isl_meaning.specs.Standing.{stands_alone, is_alone}
-use Rattle.isl_meaning.specs.Values.{same_text}
 
 abbrev pub body_fits : ProgramRows → Form → Bool
 body_fits rows f = fits rows f && nat_le (depth f) 1000
@@ -62,7 +62,7 @@ is_plain_slot s = is_one s.name s.initargs && not (is_some s.initform)
 -- a built-in class has that precedence list and so many slots, and is not abstract
 abbrev pub is_row : ClassRow → List ℕ → ℕ → Bool
 is_row c precedence slots =
-    same_text c.precedence precedence && length c.slots == slots && list_all is_plain_slot c.slots && not c.abstract_class
+    bytes_eq c.precedence precedence && length c.slots == slots && list_all is_plain_slot c.slots && not c.abstract_class
 
 -- the built-in classes come first, names aside
 abbrev pub begins_with_built_in : List ClassRow → List (List ℕ) → List ℕ → Bool
@@ -91,7 +91,7 @@ method_fits rows g m =
     && is_alone (knows_next m.qualifier) (slice_get rows.procedures m.procedure)
 
 abbrev pub same_method : MethodRow → MethodRow → Bool
-same_method m n = is_qualifier m.qualifier n.qualifier && same_text m.classes n.classes
+same_method m n = is_qualifier m.qualifier n.qualifier && bytes_eq m.classes n.classes
 
 abbrev pub generic_fits : ProgramRows → GenericRow → Bool
 generic_fits rows g = list_all (method_fits rows g) g.methods && all_differ same_method g.methods

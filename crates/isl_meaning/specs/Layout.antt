@@ -1,6 +1,8 @@
 -- The layout: the objects that are there before the first form, each under its key, and what classes, streams, names, literals and
 -- slots stand for, which is the first object under their key.
 use Rattle.std.specs.Prelude.{ℕ, ◌+◌, ◌-◌, ◌==◌, Bool, true, false, ◌&&◌, List, [], ◌∷◌, ◌++◌, Option, Some, None, length, map, flat_map, if◌then◌else◌}
+use Rattle.std.specs.List.{range_with_len}
+use Rattle.std.specs.Str.{bytes_eq}
 use Rattle.isl_base.specs.Data as datum
 use Rattle.isl_base.specs.declared.datum.Symbol.TheVariants.{Named}
 use Rattle.isl_meaning.specs.declared.program.ProgramRows.{ProgramRows}
@@ -11,8 +13,8 @@ use Rattle.isl_meaning.specs.declared.program.Callee.{Callee}
 use Rattle.isl_meaning.specs.declared.program.Callee.TheVariants as callee
 use Rattle.isl_meaning.specs.declared.program.LiteralRow.{LiteralRow}
 use Rattle.isl_meaning.specs.declared.program.LiteralRow.TheVariants as row
-use Rattle.isl_meaning.specs.Values.{Value, nil, object, same_text}
-use Rattle.isl_meaning.specs.Objects.{Object, function, generic_function, class_object, input_stream, output_stream, count_up, built_in_classes}
+use Rattle.isl_meaning.specs.Values.{Value, nil, object}
+use Rattle.isl_meaning.specs.Objects.{Object, function, generic_function, class_object, input_stream, output_stream, built_in_classes}
 use Rattle.isl_meaning.specs.State.{no_place}
 use Rattle.isl_meaning.specs.Lookup.{text, numbered}
 use Rattle.isl_meaning.specs.Literals.{lay, lay_content}
@@ -33,7 +35,7 @@ abbrev pub same_key : Key → Key → Bool
 same_key (class c) (class d) = c == d
 same_key input input = true
 same_key output output = true
-same_key (function_of name) (function_of other) = same_text name other
+same_key (function_of name) (function_of other) = bytes_eq name other
 same_key (literal i) (literal j) = i == j
 same_key (initargs c i) (initargs d j) = c == d && i == j
 same_key (initform c i) (initform d j) = c == d && i == j
@@ -89,9 +91,9 @@ slot_things names c s =
 -- slot of each class what it says of the instances to come
 abbrev pub things : List (List ℕ) → ProgramRows → List Thing
 things names program =
-    class_things (count_up 0 built_in_classes)
+    class_things (range_with_len 0 built_in_classes)
     ++ (single input input_stream ∷ single output output_stream ∷ [])
-    ++ class_things (count_up built_in_classes (length program.classes - built_in_classes))
+    ++ class_things (range_with_len built_in_classes (length program.classes - built_in_classes))
     ++ function_things names program.functions
     ++ literal_things names program.literals
     ++ flat_map (λ (c : ClassRow × ℕ). flat_map (slot_things names c.1) (numbered c.0.slots 0)) (numbered program.classes 0)

@@ -1,12 +1,13 @@
 -- What data make: the objects of literals, which are constants (ISO/IEC 13816:2007, 14.1). And the rows of functions and of slots.
 use Rattle.std.specs.Prelude.{ℕ, ◌+◌, List, [], ◌∷◌, ◌++◌, Option, Some, None, length, if◌then◌else◌}
+use Rattle.std.specs.Str.{bytes_eq}
 use Rattle.isl_base.specs.Data as datum
 use Rattle.isl_base.specs.declared.datum.Symbol.{Symbol}
 use Rattle.isl_base.specs.declared.datum.Symbol.TheVariants.{Named, Fresh}
 use Rattle.isl_meaning.specs.declared.program.SlotRow.{SlotRow}
 use Rattle.isl_meaning.specs.declared.program.ClassRow.{ClassRow}
 use Rattle.isl_meaning.specs.declared.program.FunctionRow.{FunctionRow}
-use Rattle.isl_meaning.specs.Values.{SymbolValue, named, unnamed, Value, integer, character, symbol, nil, object, same_text}
+use Rattle.isl_meaning.specs.Values.{SymbolValue, named, unnamed, Value, integer, character, symbol, nil, object}
 use Rattle.isl_meaning.specs.Objects.{Object, cons, string, vector}
 use Rattle.isl_meaning.specs.Lookup.{text}
 
@@ -62,7 +63,7 @@ abbrev mutual
 -- the row of a function, by its name's text
 abbrev pub function_row : List (List ℕ) → List FunctionRow → List ℕ → Option FunctionRow
 function_row names [] name = None
-function_row names (f ∷ fs) name = if same_text name (text names f.name.0) then Some f else function_row names fs name
+function_row names (f ∷ fs) name = if bytes_eq name (text names f.name.0) then Some f else function_row names fs name
 
 -- all slots, class by class
 abbrev pub all_slots : List ClassRow → List SlotRow

@@ -1,6 +1,8 @@
 -- What names and numbers stand for: the first of its kind in a list (ISO/IEC 13816:2007, 11 and 14.2).
 use Rattle.std.specs.Prelude.{ℕ, ◌+◌, ◌==◌, Bool, true, false, not, ◌&&◌, List, [], ◌∷◌, ◌++◌, Option, Some, None, length, slice_index_or, slice_set, if◌then◌else◌}
-use Rattle.isl_meaning.specs.Values.{Value, nil, same_text}
+use Rattle.std.specs.List.{list_any}
+use Rattle.std.specs.Str.{bytes_eq}
+use Rattle.isl_meaning.specs.Values.{Value, nil}
 use Rattle.isl_meaning.specs.Objects.{Environment}
 use Rattle.isl_meaning.specs.State.{State}
 
@@ -8,38 +10,24 @@ use Rattle.isl_meaning.specs.State.{State}
 abbrev pub text : List (List ℕ) → ℕ → List ℕ
 text names n = slice_index_or names n []
 
--- whether one of the list passes
-abbrev pub some_of : {X : Type 0} → (X → Bool) → List X → Bool
-some_of p [] = false
-some_of p (x ∷ xs) = if p x then true else some_of p xs
-
--- whether all of the list pass, and whether no two of it are alike
-abbrev pub all_of : {X : Type 0} → (X → Bool) → List X → Bool
-all_of p [] = true
-all_of p (x ∷ xs) = p x && all_of p xs
-
+-- whether no two of the list are alike
 abbrev pub all_differ : {X : Type 0} → (X → X → Bool) → List X → Bool
 all_differ alike [] = true
-all_differ alike (x ∷ xs) = not (some_of (alike x) xs) && all_differ alike xs
+all_differ alike (x ∷ xs) = not (list_any (alike x) xs) && all_differ alike xs
 
 -- whether a number is in the list
 abbrev pub is_in : ℕ → List ℕ → Bool
-is_in n ns = some_of (λ m. n == m) ns
+is_in n ns = list_any (λ m. n == m) ns
 
 -- how many are passed in a search from the first on, the one that is found too
 abbrev pub passed : {X : Type 0} → (X → Bool) → List X → ℕ
 passed p [] = 0
 passed p (x ∷ xs) = if p x then 1 else 1 + passed p xs
 
--- the place of the first that passes, or the length
-abbrev pub place_in : {X : Type 0} → (X → Bool) → List X → ℕ
-place_in p [] = 0
-place_in p (x ∷ xs) = if p x then 0 else 1 + place_in p xs
-
 -- what stands under a text
 abbrev pub under_text : {X : Type 0} → List ℕ → List (List ℕ × X) → Option X
 under_text name [] = None
-under_text name (x ∷ xs) = if same_text name x.0 then Some x.1 else under_text name xs
+under_text name (x ∷ xs) = if bytes_eq name x.0 then Some x.1 else under_text name xs
 
 -- what stands under a number
 abbrev pub under_number : ℕ → List (ℕ × ℕ) → Option ℕ

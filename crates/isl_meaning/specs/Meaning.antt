@@ -1,6 +1,7 @@
 -- What a core form and a program mean (ISO/IEC 13816:2007, 12 and 14). Levels, units and words are this profile's
 -- own: they bound a run, and no program can tell them.
 use Rattle.std.specs.Prelude.{ℕ, zero, suc, ◌+◌, ◌-◌, Bool, true, false, List, [], ◌∷◌, ◌++◌, Option, Some, None, length, slice_get, slice_index_or, if◌then◌else◌}
+use Rattle.std.specs.Str.{bytes_eq}
 use Rattle.isl_base.specs.declared.place.Place.{Place}
 use Rattle.isl_meaning.specs.declared.program.LiteralRow.{LiteralRow}
 use Rattle.isl_meaning.specs.declared.program.LiteralRow.TheVariants as row
@@ -9,7 +10,7 @@ use Rattle.isl_meaning.specs.Form.{Form, literal, local, set_local, global, set_
 use Rattle.isl_meaning.specs.Form.{Forms, no_form, form_and, ClauseForms, no_clause, clause_and, MaybeForm, no_body, with_body}
 use Rattle.isl_meaning.specs.Form.{BindingForms, no_binding, binding_and, DynamicForms, no_dynamic, dynamic_and}
 use Rattle.isl_meaning.specs.Counts.{own_nodes, nodes, application_words}
-use Rattle.isl_meaning.specs.Values.{Value, symbol, named, nil, object, truth, is_true, same_text}
+use Rattle.isl_meaning.specs.Values.{Value, symbol, named, nil, object, truth, is_true}
 use Rattle.isl_meaning.specs.Objects.{Called, Environment, no_environment, Object, cons, closure, function_class, list_class, serious_condition_class, control_error_class}
 use Rattle.isl_meaning.specs.State.{State, first_state, Surroundings, main_surroundings, no_place, block_exit, tagbody_exit, catch_exit, Landing, at_segment, at_site, Outcome, value, exit, full, more, Evaluated, gives, Act, go_on, landed, caught, cleaned, inside, exit_made, Limit, request, charged, make}
 use Rattle.isl_meaning.specs.Lookup.{text, is_in, under_text, under_number, value_at, set_at, numbered, with_variables, with_values, with_exit}
@@ -107,14 +108,14 @@ module _ (context : Context) where
   -- a dynamic variable (ISO/IEC 13816:2007, 14.3): the innermost binding, else the outermost value
   abbrev pub mean_dynamic : List ℕ → Act
   mean_dynamic name around z =
-      search (λ (b : List ℕ × ℕ). same_text name b.0) (λ b y. gives (value_at (Some b.1) y) y)
+      search (λ (b : List ℕ × ℕ). bytes_eq name b.0) (λ b y. gives (value_at (Some b.1) y) y)
       (λ y. with_some (under_text name y.dynamics) (unbound_variable (signal context) name)
       (λ v a x. gives v x) around y)
       around.bindings z
 
   abbrev pub set_dynamic_to : List ℕ → Value → Act
   set_dynamic_to name v around z =
-      search (λ (b : List ℕ × ℕ). same_text name b.0) (λ b y. gives v (set_at (Some b.1) v y))
+      search (λ (b : List ℕ × ℕ). bytes_eq name b.0) (λ b y. gives v (set_at (Some b.1) v y))
       (λ y. with_some (under_text name y.dynamics) (unbound_variable (signal context) name)
       (λ old a x. gives v (record x { dynamics = (name, v) ∷ x.dynamics })) around y)
       around.bindings z

@@ -1,5 +1,5 @@
 -- Objects (ISO/IEC 13816:2007, 15), and what functions keep of the place where they were made.
-use Rattle.std.specs.Prelude.{ℕ, zero, suc, ◌+◌, List, [], ◌∷◌, Option, None}
+use Rattle.std.specs.Prelude.{ℕ, List, [], Option, None}
 use Rattle.isl_meaning.specs.Form.{Form}
 use Rattle.isl_meaning.specs.Values.{Value}
 
@@ -43,11 +43,6 @@ pub data Object : Type 0 where
   output_stream : Object
   -- a symbol that the program made, by its serial
   fresh_symbol : ℕ → Object
-
--- the numbers from a first one on
-abbrev pub count_up : ℕ → ℕ → List ℕ
-count_up first zero = []
-count_up first (suc n) = first ∷ count_up (first + 1) n
 
 -- the number of built-in classes
 abbrev pub built_in_classes : ℕ

@@ -3,16 +3,18 @@
 -- `<program-error>` for a bad index or an unbound slot. The classes of the arguments are checked first, from left
 -- to right.
 use Rattle.std.specs.Prelude.{ℕ, zero, suc, ◌+◌, ◌/◌, ◌%◌, ◌==◌, ℤ, pos, negsuc, ◌+ℤ◌, ◌-ℤ◌, ◌*ℤ◌, int_lt, int_le, Bool, true, false, not, ◌&&◌, ◌||◌, nat_le, nat_lt, List, [], ◌∷◌, ◌++◌, length, replicate, Option, Some, None, slice_get, slice_set, slice_index_or, if◌then◌else◌, is_some}
+use Rattle.std.specs.List.{position_or_len}
+use Rattle.std.specs.Str.{bytes_eq}
 use Rattle.isl_meaning.specs.declared.primitive.Primitive.{Primitive}
 use Rattle.isl_meaning.specs.declared.primitive.Primitive.TheVariants.{Add, Subtract, Multiply, Divide, Modulo, NumberEqual, NumberNotEqual, NumberLess, NumberAtMost, NumberGreater, NumberAtLeast, Same, IsNull, IsCons, IsInteger, IsSymbol, IsCharacter, IsString, IsVector, IsFunction, IsGeneric, Cons, Car, Cdr, SetCar, SetCdr, MakeString, MakeVector, StringLength, VectorLength, CharAt, VectorRef, SetCharAt, SetVectorRef, CharCode, CodeChar, SymbolName, SymbolSerial, Gensym, ClassOf, ClassName, IsSubclass, IsInstance, Allocate, SlotCount, SlotPlace, SlotRef, SlotSet, SlotBound, SlotInitargs, SlotInitform, Continuable, StandardInput, StandardOutput, PutChar, IsFreshLine, GetByte, PeekByte}
 use Rattle.isl_meaning.specs.declared.program.ProgramRows.{ProgramRows}
 use Rattle.isl_meaning.specs.declared.program.ClassRow.{ClassRow}
 use Rattle.isl_meaning.specs.declared.program.SlotRow.{SlotRow}
-use Rattle.isl_meaning.specs.Values.{named, unnamed, Value, integer, character, symbol, nil, object, truth, in_range, int_equal, same, same_text}
+use Rattle.isl_meaning.specs.Values.{named, unnamed, Value, integer, character, symbol, nil, object, truth, in_range, int_equal, same}
 use Rattle.isl_meaning.specs.Objects.{Object, cons, string, vector, instance, function, closure, generic_function, class_object, input_stream, output_stream, fresh_symbol, built_in_classes}
 use Rattle.isl_meaning.specs.Objects.{vector_class, string_class, character_class, cons_class, symbol_class, integer_class, stream_class, standard_class_class, standard_object_class, serious_condition_class, program_error_class, division_by_zero_class, integer_overflow_class}
 use Rattle.isl_meaning.specs.State.{State, charged, changed}
-use Rattle.isl_meaning.specs.Lookup.{text, place_in, passed}
+use Rattle.isl_meaning.specs.Lookup.{text, passed}
 use Rattle.isl_meaning.specs.Classes.{class_of, fetch, precedence, slots, is_below, is_condition}
 use Rattle.isl_meaning.specs.Layout.{class_value, initargs_value, initform_value, standard_input, standard_output}
 
@@ -205,12 +207,12 @@ can_be_made program c =
 
 -- the slots of an instance, searched for a name from the first one on
 abbrev pub is_slot : List (List ℕ) → Spelt → SlotRow → Bool
-is_slot names (by_name name) s = same_text name (text names s.name.0)
+is_slot names (by_name name) s = bytes_eq name (text names s.name.0)
 is_slot names (by_serial serial) s = false
 
 abbrev pub slot_place : List SlotRow → (SlotRow → Bool) → State → Answer
 slot_place rows p z =
-    needs (index_of (pos (place_in p rows)) (length rows)) (program_error (charged (length rows) z))
+    needs (index_of (pos (position_or_len p rows)) (length rows)) (program_error (charged (length rows) z))
     (λ i. result (integer (pos i)) (charged (i + 1) z))
 
 -- the value of a slot that has one

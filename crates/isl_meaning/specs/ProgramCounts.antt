@@ -1,5 +1,6 @@
 -- The nodes of a program (this profile's own measure).
-use Rattle.std.specs.Prelude.{ℕ, ◌+◌, ◌*◌, List, [], ◌∷◌, length}
+use Rattle.std.specs.Prelude.{ℕ, ◌+◌, ◌*◌, length}
+use Rattle.std.specs.List.{sum_by}
 use Rattle.isl_base.specs.DataMeasures.{size_of}
 use Rattle.isl_meaning.specs.declared.program.LiteralRow.{LiteralRow}
 use Rattle.isl_meaning.specs.declared.program.LiteralRow.TheVariants as row
@@ -8,11 +9,6 @@ use Rattle.isl_meaning.specs.declared.program.SlotRow.{SlotRow}
 use Rattle.isl_meaning.specs.declared.program.ClassRow.{ClassRow}
 use Rattle.isl_meaning.specs.declared.program.ProgramRows.{ProgramRows}
 use Rattle.isl_meaning.specs.Counts.{nodes, all_nodes, application_words}
-
--- the sum over a list
-abbrev pub total : {X : Type 0} → (X → ℕ) → List X → ℕ
-total f [] = 0
-total f (x ∷ xs) = f x + total f xs
 
 -- a literal counts the size of its datum; a class or a function counts one
 abbrev pub row_nodes : LiteralRow → ℕ
@@ -29,16 +25,16 @@ abbrev pub slot_nodes : SlotRow → ℕ
 slot_nodes s = 1 + length s.initargs
 
 abbrev pub class_nodes : ClassRow → ℕ
-class_nodes c = length c.precedence + total slot_nodes c.slots
+class_nodes c = length c.precedence + sum_by slot_nodes c.slots
 
 -- a generic function counts four
 abbrev pub program_nodes : ProgramRows → ℕ
 program_nodes program =
-    total row_nodes program.literals
-    + total procedure_nodes program.procedures
-    + total class_nodes program.classes
+    sum_by row_nodes program.literals
+    + sum_by procedure_nodes program.procedures
+    + sum_by class_nodes program.classes
     + 4 * length program.generics
-    + total all_nodes program.main
+    + sum_by all_nodes program.main
 
 -- the stack words of an active application of a procedure, besides one for each argument
 abbrev pub frame_words : Procedure → ℕ

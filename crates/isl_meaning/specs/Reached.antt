@@ -1,5 +1,6 @@
 -- What the main forms of a program reach, and how many words an image of it may have (this profile's own).
 use Rattle.std.specs.Prelude.{ℕ, zero, suc, ◌+◌, ◌*◌, min, List, [], ◌∷◌, ◌++◌, Option, Some, None, length, map, flat_map, option_to_list, slice_get, if◌then◌else◌}
+use Rattle.std.specs.List.{sum_by}
 use Rattle.isl_meaning.specs.declared.program.LiteralRow.{LiteralRow}
 use Rattle.isl_meaning.specs.declared.program.LiteralRow.TheVariants as row
 use Rattle.isl_meaning.specs.declared.program.GenericRow.{GenericRow}
@@ -14,7 +15,7 @@ use Rattle.isl_meaning.specs.Counts.{all_nodes}
 use Rattle.isl_meaning.specs.Inside.{inside_form}
 use Rattle.isl_meaning.specs.Literals.{function_row, all_slots}
 use Rattle.isl_meaning.specs.Lookup.{is_in, text}
-use Rattle.isl_meaning.specs.ProgramCounts.{total, row_nodes, procedure_nodes, class_nodes, program_nodes}
+use Rattle.isl_meaning.specs.ProgramCounts.{row_nodes, procedure_nodes, class_nodes, program_nodes}
 
 -- each number once
 abbrev pub once : List ℕ → List ℕ
@@ -106,10 +107,10 @@ rows_at xs ns = flat_map (λ n. option_to_list (slice_get xs n)) ns
 -- reached
 abbrev pub reached_nodes : List (List ℕ) → ProgramRows → ℕ
 reached_nodes names program =
-    total all_nodes program.main
-    + total class_nodes program.classes
-    + total procedure_nodes (rows_at program.procedures (reached_procedures names program))
-    + total row_nodes (rows_at program.literals (once (flat_map literals_of (reached_forms names program))))
+    sum_by all_nodes program.main
+    + sum_by class_nodes program.classes
+    + sum_by procedure_nodes (rows_at program.procedures (reached_procedures names program))
+    + sum_by row_nodes (rows_at program.literals (once (flat_map literals_of (reached_forms names program))))
     + 4 * length (once (flat_map (generics_of names program) (reached_forms names program)))
 
 -- the most words that an image of the program has

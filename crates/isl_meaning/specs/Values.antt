@@ -1,13 +1,7 @@
 -- Values (ISO/IEC 13816:2007, 13): an integer, a character, a symbol, nil, or the number of an object in
 -- the store.
 use Rattle.std.specs.Prelude.{ℕ, ℤ, pos, negsuc, Bool, true, false, ◌&&◌, ◌==◌, int_le, List, [], ◌∷◌, if◌then◌else◌}
-
--- whether two texts are the same bytes
-abbrev pub same_text : List ℕ → List ℕ → Bool
-same_text [] [] = true
-same_text [] (y ∷ ys) = false
-same_text (x ∷ xs) [] = false
-same_text (x ∷ xs) (y ∷ ys) = x == y && same_text xs ys
+use Rattle.std.specs.Str.{bytes_eq}
 
 -- a symbol that a text names, by its name, or one that an expansion made and no text names; those that a
 -- program makes while it runs are objects
@@ -16,7 +10,7 @@ pub data SymbolValue : Type 0 where
   unnamed : (expansion serial : ℕ) → SymbolValue
 
 abbrev pub same_symbol : SymbolValue → SymbolValue → Bool
-same_symbol (named a) (named b) = same_text a b
+same_symbol (named a) (named b) = bytes_eq a b
 same_symbol (named a) (unnamed x s) = false
 same_symbol (unnamed x s) (named b) = false
 same_symbol (unnamed x s) (unnamed y r) = x == y && s == r

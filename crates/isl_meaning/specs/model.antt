@@ -1,3 +1,4 @@
+pub mod ShapeCode
 pub mod FormCode
 pub mod View
 pub mod SubformsView

@@ -6,6 +6,9 @@ ghost use Rattle.isl_meaning.specs.BuiltInRows.{IsBuiltIn, AreBuiltIn};
 
 use crate::program::ClassId;
 
+/// How many classes are built in; those of a file have the numbers from here on.
+pub const BUILT_IN_CLASSES: ClassId = 34;
+
 /// A built-in class: its name, the classes above it in the order of its precedence list, and how many slots it has.
 pub struct BuiltInClass {
     pub name: &'static str,

@@ -194,12 +194,7 @@ impl Core {
     pub fn sited(alloc: Global, id: SiteId, inner: Core) -> Result<Core, NoMemory>
         ensures { IfOk result (λ core. core ≡ sited id inner) }
     {
-        match Box::new(alloc, inner) {
-            Ok(inner) => Ok(Core::new(CoreForm::Sited(id, inner))),
-            Err(refused) => {
-                drop(refused);
-                Err(NoMemory)
-            }
-        }
+        let inner = Box::new(alloc, inner)?;
+        Ok(Core::new(CoreForm::Sited(id, inner)))
     }
 }

@@ -4,6 +4,7 @@
 pub mod classes;
 pub mod core_form;
 pub mod laws;
+pub mod mentioned;
 pub mod nodes;
 pub mod part;
 pub mod primitive;
@@ -11,13 +12,17 @@ pub mod program;
 pub mod scope;
 mod whole;
 
-pub use classes::{BuiltInClass, built_in_class, class_text};
+pub use classes::{BUILT_IN_CLASSES, BuiltInClass, built_in_class, class_text};
 pub use core_form::{
     Binding, BindingList, Clause, ClauseList, Core, CoreForm, CoreList, DynBinding, DynBindings,
     SegmentList, Subforms,
 };
-pub use nodes::{class_list_nodes, form_nodes, frame_words, procedure_nodes, row_nodes};
-pub use part::{ExitVar, Part, PartList, Var};
+pub use mentioned::{mentions, owns};
+pub use nodes::{
+    class_list_nodes, form_list_nodes, form_nodes, frame_words, literal_list_nodes,
+    procedure_list_nodes, procedure_nodes, row_nodes,
+};
+pub use part::{ExitVar, Part, PartList, Var, same_part};
 pub use primitive::Primitive;
 pub use program::{
     Callee, ClassId, ClassIds, ClassRow, ClassRows, FunctionRow, FunctionRows, GenericId,

@@ -1,8 +1,9 @@
 // The nodes of programs, and the words of applications.
 
-ghost use Rattle.std.specs.Prelude.{◌≡◌, min, length};
+ghost use Rattle.std.specs.Prelude.{◌≡◌, min, length, drop};
+ghost use Rattle.std.specs.List.{sum_by};
 ghost use Rattle.isl_meaning.specs.Counts.{all_nodes};
-ghost use Rattle.isl_meaning.specs.ProgramCounts.{total, row_nodes, procedure_nodes, slot_nodes, class_nodes, program_nodes, frame_words};
+ghost use Rattle.isl_meaning.specs.ProgramCounts.{row_nodes, procedure_nodes, slot_nodes, class_nodes, program_nodes, frame_words};
 
 use crate::core_form::{Core, CoreList};
 use crate::program::{
@@ -22,11 +23,11 @@ impl ProgramRows {
     pub fn nodes(&self) -> u64
         ensures { result ≡ min (program_nodes self.now) 18446744073709551615 }
     {
-        literal_nodes(&self.literals)
-            .saturating_add(procedure_list_nodes(&self.procedures))
+        literal_list_nodes(&self.literals, 0)
+            .saturating_add(procedure_list_nodes(&self.procedures, 0))
             .saturating_add(class_list_nodes(&self.classes))
             .saturating_add((self.generics.len() as u64).saturating_mul(4))
-            .saturating_add(main_nodes(&self.main))
+            .saturating_add(form_list_nodes(&self.main, 0))
     }
 }
 
@@ -74,12 +75,13 @@ fn class_nodes(row: &ClassRow) -> u64
     (row.precedence.len() as u64).saturating_add(slot_list_nodes(&row.slots))
 }
 
-#[tactic(auto, using(crate::specs::bridge::Totals::none_counted, crate::specs::bridge::Totals::one_more, crate::specs::bridge::Totals::all_there))]
-fn literal_nodes(list: &LiteralRows) -> u64
-    ensures { result ≡ min (total row_nodes list.now) 18446744073709551615 }
+/// The nodes of the literals from that place on; 2^64 - 1 where that is more. Takes no memory.
+#[tactic(auto, using(isl_base::specs::bridge::Counted::none_counted, isl_base::specs::bridge::Counted::one_more, isl_base::specs::bridge::Counted::all_there))]
+pub fn literal_list_nodes(list: &LiteralRows, from: usize) -> u64
+    ensures { result ≡ min (sum_by row_nodes (drop from list.now)) 18446744073709551615 }
 {
     let mut total: u64 = 0;
-    for at in 0..list.len() {
+    for at in from..list.len() {
         let Some(row) = list.get(at) else {
             unreachable!()
         };
@@ -88,12 +90,14 @@ fn literal_nodes(list: &LiteralRows) -> u64
     total
 }
 
-#[tactic(auto, using(crate::specs::bridge::Totals::none_counted, crate::specs::bridge::Totals::one_more, crate::specs::bridge::Totals::all_there))]
-fn procedure_list_nodes(list: &ProcedureList) -> u64
-    ensures { result ≡ min (total procedure_nodes list.now) 18446744073709551615 }
+/// The nodes of the procedures from that place on, with the functions inside; 2^64 - 1 where that is more. Takes
+/// no memory.
+#[tactic(auto, using(isl_base::specs::bridge::Counted::none_counted, isl_base::specs::bridge::Counted::one_more, isl_base::specs::bridge::Counted::all_there))]
+pub fn procedure_list_nodes(list: &ProcedureList, from: usize) -> u64
+    ensures { result ≡ min (sum_by procedure_nodes (drop from list.now)) 18446744073709551615 }
 {
     let mut total: u64 = 0;
-    for at in 0..list.len() {
+    for at in from..list.len() {
         let Some(procedure) = list.get(at) else {
             unreachable!()
         };
@@ -102,9 +106,9 @@ fn procedure_list_nodes(list: &ProcedureList) -> u64
     total
 }
 
-#[tactic(auto, using(crate::specs::bridge::Totals::none_counted, crate::specs::bridge::Totals::one_more, crate::specs::bridge::Totals::all_there))]
+#[tactic(auto, using(isl_base::specs::bridge::Counted::none_counted, isl_base::specs::bridge::Counted::one_more, isl_base::specs::bridge::Counted::all_there))]
 fn slot_list_nodes(list: &SlotRows) -> u64
-    ensures { result ≡ min (total slot_nodes list.now) 18446744073709551615 }
+    ensures { result ≡ min (sum_by slot_nodes list.now) 18446744073709551615 }
 {
     let mut total: u64 = 0;
     for at in 0..list.len() {
@@ -118,9 +122,9 @@ fn slot_list_nodes(list: &SlotRows) -> u64
 
 /// The nodes of classes: their precedence lists, slots and initargs; 2^64 - 1 where that is more. Takes
 /// no memory.
-#[tactic(auto, using(crate::specs::bridge::Totals::none_counted, crate::specs::bridge::Totals::one_more, crate::specs::bridge::Totals::all_there))]
+#[tactic(auto, using(isl_base::specs::bridge::Counted::none_counted, isl_base::specs::bridge::Counted::one_more, isl_base::specs::bridge::Counted::all_there))]
 pub fn class_list_nodes(list: &ClassRows) -> u64
-    ensures { result ≡ min (total class_nodes list.now) 18446744073709551615 }
+    ensures { result ≡ min (sum_by class_nodes list.now) 18446744073709551615 }
 {
     let mut total: u64 = 0;
     for at in 0..list.len() {
@@ -132,12 +136,14 @@ pub fn class_list_nodes(list: &ClassRows) -> u64
     total
 }
 
-#[tactic(auto, using(crate::specs::bridge::Totals::none_counted, crate::specs::bridge::Totals::one_more, crate::specs::bridge::Totals::all_there))]
-fn main_nodes(list: &CoreList) -> u64
-    ensures { result ≡ min (total all_nodes list.now) 18446744073709551615 }
+/// The nodes of the forms from that place on, with the functions inside; 2^64 - 1 where that is more. Takes no
+/// memory.
+#[tactic(auto, using(isl_base::specs::bridge::Counted::none_counted, isl_base::specs::bridge::Counted::one_more, isl_base::specs::bridge::Counted::all_there))]
+pub fn form_list_nodes(list: &CoreList, from: usize) -> u64
+    ensures { result ≡ min (sum_by all_nodes (drop from list.now)) 18446744073709551615 }
 {
     let mut total: u64 = 0;
-    for at in 0..list.len() {
+    for at in from..list.len() {
         let Some(form) = list.get(at) else {
             unreachable!()
         };

@@ -1,5 +1,8 @@
 // The parts of its surroundings that a function captures.
 
+ghost use Rattle.std.specs.Prelude.{◌≡◌};
+ghost use Rattle.isl_meaning.specs.Mentions.{same_part};
+
 use isl_base::ItemList;
 
 /// The number of a lexical variable.
@@ -19,3 +22,15 @@ pub enum Part {
 
 /// Captured parts.
 pub type PartList = ItemList<Part>;
+
+/// Whether both are the same part.
+pub fn same_part(part: Part, other: Part) -> bool
+    ensures { result ≡ same_part part other }
+{
+    match (part, other) {
+        (Part::Variable(v), Part::Variable(w)) => v == w,
+        (Part::Exit(x), Part::Exit(y)) => x == y,
+        (Part::Method, Part::Method) => true,
+        _ => false,
+    }
+}

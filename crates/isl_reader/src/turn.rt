@@ -34,13 +34,8 @@ fn refused(place: Place, reason: Reason) -> Stop
 fn push(pending: &mut Vec<Pending>, datum: Pending) -> Result<(), NoMemory>
     ensures { OnOk result (pending.new.items ≡ pending.old.items ++ datum ∷ []) }
 {
-    match pending.push(datum) {
-        Ok(()) => Ok(()),
-        Err(refused) => {
-            drop(refused);
-            Err(NoMemory)
-        }
-    }
+    pending.push(datum)?;
+    Ok(())
 }
 
 // The list of a prefix's symbol and a datum.

@@ -1,7 +1,9 @@
 -- Tables stay a whole program: in front of all forms, and behind each that is taken.
 use Rattle.std.proofs.Common.{◌≡◌, ℕ, ◌+◌, ◌*◌, ◌≤◌, ◌==◌, min, Bool, true, false, ◌&&◌, not, List, [], ◌∷◌, length, refl, ap, subst, sym, ◌∙◌, arith}
-use Rattle.std.specs.List.{list_all}
+use Rattle.std.specs.Str.{bytes_eq}
+use Rattle.std.specs.List.{list_all, sum_by}
 use Rattle.std.proofs.lemmas.Bool.{eqb-true}
+use Rattle.std.proofs.lemmas.List.Sums.{sum_by-cons}
 use Rattle.isl_base.specs.declared.datum.Name.{Name}
 use Rattle.isl_base.specs.declared.origin.Origin.{Origin}
 use Rattle.isl_base.specs.declared.origin.Origin.TheVariants.{Prelude, File}
@@ -12,10 +14,9 @@ use Rattle.isl_meaning.specs.declared.program.ClassRow.{ClassRow}
 use Rattle.isl_meaning.specs.declared.program.SlotRow.{SlotRow}
 use Rattle.isl_meaning.specs.declared.program.GenericRow.{GenericRow}
 use Rattle.isl_meaning.specs.declared.program.ProgramRows.{ProgramRows}
-use Rattle.isl_meaning.specs.Values.{same_text}
 use Rattle.isl_meaning.specs.BuiltIn.{built_in_precedence, built_in_slots}
 use Rattle.isl_meaning.specs.Facts.{is_one, is_plain_slot, is_row, begins_with_built_in, is_whole}
-use Rattle.isl_meaning.specs.ProgramCounts.{total, slot_nodes, class_nodes}
+use Rattle.isl_meaning.specs.ProgramCounts.{slot_nodes, class_nodes}
 use Rattle.isl_classes.specs.InheritedClasses.{Hierarchy}
 use Rattle.isl_classes.specs.InheritedBuiltIn.{AreBuiltIn}
 use Rattle.isl_profile.specs.declared.tables.Tables.{Tables}
@@ -59,37 +60,33 @@ and_second : (a b : Bool) → (a && b) ≡ true → b ≡ true
 and_second true b h = h
 and_second false b h = absurd (cc h)
 
-same_length : (xs ys : List ℕ) → same_text xs ys ≡ true → length xs ≡ length ys
+same_length : (xs ys : List ℕ) → bytes_eq xs ys ≡ true → length xs ≡ length ys
 same_length [] [] h = refl
 same_length [] (y ∷ ys) h = absurd (cc h)
 same_length (x ∷ xs) [] h = absurd (cc h)
-same_length (x ∷ xs) (y ∷ ys) h = omega (arith, same_length xs ys (and_second (x == y) (same_text xs ys) h))
+same_length (x ∷ xs) (y ∷ ys) h = omega (arith, same_length xs ys (and_second (x == y) (bytes_eq xs ys) h))
 
 one_initarg : (n : Name) (ns : List Name) → is_one n ns ≡ true → length ns ≡ 1
 one_initarg n [] h = absurd (cc h)
 one_initarg n (m ∷ []) h = refl
 one_initarg n (m ∷ k ∷ ms) h = absurd (cc h)
 
-plain_nodes : (ss : List SlotRow) → list_all is_plain_slot ss ≡ true → total slot_nodes ss ≡ 2 * length ss
+plain_nodes : (ss : List SlotRow) → list_all is_plain_slot ss ≡ true → sum_by slot_nodes ss ≡ 2 * length ss
 plain_nodes [] h = refl
 plain_nodes (s ∷ ss) h =
     let here : is_plain_slot s ≡ true = and_first (is_plain_slot s) (list_all is_plain_slot ss) h in
     let one : length s.initargs ≡ 1 = one_initarg s.name s.initargs (and_first (is_one s.name s.initargs) _ here) in
-    omega (arith, one, plain_nodes ss (and_second (is_plain_slot s) (list_all is_plain_slot ss) h))
-
-sum_of : List ℕ → ℕ
-sum_of [] = 0
-sum_of (n ∷ ns) = n + sum_of ns
+    omega (arith, sum_by-cons slot_nodes s ss, one, plain_nodes ss (and_second (is_plain_slot s) (list_all is_plain_slot ss) h))
 
 -- a built-in class has so many nodes
 row_nodes : (c : ClassRow) (p : List ℕ) (n : ℕ) → is_row c p n ≡ true → class_nodes c ≡ length p + 2 * n
 row_nodes c p n h =
-    let three : (same_text c.precedence p && length c.slots == n && list_all is_plain_slot c.slots) ≡ true =
-    and_first (same_text c.precedence p && length c.slots == n && list_all is_plain_slot c.slots) (not c.abstract_class) h in
-    let two : (same_text c.precedence p && length c.slots == n) ≡ true = and_first (same_text c.precedence p && length c.slots == n) (list_all is_plain_slot c.slots) three in
-    let plain : list_all is_plain_slot c.slots ≡ true = and_second (same_text c.precedence p && length c.slots == n) (list_all is_plain_slot c.slots) three in
-    let slots : length c.slots ≡ n = eqb-true (length c.slots) n (and_second (same_text c.precedence p) (length c.slots == n) two) in
-    omega (arith, same_length c.precedence p (and_first (same_text c.precedence p) (length c.slots == n) two), plain_nodes c.slots plain, slots)
+    let three : (bytes_eq c.precedence p && length c.slots == n && list_all is_plain_slot c.slots) ≡ true =
+    and_first (bytes_eq c.precedence p && length c.slots == n && list_all is_plain_slot c.slots) (not c.abstract_class) h in
+    let two : (bytes_eq c.precedence p && length c.slots == n) ≡ true = and_first (bytes_eq c.precedence p && length c.slots == n) (list_all is_plain_slot c.slots) three in
+    let plain : list_all is_plain_slot c.slots ≡ true = and_second (bytes_eq c.precedence p && length c.slots == n) (list_all is_plain_slot c.slots) three in
+    let slots : length c.slots ≡ n = eqb-true (length c.slots) n (and_second (bytes_eq c.precedence p) (length c.slots == n) two) in
+    omega (arith, same_length c.precedence p (and_first (bytes_eq c.precedence p) (length c.slots == n) two), plain_nodes c.slots plain, slots)
 
 abbrev counted : List (List ℕ) → List ℕ → ℕ
 counted [] ns = 0
@@ -97,7 +94,7 @@ counted (p ∷ ps) [] = 0
 counted (p ∷ ps) (n ∷ ns) = length p + 2 * n + counted ps ns
 
 rows_nodes : (cs : List ClassRow) (ps : List (List ℕ)) (ns : List ℕ) → length cs ≡ length ps → length ns ≡ length ps → begins_with_built_in cs ps ns ≡ true →
-    total class_nodes cs ≡ counted ps ns
+    sum_by class_nodes cs ≡ counted ps ns
 rows_nodes [] [] ns l m h = refl
 rows_nodes [] (p ∷ ps) ns l m h = absurd (cc h)
 rows_nodes (c ∷ cs) [] ns l m h = absurd (omega (arith, l))
@@ -105,14 +102,15 @@ rows_nodes (c ∷ cs) (p ∷ ps) [] l m h = absurd (cc h)
 rows_nodes (c ∷ cs) (p ∷ ps) (n ∷ ns) l m h =
     omega (
       arith,
+      sum_by-cons class_nodes c cs,
       row_nodes c p n (and_first (is_row c p n) (begins_with_built_in cs ps ns) h),
       rows_nodes cs ps ns (omega (arith, l)) (omega (arith, m)) (and_second (is_row c p n) (begins_with_built_in cs ps ns) h),
     )
 
 pub built_in_small : (texts : List (List ℕ)) (h : Hierarchy) → AreBuiltIn texts h → begins_with_built_in h.rows built_in_precedence built_in_slots ≡ true →
-    total class_nodes h.rows ≤ 100000
+    sum_by class_nodes h.rows ≤ 100000
 built_in_small texts h a b =
-    let same : total class_nodes h.rows ≡ counted built_in_precedence built_in_slots = rows_nodes h.rows built_in_precedence built_in_slots a.number refl b in
+    let same : sum_by class_nodes h.rows ≡ counted built_in_precedence built_in_slots = rows_nodes h.rows built_in_precedence built_in_slots a.number refl b in
     omega (arith, same)
 
 -- the first tables
@@ -129,15 +127,15 @@ nothing_left texts t e = record {
 pub first_whole : TopForms → (texts : List (List ℕ)) (t : Tables) → IsFirst texts t → WholeBetween t
 first_whole law texts t f = law.first texts t f.classes (nothing_left texts t f.nothing_else)
 
-first_nodes : (t : Tables) → t ≡ first_tables t.words t.classes → nodes_of t ≡ total class_nodes t.classes.rows
+first_nodes : (t : Tables) → t ≡ first_tables t.words t.classes → nodes_of t ≡ sum_by class_nodes t.classes.rows
 first_nodes t e = ap (λ (u : Tables). nodes_of u) e ∙ omega arith
 
-pub first_is_whole : TopForms → (texts : List (List ℕ)) (t : Tables) (n : ℕ) → IsFirst texts t → n ≡ min (total class_nodes t.classes.rows) 18446744073709551615 →
+pub first_is_whole : TopForms → (texts : List (List ℕ)) (t : Tables) (n : ℕ) → IsFirst texts t → n ≡ min (sum_by class_nodes t.classes.rows) 18446744073709551615 →
     (n ≡ nodes_of t) × IsWhole t
 first_is_whole law texts t n f e =
     let between : WholeBetween t = first_whole law texts t f in
-    let small : total class_nodes t.classes.rows ≤ 100000 = built_in_small texts t.classes f.classes between.classes.built_in in
-    let nodes : nodes_of t ≡ total class_nodes t.classes.rows = first_nodes t f.nothing_else in
+    let small : sum_by class_nodes t.classes.rows ≤ 100000 = built_in_small texts t.classes f.classes between.classes.built_in in
+    let nodes : nodes_of t ≡ sum_by class_nodes t.classes.rows = first_nodes t f.nothing_else in
     (omega (arith, e, small, nodes), record { between = between; small = omega (arith, small, nodes) })
 
 -- the rows of a program, as they are put together

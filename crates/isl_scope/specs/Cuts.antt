@@ -1,7 +1,8 @@
 -- The way back: how long the lists of the tables were, and the tables cut to that.
 use Rattle.std.specs.Prelude.{ℕ, ◌+◌, ◌≤◌, length, take, drop}
+use Rattle.std.specs.List.{sum_by}
 use Rattle.isl_meaning.specs.Counts.{all_nodes}
-use Rattle.isl_meaning.specs.ProgramCounts.{total, row_nodes, procedure_nodes}
+use Rattle.isl_meaning.specs.ProgramCounts.{row_nodes, procedure_nodes}
 use Rattle.isl_scope.specs.declared.mark.Mark.{Mark}
 use Rattle.isl_profile.specs.declared.tables.Tables.{Tables}
 
@@ -53,6 +54,6 @@ cut_to mark t = record t {
 -- the nodes of what stands behind the mark
 abbrev pub nodes_behind : Mark → Tables → ℕ
 nodes_behind mark t =
-    total row_nodes (drop mark.literals t.literals)
-    + total procedure_nodes (drop mark.procedures t.procedures)
-    + total all_nodes (drop mark.main t.main)
+    sum_by row_nodes (drop mark.literals t.literals)
+    + sum_by procedure_nodes (drop mark.procedures t.procedures)
+    + sum_by all_nodes (drop mark.main t.main)

@@ -1,5 +1,6 @@
 -- The built-in classes are such as a program has to have.
 use Rattle.std.proofs.Common.{◌≡◌, ◌+◌, ◌≤◌, ◌<◌, ℕ, suc, nat_lt, Bool, true, false, not, List, [], ◌∷◌, ◌++◌, length, map, take, filter, flat_map, slice_get, is_some, Option, Some, None, if◌then◌else◌, refl, sym, ap, subst, ◌∙◌, arith}
+use Rattle.std.specs.Str.{bytes_eq}
 use Rattle.std.specs.Prelude.{All}
 use Rattle.std.specs.List.{list_all}
 use Rattle.std.proofs.lemmas.Bool.{lt-ltb, le-leb, eqb-true, eq-eqb}
@@ -10,7 +11,6 @@ use Rattle.isl_base.specs.declared.datum.Name.{Name}
 use Rattle.isl_meaning.specs.declared.program.ClassRow.{ClassRow}
 use Rattle.isl_meaning.specs.declared.program.SlotRow.{SlotRow}
 use Rattle.isl_meaning.specs.Subforms.{Each}
-use Rattle.isl_meaning.specs.Values.{same_text}
 use Rattle.isl_meaning.specs.BuiltIn.{built_in_precedence, built_in_slots}
 use Rattle.isl_meaning.specs.Facts.{is_one, is_plain_slot, is_row, begins_with_built_in}
 use Rattle.isl_meaning.specs.bridge.Prefixes.{of_prefix}
@@ -158,14 +158,14 @@ rows_all : (p : ClassRow → Bool) (cs : List ClassRow) → ((c : ℕ) (row : Cl
 rows_all p [] h = refl
 rows_all p (c ∷ cs) h = and_from _ _ (h 0 c refl) (rows_all p cs (λ k row e. h (suc k) row e))
 
-same_line : (ds : List ℕ) → same_text ds ds ≡ true
+same_line : (ds : List ℕ) → bytes_eq ds ds ≡ true
 same_line [] = refl
 same_line (d ∷ ds) = and_from _ _ (eq-eqb d d refl) (same_line ds)
 
 built_in_row : (row : ClassRow) (p : List ℕ) (n : ℕ) → p ≡ row.precedence → n ≡ length row.slots → row.abstract_class ≡ false → list_all is_plain_slot row.slots ≡ true
     → is_row row p n ≡ true
 built_in_row row p n e f a s =
-    and_from _ _ (and_from _ _ (and_from _ _ (ap (same_text row.precedence) e ∙ same_line row.precedence) (eq-eqb (length row.slots) n (sym f))) s) (ap not a)
+    and_from _ _ (and_from _ _ (and_from _ _ (ap (bytes_eq row.precedence) e ∙ same_line row.precedence) (eq-eqb (length row.slots) n (sym f))) s) (ap not a)
 
 -- the rows stand as the lists of built-in classes have them
 pub record RowsAre (cs : List ClassRow) (ps : List (List ℕ)) (ns : List ℕ) : Type 0 where

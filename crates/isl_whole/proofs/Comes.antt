@@ -10,7 +10,7 @@ use Rattle.isl_meaning.specs.declared.part.Part.TheVariants as part
 use Rattle.isl_meaning.specs.Subforms.{Each}
 use Rattle.isl_meaning.specs.Standing.{with_bound, exit_around}
 use Rattle.isl_meaning.specs.Counts.{all_nodes}
-use Rattle.isl_derived.proofs.Kept.{step_formed, step_named}
+use Rattle.isl_derived.specs.GoodSteps.{StepsAreGood}
 use Rattle.isl_profile.specs.declared.tables.Tables.{Tables}
 use Rattle.isl_profile.specs.declared.bound.Bound.TheVariants.{Variable}
 use Rattle.isl_profile.specs.declared.making.Made.{Made}
@@ -32,7 +32,7 @@ use Rattle.isl_whole.proofs.FoundNodes.{none_found}
 use Rattle.isl_whole.proofs.Good.{good_later, good_deeper, good_variable}
 use Rattle.isl_whole.proofs.Places.{any_front, any_behind, variables_append, exits_append}
 use Rattle.isl_whole.proofs.Captured.{any_cases}
-use Rattle.isl_whole.proofs.Matches.{new_variables, all_match_within}
+use Rattle.isl_whole.proofs.Matches.{AllMatch, new_variables, all_match_within}
 use Rattle.isl_whole.proofs.Apt.{spots, AllCame, AptPart, AllApt, Wanted, wanted_nodes, AptWhole, Apt, Stage}
 use Rattle.isl_whole.proofs.AllRows.{apt_node}
 
@@ -177,6 +177,14 @@ wider vs s = record { provides = provides }
 newer_from : (m n : ℕ) (vs : List ℕ) → m ≤ n → Each (λ v. n ≤ v) vs → Each (λ v. m ≤ v) vs
 newer_from m n vs l e = each_more (λ v. n ≤ v) (λ v. m ≤ v) (λ v k. omega (arith, k, l)) vs e
 
+-- those behind a variable that is bound match beside it too
+bound_match : (o i : Around) (s : Tables) (x : Symbol) (xs : List Part) (m : Standing) (r : AllFound)
+    → AllCame o (bind_in (Variable x s.variables) i) (defined m.tables) xs r.found (defined r.tables)
+    → AllMatch (record (spots (defined r.tables) o (bind_in (Variable x s.variables) i) r.found) { inside = with_bound (s.variables ∷ new_variables r.found) (scope_of i) }) xs r.found
+bound_match o i s x xs m r a =
+    all_match_within (spots (defined r.tables) o (bind_in (Variable x s.variables) i) r.found) (with_bound (s.variables ∷ new_variables r.found) (scope_of i)) xs r.found
+    (variable_within x s.variables (new_variables r.found) i) a.match
+
 part_more : (o i : Around) (s : Tables) (x : Part) (xs : List Part) (m : Standing) (r : AllFound) (n : ℕ) → WholeDefinitions (defined s) → AptPart n i x
     → CameAs (part_place o i x) (part_spot o i x) (defined (part_tables s x)) m → AllCame o (behind i s x) (defined m.tables) xs r.found (defined r.tables)
     → AllCame o i (defined s) (x ∷ xs) (recorded s x m.form ∷ r.found) (defined r.tables)
@@ -216,11 +224,7 @@ part_more o i s (bind x d) xs m r n w k c a =
       main = a.main ∙ c.behind.main;
       functions = λ p q. a.functions p q ∙ c.behind.inside p;
       newer = (omega arith, newer_from s.variables m.tables.variables (new_variables r.found) (omega (arith, c.behind.later.variables)) a.newer);
-      match = (
-        right_later (defined m.tables) (defined r.tables) (scope_of o) o.spot.depth m.form a.later c.right,
-        all_match_within (spots (defined r.tables) o (bind_in (Variable x s.variables) i) r.found) (with_bound (s.variables ∷ new_variables r.found) (scope_of i)) xs r.found
-            (variable_within x s.variables (new_variables r.found) i) a.match,
-      );
+      match = (right_later (defined m.tables) (defined r.tables) (scope_of o) o.spot.depth m.form a.later c.right, bound_match o i s x xs m r a);
     }
 part_more o i s (parameter x) xs m r n w k c a =
     let e : Entered (defined s) (defined (with_variable s)) = variable_entered s w in
@@ -230,11 +234,7 @@ part_more o i s (parameter x) xs m r n w k c a =
       main = a.main ∙ c.behind.main;
       functions = λ p q. a.functions p q ∙ c.behind.inside p;
       newer = (omega arith, newer_from s.variables m.tables.variables (new_variables r.found) (omega (arith, c.behind.later.variables)) a.newer);
-      match = (
-        tt,
-        all_match_within (spots (defined r.tables) o (bind_in (Variable x s.variables) i) r.found) (with_bound (s.variables ∷ new_variables r.found) (scope_of i)) xs r.found
-            (variable_within x s.variables (new_variables r.found) i) a.match,
-      );
+      match = (tt, bound_match o i s x xs m r a);
     }
 
 -- the sites of a part, and of those behind it
@@ -327,37 +327,38 @@ same_spot i s (inner d) = refl
 same_spot i s (bind x d) = refl
 same_spot i s (parameter x) = refl
 
-mutual
-  pub node_came : (names : List (List ℕ)) (x : Node) (v : Verdict) → Comes names x v → (Q : Option Around) (spot : Spot) (g : Definitions)
-      → Apt Q spot (length names) g x → CameTo Q spot g v
-  node_came names x v (offence p r) Q spot g a = tt
-  node_came names x v (step b s d d2 n v2 h c) Q spot g a =
-      let stage : Stage b (with_fresh n s) = record { good = a.good; whole = a.entered.whole } in
-      let good : Good (length names) d2 = record { formed = step_formed names d _ d2 _ a.datum.formed h; named = step_named names d _ d2 _ a.datum.named h } in
-      let here : CameTo (Some b) b.spot (defined (with_fresh n s)) v2 =
-      node_came names (node names b (with_fresh n s) d2) v2 c (Some b) b.spot (defined (with_fresh n s))
-      (apt_node names (length names) b (with_fresh n s) d2 stage good) in
-      let start : Counted b.spot.sited g (defined s) 0 = subst (λ (t : Spot). Counted t.sited g (defined s) 0) (sym a.same_spot) a.start in
-      as_wanted b Q spot g v2 a.wanted a.same_spot (moved b g (defined s) v2 a.entered start here)
-  node_came names x v (made o i s xs m w g) Q spot g2 a =
-      whole_came Q spot (length names) g2 o i s xs m w a
-      (all_came names o i s xs w g a.entered.whole a.outside a.inside (a.sited.1 ∙ sym a.sited.0) a.parts)
+module _ (keep : StepsAreGood) where
+  mutual
+    pub node_came : (names : List (List ℕ)) (x : Node) (v : Verdict) → Comes names x v → (Q : Option Around) (spot : Spot) (g : Definitions)
+        → Apt Q spot (length names) g x → CameTo Q spot g v
+    node_came names x v (offence p r) Q spot g a = tt
+    node_came names x v (step b s d d2 n v2 h c) Q spot g a =
+        let stage : Stage b (with_fresh n s) = record { good = a.good; whole = a.entered.whole } in
+        let good : Good (length names) d2 = keep names d _ d2 _ a.datum h in
+        let here : CameTo (Some b) b.spot (defined (with_fresh n s)) v2 =
+        node_came names (node names b (with_fresh n s) d2) v2 c (Some b) b.spot (defined (with_fresh n s))
+        (apt_node names (length names) b (with_fresh n s) d2 stage good) in
+        let start : Counted b.spot.sited g (defined s) 0 = subst (λ (t : Spot). Counted t.sited g (defined s) 0) (sym a.same_spot) a.start in
+        as_wanted b Q spot g v2 a.wanted a.same_spot (moved b g (defined s) v2 a.entered start here)
+    node_came names x v (made o i s xs m w g) Q spot g2 a =
+        whole_came Q spot (length names) g2 o i s xs m w a
+        (all_came names o i s xs w g a.entered.whole a.outside a.inside (a.sited.1 ∙ sym a.sited.0) a.parts)
 
-  all_came : (names : List (List ℕ)) (o i : Around) (s : Tables) (xs : List Part) (w : Verdicts) → Goes names o i s xs w → WholeDefinitions (defined s)
-      → GoodAround (defined s) o → GoodAround (defined s) i → i.spot.sited ≡ o.spot.sited → AllApt (length names) i xs → AllCameTo o i (defined s) xs w
-  all_came names o i s xs w (ends o2 i2 s2) b go gi e a = (
-    record { whole = b; later = later_same (defined s2); main = refl; functions = λ x y. refl; newer = tt; match = tt },
-    counted_same o2.spot.sited (defined s2),
-    record { forms = tt; values = tt; variables = refl },
-  )
-  all_came names o i s xs w (goes o2 i2 s2 x ys m w2 c g) b go gi e a =
-      let here : CameAs (part_place o2 i2 x) (part_spot o2 i2 x) (defined (part_tables s2 x)) m =
-      node_came names (subject names o2 i2 s2 x) (comes_to m) c (part_place o2 i2 x) (part_spot o2 i2 x) (defined (part_tables s2 x))
-      (part_apt names (length names) o2 i2 s2 x b go gi e a.0) in
-      one_more_came o2 i2 s2 x ys m w2 (length names) b e a.0 here
-      (all_came names o2 (behind i2 s2 x) m.tables ys w2 g here.behind.whole
-      (good_later (defined s2) (defined m.tables) o2 (later_part s2 x (defined m.tables) b here.behind.later) go)
-      (good_behind i2 s2 x (length names) (defined m.tables) a.0 gi here.behind.later)
-      (ap (λ (t : Spot). t.sited) (sym (same_spot i2 s2 x)) ∙ e)
-      (elsewhere (length names) i2 (behind i2 s2 x) ys (same_spot i2 s2 x) a.1))
-  all_came names o i s xs w (stops o2 i2 s2 x ys y c) b go gi e a = tt
+    all_came : (names : List (List ℕ)) (o i : Around) (s : Tables) (xs : List Part) (w : Verdicts) → Goes names o i s xs w → WholeDefinitions (defined s)
+        → GoodAround (defined s) o → GoodAround (defined s) i → i.spot.sited ≡ o.spot.sited → AllApt (length names) i xs → AllCameTo o i (defined s) xs w
+    all_came names o i s xs w (ends o2 i2 s2) b go gi e a = (
+      record { whole = b; later = later_same (defined s2); main = refl; functions = λ x y. refl; newer = tt; match = tt },
+      counted_same o2.spot.sited (defined s2),
+      record { forms = tt; values = tt; variables = refl },
+    )
+    all_came names o i s xs w (goes o2 i2 s2 x ys m w2 c g) b go gi e a =
+        let here : CameAs (part_place o2 i2 x) (part_spot o2 i2 x) (defined (part_tables s2 x)) m =
+        node_came names (subject names o2 i2 s2 x) (comes_to m) c (part_place o2 i2 x) (part_spot o2 i2 x) (defined (part_tables s2 x))
+        (part_apt names (length names) o2 i2 s2 x b go gi e a.0) in
+        one_more_came o2 i2 s2 x ys m w2 (length names) b e a.0 here
+        (all_came names o2 (behind i2 s2 x) m.tables ys w2 g here.behind.whole
+        (good_later (defined s2) (defined m.tables) o2 (later_part s2 x (defined m.tables) b here.behind.later) go)
+        (good_behind i2 s2 x (length names) (defined m.tables) a.0 gi here.behind.later)
+        (ap (λ (t : Spot). t.sited) (sym (same_spot i2 s2 x)) ∙ e)
+        (elsewhere (length names) i2 (behind i2 s2 x) ys (same_spot i2 s2 x) a.1))
+    all_came names o i s xs w (stops o2 i2 s2 x ys y c) b go gi e a = tt

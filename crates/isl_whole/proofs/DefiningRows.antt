@@ -1,6 +1,7 @@
 -- The rows of forms that define are apt: a function is there under a name of its own, with a procedure that stands alone.
-use Rattle.std.proofs.Common.{◌≡◌, ◌+◌, ◌==◌, ◌≤◌, ℕ, Bool, true, false, not, ◌&&◌, ◌||◌, List, [], ◌∷◌, ◌++◌, take, drop, length, Option, Some, None, is_some, if◌then◌else◌, refl, sym, ap, subst, ◌∙◌, arith, append-nil}
-use Rattle.std.specs.List.{list_any}
+use Rattle.std.proofs.Common.{◌≡◌, ◌+◌, ◌==◌, ◌≤◌, ℕ, Bool, true, false, not, ◌&&◌, ◌||◌, List, [], ◌∷◌, ◌++◌, take, drop, length, Option, Some, None, is_some, refl, sym, ap, subst, ◌∙◌, arith, append-nil}
+use Rattle.std.specs.List.{list_any, sum_by}
+use Rattle.std.proofs.lemmas.List.Sums.{sum_by_push}
 use Rattle.std.proofs.lemmas.Bool.{eqb-false, ne_eqb, le-leb}
 use Rattle.std.proofs.lemmas.List.{length-append}
 use Rattle.std.proofs.lemmas.Bool.{and_parts, and_from, not-true, or_parts}
@@ -18,10 +19,10 @@ use Rattle.isl_meaning.specs.declared.program.Procedure.{Procedure}
 use Rattle.isl_meaning.specs.declared.scope.LexicalScope.{LexicalScope}
 use Rattle.isl_meaning.specs.Form.{parameters}
 use Rattle.isl_meaning.specs.Counts.{depth}
-use Rattle.isl_meaning.specs.Lookup.{some_of, all_differ}
+use Rattle.isl_meaning.specs.Lookup.{all_differ}
 use Rattle.isl_meaning.specs.Standing.{alone as alone_in, with_bound, stands}
 use Rattle.isl_meaning.specs.Facts.{same_name}
-use Rattle.isl_meaning.specs.ProgramCounts.{total, procedure_nodes}
+use Rattle.isl_meaning.specs.ProgramCounts.{procedure_nodes}
 use Rattle.isl_profile.specs.declared.tables.Tables.{Tables}
 use Rattle.isl_profile.specs.declared.parameters.Parameters.{Parameters}
 use Rattle.isl_profile.specs.declared.making.Found.{Found}
@@ -95,11 +96,11 @@ fresh_name true true true false false h k = absurd (cc k)
 other_way : (m n : ℕ) → (m == n) ≡ false → (n == m) ≡ false
 other_way m n h = ne_eqb n m (λ e. eqb-false m n h (sym e))
 
-none_more : (f y : FunctionRow) (fs : List FunctionRow) → some_of (same_name f) fs ≡ false → same_name f y ≡ false → some_of (same_name f) (fs ++ y ∷ []) ≡ false
+none_more : (f y : FunctionRow) (fs : List FunctionRow) → list_any (same_name f) fs ≡ false → same_name f y ≡ false → list_any (same_name f) (fs ++ y ∷ []) ≡ false
 none_more f y [] h k = rw k refl
-none_more f y (x ∷ xs) h k = by_test (same_name f x) (some_of (same_name f) xs) (some_of (same_name f) (xs ++ y ∷ [])) (λ e. none_more f y xs e k) h
+none_more f y (x ∷ xs) h k = by_test (same_name f x) (list_any (same_name f) xs) (list_any (same_name f) (xs ++ y ∷ [])) (λ e. none_more f y xs e k) h
   where
-    by_test : (b o u : Bool) → (o ≡ false → u ≡ false) → (if b then true else o) ≡ false → (if b then true else u) ≡ false
+    by_test : (b o u : Bool) → (o ≡ false → u ≡ false) → (b || o) ≡ false → (b || u) ≡ false
     by_test true o u g h = absurd (cc h)
     by_test false o u g h = g h
 
@@ -107,10 +108,10 @@ one_name_more : (name : Name) (c : Callee) (fs : List FunctionRow) → all_diffe
     → all_differ same_name (fs ++ (record { name = name; callee = c }) ∷ []) ≡ true
 one_name_more name c [] h k = refl
 one_name_more name c (f ∷ fs) h k =
-    let d : (not (some_of (same_name f) fs) ≡ true) × (all_differ same_name fs ≡ true) = and_parts (not (some_of (same_name f) fs)) (all_differ same_name fs) h in
+    let d : (not (list_any (same_name f) fs) ≡ true) × (all_differ same_name fs ≡ true) = and_parts (not (list_any (same_name f) fs)) (all_differ same_name fs) h in
     let o : (is_that name f.name ≡ false) × (list_any (λ f. is_that name f.name) fs ≡ false) = or_parts (is_that name f.name) (list_any (λ f. is_that name f.name) fs) k in
-    and_from (not (some_of (same_name f) (fs ++ (record { name = name; callee = c }) ∷ []))) _
-    (ap not (none_more f (record { name = name; callee = c }) fs (not-true (some_of (same_name f) fs) d.0) (other_way name.0 f.name.0 o.0)))
+    and_from (not (list_any (same_name f) (fs ++ (record { name = name; callee = c }) ∷ []))) _
+    (ap not (none_more f (record { name = name; callee = c }) fs (not-true (list_any (same_name f) fs) d.0) (other_way name.0 f.name.0 o.0)))
     (one_name_more name c fs d.1 o.1)
 
 -- with a function
@@ -176,12 +177,8 @@ name_right : (sited : Bool) (d : Item) (s : Tables) (h : Definitions) (t : Lexic
 name_right true d s h t k l e = made_literal h t k (length s.literals) l (omega (arith, e.literals, length-append s.literals (row.Datum d ∷ [])))
 name_right false d s h t k l e = made_body h t k [] l tt
 
-procedures_then : (ps : List Procedure) (p : Procedure) → total procedure_nodes (ps ++ p ∷ []) ≡ total procedure_nodes ps + procedure_nodes p
-procedures_then [] p = omega arith
-procedures_then (q ∷ qs) p = more (procedure_nodes q) (total procedure_nodes (qs ++ p ∷ [])) (total procedure_nodes qs) (procedure_nodes p) (procedures_then qs p)
-  where
-    more : (a n m k : ℕ) → n ≡ m + k → a + n ≡ a + m + k
-    more a n m k e = omega (arith, e)
+procedures_then : (ps : List Procedure) (p : Procedure) → sum_by procedure_nodes (ps ++ p ∷ []) ≡ sum_by procedure_nodes ps + procedure_nodes p
+procedures_then ps p = sum_by_push procedure_nodes ps p
 
 -- the sites of a body are counted by its procedure
 function_counted : (b : Bool) (x g : Definitions) (name : Name) (p : Procedure) (n k : ℕ) → n ≤ procedure_nodes p → Counted b x g n → Counted b x (one_more g name p) k

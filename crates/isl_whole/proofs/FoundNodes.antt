@@ -1,9 +1,9 @@
 -- What is made of what was found has at least one node more: each form that was found is one of its own.
-use Rattle.std.proofs.Common.{◌≡◌, ◌+◌, ◌≤◌, ℕ, List, [], ◌∷◌, ◌++◌, suc, take, drop, length, Option, Some, None, refl, sym, ap, subst, ◌∙◌, arith}
+use Rattle.std.proofs.Common.{◌≡◌, ◌+◌, ◌≤◌, ℕ, List, [], ◌∷◌, ◌++◌, map, suc, take, drop, length, Option, Some, None, refl, sym, ap, subst, ◌∙◌, arith}
 use Rattle.isl_base.specs.declared.datum.Symbol.{Symbol}
 use Rattle.isl_base.specs.Data.{Item}
 use Rattle.isl_meaning.specs.Form.{Form}
-use Rattle.isl_meaning.specs.Subforms.{clause_list}
+use Rattle.isl_meaning.specs.Subforms.{Each, clause_list}
 use Rattle.isl_meaning.specs.Counts.{all_nodes}
 use Rattle.isl_profile.specs.declared.making.Found.{Found}
 use Rattle.isl_profile.specs.declared.making.Found.TheVariants.{Value, Binding, Parameter}
@@ -16,6 +16,7 @@ use Rattle.isl_profile.specs.Shapes.{Pair, ClauseParts, symbol_of, forms_in, for
 use Rattle.isl_profile.specs.RowWords.{each_form, each_below, each_inner, each_parameter}
 use Rattle.isl_profile.specs.ValueRows.{length_if, clause_lengths, clause_parts}
 use Rattle.isl_profile.specs.BindingRows.{values_of}
+use Rattle.isl_whole.proofs.Places.{each_append}
 use Rattle.isl_whole.proofs.Matches.{Spots, AllMatch, BodyThen, body_then, dropped_front}
 use Rattle.isl_whole.proofs.Nodes.{nodes_in, added, found_nodes, body_nodes, one_nodes, two_nodes, with_body_nodes, split_nodes}
 
@@ -29,32 +30,29 @@ IsPlain (bind x d) = ⊥
 IsPlain (parameter x) = Unit {0}
 
 abbrev pub AllPlain : List Part → Type 0
-AllPlain [] = Unit {0}
-AllPlain (x ∷ xs) = IsPlain x × AllPlain xs
+AllPlain xs = Each IsPlain xs
 
 pub both_plain : (xs ys : List Part) → AllPlain xs → AllPlain ys → AllPlain (xs ++ ys)
-both_plain [] ys a b = b
-both_plain (x ∷ xs) ys a b = (a.0, both_plain xs ys a.1 b)
+both_plain xs ys a b = each_append IsPlain xs ys a b
+
+made_plain : {X : Type 0} (f : X → Part) → ((x : X) → IsPlain (f x)) → (xs : List X) → AllPlain (map f xs)
+made_plain f h [] = tt
+made_plain f h (x ∷ xs) = (h x, made_plain f h xs)
 
 pub forms_plain : (ds : List Item) → AllPlain (each_form ds)
-forms_plain [] = tt
-forms_plain (d ∷ ds) = (tt, forms_plain ds)
+forms_plain ds = made_plain (λ d. form d) (λ d. tt) ds
 
 pub below_plain : (ds : List Item) → AllPlain (each_below ds)
-below_plain [] = tt
-below_plain (d ∷ ds) = (tt, below_plain ds)
+below_plain ds = made_plain (λ d. below d) (λ d. tt) ds
 
 pub inner_plain : (ds : List Item) → AllPlain (each_inner ds)
-inner_plain [] = tt
-inner_plain (d ∷ ds) = (tt, inner_plain ds)
+inner_plain ds = made_plain (λ d. inner d) (λ d. tt) ds
 
 pub parameters_plain : (xs : List Symbol) → AllPlain (each_parameter xs)
-parameters_plain [] = tt
-parameters_plain (x ∷ xs) = (tt, parameters_plain xs)
+parameters_plain xs = made_plain (λ x. parameter x) (λ x. tt) xs
 
 pub values_plain : (qs : List Pair) → AllPlain (values_of qs)
-values_plain [] = tt
-values_plain (q ∷ qs) = (tt, values_plain qs)
+values_plain qs = made_plain (λ q. form q.datum) (λ q. tt) qs
 
 pub clauses_plain : (cs : List ClauseParts) → AllPlain (clause_parts cs)
 clauses_plain [] = tt

@@ -1,5 +1,5 @@
 -- Places that forms make inside: they are good again, and their scopes are those that the forms give their inner forms.
-use Rattle.std.proofs.Common.{◌≡◌, ◌+◌, ◌==◌, ℕ, Bool, true, false, List, [], ◌∷◌, ◌++◌, length, Option, Some, None, refl, ap, ◌∙◌, append-nil}
+use Rattle.std.proofs.Common.{◌≡◌, ◌+◌, ◌==◌, ℕ, Bool, true, false, List, [], ◌∷◌, ◌++◌, length, Option, Some, None, refl, sym, ap, subst, ◌∙◌, append-nil}
 use Rattle.std.specs.List.{list_any}
 use Rattle.isl_base.specs.declared.datum.Symbol.{Symbol}
 use Rattle.isl_meaning.specs.declared.scope.Around.TheVariants as exit
@@ -15,7 +15,7 @@ use Rattle.isl_profile.specs.Shapes.{Pair, symbol_of}
 use Rattle.isl_profile.specs.RowWords.{deeper, deeper_at_top, with_all, alone}
 use Rattle.isl_profile.specs.BindingRows.{function_and, variable_that_is, functions_of}
 use Rattle.isl_whole.specs.Definitions.{Definitions, Later}
-use Rattle.isl_whole.specs.Places.{variables_around, exit_numbers, exits_around, scope_of, FunctionThere, NothingAround, GoodAround}
+use Rattle.isl_whole.specs.Places.{variables_around, exit_numbers, exits_around, scope_of, Rises, FunctionThere, NothingAround, GoodAround}
 use Rattle.isl_whole.proofs.Places.{rises_longer, rises_push, variables_append, exit_numbers_append, exits_append, each_append, function_there_more, any_front, variable_there}
 use Rattle.isl_whole.proofs.Forms.{each_more}
 
@@ -68,27 +68,25 @@ good_variable g x a low o =
       top = λ e. absurd (cc (low, e));
     }
 
-pub good_block : (g : Definitions) (x : Symbol) (a : Around) → a.spot.top ≡ false → GoodAround g a
-    → GoodAround (counted g.variables (g.exits + 1) g) (with_bound (Block x g.exits) a)
-good_block g x a low o =
-    let b : List Bound = Block x g.exits ∷ [] in
+-- what binds an exit and no variable and no function
+good_exit : (g : Definitions) (x : Bound) (a : Around) → variables_around (x ∷ []) ≡ [] → exit_numbers (x ∷ []) ≡ g.exits ∷ []
+    → ((vs : List ℕ) → FunctionThere vs x) → a.spot.top ≡ false → GoodAround g a → GoodAround (counted g.variables (g.exits + 1) g) (with_bound x a)
+good_exit g x a none one plain low o =
+    let b : List Bound = x ∷ [] in
     record {
-      variables = rw (variables_append a.bound b, append-nil (variables_around a.bound)) o.variables;
-      exits = rw (exit_numbers_append a.bound b) (rises_push 0 (exit_numbers a.bound) g.exits o.exits);
-      functions = each_append _ a.bound b (functions_still a.bound b o.functions) (tt, tt);
+      variables = subst (λ vs. Rises 0 vs g.variables) (sym (variables_append a.bound b ∙ ap (λ vs. variables_around a.bound ++ vs) none ∙ append-nil (variables_around a.bound))) o.variables;
+      exits = subst (λ es. Rises 0 es (g.exits + 1)) (sym (exit_numbers_append a.bound b ∙ ap (λ es. exit_numbers a.bound ++ es) one)) (rises_push 0 (exit_numbers a.bound) g.exits o.exits);
+      functions = each_append _ a.bound b (functions_still a.bound b o.functions) (plain _, tt);
       top = λ e. absurd (cc (low, e));
     }
 
+pub good_block : (g : Definitions) (x : Symbol) (a : Around) → a.spot.top ≡ false → GoodAround g a
+    → GoodAround (counted g.variables (g.exits + 1) g) (with_bound (Block x g.exits) a)
+good_block g x a low o = good_exit g (Block x g.exits) a refl refl (λ vs. tt) low o
+
 pub good_tags : (g : Definitions) (xs : List Symbol) (a : Around) → a.spot.top ≡ false → GoodAround g a
     → GoodAround (counted g.variables (g.exits + 1) g) (with_bound (Tags xs g.exits) a)
-good_tags g xs a low o =
-    let b : List Bound = Tags xs g.exits ∷ [] in
-    record {
-      variables = rw (variables_append a.bound b, append-nil (variables_around a.bound)) o.variables;
-      exits = rw (exit_numbers_append a.bound b) (rises_push 0 (exit_numbers a.bound) g.exits o.exits);
-      functions = each_append _ a.bound b (functions_still a.bound b o.functions) (tt, tt);
-      top = λ e. absurd (cc (low, e));
-    }
+good_tags g xs a low o = good_exit g (Tags xs g.exits) a refl refl (λ vs. tt) low o
 
 -- local functions bind no variable and no exit
 

@@ -1,5 +1,5 @@
 -- Each row begins with tables that stand behind those in front of it.
-use Rattle.std.proofs.Common.{◌+◌, ◌≤◌, ℕ, nat_le, Bool, true, false, ◌&&◌, List, [], ◌∷◌, Option, Some, None, if◌then◌else◌, arith}
+use Rattle.std.proofs.Common.{◌+◌, ◌≤◌, ℕ, nat_le, Bool, true, false, ◌&&◌, List, [], ◌∷◌, length, Option, Some, None, if◌then◌else◌, arith}
 use Rattle.isl_base.specs.declared.place.Place.{Place}
 use Rattle.isl_base.specs.declared.datum.Name.{Name}
 use Rattle.isl_base.specs.declared.datum.Symbol.{Symbol}
@@ -11,7 +11,7 @@ use Rattle.isl_base.specs.DataNames.{symbol_text}
 use Rattle.isl_meaning.specs.declared.program.LiteralRow.{LiteralRow}
 use Rattle.isl_classes.specs.InheritedClasses.{class_named}
 use Rattle.isl_derived.specs.Asked.{list_items}
-use Rattle.isl_derived.specs.Derived.{Derivation, plain, unfit, becomes, derivation}
+use Rattle.isl_derived.specs.Derived.{Derivation, plain, unfit, becomes, derivation, new_symbols}
 use Rattle.isl_profile.specs.declared.bound.Bound.{Bound}
 use Rattle.isl_profile.specs.declared.bound.Target.{Target}
 use Rattle.isl_profile.specs.declared.parameters.Parameters.{Parameters}
@@ -40,109 +40,24 @@ use Rattle.isl_profile.specs.DefiningRows.{named, has_global, has_dynamic, is_se
 use Rattle.isl_profile.specs.Rows.{first_reserved, functions_kept, special_row, special_node, without_dot, call_symbol, call_as, special_of, headed_as, is_lambda, headed_by_form, headed_by, list_node, plain_node, class_in_front, unless_refused, derived_as, node}
 use Rattle.isl_profile.specs.Judged.{with_fresh}
 use Rattle.isl_profile.specs.Marks.{Grows}
-use Rattle.isl_profile.specs.bridge.Growing.{grows_then, grows_same, grows_at_end}
+use Rattle.isl_profile.specs.bridge.Growing.{grows_then, grows_same, nothing_added, grows_with, grows_by}
 
 -- tables that grow by one thing
 
 pub grows_literal : (s : Tables) (row : LiteralRow) → Grows s (with_literal row s)
-grows_literal s row =
-    let g : Grows s s = grows_same s in
-    record {
-      words = g.words;
-      classes = g.classes;
-      literals = grows_at_end s.literals s.literals (row ∷ []) g.literals;
-      procedures = g.procedures;
-      functions = g.functions;
-      prelude = g.prelude;
-      globals = g.globals;
-      set = g.set;
-      dynamics = g.dynamics;
-      sites = g.sites;
-      fresh = g.fresh;
-      main = g.main;
-      variables = g.variables;
-      exits = g.exits;
-    }
+grows_literal s row = grows_by s s (record nothing_added { literals = Some (row ∷ []) }) (grows_same s)
 
 pub grows_set : (s : Tables) (n : Name) → Grows s (with_set n s)
-grows_set s n =
-    let g : Grows s s = grows_same s in
-    record {
-      words = g.words;
-      classes = g.classes;
-      literals = g.literals;
-      procedures = g.procedures;
-      functions = g.functions;
-      prelude = g.prelude;
-      globals = g.globals;
-      set = grows_at_end s.set s.set (n ∷ []) g.set;
-      dynamics = g.dynamics;
-      sites = g.sites;
-      fresh = g.fresh;
-      main = g.main;
-      variables = g.variables;
-      exits = g.exits;
-    }
+grows_set s n = grows_by s s (record nothing_added { set = Some (n ∷ []) }) (grows_same s)
 
 pub grows_fresh : (s : Tables) (n : ℕ) → Grows s (with_fresh n s)
-grows_fresh s n =
-    let g : Grows s s = grows_same s in
-    record {
-      words = g.words;
-      classes = g.classes;
-      literals = g.literals;
-      procedures = g.procedures;
-      functions = g.functions;
-      prelude = g.prelude;
-      globals = g.globals;
-      set = g.set;
-      dynamics = g.dynamics;
-      sites = g.sites;
-      fresh = grows_at_end s.fresh s.fresh _ g.fresh;
-      main = g.main;
-      variables = g.variables;
-      exits = g.exits;
-    }
+grows_fresh s n = grows_by s s (record nothing_added { fresh = Some (new_symbols (length s.fresh) n) }) (grows_same s)
 
 pub grows_numbers : (s : Tables) (v e : ℕ) → s.variables ≤ v → s.exits ≤ e → Grows s (record s { variables = v; exits = e })
-grows_numbers s v e l k =
-    let g : Grows s s = grows_same s in
-    record {
-      words = g.words;
-      classes = g.classes;
-      literals = g.literals;
-      procedures = g.procedures;
-      functions = g.functions;
-      prelude = g.prelude;
-      globals = g.globals;
-      set = g.set;
-      dynamics = g.dynamics;
-      sites = g.sites;
-      fresh = g.fresh;
-      main = g.main;
-      variables = l;
-      exits = k;
-    }
+grows_numbers s v e l k = grows_with s s nothing_added v e l k (grows_same s)
 
 grows_site : (b : Bool) (p : Place) (s : Tables) → Grows s (with_site_if b p s)
-grows_site true p s =
-    let g : Grows s s = grows_same s in
-    record {
-      words = g.words;
-      classes = g.classes;
-      literals = g.literals;
-      procedures = g.procedures;
-      functions = g.functions;
-      prelude = g.prelude;
-      globals = g.globals;
-      set = g.set;
-      dynamics = g.dynamics;
-      sites = grows_at_end s.sites s.sites (p ∷ []) g.sites;
-      fresh = g.fresh;
-      main = g.main;
-      variables = g.variables;
-      exits = g.exits;
-    }
+grows_site true p s = grows_by s s (record nothing_added { sites = Some (p ∷ []) }) (grows_same s)
 grows_site false p s = grows_same s
 
 grows_name : (b : Bool) (d : Item) (s : Tables) → Grows s (with_name b d s)

@@ -1,6 +1,7 @@
 -- Whole tables between top-level forms, and the program that they are.
 use Rattle.std.proofs.Common.{◌≡◌, ◌+◌, ◌≤◌, ◌<◌, ℕ, zero, suc, nat_le, nat_lt, Bool, true, false, not, ◌&&◌, List, [], ◌∷◌, ◌++◌, length, slice_get, is_some, Option, Some, None, refl, sym, ap, subst, ◌∙◌, arith}
-use Rattle.std.specs.List.{list_all}
+use Rattle.std.specs.List.{list_all, sum_by}
+use Rattle.std.proofs.lemmas.List.Sums.{sum_by_push}
 use Rattle.std.proofs.lemmas.Bool.{le-leb}
 use Rattle.std.proofs.lemmas.Bool.{and_parts, and_from}
 use Rattle.isl_base.specs.Data.{Item}
@@ -15,7 +16,7 @@ use Rattle.isl_meaning.specs.declared.scope.LexicalScope.{LexicalScope}
 use Rattle.isl_meaning.specs.Form.{Form}
 use Rattle.isl_meaning.specs.Subforms.{Each}
 use Rattle.isl_meaning.specs.Counts.{depth, all_nodes}
-use Rattle.isl_meaning.specs.ProgramCounts.{total, program_nodes}
+use Rattle.isl_meaning.specs.ProgramCounts.{program_nodes}
 use Rattle.isl_meaning.specs.Lookup.{all_differ}
 use Rattle.isl_meaning.specs.Standing.{is_alone, alone as alone_in, stands}
 use Rattle.isl_meaning.specs.Facts.{body_fits, literal_fits, same_name, initform_fits, class_fits, is_plain_slot, is_one, callee_fits, procedures_stand, rows_fit, bodies_stand, is_whole}
@@ -24,6 +25,7 @@ use Rattle.isl_profile.specs.declared.tables.Tables.{Tables}
 use Rattle.isl_profile.specs.declared.bound.Bound.{Bound}
 use Rattle.isl_profile.specs.Nodes.{Around, Standing, stands as comes_to}
 use Rattle.isl_profile.specs.Rows.{node}
+use Rattle.isl_derived.specs.GoodSteps.{StepsAreGood}
 use Rattle.isl_profile.specs.Judged.{Comes}
 use Rattle.isl_whole.specs.Definitions.{Definitions, defined, rows_of, Later, IsThere, procedure_fits, main_fits, WholeDefinitions, WholeTables, FewSites}
 use Rattle.isl_whole.specs.Between.{WholeBetween, HasNoForm}
@@ -40,11 +42,11 @@ use Rattle.isl_whole.proofs.Grown.{node_grows}
 use Rattle.isl_whole.proofs.Comes.{CameAs, node_came}
 
 -- a datum at a good place beside whole tables
-pub form_came : (names : List (List ℕ)) (a : Around) (s : Tables) (d : Item) (m : Standing) → Good (length names) d → GoodAround (defined s) a → WholeTables s
+pub form_came : StepsAreGood → (names : List (List ℕ)) (a : Around) (s : Tables) (d : Item) (m : Standing) → Good (length names) d → GoodAround (defined s) a → WholeTables s
     → Comes names (node names a s d) (comes_to m) → Came a s m
-form_came names a s d m g o w c =
+form_came keep names a s d m g o w c =
     let r : CameAs (Some a) a.spot (defined s) m =
-    node_came names (node names a s d) (comes_to m) c (Some a) a.spot (defined s) (apt_node names (length names) a s d (record { good = o; whole = w }) g) in
+    node_came keep names (node names a s d) (comes_to m) c (Some a) a.spot (defined s) (apt_node names (length names) a s d (record { good = o; whole = w }) g) in
     record { right = r.right; behind = r.behind; counted = r.counted; numbered = r.numbered; grown = node_grows names (node names a s d) (comes_to m) c s (begins_node names s a d) }
 
 -- where nothing is bound, all is good
@@ -111,25 +113,21 @@ first_between texts t b n =
 
 -- sites and nodes of main forms
 
-main_then : (fs : List Form) (f : Form) → total all_nodes (fs ++ f ∷ []) ≡ total all_nodes fs + all_nodes f
-main_then [] f = omega arith
-main_then (g ∷ gs) f = more (all_nodes g) (total all_nodes (gs ++ f ∷ [])) (total all_nodes gs) (all_nodes f) (main_then gs f)
-  where
-    more : (a n m k : ℕ) → n ≡ m + k → a + n ≡ a + m + k
-    more a n m k e = omega (arith, e)
+main_then : (fs : List Form) (f : Form) → sum_by all_nodes (fs ++ f ∷ []) ≡ sum_by all_nodes fs + all_nodes f
+main_then fs f = sum_by_push all_nodes fs f
 
 sites_of_file : (b : Bool) (g h : Definitions) (f : Form) → h.main ≡ g.main → Counted b g h (all_nodes f) → FewSites g → FewSites (record h { main = h.main ++ f ∷ [] })
 sites_of_file true g h f e c s =
-    let same : total all_nodes h.main ≡ total all_nodes g.main = ap (total all_nodes) e in
+    let same : sum_by all_nodes h.main ≡ sum_by all_nodes g.main = ap (sum_by all_nodes) e in
     record { few = omega (arith, c.sites, s.few, same, main_then h.main f) }
 sites_of_file false g h f e c s =
-    let same : total all_nodes h.main ≡ total all_nodes g.main = ap (total all_nodes) e in
+    let same : sum_by all_nodes h.main ≡ sum_by all_nodes g.main = ap (sum_by all_nodes) e in
     record { few = omega (arith, c.sites, s.few, same, main_then h.main f) }
 
 sites_of_prelude : (b : Bool) (g h : Definitions) (f : Form) → b ≡ false → h.main ≡ g.main → Counted b g h (all_nodes f) → FewSites g → FewSites h
 sites_of_prelude true g h f u e c s = absurd (cc u)
 sites_of_prelude false g h f u e c s =
-    let same : total all_nodes h.main ≡ total all_nodes g.main = ap (total all_nodes) e in
+    let same : sum_by all_nodes h.main ≡ sum_by all_nodes g.main = ap (sum_by all_nodes) e in
     record { few = omega (arith, c.sites, s.few, same) }
 
 same_classes : (a : Around) (s : Tables) (m : Standing) → Came a s m → SimpleClasses s.classes.rows → SimpleClasses m.tables.classes.rows

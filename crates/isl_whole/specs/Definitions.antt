@@ -1,7 +1,7 @@
 -- What of the tables a program is made of, and when that is whole: literals in form, procedures whose bodies stand by
 -- themselves, functions that are there under names of their own, and main forms that stand alone.
 use Rattle.std.specs.Prelude.{◌≡◌, ℕ, ◌+◌, ◌<◌, ◌≤◌, Bool, true, false, ◌&&◌, List, [], Some, length}
-use Rattle.std.specs.List.{list_all}
+use Rattle.std.specs.List.{list_all, sum_by}
 use Rattle.isl_base.specs.declared.place.Place.{Place}
 use Rattle.isl_meaning.specs.declared.program.LiteralRow.{LiteralRow}
 use Rattle.isl_meaning.specs.declared.program.Procedure.{Procedure}
@@ -13,7 +13,7 @@ use Rattle.isl_meaning.specs.declared.program.ProgramRows.{ProgramRows}
 use Rattle.isl_meaning.specs.Form.{Form}
 use Rattle.isl_meaning.specs.Subforms.{Each}
 use Rattle.isl_meaning.specs.Counts.{all_nodes}
-use Rattle.isl_meaning.specs.ProgramCounts.{total, procedure_nodes}
+use Rattle.isl_meaning.specs.ProgramCounts.{procedure_nodes}
 use Rattle.isl_meaning.specs.Lookup.{all_differ}
 use Rattle.isl_meaning.specs.Standing.{stands_alone, is_alone}
 use Rattle.isl_meaning.specs.Facts.{body_fits, literal_fits, same_name}
@@ -77,10 +77,10 @@ main_fits g f = body_fits (rows_of g) f && stands_alone false f
 
 -- the nodes of the procedures and of the main forms
 abbrev pub procedure_count : Definitions → ℕ
-procedure_count g = total procedure_nodes g.procedures
+procedure_count g = sum_by procedure_nodes g.procedures
 
 abbrev pub main_count : Definitions → ℕ
-main_count g = total all_nodes g.main
+main_count g = sum_by all_nodes g.main
 
 -- there are no more sites than nodes: each site is that of a form of its own
 pub record FewSites (g : Definitions) : Type 0 where

@@ -19,6 +19,8 @@ ghost use Rattle.isl_whole.specs.Places.{NothingAround, GoodAround};
 ghost use Rattle.isl_whole.specs.Right.{Came, with_main};
 ghost use Rattle.isl_whole.specs.Between.{WholeBetween, HasNoForm};
 
+use isl_derived::laws::law_good_steps;
+
 /// A form that stands in a scope stands in each that binds as much.
 pub fn law_scopes()
     ensures { (s t : LexicalScope) (f : Form) → Within s t → stands s f ≡ true → stands t f ≡ true }
@@ -30,7 +32,9 @@ pub fn law_scopes()
 pub fn law_forms()
     ensures { (names : List (List ℕ)) (a : Around) (s : Tables) (d : Item) (m : Standing) → Good (length names) d → GoodAround (defined s) a →
         WholeTables s → Comes names (node names a s d) (comes_to m) → Came a s m }
-{}
+{
+    law_good_steps();
+}
 
 /// The first tables are whole, with the built-in classes and no more sites than nodes; so they are behind
 /// each top-level form, where that of a file is a main form then, and that of a prelude, in which forms
@@ -41,7 +45,9 @@ pub fn law_top_forms()
         WholeBetween s → Comes names (node names a s d) (comes_to m) → WholeBetween (with_main m.form m.tables) }
     ensures prelude { (names : List (List ℕ)) (a : Around) (s : Tables) (d : Item) (m : Standing) → Good (length names) d → NothingAround a →
         a.spot.sited ≡ false → WholeBetween s → Comes names (node names a s d) (comes_to m) → WholeBetween m.tables }
-{}
+{
+    law_good_steps();
+}
 
 /// Such tables are a whole program where its nodes are within their limit.
 pub fn law_programs()

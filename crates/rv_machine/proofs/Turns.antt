@@ -61,15 +61,24 @@ counts :
     → new.count ≡ min (mid.count + 1) 18446744073709551615 → new.count ≡ old.count + 1
 counts old mid new unchanged room rises = let same = ap (λ (c : Counted). c.count) unchanged in omega arith
 
+-- a call that ends a run, by what it says of the state
+turned_call :
+    (r : Result) (which : ℕ) (ending : Ending) (of : State → Ending) (old mid new : Counted) (o : Outside) (Same : Type 0) → Same
+    → r ≡ environment_call which → ((input : List ℕ) → acted (environment_call which) old input ≡ ends (of old.state) (first old.state input))
+    → (ending ≡ Budget → ⊥) → mid ≡ old → new.state ≡ mid.state → old.count + 1 < 18446744073709551616
+    → new.count ≡ min (mid.count + 1) 18446744073709551615 → ending ≡ of new.state → Turned r (Some ending) old new o o Same
+turned_call r which ending of old mid new o Same same e ends_so no_budget unchanged state room rises is =
+    let here : new.state ≡ old.state = state ∙ ap (λ (c : Counted). c.state) unchanged in
+    let value : ending ≡ of old.state = is ∙ ap of here in
+    turned_ends r ending old new o Same same (λ input. rw (e, value) (ends_so input)) no_budget here (counts old mid new unchanged room rises)
+
 pub turned_halt :
     (r : Result) (which code : ℕ) (old mid new : Counted) (o : Outside) (Same : Type 0) → Same → r ≡ environment_call which
     → which ≡ 0 → mid ≡ old → new.state ≡ mid.state → old.count + 1 < 18446744073709551616
     → new.count ≡ min (mid.count + 1) 18446744073709551615 → code ≡ register new.state 10
     → Turned r (Some (Halt code)) old new o o Same
 turned_halt r which code old mid new o Same same e w unchanged state room rises is =
-    let here : new.state ≡ old.state = state ∙ ap (λ (c : Counted). c.state) unchanged in
-    let value : code ≡ register old.state 10 = is ∙ ap (λ (s : State). register s 10) here in
-    turned_ends r (Halt code) old new o Same same (λ input. rw (e, w, value) refl) (λ b. cc) here (counts old mid new unchanged room rises)
+    turned_call r which (Halt code) (λ s. Halt (register s 10)) old mid new o Same same e (λ input. rw w refl) (λ b. cc) unchanged state room rises (ap Halt is)
 
 pub turned_unhandled :
     (r : Result) (which class : ℕ) (old mid new : Counted) (o : Outside) (Same : Type 0) → Same → r ≡ environment_call which
@@ -77,9 +86,8 @@ pub turned_unhandled :
     → new.count ≡ min (mid.count + 1) 18446744073709551615 → class ≡ register new.state 10
     → Turned r (Some (Unhandled class)) old new o o Same
 turned_unhandled r which class old mid new o Same same e w unchanged state room rises is =
-    let here : new.state ≡ old.state = state ∙ ap (λ (c : Counted). c.state) unchanged in
-    let value : class ≡ register old.state 10 = is ∙ ap (λ (s : State). register s 10) here in
-    turned_ends r (Unhandled class) old new o Same same (λ input. rw (e, w, value) refl) (λ b. cc) here (counts old mid new unchanged room rises)
+    turned_call r which (Unhandled class) (λ s. Unhandled (register s 10)) old mid new o Same same e (λ input. rw w refl) (λ b. cc) unchanged state room rises
+    (ap Unhandled is)
 
 pub turned_full :
     (r : Result) (which asked left : ℕ) (old mid new : Counted) (o : Outside) (Same : Type 0) → Same → r ≡ environment_call which
@@ -87,10 +95,8 @@ pub turned_full :
     → new.count ≡ min (mid.count + 1) 18446744073709551615 → asked ≡ register new.state 10
     → left ≡ register new.state 11 → Turned r (Some (Full asked left)) old new o o Same
 turned_full r which asked left old mid new o Same same e w unchanged state room rises is is' =
-    let here : new.state ≡ old.state = state ∙ ap (λ (c : Counted). c.state) unchanged in
-    let value : asked ≡ register old.state 10 = is ∙ ap (λ (s : State). register s 10) here in
-    let value' : left ≡ register old.state 11 = is' ∙ ap (λ (s : State). register s 11) here in
-    turned_ends r (Full asked left) old new o Same same (λ input. rw (e, w, value, value') refl) (λ b. cc) here (counts old mid new unchanged room rises)
+    turned_call r which (Full asked left) (λ s. Full (register s 10) (register s 11)) old mid new o Same same e (λ input. rw w refl) (λ b. cc) unchanged state room rises
+    (cc)
 
 -- In the middle of a run.
 

@@ -134,10 +134,7 @@ impl Machine {
 fn zeros(alloc: Global, words: u32) -> Result<Vec<u32>, NoMemory>
     ensures { IfOk result (λ zeros. zeros.items ≡ replicate words 0) }
 {
-    match vec![in alloc; 0; words as usize] {
-        Ok(zeros) => Ok(zeros),
-        Err(_) => Err(NoMemory),
-    }
+    Ok(vec![in alloc; 0; words as usize]?)
 }
 
 // The words at the front of the arena, and 0 behind them.

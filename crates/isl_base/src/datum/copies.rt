@@ -62,9 +62,9 @@ fn tail_copy(alloc: Global, tail: &Option<Box<Datum>>) -> Result<Option<Box<Datu
 {
     match tail {
         None => Ok(None),
-        Some(datum) => match Box::new(alloc, datum.copy(alloc)?) {
-            Ok(copy) => Ok(Some(copy)),
-            Err(_) => Err(NoMemory),
-        },
+        Some(datum) => {
+            let copy = Box::new(alloc, datum.copy(alloc)?)?;
+            Ok(Some(copy))
+        }
     }
 }

@@ -1,14 +1,10 @@
 // What a function captures: the parts around it that its body mentions (ISO/IEC 13816:2007, 12.7).
 
-ghost use Rattle.std.specs.Prelude.{◌≡◌, option_to_list, filter, IfOk};
-ghost use Rattle.std.specs.List.{list_any};
-ghost use Rattle.isl_meaning.specs.declared.part.Part.TheVariants.{Variable};
-ghost use Rattle.isl_meaning.specs.model.View.{bindings_of};
-ghost use Rattle.isl_meaning.specs.Form.{parameters};
-ghost use Rattle.isl_meaning.specs.Mentions.{same_part, owns, variables_bound, binds, names_part, mentions};
+ghost use Rattle.std.specs.Prelude.{◌≡◌, filter, IfOk};
+ghost use Rattle.isl_meaning.specs.Mentions.{mentions};
 
 use isl_base::NoMemory;
-use isl_meaning::{BindingList, Core, CoreForm, Part, PartList, Subforms, Var, VarList};
+use isl_meaning::{Core, PartList, mentions};
 use std::alloc::Global;
 
 /// Those of these parts, in their order.
@@ -22,101 +18,4 @@ pub(crate) fn captured(alloc: Global, around: &PartList, body: &Core) -> Result<
         }
     }
     Ok(parts)
-}
-
-// Whether the part is mentioned and not bound inside.
-#[cycle(mentions)]
-#[tactic(auto, using(isl_meaning::specs::bridge::Judged::mentions_folded, isl_meaning::specs::bridge::Smaller::outer_is_smaller, isl_meaning::specs::bridge::Smaller::inner_is_smaller))]
-fn mentions(form: &Core, part: Part) -> bool
-    ensures { result ≡ mentions part form.now }
-{
-    names_part(form, part)
-        || one_mentions(form.outer(), part)
-        || (!binds(form, part) && one_mentions(form.inner(), part))
-}
-
-#[cycle(mentions)]
-fn one_mentions(forms: Subforms<'_>, part: Part) -> bool
-    ensures { result ≡ list_any (mentions part) forms.entry }
-{
-    for form in forms {
-        if mentions(form, part) {
-            return true;
-        }
-    }
-    false
-}
-
-// Whether the form names that part itself.
-fn names_part(form: &Core, part: Part) -> bool
-    ensures { result ≡ names_part part form.now }
-{
-    match &form.form {
-        CoreForm::Local(var) | CoreForm::SetLocal(var, _) => same_part(part, Part::Variable(*var)),
-        CoreForm::Return(exit, _) | CoreForm::Go(exit, _) => same_part(part, Part::Exit(*exit)),
-        CoreForm::NextMethod | CoreForm::HasNext => same_part(part, Part::Method),
-        _ => false,
-    }
-}
-
-// Whether the form binds that part for its inner forms.
-fn binds(form: &Core, part: Part) -> bool
-    ensures { result ≡ binds part form.now }
-{
-    match &form.form {
-        CoreForm::Let(list, _) => is_bound(list, part),
-        CoreForm::Lambda(required, rest, _, _) => is_parameter(required, *rest, part),
-        CoreForm::Block(exit, _) | CoreForm::Tagbody(exit, _) => {
-            same_part(part, Part::Exit(*exit))
-        }
-        _ => false,
-    }
-}
-
-// Whether bindings bind the part.
-fn is_bound(list: &BindingList, part: Part) -> bool
-    ensures { result ≡ owns (variables_bound (bindings_of list.now)) part }
-{
-    for binding in list.as_slice() {
-        if same_part(part, Part::Variable(binding.var)) {
-            return true;
-        }
-    }
-    false
-}
-
-// Whether the part is one of a function's own variables.
-#[tactic(auto, using(crate::proofs::MakingWalks::any_of_both))]
-fn is_parameter(required: &VarList, rest: Option<Var>, part: Part) -> bool
-    ensures { result ≡ owns (parameters required.now rest) part }
-{
-    owns(required.as_slice(), part) || is_variable(rest, part)
-}
-
-// Whether the part is one of the variables.
-fn owns(vars: &[Var], part: Part) -> bool
-    ensures { result ≡ owns vars.now part }
-{
-    vars.iter().any(|var| same_part(part, Part::Variable(*var)))
-}
-
-fn is_variable(var: Option<Var>, part: Part) -> bool
-    ensures { result ≡ list_any (λ v. same_part part (Variable v)) (option_to_list var) }
-{
-    match var {
-        None => false,
-        Some(var) => same_part(part, Part::Variable(var)),
-    }
-}
-
-// Whether both are the same part.
-fn same_part(part: Part, other: Part) -> bool
-    ensures { result ≡ same_part part other }
-{
-    match (part, other) {
-        (Part::Variable(v), Part::Variable(w)) => v == w,
-        (Part::Exit(x), Part::Exit(y)) => x == y,
-        (Part::Method, Part::Method) => true,
-        _ => false,
-    }
 }

@@ -14,10 +14,7 @@ use std::alloc::Global;
 pub(crate) fn boxed(alloc: Global, form: Core) -> Result<Box<Core>, NoMemory>
     ensures { IfOk result (λ boxed. boxed.value ≡ form) }
 {
-    match Box::new(alloc, form) {
-        Ok(boxed) => Ok(boxed),
-        Err(_) => Err(NoMemory),
-    }
+    Ok(Box::new(alloc, form)?)
 }
 
 /// A body with that exit.

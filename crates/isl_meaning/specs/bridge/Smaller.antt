@@ -1,5 +1,5 @@
 -- The forms right inside a form are smaller than it: a recursion over forms ends.
-use Rattle.std.specs.Prelude.{◌≡◌, ℕ, ◌+◌, ◌*◌, ◌<◌, List, [], ◌∷◌}
+use Rattle.std.specs.Prelude.{◌≡◌, ℕ, ◌+◌, ◌*◌, ◌<◌, ◌≤◌, Bool, List, [], ◌∷◌}
 use Rattle.std.proofs.Common.{ap, arith}
 use Rattle.isl_meaning.specs.Form.{Form, literal, local, set_local, global, set_global, def_global, clauses, sequence, let_form, lambda, call, call_value, apply, prim, while_form, block, return_from, tagbody, go, catch_form, throw, unwind, dynamic_let, dynamic, set_dynamic, def_dynamic, with_handler, signal_form, continue_form, next_method, has_next, sited}
 use Rattle.isl_meaning.specs.Form.{Forms, no_form, form_and, ClauseForms, no_clause, clause_and, no_body, with_body}
@@ -11,6 +11,11 @@ use Rattle.isl_meaning.specs.Subforms.{forms_list, clause_list, value_list, dyna
 abbrev pub sizes : List Form → ℕ
 sizes [] = 0
 sizes (f ∷ fs) = form_size f + sizes fs
+
+-- what is asked of all forms right inside one is left to see of these
+pub record IsLeft (asked : List Form → Bool) (all left : List Form) : Type 0 where
+  pub smaller : sizes left ≤ sizes all
+  pub same : asked left ≡ asked all
 
 -- the measures by which a walk ends: of what it finds of a form, of the inner forms of one, and of forms right inside one
 abbrev pub form_measure : Form → ℕ

@@ -101,13 +101,7 @@ fn form_copy(alloc: Global, form: &CoreForm) -> Result<CoreForm, NoMemory>
 fn boxed(alloc: Global, form: &Core) -> Result<Box<Core>, NoMemory>
     ensures { IfOk result (λ copy. copy.value ≡ form.now) }
 {
-    match Box::new(alloc, form.copy(alloc)?) {
-        Ok(copy) => Ok(copy),
-        Err(refused) => {
-            drop(refused);
-            Err(NoMemory)
-        }
-    }
+    Ok(Box::new(alloc, form.copy(alloc)?)?)
 }
 
 #[cycle(copy)]

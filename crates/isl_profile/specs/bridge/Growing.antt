@@ -1,16 +1,22 @@
--- Tables that grow: twice, not at all, and by what counts once a form is made.
-use Rattle.std.proofs.Common.{◌≡◌, ◌≤◌, Bool, true, false, List, [], ◌∷◌, ◌++◌, take, length, refl, ap, ◌∙◌, arith}
+-- Tables that grow: twice, not at all, by what is added to their lists, and by what counts once a form is made.
+use Rattle.std.proofs.Common.{◌≡◌, ◌≤◌, ℕ, Bool, true, false, List, [], ◌∷◌, ◌++◌, Option, Some, None, take, length, refl, ap, ◌∙◌, arith}
 use Rattle.std.proofs.lemmas.List.{length-take, take-append-le}
 use Rattle.std.proofs.Math.Seq.{take-length}
+use Rattle.isl_base.specs.declared.place.Place.{Place}
 use Rattle.isl_base.specs.declared.datum.Name.{Name}
+use Rattle.isl_base.specs.declared.datum.Symbol.{Symbol}
+use Rattle.isl_meaning.specs.declared.program.LiteralRow.{LiteralRow}
+use Rattle.isl_meaning.specs.declared.program.FunctionRow.{FunctionRow}
+use Rattle.isl_meaning.specs.declared.program.Callee.TheVariants as callee
 use Rattle.isl_meaning.specs.declared.program.Procedure.{Procedure}
 use Rattle.isl_profile.specs.declared.tables.Tables.{Tables}
+use Rattle.isl_profile.specs.declared.tables.GlobalRow.{GlobalRow}
 use Rattle.isl_profile.specs.declared.making.Found.{Found}
 use Rattle.isl_profile.specs.declared.making.One.{One}
 use Rattle.isl_profile.specs.declared.making.Making.{Making}
 use Rattle.isl_profile.specs.declared.making.Making.TheVariants.{OfOne, OfFunctionNamed}
 use Rattle.isl_profile.specs.declared.making.One.TheVariants.{DefineGlobal, DefineDynamic}
-use Rattle.isl_profile.specs.Makings.{with_global, with_dynamic, prelude_with, with_function, procedure_found, finish_one, finish}
+use Rattle.isl_profile.specs.Makings.{with_function, procedure_found, finish_one, finish}
 use Rattle.isl_profile.specs.Marks.{StandsFirst, Grows}
 
 pub first_then : {X : Type 0} (xs ys zs : List X) → StandsFirst xs ys → StandsFirst ys zs → StandsFirst xs zs
@@ -69,67 +75,78 @@ fits xs ys h = omega (arith, ap length h, length-take (length xs) ys)
 pub grows_at_end : {X : Type 0} (xs ys zs : List X) → StandsFirst xs ys → StandsFirst xs (ys ++ zs)
 grows_at_end xs ys zs h = take-append-le (length xs) ys zs (fits xs ys h) ∙ h
 
-with_global_grows : (mark s : Tables) (n : Name) (constant : Bool) → Grows mark s → Grows mark (with_global n constant s)
-with_global_grows mark s n constant g = record {
-  words = g.words;
-  classes = g.classes;
-  literals = g.literals;
-  procedures = g.procedures;
-  functions = g.functions;
-  prelude = g.prelude;
-  globals = grows_at_end mark.globals s.globals _ g.globals;
-  set = g.set;
-  dynamics = g.dynamics;
-  sites = g.sites;
-  fresh = g.fresh;
-  main = g.main;
-  variables = g.variables;
-  exits = g.exits;
+-- what is added to the lists of tables at their ends, for each either nothing or these
+pub record Added : Type 0 where
+  pub literals : Option (List LiteralRow)
+  pub procedures : Option (List Procedure)
+  pub functions : Option (List FunctionRow)
+  pub prelude : Option (List Name)
+  pub globals : Option (List GlobalRow)
+  pub set : Option (List Name)
+  pub dynamics : Option (List Name)
+  pub sites : Option (List Place)
+  pub fresh : Option (List Symbol)
+
+abbrev pub nothing_added : Added
+nothing_added = record { literals = None; procedures = None; functions = None; prelude = None; globals = None; set = None; dynamics = None; sites = None; fresh = None }
+
+abbrev pub with_these : {X : Type 0} → List X → Option (List X) → List X
+with_these xs None = xs
+with_these xs (Some more) = xs ++ more
+
+-- the tables with these things more, and with these numbers for the next variable and the next exit
+abbrev pub with_added : Added → ℕ → ℕ → Tables → Tables
+with_added a variables exits t = record t {
+  literals = with_these t.literals a.literals;
+  procedures = with_these t.procedures a.procedures;
+  functions = with_these t.functions a.functions;
+  prelude = with_these t.prelude a.prelude;
+  globals = with_these t.globals a.globals;
+  set = with_these t.set a.set;
+  dynamics = with_these t.dynamics a.dynamics;
+  sites = with_these t.sites a.sites;
+  fresh = with_these t.fresh a.fresh;
+  variables = variables;
+  exits = exits;
 }
 
-with_dynamic_grows : (mark s : Tables) (n : Name) → Grows mark s → Grows mark (with_dynamic n s)
-with_dynamic_grows mark s n g = record {
+first_with : {X : Type 0} (xs ys : List X) (more : Option (List X)) → StandsFirst xs ys → StandsFirst xs (with_these ys more)
+first_with xs ys None h = h
+first_with xs ys (Some more) h = grows_at_end xs ys more h
+
+-- tables that grow still do with more at the ends of their lists, and with greater numbers
+pub grows_with : (s t : Tables) (a : Added) (variables exits : ℕ) → t.variables ≤ variables → t.exits ≤ exits → Grows s t
+    → Grows s (with_added a variables exits t)
+grows_with s t a variables exits v e g = record {
   words = g.words;
   classes = g.classes;
-  literals = g.literals;
-  procedures = g.procedures;
-  functions = g.functions;
-  prelude = g.prelude;
-  globals = g.globals;
-  set = g.set;
-  dynamics = grows_at_end mark.dynamics s.dynamics _ g.dynamics;
-  sites = g.sites;
-  fresh = g.fresh;
+  literals = first_with s.literals t.literals a.literals g.literals;
+  procedures = first_with s.procedures t.procedures a.procedures g.procedures;
+  functions = first_with s.functions t.functions a.functions g.functions;
+  prelude = first_with s.prelude t.prelude a.prelude g.prelude;
+  globals = first_with s.globals t.globals a.globals g.globals;
+  set = first_with s.set t.set a.set g.set;
+  dynamics = first_with s.dynamics t.dynamics a.dynamics g.dynamics;
+  sites = first_with s.sites t.sites a.sites g.sites;
+  fresh = first_with s.fresh t.fresh a.fresh g.fresh;
   main = g.main;
-  variables = g.variables;
-  exits = g.exits;
+  variables = omega (arith, g.variables, v);
+  exits = omega (arith, g.exits, e);
 }
 
-prelude_grows : (xs ns : List Name) (of_file : Bool) (n : Name) → StandsFirst xs ns → StandsFirst xs (prelude_with of_file n ns)
-prelude_grows xs ns true n h = h
-prelude_grows xs ns false n h = grows_at_end xs ns (n ∷ []) h
+pub grows_by : (s t : Tables) (a : Added) → Grows s t → Grows s (with_added a t.variables t.exits t)
+grows_by s t a g = grows_with s t a t.variables t.exits (omega arith) (omega arith) g
 
 with_function_grows : (mark s : Tables) (name : Name) (p : Procedure) (of_file : Bool) → Grows mark s → Grows mark (with_function name p of_file s)
-with_function_grows mark s name p of_file g = record {
-  words = g.words;
-  classes = g.classes;
-  literals = g.literals;
-  procedures = grows_at_end mark.procedures s.procedures _ g.procedures;
-  functions = grows_at_end mark.functions s.functions _ g.functions;
-  prelude = prelude_grows mark.prelude s.prelude of_file name g.prelude;
-  globals = g.globals;
-  set = g.set;
-  dynamics = g.dynamics;
-  sites = g.sites;
-  fresh = g.fresh;
-  main = g.main;
-  variables = g.variables;
-  exits = g.exits;
-}
+with_function_grows mark s name p true g =
+    grows_by mark s (record nothing_added { procedures = Some (p ∷ []); functions = Some ((record { name = name; callee = callee.Procedure (length s.procedures) }) ∷ []) }) g
+with_function_grows mark s name p false g =
+    grows_by mark s (record nothing_added { procedures = Some (p ∷ []); functions = Some ((record { name = name; callee = callee.Procedure (length s.procedures) }) ∷ []); prelude = Some (name ∷ []) }) g
 
 finish_one_grows : (mark s : Tables) (k : One) → Grows mark s → Grows mark (finish_one k s)
-finish_one_grows mark s (DefineGlobal n constant) g = with_global_grows mark s n constant g
-finish_one_grows mark s (DefineDynamic n) g = with_dynamic_grows mark s n g
+finish_one_grows mark s (DefineGlobal n constant) g =
+    grows_by mark s (record nothing_added { globals = Some ((record { name = n; constant = constant }) ∷ []) }) g
+finish_one_grows mark s (DefineDynamic n) g = grows_by mark s (record nothing_added { dynamics = Some (n ∷ []) }) g
 finish_one_grows mark s k g = g
 
 -- what counts once a form is made

@@ -1,44 +1,37 @@
 // What the instructions compute, on words (RISC-V Unprivileged ISA, 2.4, and the M extension).
 
-ghost use Rattle.std.specs.Prelude.{◌≡◌, ◌*◌, ◌<◌};
+ghost use Rattle.std.specs.Prelude.{◌≡◌, ◌+◌, ◌*◌, ◌<◌, ◌^◌, nat_lt, if◌then◌else◌};
 ghost use Rattle.rv_machine.specs.Arithmetic.{even as even_of, sign_extended, less_signed, one_if_less_signed as one_if_less_signed_of, one_if_less as one_if_less_of, shift_left as shift_left_of, shift_right as shift_right_of, shift_right_signed as shift_right_signed_of, product32, high_signed as high_signed_of, high_mixed as high_mixed_of, high_unsigned as high_unsigned_of, quotient_signed as quotient_signed_of, remainder_signed as remainder_signed_of, quotient as quotient_of, remainder as remainder_of, low_word, shifted_down};
 
 use rv_encode::{Immediate12, Offset13, Offset21};
+
+// The word of bits of which the highest, worth `highest`, is repeated up to bit 31: `above` has the bits above it.
+fn extended(bits: u32, highest: u32, above: u32) -> u32
+    requires { bits + above < 2 ^ 32 }
+    ensures { result ≡ (if nat_lt bits highest then bits else bits + above) }
+{
+    if bits < highest { bits } else { bits + above }
+}
 
 // The word of an immediate: its highest bit repeated up to bit 31.
 pub fn extended12(immediate: Immediate12) -> u32
     ensures { result ≡ sign_extended 12 immediate }
 {
-    let bits = immediate.value();
-    if bits < 2048 {
-        bits
-    } else {
-        bits + 0xffff_f000
-    }
+    extended(immediate.value(), 2048, 0xffff_f000)
 }
 
 // The same of a branch's offset.
 pub fn extended13(offset: Offset13) -> u32
     ensures { result ≡ sign_extended 13 offset }
 {
-    let bits = offset.value();
-    if bits < 4096 {
-        bits
-    } else {
-        bits + 0xffff_e000
-    }
+    extended(offset.value(), 4096, 0xffff_e000)
 }
 
 // The same of a jump's offset.
 pub fn extended21(offset: Offset21) -> u32
     ensures { result ≡ sign_extended 21 offset }
 {
-    let bits = offset.value();
-    if bits < 1048576 {
-        bits
-    } else {
-        bits + 0xffe0_0000
-    }
+    extended(offset.value(), 1_048_576, 0xffe0_0000)
 }
 
 // The same of a byte.
@@ -46,7 +39,7 @@ pub fn extended8(byte: u32) -> u32
     requires { byte < 256 }
     ensures { result ≡ sign_extended 8 byte }
 {
-    if byte < 128 { byte } else { byte + 0xffff_ff00 }
+    extended(byte, 128, 0xffff_ff00)
 }
 
 // The same of a half.
@@ -54,11 +47,7 @@ pub fn extended16(half: u32) -> u32
     requires { half < 65536 }
     ensures { result ≡ sign_extended 16 half }
 {
-    if half < 32768 {
-        half
-    } else {
-        half + 0xffff_0000
-    }
+    extended(half, 32768, 0xffff_0000)
 }
 
 pub fn is_less_signed(a: u32, b: u32) -> bool

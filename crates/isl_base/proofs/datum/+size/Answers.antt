@@ -1,9 +1,10 @@
 -- A loop counts a datum at each turn, and at its end nothing is left.
-use Rattle.std.proofs.Common.{◌≡◌, ℕ, ◌+◌, ◌≤◌, min, List, Some, length, drop, slice_get, refl, ap, arith}
+use Rattle.std.proofs.Common.{◌≡◌, ℕ, ◌+◌, ◌≤◌, List, Some, length, drop, slice_get, refl, ap, arith}
 use Rattle.std.proofs.lemmas.List.{drop_all}
 use Rattle.isl_base.specs.Data.{Item, items_of}
 use Rattle.isl_base.specs.model.DataRest.{items_at}
 use Rattle.isl_base.specs.DataMeasures.{size_of, sizes_of}
+use Rattle.isl_base.specs.bridge.Counted.{one_counted, all_counted}
 use Rattle.isl_base.proofs.datum.+size.Goals as goal
 
 sizes_at : (ds : List Item) (i : ℕ) (d : Item) → slice_get ds i ≡ Some d
@@ -14,13 +15,6 @@ sizes_at ds i d h = ap sizes_of (items_at ds i d h)
 sizes_end : (ds : List Item) (i : ℕ) → length ds ≤ i → sizes_of (items_of (drop i ds)) ≡ 0
 unfolding sizes_of
 sizes_end ds i h = rw (drop_all i ds h) refl
-
-one_counted : (total size item rest left whole next m : ℕ) → left ≡ size + rest → item ≡ min size m → next ≡ min (total + item) m
-    → min (total + left) m ≡ whole → min (next + rest) m ≡ whole
-one_counted total size item rest left whole next m a b e f = omega arith
-
-all_counted : (total left whole m : ℕ) → left ≡ 0 → total ≤ m → min (total + left) m ≡ whole → total ≡ whole
-all_counted total left whole m a b e = omega arith
 
 pub measures::sizes-loop-at-preserved : goal.measures::sizes-loop-at-preserved
 measures::sizes-loop-at-preserved t c = record {

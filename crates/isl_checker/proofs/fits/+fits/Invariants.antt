@@ -1,8 +1,7 @@
 -- The sizes of the forms fall; in a loop it is left to see what the rest says.
 use Rattle.std.specs.List.{list_all}
 use Rattle.isl_meaning.specs.Fits.{fits}
-use Rattle.isl_meaning.specs.bridge.Smaller.{form_measure, forms_measure}
-use Rattle.isl_checker.proofs.Walks.{IsLeft}
+use Rattle.isl_meaning.specs.bridge.Smaller.{IsLeft, form_measure, forms_measure}
 use Rattle.isl_checker.proofs.fits.+fits.Given as goal
 
 abbrev pub decreases-fits : goal.decreases-fits

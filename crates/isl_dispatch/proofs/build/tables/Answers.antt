@@ -2,12 +2,12 @@
 use Rattle.std.proofs.Common.{◌≡◌, ◌+◌, ◌∷◌, [], length, length-append, ap, ◌∙◌, arith}
 use Rattle.isl_meaning.specs.Cells.{generic_cells}
 use Rattle.isl_dispatch.specs.OfClasses.{with_classes}
-use Rattle.isl_dispatch.proofs.Making.{one_of_total, tables_more}
+use Rattle.isl_dispatch.proofs.Making.{one_of_sum, tables_more}
 use Rattle.isl_dispatch.proofs.build.tables.Goals as goal
 
 pub table_of-requires : goal.table_of-requires
 table_of-requires c =
-    omega (arith, one_of_total (generic_cells (with_classes c.args.classes.now)) c.args.generics.now c.loop-at.at c.in-Some.generic.now c.in-Some.ensures, c.requires)
+    omega (arith, one_of_sum (generic_cells (with_classes c.args.classes.now)) c.args.generics.now c.loop-at.at c.in-Some.generic.now c.in-Some.ensures, c.requires)
 
 pub loop-at-preserved : goal.loop-at-preserved
 loop-at-preserved c = record {

@@ -1,6 +1,6 @@
 -- The sum has what is counted, and the rest is still to be counted; the lists get fewer.
 use Rattle.std.proofs.Common.{◌≡◌, ◌≤◌, ◌+◌, min, drop, length}
-use Rattle.isl_meaning.specs.ProgramCounts.{total}
+use Rattle.std.specs.List.{sum_by}
 use Rattle.isl_meaning.specs.Cells.{tuples}
 use Rattle.isl_dispatch.specs.OfClasses.{with_classes}
 use Rattle.isl_dispatch.specs.Suffixes.{rest_cells}
@@ -14,6 +14,6 @@ abbrev pub invariant-loop-at : goal.invariant-loop-at
 invariant-loop-at l =
     record {
       fits : l.sum ≤ 262145;
-      counted : min (l.sum + total (rest_cells (with_classes l.classes) l.argument l.methods) (fan (drop l.at l.firsts) (tuples l.rest))) 262145
-          ≡ min (total (rest_cells (with_classes l.classes) l.argument l.methods) (fan l.firsts (tuples l.rest))) 262145;
+      counted : min (l.sum + sum_by (rest_cells (with_classes l.classes) l.argument l.methods) (fan (drop l.at l.firsts) (tuples l.rest))) 262145
+          ≡ min (sum_by (rest_cells (with_classes l.classes) l.argument l.methods) (fan l.firsts (tuples l.rest))) 262145;
     }

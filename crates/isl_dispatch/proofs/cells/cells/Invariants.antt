@@ -1,6 +1,6 @@
 -- The sum has what is counted, and the rest is still to be counted.
 use Rattle.std.proofs.Common.{◌≡◌, ◌≤◌, ◌+◌, min, drop}
-use Rattle.isl_meaning.specs.ProgramCounts.{total}
+use Rattle.std.specs.List.{sum_by}
 use Rattle.isl_meaning.specs.Cells.{generic_cells}
 use Rattle.isl_dispatch.specs.OfClasses.{with_classes}
 use Rattle.isl_dispatch.proofs.cells.cells.Given as goal
@@ -9,6 +9,6 @@ abbrev pub invariant-loop-at : goal.invariant-loop-at
 invariant-loop-at l =
     record {
       fits : l.sum ≤ 262145;
-      counted : min (l.sum + total (generic_cells (with_classes l.classes)) (drop l.at l.generics)) 262145
-          ≡ min (total (generic_cells (with_classes l.classes)) l.generics) 262145;
+      counted : min (l.sum + sum_by (generic_cells (with_classes l.classes)) (drop l.at l.generics)) 262145
+          ≡ min (sum_by (generic_cells (with_classes l.classes)) l.generics) 262145;
     }

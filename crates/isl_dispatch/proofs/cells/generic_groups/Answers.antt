@@ -1,6 +1,6 @@
 -- One argument more.
 use Rattle.std.proofs.Common.{◌≡◌, ◌+◌, ◌++◌, ◌∷◌, [], suc, true, false, map, ◌∙◌, sym, ap, arith, append_assoc, append-nil}
-use Rattle.isl_meaning.specs.Objects.{count_up}
+use Rattle.std.specs.List.{range_with_len}
 use Rattle.isl_meaning.specs.Cells.{groups, is_specialised}
 use Rattle.isl_dispatch.specs.OfClasses.{with_classes}
 use Rattle.isl_dispatch.proofs.cells.generic_groups.Goals as goal
@@ -15,8 +15,8 @@ loop-argument-preserved c =
       fits = elim c.if-groups.branch [ then-groups w ↦ omega (arith, w.specialised-is) | else-groups w ↦ omega (arith, w.specialised-is) ];
       lists = λ m e.
           let whole = c.loop-argument.invariant.lists (suc m) (omega arith) in
-          ap (λ done. done ++ map group (count_up (at + 1) m)) (c.in_ok-push.ensures.ok ∙ ap (λ g. c.loop-argument.lists ++ g ∷ []) c.in_ok-groups.ensures.firsts)
-          ∙ append_assoc c.loop-argument.lists (group at ∷ []) (map group (count_up (at + 1) m)) ∙ whole;
+          ap (λ done. done ++ map group (range_with_len (at + 1) m)) (c.in_ok-push.ensures.ok ∙ ap (λ g. c.loop-argument.lists ++ g ∷ []) c.in_ok-groups.ensures.firsts)
+          ∙ append_assoc c.loop-argument.lists (group at ∷ []) (map group (range_with_len (at + 1) m)) ∙ whole;
       specialised = λ m e.
           let whole = c.loop-argument.invariant.specialised (suc m) (omega arith) in
           elim c.if-groups.branch [

@@ -2,14 +2,14 @@
 use Rattle.std.proofs.Common.{◌≤◌, List, ℕ, arith}
 use Rattle.isl_meaning.specs.Cells.{tuple_cells, tuples}
 use Rattle.isl_dispatch.specs.OfClasses.{with_classes}
-use Rattle.isl_dispatch.proofs.TuplePlaces.{total_above}
+use Rattle.isl_dispatch.proofs.TuplePlaces.{sum_above}
 use Rattle.isl_dispatch.proofs.SuffixCells.{tuples_by_rest}
 use Rattle.isl_dispatch.proofs.cells.tuples_cells.Goals as goal
 
 pub returns-then-tuple_count-ge-CELLS_LIMIT : goal.returns-then-tuple_count-ge-CELLS_LIMIT
 returns-then-tuple_count-ge-CELLS_LIMIT c =
     let f = tuple_cells (with_classes c.args.classes.now) c.args.generic.now in
-    let many = total_above f (λ (t : List ℕ). let one : 1 ≤ f t = omega arith in one) (tuples c.args.lists.now) in
+    let many = sum_above f (λ (t : List ℕ). let one : 1 ≤ f t = omega arith in one) (tuples c.args.lists.now) in
     omega (arith, many, c.tuple_count.ensures)
 
 pub returns : goal.returns

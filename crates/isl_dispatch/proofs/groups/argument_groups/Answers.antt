@@ -1,6 +1,6 @@
 -- Each turn takes a class.
 use Rattle.std.proofs.Common.{◌≡◌, ◌==◌, not, length, ◌∙◌, ap, arith}
-use Rattle.isl_meaning.specs.Lookup.{some_of}
+use Rattle.std.specs.List.{list_any}
 use Rattle.isl_meaning.specs.Cells.{group_of}
 use Rattle.isl_dispatch.specs.OfClasses.{with_classes}
 use Rattle.isl_dispatch.proofs.GroupTurns.{progress_none, progress_taken, progress_all}
@@ -21,5 +21,5 @@ returns c =
       firsts = progress_all _ _ _ _ _ _ c.loop-class.invariant all;
       count = c.loop-class.invariant.count ∙ all;
       numbers = c.loop-class.invariant.numbered;
-      specialised = c.is_specialised-specialised.ensures ∙ ap (λ column. some_of (λ d. not (d == 0)) column) c.in_ok-column.ensures;
+      specialised = c.is_specialised-specialised.ensures ∙ ap (λ column. list_any (λ d. not (d == 0)) column) c.in_ok-column.ensures;
     }

@@ -1,7 +1,7 @@
 -- Those passed so far, and the place in the rest.
 use Rattle.std.proofs.Common.{◌≡◌, ◌+◌, List, drop}
+use Rattle.std.specs.List.{position_or_len}
 use Rattle.isl_meaning.specs.declared.program.MethodRow.{MethodRow}
-use Rattle.isl_meaning.specs.Lookup.{place_in}
 use Rattle.isl_meaning.specs.Classes.{more_specific}
 use Rattle.isl_dispatch.specs.OfClasses.{with_classes}
 use Rattle.isl_dispatch.specs.Chains.{ArePicked}
@@ -10,5 +10,5 @@ use Rattle.isl_dispatch.proofs.order.place_for.Given as goal
 abbrev pub invariant-loop-at : goal.invariant-loop-at
 invariant-loop-at l =
     (picked : List MethodRow) → ArePicked l.generic.methods l.order.items picked
-    → l.at + place_in (λ n. more_specific (with_classes l.classes) l.tuple l.method.classes n.classes) (drop l.at picked)
-    ≡ place_in (λ n. more_specific (with_classes l.classes) l.tuple l.method.classes n.classes) picked
+    → l.at + position_or_len (λ n. more_specific (with_classes l.classes) l.tuple l.method.classes n.classes) (drop l.at picked)
+    ≡ position_or_len (λ n. more_specific (with_classes l.classes) l.tuple l.method.classes n.classes) picked

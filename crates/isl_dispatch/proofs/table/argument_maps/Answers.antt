@@ -1,6 +1,6 @@
 -- One argument more.
 use Rattle.std.proofs.Common.{◌+◌, ◌++◌, ◌∷◌, [], suc, length, map, append_assoc, append-nil, length-append, sym, ap, ◌∙◌, arith}
-use Rattle.isl_meaning.specs.Objects.{count_up}
+use Rattle.std.specs.List.{range_with_len}
 use Rattle.isl_meaning.specs.Cells.{groups}
 use Rattle.isl_dispatch.specs.OfClasses.{with_classes}
 use Rattle.isl_dispatch.specs.Tables.{map_of}
@@ -20,9 +20,9 @@ loop-argument-preserved c =
           (map_from_groups program g at found c.in_ok-groups.ensures) c.in_ok-take.ensures.arguments;
       lists = λ m e.
           let whole = c.loop-argument.invariant.lists (suc m) (omega arith) in
-          ap (λ done. done ++ map (groups program g) (count_up (at + 1) m))
+          ap (λ done. done ++ map (groups program g) (range_with_len (at + 1) m))
           (c.in_ok-take.ensures.lists ∙ ap (λ fs. c.loop-argument.maps.lists ++ fs ∷ []) c.in_ok-groups.ensures.firsts)
-          ∙ append_assoc c.loop-argument.maps.lists (groups program g at ∷ []) (map (groups program g) (count_up (at + 1) m)) ∙ whole;
+          ∙ append_assoc c.loop-argument.maps.lists (groups program g at ∷ []) (map (groups program g) (range_with_len (at + 1) m)) ∙ whole;
     }
 
 pub returns-clause-lists : goal.returns-clause-lists

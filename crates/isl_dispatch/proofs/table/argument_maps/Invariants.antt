@@ -1,6 +1,6 @@
 -- The maps of the arguments so far, and the lists of those that are left.
 use Rattle.std.proofs.Common.{◌≡◌, ◌+◌, ◌++◌, ℕ, Some, length, map, slice_get}
-use Rattle.isl_meaning.specs.Objects.{count_up}
+use Rattle.std.specs.List.{range_with_len}
 use Rattle.isl_meaning.specs.Cells.{groups}
 use Rattle.isl_dispatch.specs.OfClasses.{with_classes}
 use Rattle.isl_dispatch.specs.declared.table.ArgumentMap.{ArgumentMap}
@@ -13,6 +13,6 @@ invariant-loop-argument l =
       count : length l.maps.arguments ≡ l.argument;
       maps : (i : ℕ) → (a : ArgumentMap) → slice_get l.maps.arguments i ≡ Some a → IsMapOf (with_classes l.classes) l.generic i a;
       lists : (m : ℕ) → l.argument + m ≡ l.generic.required
-          → l.maps.lists ++ map (groups (with_classes l.classes) l.generic) (count_up l.argument m)
-          ≡ map (groups (with_classes l.classes) l.generic) (count_up 0 l.generic.required);
+          → l.maps.lists ++ map (groups (with_classes l.classes) l.generic) (range_with_len l.argument m)
+          ≡ map (groups (with_classes l.classes) l.generic) (range_with_len 0 l.generic.required);
     }

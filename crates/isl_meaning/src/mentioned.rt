@@ -1,4 +1,4 @@
-// What a form mentions of what is around it.
+// What a form mentions of what is around it (ISO/IEC 13816:2007, 12.7).
 
 ghost use Rattle.std.specs.Prelude.{◌≡◌, option_to_list};
 ghost use Rattle.std.specs.List.{list_any};
@@ -7,12 +7,13 @@ ghost use Rattle.isl_meaning.specs.model.View.{bindings_of};
 ghost use Rattle.isl_meaning.specs.Form.{parameters};
 ghost use Rattle.isl_meaning.specs.Mentions.{same_part, owns, variables_bound, binds, names_part, mentions};
 
-use crate::parts::same_part;
-use isl_meaning::{BindingList, Core, CoreForm, Part, Subforms, Var, VarList};
+use crate::core_form::{BindingList, Core, CoreForm, Subforms};
+use crate::part::{Part, Var, same_part};
+use crate::program::VarList;
 
-// Whether the part is mentioned and not bound inside.
+/// Whether the form mentions the part and does not bind it inside. Takes no memory.
 #[cycle(mentions)]
-#[tactic(auto, using(isl_meaning::specs::bridge::Judged::mentions_folded, isl_meaning::specs::bridge::Smaller::outer_is_smaller, isl_meaning::specs::bridge::Smaller::inner_is_smaller))]
+#[tactic(auto, using(crate::specs::bridge::Judged::mentions_folded, crate::specs::bridge::Smaller::outer_is_smaller, crate::specs::bridge::Smaller::inner_is_smaller))]
 pub fn mentions(form: &Core, part: Part) -> bool
     ensures { result ≡ mentions part form.now }
 {
@@ -72,14 +73,14 @@ fn is_bound(list: &BindingList, part: Part) -> bool
 }
 
 // Whether the part is one of a function's own variables.
-#[tactic(auto, using(crate::proofs::Lists::any_of_both))]
+#[tactic(auto, using(crate::proofs::Joined::any_of_both))]
 fn is_parameter(required: &VarList, rest: Option<Var>, part: Part) -> bool
     ensures { result ≡ owns (parameters required.now rest) part }
 {
     owns(required.as_slice(), part) || is_variable(rest, part)
 }
 
-// Whether the part is one of the variables.
+/// Whether the part is one of the variables. Takes no memory.
 pub fn owns(vars: &[Var], part: Part) -> bool
     ensures { result ≡ owns vars.now part }
 {

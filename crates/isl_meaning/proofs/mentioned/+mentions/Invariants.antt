@@ -1,9 +1,8 @@
 -- The sizes of the forms fall; in a loop it is left to see what the rest says.
 use Rattle.std.specs.List.{list_any}
 use Rattle.isl_meaning.specs.Mentions.{mentions}
-use Rattle.isl_meaning.specs.bridge.Smaller.{form_measure, forms_measure}
-use Rattle.isl_checker.proofs.Walks.{IsLeft}
-use Rattle.isl_checker.proofs.mentions.+mentions.Given as goal
+use Rattle.isl_meaning.specs.bridge.Smaller.{IsLeft, form_measure, forms_measure}
+use Rattle.isl_meaning.proofs.mentioned.+mentions.Given as goal
 
 abbrev pub decreases-mentions : goal.decreases-mentions
 decreases-mentions l = form_measure l.form.now

@@ -1,7 +1,0 @@
--- The loop counts the list from a place on.
-use Rattle.isl_meaning.specs.ProgramCounts.{procedure_nodes}
-use Rattle.isl_scope.proofs.Counting.{IsCountedFrom}
-use Rattle.isl_scope.proofs.counts.procedure_list_nodes.Given as goal
-
-abbrev pub invariant-loop-at : goal.invariant-loop-at
-invariant-loop-at l = IsCountedFrom procedure_nodes l.list l.from l.at l.total
