@@ -74,7 +74,11 @@ pub(crate) fn made_of<'a>(
         here.entry.place tables.old (view_parts work.entry.parts ++ view_inner work.entry.inner) making) }
     ensures grows { Grows tables.old tables.new }
 {
-    let site = take_site(here, tables)?;
+    let Ok(site) = take_site(here, tables) else {
+        drop(work);
+        drop(making);
+        return Err(NoMemory);
+    };
     Ok(Plan::Whole(Work {
         outside: deeper(here.spot, 1),
         inside: work.inside,
@@ -135,6 +139,8 @@ pub(crate) fn made_within<'a>(
     ensures grows { Grows tables.old tables.new }
 {
     if !fits_depth(here.spot, own) {
+        drop(parts);
+        drop(making);
         return Ok(offence(here.place, Reason::DepthLimit));
     }
     let inside = deeper(here.spot, 1);

@@ -2,4 +2,3 @@ pub mod MakingWalks
 pub mod MakingLists
 pub mod MakingFound
 pub mod MakingGroups
-pub mod MakingEnds

@@ -35,7 +35,10 @@ fn all_parts<'a>(
         ≡ row.all_parts making (at here.entry.bound.now here.entry.spot) tables.old here.entry.place items.now) }
     ensures grows { Grows tables.old tables.new }
 {
-    let parts = all_forms(here, items)?;
+    let Ok(parts) = all_forms(here, items) else {
+        drop(making);
+        return Err(NoMemory);
+    };
     made_within(here, tables, 1, parts, making)
 }
 

@@ -54,7 +54,11 @@ fn exit_form<'a>(
     ensures grows { Grows tables.old tables.new }
 {
     let mut binds = BoundList::new(here.alloc);
-    binds.push(bound)?;
+    let Ok(()) = binds.push(bound) else {
+        drop(inner);
+        drop(making);
+        return Err(NoMemory);
+    };
     let work = Bindings {
         inside: deeper(here.spot, 2),
         binds,
