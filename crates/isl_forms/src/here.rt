@@ -73,7 +73,11 @@ pub(crate) fn made_of<'a>(
         (word.made_of (at here.entry.bound.now here.entry.spot) (at (here.entry.bound.now ++ work.entry.binds) work.entry.inside)
         here.entry.place tables.old (view_parts work.entry.parts ++ view_inner work.entry.inner) making) result }
 {
-    let site = take_site(here, tables)?;
+    let Ok(site) = take_site(here, tables) else {
+        drop(work);
+        drop(making);
+        return Err(NoMemory);
+    };
     Ok(Plan::Whole(Work {
         outside: deeper(here.spot, 1),
         inside: work.inside,
@@ -132,6 +136,8 @@ pub(crate) fn made_within<'a>(
         here.entry.place tables.old (view_parts parts.entry) making)) result }
 {
     if !fits_depth(here.spot, own) {
+        drop(parts);
+        drop(making);
         return Ok(offence(here.place, Reason::DepthLimit));
     }
     let inside = deeper(here.spot, 1);

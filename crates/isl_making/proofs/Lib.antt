@@ -1,4 +1,3 @@
 pub mod MakingLists
 pub mod MakingFound
 pub mod MakingGroups
-pub mod MakingEnds

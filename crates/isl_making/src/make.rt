@@ -86,13 +86,22 @@ pub fn complete(
     match made.making {
         Making::OfOne(one) => {
             let core = made_form(alloc, site, Making::OfOne(one), found)?;
-            finish_one(one, tables)?;
+            let Ok(()) = finish_one(one, tables) else {
+                drop(core);
+                return Err(NoMemory);
+            };
             Ok(core)
         }
         Making::OfFunctionNamed(name, required, rest, of_file, leaf) => {
             let core = at_site(alloc, site, leaf_form(alloc, leaf))?;
-            let procedure = procedure_found(alloc, name, required, rest, found)?;
-            define_function(name, procedure, of_file, tables)?;
+            let Ok(procedure) = procedure_found(alloc, name, required, rest, found) else {
+                drop(core);
+                return Err(NoMemory);
+            };
+            let Ok(()) = define_function(name, procedure, of_file, tables) else {
+                drop(core);
+                return Err(NoMemory);
+            };
             Ok(core)
         }
         making => made_form(alloc, site, making, found),

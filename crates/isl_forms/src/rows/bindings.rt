@@ -160,6 +160,39 @@ fn functions_of(here: Here, pairs: &PairList) -> Result<Option<BoundList>, NoMem
     Ok(Some(functions))
 }
 
+// A body with these local functions around.
+fn with_these<'a>(
+    here: Here,
+    tables: &mut Tables,
+    kept: bool,
+    functions: BoundList,
+    forms: &'a [Datum],
+) -> Result<Plan<'a>, NoMemory>
+    ensures plan { IfOk result (λ plan. shown here.entry.bound.now tables.new plan
+        ≡ row.functions_as (at here.entry.bound.now here.entry.spot) tables.old here.entry.place forms.now kept (Some functions)) }
+    ensures grows { Grows tables.old tables.new }
+{
+    if kept {
+        drop(functions);
+        return Ok(offence(here.place, Reason::ReservedName));
+    }
+    if !fits_depth(here.spot, 1) {
+        drop(functions);
+        return Ok(offence(here.place, Reason::DepthLimit));
+    }
+    let Ok(inner) = inner_forms(here.alloc, forms) else {
+        drop(functions);
+        return Err(NoMemory);
+    };
+    let work = Bindings {
+        inside: deeper(here.spot, 1),
+        binds: functions,
+        parts: Parts::new(here.alloc),
+        inner,
+    };
+    made_of(here, tables, work, Making::InSequence)
+}
+
 /// `(%with-functions ((g v)*) f*)`: in the body each g is the function that is the value of the variable
 /// v. The language keeps one of these names or not.
 pub(crate) fn with_functions_plan<'a>(
@@ -180,20 +213,8 @@ pub(crate) fn with_functions_plan<'a>(
         }
         return Ok(offence(list.place, Reason::BadBinding));
     };
-    let Some(functions) = functions_of(here, &pairs)? else {
-        return Ok(offence(here.place, Reason::BadShape));
-    };
-    if kept {
-        return Ok(offence(here.place, Reason::ReservedName));
+    match functions_of(here, &pairs)? {
+        Some(functions) => with_these(here, tables, kept, functions, forms),
+        None => Ok(offence(here.place, Reason::BadShape)),
     }
-    if !fits_depth(here.spot, 1) {
-        return Ok(offence(here.place, Reason::DepthLimit));
-    }
-    let work = Bindings {
-        inside: deeper(here.spot, 1),
-        binds: functions,
-        parts: Parts::new(here.alloc),
-        inner: inner_forms(here.alloc, forms)?,
-    };
-    made_of(here, tables, work, Making::InSequence)
 }

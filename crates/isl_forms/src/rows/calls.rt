@@ -34,7 +34,10 @@ fn all_parts<'a>(
     ensures { IsPlan here.entry.bound.now tables.old tables.new
         (row.all_parts making (at here.entry.bound.now here.entry.spot) tables.old here.entry.place items.now) result }
 {
-    let parts = all_forms(here, items)?;
+    let Ok(parts) = all_forms(here, items) else {
+        drop(making);
+        return Err(NoMemory);
+    };
     made_within(here, tables, 1, parts, making)
 }
 

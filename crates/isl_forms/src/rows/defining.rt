@@ -176,21 +176,23 @@ fn defun_with<'a>(
     ensures { IsPlan here.entry.bound.now tables.old tables.new
         (row.defun_of (at here.entry.bound.now here.entry.spot) tables.old name datum.now forms.now parameters.now) result }
 {
-    let form = named_form(here, tables, datum)?;
+    let leaf = named_form(here, tables, datum)?;
+    let parts = parameter_parts(here, parameters)?;
+    let inner = inner_forms(here.alloc, forms)?;
     let making = Making::OfFunctionNamed(
         name,
         parameters.required.len(),
         parameters.rest.is_some(),
         here.spot.sited,
-        form,
+        leaf,
     );
     let spot = alone_spot(here.spot, false);
     Ok(Plan::Whole(Work {
         outside: spot,
         inside: spot,
         binds: BoundList::new(here.alloc),
-        parts: parameter_parts(here, parameters)?,
-        inner: inner_forms(here.alloc, forms)?,
+        parts,
+        inner,
         made: Made { site: None, making },
     }))
 }

@@ -53,7 +53,11 @@ fn exit_form<'a>(
         (with_bound bound (word.deeper 2 (at here.entry.bound.now here.entry.spot))) here.entry.place tables.old (view_inner inner.entry) making) result }
 {
     let mut binds = BoundList::new(here.alloc);
-    binds.push(bound)?;
+    let Ok(()) = binds.push(bound) else {
+        drop(inner);
+        drop(making);
+        return Err(NoMemory);
+    };
     let work = Bindings {
         inside: deeper(here.spot, 2),
         binds,

@@ -45,7 +45,10 @@ fn clause_list(
         let Some(test) = queue.take() else {
             return Ok(list);
         };
-        let body = clause_body(alloc, *length, &mut queue)?;
+        let Ok(body) = clause_body(alloc, *length, &mut queue) else {
+            drop(test);
+            return Err(NoMemory);
+        };
         list.push(Clause { test, body })?;
     }
     Ok(list)

@@ -86,7 +86,10 @@ pub(crate) fn make_function(
     ensures { IfOk result (λ core. core ≡ make_function required rest around.now variables (body_of forms)) }
 {
     let body = Core::sequence(forms);
-    let parts = captured(alloc, around, &body)?;
+    let Ok(parts) = captured(alloc, around, &body) else {
+        drop(body);
+        return Err(NoMemory);
+    };
     let body = boxed(alloc, body)?;
     let variables = split_variables(variables, required, rest);
     Ok(Core::new(CoreForm::Lambda(variables.required, variables.rest, body, parts)))

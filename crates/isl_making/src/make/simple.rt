@@ -79,10 +79,17 @@ pub(crate) fn make_two(alloc: Global, two: Two, forms: CoreList) -> Result<Core,
         return Ok(nothing(alloc));
     };
     let Some(other) = queue.take() else {
+        drop(form);
         return Ok(nothing(alloc));
     };
-    let form = boxed(alloc, form)?;
-    let other = boxed(alloc, other)?;
+    let Ok(form) = boxed(alloc, form) else {
+        drop(other);
+        return Err(NoMemory);
+    };
+    let Ok(other) = boxed(alloc, other) else {
+        drop(form);
+        return Err(NoMemory);
+    };
     Ok(two_of(two, form, other))
 }
 
@@ -110,7 +117,14 @@ pub(crate) fn make_with_body(
         return Ok(nothing(alloc));
     };
     let form = boxed(alloc, form)?;
-    let body = boxed(alloc, Core::sequence(queue.rest(alloc)?))?;
+    let Ok(forms) = queue.rest(alloc) else {
+        drop(form);
+        return Err(NoMemory);
+    };
+    let Ok(body) = boxed(alloc, Core::sequence(forms)) else {
+        drop(form);
+        return Err(NoMemory);
+    };
     Ok(with_body_of(with_body, form, body))
 }
 
