@@ -1,5 +1,5 @@
--- What each flat form says of itself: literals and sites that are there, as many arguments as are taken, and a segment in a
--- `tagbody`.
+-- What each flat form says of itself: literals and sites that are there, as many arguments as are taken, and at least one segment
+-- in a `tagbody`.
 use Rattle.std.specs.Prelude.{◌≡◌, ◌≤◌, ◌<◌, ⊤, length}
 use Rattle.isl_meaning.specs.Arity.{arity}
 use Rattle.isl_meaning.specs.Subforms.{Each}

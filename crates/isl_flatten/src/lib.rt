@@ -9,4 +9,4 @@ pub mod program;
 mod tables;
 mod variables;
 
-pub use program::flatten;
+pub use program::{flat_rows, flatten};

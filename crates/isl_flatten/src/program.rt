@@ -33,8 +33,9 @@ pub fn flatten(alloc: Global, program: &Program) -> Result<FlatProgram, NoMemory
     flat_rows(alloc, program.rows())
 }
 
-// Rows made flat.
-fn flat_rows(alloc: Global, rows: &ProgramRows) -> Result<FlatProgram, NoMemory>
+/// Rows made flat, just as the translation has it, also where they are not those of a whole program. After `NoMemory`
+/// what was made of them is dropped.
+pub fn flat_rows(alloc: Global, rows: &ProgramRows) -> Result<FlatProgram, NoMemory>
     ensures { IfOk result (λ flat. flat ≡ flat_program rows.now) }
 {
     let mut lambdas = FlatProcedureList::new(alloc);
