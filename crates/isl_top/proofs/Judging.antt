@@ -1,5 +1,5 @@
 -- How a text is judged, datum by datum.
-use Rattle.std.proofs.Common.{⊎_elim, ◌≡◌, ℕ, ◌<◌, ◌≤◌, inl, inr, Bool, true, false, List as Seq, [], ◌∷◌, ◌++◌, length, Option, Some, None, refl, sym, ap, subst, ◌∙◌, arith}
+use Rattle.std.proofs.Common.{⊎_elim, ◌⊎◌, ◌≡◌, ℕ, ◌<◌, ◌≤◌, inl, inr, Bool, true, false, List as Seq, [], ◌∷◌, ◌++◌, length, Option, Some, None, refl, sym, ap, subst, ◌∙◌, arith}
 use Rattle.std.specs.Prelude.{◌&&◌, nat_le}
 use Rattle.std.specs.List.{list_all}
 use Rattle.std.proofs.lemmas.Bool.{le-leb}
@@ -20,7 +20,7 @@ use Rattle.isl_base.specs.declared.reason.Stop.TheVariants.{Refused, NoMemory}
 use Rattle.isl_reader.specs.Stops.{StopsFirst}
 use Rattle.isl_reader.specs.Answers.{IsRead, IsEnded, IsStopped as IsStoppedReader}
 use Rattle.isl_top.specs.Finds.{IsForm, IsNoForm}
-use Rattle.isl_top.specs.Shapes.{Tables, no_tables, as_form, form_of, forms_of, program_with}
+use Rattle.isl_top.specs.Shapes.{Tables, no_tables, as_form, form_of, forms_of, program_with, program_of}
 use Rattle.isl_top.specs.Verdicts.{DataOf, no_datum, then_datum, BeginsWithProgram, Accepts, Refuses, text_fault, not_built, IsStopped}
 use Rattle.isl_top.proofs.Founds.{was_and, was_made}
 use Rattle.isl_top.specs.Code.{program_code}
@@ -156,33 +156,29 @@ judged-stop names text reader fs t at r short j k =
     text_fault r (record { begins = judged-begins names text reader fs t p.0 short j p.1; stops = k })
 
 -- a datum that is too deep, or no form
-pub judged-deep : (names : Seq (Seq ℕ)) (text : Seq ℕ) (old new : ReaderState) (d : Item) (fs : Seq Form) (t : Tables)
-    → length text ≤ 4096 → Judged names text old fs t → IsRead names old new d → 64 < depth_of d → Refuses text (place_of d) NotBuilt
+judged-not_built : (names : Seq (Seq ℕ)) (text : Seq ℕ) (old new : ReaderState) (d : Item) (fs : Seq Form) (t : Tables)
+    → length text ≤ 4096 → (j : Judged names text old fs t) → IsRead names old new d
+    → (64 < depth_of d) ⊎ (program_of names (items_of (j.data_before ++ d ∷ [])) ≡ None) → Refuses text (place_of d) NotBuilt
 unfolding judged-begins
-judged-deep names text old new d fs t short j r deep =
+judged-not_built names text old new d fs t short j r none =
     let p = some-program fs t in
     not_built (record {
       begins = judged-begins names text old fs t p.0 short j p.1;
       offending = d;
       after = new.rest;
       reads = r.reads;
-      is_none = inl deep;
+      is_none = none;
       stands = refl;
     })
 
+pub judged-deep : (names : Seq (Seq ℕ)) (text : Seq ℕ) (old new : ReaderState) (d : Item) (fs : Seq Form) (t : Tables)
+    → length text ≤ 4096 → Judged names text old fs t → IsRead names old new d → 64 < depth_of d → Refuses text (place_of d) NotBuilt
+judged-deep names text old new d fs t short j r deep = judged-not_built names text old new d fs t short j r (inl deep)
+
 pub judged-none : (names : Seq (Seq ℕ)) (text : Seq ℕ) (old new : ReaderState) (d : Item) (fs : Seq Form) (t : Tables)
     → length text ≤ 4096 → Judged names text old fs t → IsRead names old new d → form_of names d t ≡ None → Refuses text (place_of d) NotBuilt
-unfolding judged-begins
 judged-none names text old new d fs t short j r none =
-    let p = some-program fs t in
-    not_built (record {
-      begins = judged-begins names text old fs t p.0 short j p.1;
-      offending = d;
-      after = new.rest;
-      reads = r.reads;
-      is_none = inr (ap program_with (forms-none names j.data_before d no_tables (forms fs) t j.found none));
-      stands = refl;
-    })
+    judged-not_built names text old new d fs t short j r (inr (ap program_with (forms-none names j.data_before d no_tables (forms fs) t j.found none)))
 
 -- before the first datum, as the code begins
 pub judged-init : (names : Seq (Seq ℕ)) (text : Seq ℕ) (reader : ReaderState) (fs : Seq Form) (t : Tables)
