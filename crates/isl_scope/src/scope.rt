@@ -70,7 +70,10 @@ fn add_main(origin: Origin, form: Core, tables: &mut Tables) -> Result<(), NoMem
     ensures grows { Grows tables.old tables.new }
 {
     match origin {
-        Origin::Prelude => Ok(()),
+        Origin::Prelude => {
+            drop(form);
+            Ok(())
+        }
         Origin::File => tables.main.push(form),
     }
 }
