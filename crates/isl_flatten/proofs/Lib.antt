@@ -4,3 +4,4 @@ pub mod Captured
 pub mod Going
 pub mod Bodies
 pub mod Whole
+pub mod FoundWalks

@@ -1,2 +1,3 @@
 pub mod NewVariables
 pub mod Places
+pub mod Found

@@ -1,6 +1,7 @@
 // Which variables have cells of their own: those that a function captures and a form sets (ISO/IEC 13816:2007, 12.7 and 14.2).
 
-ghost use Rattle.std.specs.Prelude.{◌≡◌, option_to_list};
+ghost use Rattle.std.specs.Prelude.{◌≡◌, ◌||◌, ℕ, true, option_to_list, OnOk};
+ghost use Rattle.isl_flatten.specs.Found.{has_variable};
 ghost use Rattle.std.specs.List.{list_any};
 ghost use Rattle.isl_meaning.specs.declared.part.Part.TheVariants.{Variable};
 ghost use Rattle.isl_meaning.specs.Captured.{captures, sets, sets_itself};
@@ -8,6 +9,7 @@ ghost use Rattle.isl_meaning.specs.Mentions.{binds, owns, variables_bound, same_
 ghost use Rattle.isl_meaning.specs.Form.{parameters};
 ghost use Rattle.isl_meaning.specs.model.View.{bindings_of};
 
+use isl_base::NoMemory;
 use isl_meaning::{BindingList, Core, CoreForm, Part, PartList, Subforms, Var, VarList};
 
 // Whether a function made in the form captures the part.
@@ -55,6 +57,51 @@ fn one_sets(forms: Subforms<'_>, var: Var) -> bool
         }
     }
     false
+}
+
+// The variables that are set somewhere in the form are put behind those that are there; also those that are bound inside.
+#[cycle(set_inside)]
+#[tactic(auto, using(isl_meaning::specs::bridge::Smaller::outer_is_smaller, isl_meaning::specs::bridge::Smaller::inner_is_smaller))]
+pub(crate) fn set_inside(found: &mut VarList, form: &Core) -> Result<(), NoMemory>
+    ensures { OnOk result ((v : ℕ) → (has_variable v found.old || sets v form.now) ≡ true → has_variable v found.new ≡ true) }
+{
+    set_itself(found, form)?;
+    all_set_inside(found, form.outer())?;
+    all_set_inside(found, form.inner())?;
+    Ok(())
+}
+
+fn set_itself(found: &mut VarList, form: &Core) -> Result<(), NoMemory>
+    ensures { OnOk result ((v : ℕ) → (has_variable v found.old || sets_itself v form.now) ≡ true → has_variable v found.new ≡ true) }
+{
+    match &form.form {
+        CoreForm::SetLocal(var, _) => found.push(*var),
+        _ => Ok(()),
+    }
+}
+
+// Whether the variable is set in the form, where those that are set somewhere in it are among the found ones.
+pub(crate) fn is_set(found: &VarList, form: &Core, var: Var) -> bool
+    requires { sets var form.now ≡ true → has_variable var found.now ≡ true }
+    ensures { result ≡ sets var form.now }
+{
+    has_variable(found.as_slice(), var) && sets(form, var)
+}
+
+fn has_variable(vars: &[Var], var: Var) -> bool
+    ensures { result ≡ has_variable var vars.now }
+{
+    vars.iter().any(|other| var == *other)
+}
+
+#[cycle(set_inside)]
+fn all_set_inside(found: &mut VarList, forms: Subforms<'_>) -> Result<(), NoMemory>
+    ensures { OnOk result ((v : ℕ) → (has_variable v found.old || list_any (sets v) forms.entry) ≡ true → has_variable v found.new ≡ true) }
+{
+    for form in forms {
+        set_inside(found, form)?;
+    }
+    Ok(())
 }
 
 fn sets_itself(form: &Core, var: Var) -> bool

@@ -1,13 +1,15 @@
 // The variables that a body binds: where each lives, and whether it keeps its first value.
 
-ghost use Rattle.std.specs.Prelude.{◌≡◌, ◌≤◌, take, length, slice_get, IfOk};
+ghost use Rattle.std.specs.Prelude.{◌≡◌, ◌≤◌, take, length, slice_get, true, IfOk};
 ghost use Rattle.isl_meaning.specs.Form.{parameters};
 ghost use Rattle.isl_meaning.specs.Meaning.{bound_variables};
 ghost use Rattle.isl_meaning.specs.model.View.{bindings_of};
 ghost use Rattle.isl_closure.specs.Scope.{homes_of};
+ghost use Rattle.isl_meaning.specs.Captured.{sets};
+ghost use Rattle.isl_flatten.specs.Found.{has_variable};
 ghost use Rattle.isl_flatten.specs.NewVariables.{new_variable, new_variables, homes_of_new};
 
-use crate::cells::{captures, sets};
+use crate::cells::{captures, is_set, set_inside};
 use isl_base::{ItemList, NoMemory};
 use isl_closure::{Home, HomeList};
 use isl_meaning::{BindingList, Core, Part, Var, VarList};
@@ -32,20 +34,23 @@ pub(crate) fn new_variables(
 ) -> Result<NewVariables, NoMemory>
     ensures { IfOk result (λ news. news ≡ new_variables variables.now body.now) }
 {
+    let mut found = VarList::new(alloc);
+    set_inside(&mut found, body)?;
     let mut news = NewVariables::new(alloc);
     for at in 0..variables.len() {
         let Some(var) = variables.get(at) else {
             unreachable!()
         };
-        news.push(new_variable(*var, body))?;
+        news.push(new_variable(*var, body, &found))?;
     }
     Ok(news)
 }
 
-fn new_variable(var: Var, body: &Core) -> NewVariable
+fn new_variable(var: Var, body: &Core, found: &VarList) -> NewVariable
+    requires { sets var body.now ≡ true → has_variable var found.now ≡ true }
     ensures { result ≡ new_variable body.now var }
 {
-    let is_set = sets(body, var);
+    let is_set = is_set(found, body, var);
     let home = if is_set && captures(body, Part::Variable(var)) {
         Home::Cell
     } else {
