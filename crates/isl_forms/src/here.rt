@@ -1,7 +1,6 @@
 // Where a row judges a form, and what rows are written with.
 
-ghost use Rattle.std.specs.Prelude.{◌≡◌, ◌+◌, ◌<◌, ◌++◌, [], ℕ, nat_le, Some, IfOk, OnOk};
-ghost use Rattle.isl_profile.specs.Nodes.{offends};
+ghost use Rattle.std.specs.Prelude.{◌≡◌, ◌+◌, ◌<◌, ◌++◌, [], nat_le, Some, IfOk, OnOk};
 ghost use Rattle.isl_forms.specs.Views.{at, shown, view_parts, view_inner, IsPlan};
 ghost use Rattle.isl_profile.specs.RowWords as word;
 ghost use Rattle.isl_profile.specs.Marks.{Grows};

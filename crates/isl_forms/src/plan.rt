@@ -1,9 +1,9 @@
 // What a form comes to before its parts are judged: an offence, or the work that its parts are.
 
-ghost use Rattle.std.specs.Prelude.{◌≡◌, ◌++◌, ◌∷◌, [], IfOk, OnOk, map};
-ghost use Rattle.isl_forms.specs.Views.{at, shown, view_part, view_parts, view_inner, view_pairs, data_of};
+ghost use Rattle.std.specs.Prelude.{◌≡◌, ◌++◌, ◌∷◌, [], IfOk, OnOk};
+ghost use Rattle.isl_forms.specs.Views.{view_parts, view_inner, view_pairs};
 ghost use Rattle.isl_profile.specs.Nodes.{form};
-ghost use Rattle.isl_profile.specs.RowWords.{bad_shape, each_form, each_below, each_inner, each_bound, each_parameter};
+ghost use Rattle.isl_profile.specs.RowWords.{each_form, each_below, each_inner, each_bound, each_parameter};
 
 use crate::shapes::PairList;
 use isl_base::{Datum, FreshList, ItemList, NoMemory, Place, Reason, Symbol};

@@ -1,9 +1,9 @@
 // The names under which primitives are called.
 
-ghost use Rattle.std.specs.Prelude.{◌≡◌, ℕ, List, map};
+ghost use Rattle.std.specs.Prelude.{◌≡◌};
 ghost use Rattle.std.specs.List.{find, list_any};
 ghost use Rattle.std.specs.Str.{bytes_eq};
-ghost use Rattle.isl_profile.specs.Primitives.{own_text, direct_texts, all_primitives, has_own_text, has_direct_text, has_name, primitive_named, primitive_called, is_own_name, is_direct_name};
+ghost use Rattle.isl_profile.specs.Primitives.{own_text, direct_texts, all_primitives, has_own_text, has_direct_text, has_name, primitive_called, is_own_name, is_direct_name};
 ghost use Rattle.isl_forms.specs.Views.{texts};
 
 use isl_meaning::Primitive;

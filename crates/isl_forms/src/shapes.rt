@@ -1,6 +1,6 @@
 // The shapes that rows ask of data: names, lists of bindings, lambda lists, clauses and tags.
 
-ghost use Rattle.std.specs.Prelude.{◌≡◌, ◌++◌, ◌∷◌, [], Some, None, not, ◌&&◌, IfOk, MatchOption, map};
+ghost use Rattle.std.specs.Prelude.{◌≡◌, ◌++◌, ◌∷◌, [], Some, None, not, ◌&&◌, IfOk, MatchOption};
 ghost use Rattle.std.specs.List.{list_any};
 ghost use Rattle.isl_derived.specs.Asked.{list_items};
 ghost use Rattle.isl_profile.specs.Names.{same_symbol};

@@ -1,11 +1,11 @@
 // The rows of forms that bind: variables, dynamic variables, functions and local functions.
 
-ghost use Rattle.std.specs.Prelude.{◌≡◌, ◌+◌, ◌<◌, ◌++◌, ◌∷◌, [], Some, None, IfOk, OnOk, map};
+ghost use Rattle.std.specs.Prelude.{◌≡◌, ◌+◌, ◌<◌, ◌++◌, ◌∷◌, [], Some, None, IfOk};
 ghost use Rattle.isl_profile.specs.RowWords as word;
 ghost use Rattle.isl_profile.specs.BindingRows as row;
 ghost use Rattle.isl_profile.specs.Shapes as shape;
 ghost use Rattle.isl_profile.specs.Shapes.{symbol_of, pairs_in, parameters_in};
-ghost use Rattle.isl_forms.specs.Views.{at, view_parts, view_inner, view_pairs, IsPlan};
+ghost use Rattle.isl_forms.specs.Views.{at, view_parts, view_pairs, IsPlan};
 ghost use Rattle.isl_profile.specs.Marks.{Grows};
 
 use crate::bound::{parts_around, variable_of};

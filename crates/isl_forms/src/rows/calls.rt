@@ -1,12 +1,10 @@
 // The rows of calls: of local functions, of primitives, of function objects, and of names.
 
-ghost use Rattle.std.specs.Prelude.{◌≡◌, ◌+◌, ◌<◌, ◌++◌, ◌∷◌, [], ◌&&◌, nat_eq, nat_le, length, codes, IfOk, OnOk};
-ghost use Rattle.std.specs.Str.{bytes_eq};
+ghost use Rattle.std.specs.Prelude.{◌≡◌, ◌+◌, ◌<◌, ◌++◌, ◌∷◌, [], ◌&&◌, IfOk};
 ghost use Rattle.isl_profile.specs.CallRows as row;
 ghost use Rattle.isl_profile.specs.declared.making.Making.TheVariants.{CallOfValue};
-ghost use Rattle.isl_forms.specs.Views.{at, view_parts, data_of, IsPlan};
+ghost use Rattle.isl_forms.specs.Views.{at, view_parts, IsPlan};
 ghost use Rattle.isl_profile.specs.RowWords as word;
-ghost use Rattle.isl_profile.specs.Marks.{Grows};
 
 use crate::here::{Here, made_within};
 use crate::plan::{Parts, Plan, push_form, push_forms};

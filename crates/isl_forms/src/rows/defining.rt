@@ -1,11 +1,11 @@
 // The rows of forms that define, which stand at top level.
 
-ghost use Rattle.std.specs.Prelude.{◌≡◌, ◌+◌, ◌<◌, ◌++◌, ◌∷◌, [], Some, None, ◌||◌, ◌&&◌, not, length, IfOk, OnOk};
+ghost use Rattle.std.specs.Prelude.{◌≡◌, ◌+◌, ◌<◌, ◌++◌, ◌∷◌, [], Some, None, ◌||◌, ◌&&◌, not, IfOk, OnOk};
 ghost use Rattle.std.specs.List.{list_any};
 ghost use Rattle.isl_profile.specs.DefiningRows as row;
 ghost use Rattle.isl_profile.specs.RowWords as word;
 ghost use Rattle.isl_profile.specs.Shapes.{symbol_of};
-ghost use Rattle.isl_forms.specs.Views.{at, view_parts, view_inner, IsPlan};
+ghost use Rattle.isl_forms.specs.Views.{at, IsPlan};
 ghost use Rattle.isl_profile.specs.Marks.{Grows};
 
 use crate::here::{Here, fits_depth, offence};

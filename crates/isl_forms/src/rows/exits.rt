@@ -1,13 +1,13 @@
 // The rows of exits: blocks and tags, which are lexical by name.
 
-ghost use Rattle.std.specs.Prelude.{◌≡◌, ◌+◌, ◌<◌, ◌++◌, ◌∷◌, [], Some, None, IfOk, OnOk, map};
+ghost use Rattle.std.specs.Prelude.{◌≡◌, ◌+◌, ◌<◌, ◌++◌, ◌∷◌, [], Some, None, IfOk, OnOk};
 ghost use Rattle.isl_profile.specs.RowWords as word;
 ghost use Rattle.isl_profile.specs.ExitRows as row;
 ghost use Rattle.isl_profile.specs.Nodes.{with_bound};
 ghost use Rattle.isl_profile.specs.Shapes as shape;
 ghost use Rattle.isl_profile.specs.Names.{block_of, tag_of};
 ghost use Rattle.isl_profile.specs.Shapes.{symbol_of};
-ghost use Rattle.isl_forms.specs.Views.{at, shown, view_parts, view_inner, IsPlan};
+ghost use Rattle.isl_forms.specs.Views.{at, shown, view_inner, IsPlan};
 ghost use Rattle.isl_profile.specs.Marks.{Grows};
 
 use crate::bound::{block_of, tag_of};

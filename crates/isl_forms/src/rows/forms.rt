@@ -12,7 +12,7 @@ ghost use Rattle.isl_profile.specs.Names.{function_of};
 ghost use Rattle.isl_profile.specs.RowWords as word;
 ghost use Rattle.isl_profile.specs.Rows as row;
 ghost use Rattle.isl_profile.specs.Shapes.{symbol_of};
-ghost use Rattle.isl_forms.specs.Views.{at, texts, IsPlan};
+ghost use Rattle.isl_forms.specs.Views.{at, shown, texts, IsPlan};
 ghost use Rattle.isl_profile.specs.Marks.{Grows};
 
 use crate::bound::function_of;
@@ -358,8 +358,9 @@ pub fn plain_plan<'a>(
     datum: &'a Datum,
 ) -> Result<Plan<'a>, NoMemory>
     requires { here.place ≡ place_of datum.now }
-    ensures { IsPlan here.entry.bound.now tables.old tables.new
-        (row.plain_node names.now (at here.entry.bound.now here.entry.spot) tables.old datum.now) result }
+    ensures plan { IfOk result (λ plan. shown here.entry.bound.now tables.new plan
+        ≡ row.plain_node names.now (at here.entry.bound.now here.entry.spot) tables.old datum.now) }
+    ensures grows { Grows tables.old tables.new }
 {
     match &datum.kind {
         Kind::List { items, tail } => list_plan(here, tables, names, items.as_slice(), tail),

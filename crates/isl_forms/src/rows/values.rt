@@ -1,7 +1,6 @@
 // The rows of what has no part of its own, of variables, and of forms that evaluate all their parts where they stand.
 
-ghost use Rattle.std.specs.Prelude.{◌≡◌, ◌+◌, ◌<◌, ◌++◌, ◌∷◌, [], Some, None, IfOk, OnOk, map};
-ghost use Rattle.std.specs.List.{list_any};
+ghost use Rattle.std.specs.Prelude.{◌≡◌, ◌+◌, ◌<◌, ◌++◌, ◌∷◌, [], Some, None, IfOk, OnOk};
 ghost use Rattle.isl_profile.specs.Names.{function_of};
 ghost use Rattle.isl_profile.specs.RowWords as word;
 ghost use Rattle.isl_profile.specs.ValueRows as row;
