@@ -2,41 +2,51 @@
 // is by far the longest function there.
 
 use isl_rows::Answer;
-use rv_encode::{Bits4, Immediate12, Instr, Offset13, Offset21, Register, Shift5, Upper20};
+use rv_encode::{Bits4, Instr, Register};
 use std::fmt::Debug;
 
 /// Appends an instruction: its name, and its fields by their names.
 pub fn put_instruction(got: &mut Answer, instruction: &Instr) {
     got.put(name_of(instruction));
     match *instruction {
-        Instr::Lui { rd, immediate } | Instr::Auipc { rd, immediate } => put_upper(
-            got, rd, immediate,
-        ),
-        Instr::Jal { rd, offset } => put_jump(got, rd, offset),
+        Instr::Lui { rd, immediate } | Instr::Auipc { rd, immediate } => {
+            put_two(got, ("rd", &rd), ("immediate", &immediate))
+        }
+        Instr::Jal { rd, offset } => put_two(got, ("rd", &rd), ("offset", &offset)),
         Instr::Jalr { rd, rs1, offset }
         | Instr::Lb { rd, rs1, offset }
         | Instr::Lh { rd, rs1, offset }
         | Instr::Lw { rd, rs1, offset }
         | Instr::Lbu { rd, rs1, offset }
-        | Instr::Lhu { rd, rs1, offset } => put_load(got, rd, rs1, offset),
+        | Instr::Lhu { rd, rs1, offset } => {
+            put_three(got, ("rd", &rd), ("rs1", &rs1), ("offset", &offset))
+        }
         Instr::Beq { rs1, rs2, offset }
         | Instr::Bne { rs1, rs2, offset }
         | Instr::Blt { rs1, rs2, offset }
         | Instr::Bge { rs1, rs2, offset }
         | Instr::Bltu { rs1, rs2, offset }
-        | Instr::Bgeu { rs1, rs2, offset } => put_branch(got, rs1, rs2, offset),
+        | Instr::Bgeu { rs1, rs2, offset } => {
+            put_three(got, ("rs1", &rs1), ("rs2", &rs2), ("offset", &offset))
+        }
         Instr::Sb { rs2, rs1, offset }
         | Instr::Sh { rs2, rs1, offset }
-        | Instr::Sw { rs2, rs1, offset } => put_store(got, rs2, rs1, offset),
+        | Instr::Sw { rs2, rs1, offset } => {
+            put_three(got, ("rs2", &rs2), ("rs1", &rs1), ("offset", &offset))
+        }
         Instr::Addi { rd, rs1, immediate }
         | Instr::Slti { rd, rs1, immediate }
         | Instr::Sltiu { rd, rs1, immediate }
         | Instr::Xori { rd, rs1, immediate }
         | Instr::Ori { rd, rs1, immediate }
-        | Instr::Andi { rd, rs1, immediate } => put_immediate(got, rd, rs1, immediate),
+        | Instr::Andi { rd, rs1, immediate } => {
+            put_three(got, ("rd", &rd), ("rs1", &rs1), ("immediate", &immediate))
+        }
         Instr::Slli { rd, rs1, shift }
         | Instr::Srli { rd, rs1, shift }
-        | Instr::Srai { rd, rs1, shift } => put_shift(got, rd, rs1, shift),
+        | Instr::Srai { rd, rs1, shift } => {
+            put_three(got, ("rd", &rd), ("rs1", &rs1), ("shift", &shift))
+        }
         Instr::Add { rd, rs1, rs2 }
         | Instr::Sub { rd, rs1, rs2 }
         | Instr::Sll { rd, rs1, rs2 }
@@ -54,7 +64,9 @@ pub fn put_instruction(got: &mut Answer, instruction: &Instr) {
         | Instr::Div { rd, rs1, rs2 }
         | Instr::Divu { rd, rs1, rs2 }
         | Instr::Rem { rd, rs1, rs2 }
-        | Instr::Remu { rd, rs1, rs2 } => put_operation(got, rd, rs1, rs2),
+        | Instr::Remu { rd, rs1, rs2 } => {
+            put_three(got, ("rd", &rd), ("rs1", &rs1), ("rs2", &rs2))
+        }
         Instr::Fence {
             rd,
             rs1,
@@ -119,57 +131,23 @@ fn name_of(instruction: &Instr) -> &'static str {
     }
 }
 
-fn put_upper(got: &mut Answer, rd: Register, immediate: Upper20) {
-    put_field(got, " { rd: ", &rd);
-    put_field(got, ", immediate: ", &immediate);
+// Two fields, each with its name in front.
+fn put_two<A: Debug, B: Debug>(got: &mut Answer, first: (&str, &A), second: (&str, &B)) {
+    put_field(got, " { ", first.0, first.1);
+    put_field(got, ", ", second.0, second.1);
     got.put(" }");
 }
 
-fn put_jump(got: &mut Answer, rd: Register, offset: Offset21) {
-    put_field(got, " { rd: ", &rd);
-    put_field(got, ", offset: ", &offset);
-    got.put(" }");
-}
-
-fn put_load(got: &mut Answer, rd: Register, rs1: Register, offset: Immediate12) {
-    put_field(got, " { rd: ", &rd);
-    put_field(got, ", rs1: ", &rs1);
-    put_field(got, ", offset: ", &offset);
-    got.put(" }");
-}
-
-fn put_branch(got: &mut Answer, rs1: Register, rs2: Register, offset: Offset13) {
-    put_field(got, " { rs1: ", &rs1);
-    put_field(got, ", rs2: ", &rs2);
-    put_field(got, ", offset: ", &offset);
-    got.put(" }");
-}
-
-fn put_store(got: &mut Answer, rs2: Register, rs1: Register, offset: Immediate12) {
-    put_field(got, " { rs2: ", &rs2);
-    put_field(got, ", rs1: ", &rs1);
-    put_field(got, ", offset: ", &offset);
-    got.put(" }");
-}
-
-fn put_immediate(got: &mut Answer, rd: Register, rs1: Register, immediate: Immediate12) {
-    put_field(got, " { rd: ", &rd);
-    put_field(got, ", rs1: ", &rs1);
-    put_field(got, ", immediate: ", &immediate);
-    got.put(" }");
-}
-
-fn put_shift(got: &mut Answer, rd: Register, rs1: Register, shift: Shift5) {
-    put_field(got, " { rd: ", &rd);
-    put_field(got, ", rs1: ", &rs1);
-    put_field(got, ", shift: ", &shift);
-    got.put(" }");
-}
-
-fn put_operation(got: &mut Answer, rd: Register, rs1: Register, rs2: Register) {
-    put_field(got, " { rd: ", &rd);
-    put_field(got, ", rs1: ", &rs1);
-    put_field(got, ", rs2: ", &rs2);
+// Three fields, each with its name in front.
+fn put_three<A: Debug, B: Debug, C: Debug>(
+    got: &mut Answer,
+    first: (&str, &A),
+    second: (&str, &B),
+    third: (&str, &C),
+) {
+    put_field(got, " { ", first.0, first.1);
+    put_field(got, ", ", second.0, second.1);
+    put_field(got, ", ", third.0, third.1);
     got.put(" }");
 }
 
@@ -181,16 +159,18 @@ fn put_fence(
     predecessor: Bits4,
     successor: Bits4,
 ) {
-    put_field(got, " { rd: ", &rd);
-    put_field(got, ", rs1: ", &rs1);
-    put_field(got, ", mode: ", &mode);
-    put_field(got, ", predecessor: ", &predecessor);
-    put_field(got, ", successor: ", &successor);
+    put_field(got, " { ", "rd", &rd);
+    put_field(got, ", ", "rs1", &rs1);
+    put_field(got, ", ", "mode", &mode);
+    put_field(got, ", ", "predecessor", &predecessor);
+    put_field(got, ", ", "successor", &successor);
     got.put(" }");
 }
 
-// A field, behind what stands before it.
-fn put_field<T: Debug>(got: &mut Answer, before: &str, field: &T) {
+// A field with its name in front, behind what stands before it.
+fn put_field<T: Debug>(got: &mut Answer, before: &str, name: &str, field: &T) {
     got.put(before);
+    got.put(name);
+    got.put(": ");
     got.put_debug(field);
 }
