@@ -6,7 +6,6 @@ ghost use Rattle.isl_profile.specs.BindingRows as row;
 ghost use Rattle.isl_profile.specs.Shapes as shape;
 ghost use Rattle.isl_profile.specs.Shapes.{symbol_of, pairs_in, parameters_in};
 ghost use Rattle.isl_forms.specs.Views.{at, view_parts, view_pairs, IsPlan};
-ghost use Rattle.isl_profile.specs.Marks.{Grows};
 
 use crate::bound::{parts_around, variable_of};
 use crate::here::{Bindings, Here, deeper, fits_depth, made_of, made_plain, made_within, offence};
@@ -168,9 +167,8 @@ fn with_these<'a>(
     functions: BoundList,
     forms: &'a [Datum],
 ) -> Result<Plan<'a>, NoMemory>
-    ensures plan { IfOk result (λ plan. shown here.entry.bound.now tables.new plan
-        ≡ row.functions_as (at here.entry.bound.now here.entry.spot) tables.old here.entry.place forms.now kept (Some functions)) }
-    ensures grows { Grows tables.old tables.new }
+    ensures { IsPlan here.entry.bound.now tables.old tables.new
+        (row.functions_as (at here.entry.bound.now here.entry.spot) tables.old here.entry.place forms.now kept (Some functions)) result }
 {
     if kept {
         drop(functions);
