@@ -31,15 +31,15 @@ pub data Kind : Type 0 where
   cell : ℕ → Kind
   slot : ℕ → Kind
 
--- the kinds of the variables; the variables whose the cells are, in the order of cells; those whose the slots of the frame are; and the
--- values of all variables when the activation began
+-- the kinds of the variables; which variable has each cell; which one has each slot of the frame; and the values of all variables when
+-- the activation began
 pub record World : Type 0 where
   pub kinds : List Kind
   pub holders : List ℕ
   pub own : List ℕ
   pub start : List Value
 
--- what is known of variables where there is no frame
+-- a world in which there is no frame
 abbrev pub alone : List Kind → World
 alone ks = record { kinds = ks; holders = []; own = []; start = [] }
 
@@ -53,7 +53,7 @@ pub record Later (w u : World) : Type 0 where
   pub own : u.own ≡ w.own
   pub start : u.start ≡ w.start
 
--- dynamic bindings on both sides: of the same names, each with a cell of its variable
+-- dynamic bindings on both sides: of the same names, each with the cell of its variable
 abbrev pub SameBindings : List Kind → List (List ℕ × ℕ) → List (List ℕ × ℕ) → Type 0
 SameBindings ks [] [] = ⊤
 SameBindings ks [] (c ∷ cs) = ⊥
@@ -64,7 +64,7 @@ pub record BindingsAlike (ks : List Kind) (around : List (List ℕ × ℕ)) : Ty
   pub bindings : List (List ℕ × ℕ)
   pub same : SameBindings ks around bindings
 
--- surroundings with the bindings that they have when a program is made flat
+-- what the bindings of surroundings are when the program is made flat, and the surroundings with those
 abbrev pub Bound : World → Surroundings → Type 0
 Bound w around = BindingsAlike w.kinds around.bindings
 
@@ -102,7 +102,8 @@ pub record Matches (w : World) (s : Scope) (env : Environment) (e : FlatEnvironm
   pub slots : length w.own ≡ s.slots
   pub own : length e.exits ≡ s.own_exits
 
--- the value of a variable is that of its cell; and where the slot of another activation has it, it is as it was when this one began
+-- the value of a variable with a cell is that of the cell; and that of a variable of another activation is as it was when this one
+-- began, where it has a slot
 abbrev pub ValueAlike : (holders : List ℕ) (start cells : List Value) → ℕ → Kind → Value → Type 0
 ValueAlike holders start cells i (constant u) v = u ≡ v
 ValueAlike holders start cells i (cell j) v = slice_get holders j ≡ Some i × slice_get cells j ≡ Some v
@@ -134,7 +135,7 @@ pub record SlotAlike (kinds : List Kind) (start variables : List Value) (frame :
   pub in_slot : IsInSlot n kind
   pub newer : length start ≤ i
 
--- the variables of the program beside cells and slots
+-- the variables of the program beside the cells and the frame
 pub record VariablesAlike (w : World) (variables cells : List Value) (frame : List FrameSlot) : Type 0 where
   pub count : length w.kinds ≡ length variables
   pub cell_count : length w.holders ≡ length cells

@@ -20,28 +20,33 @@ use Rattle.isl_closure.specs.Scope.{Scope}
 use Rattle.isl_closure.proofs.Alike.{Kind, constant, cell, slot, World, Kept, Later, SameBindings, BindingsAlike, Bound, flat_around, InSlot, PlaceAt, VariableAt, Matches, SameObject, ObjectsAlike, Related, Beside, twin, Sim, Continues, Follows, Acts, Lands}
 use Rattle.isl_closure.proofs.Lists.{pushed, changed_both, length-changed, in_front}
 use Rattle.isl_closure.proofs.Frames.{fewer_slots, begun, ended}
-use Rattle.isl_closure.proofs.NewSlots.{kinds_at, with_new, new_variables, cells_from, with_cells_of, new_dynamics}
+use Rattle.isl_closure.proofs.NewSlots.{kinds_at, with_new_slots, new_variables, cells_from, with_new_dynamics, new_dynamics}
 
--- later worlds
-
+-- what stands in a list stands in itself
 pub kept_itself : {X : Type 0} (xs : List X) → Kept xs xs
 kept_itself xs = record { kept = λ i x h. h }
 
+-- and in a list after another one
 pub kept_after : {X : Type 0} {xs ys zs : List X} → Kept xs ys → Kept ys zs → Kept xs zs
 kept_after a b = record { kept = λ i x h. b.kept i x (a.kept i x h) }
 
+-- and in front of more
 pub kept_more : {X : Type 0} (xs ys : List X) → Kept xs (xs ++ ys)
 kept_more xs ys = record { kept = λ i x h. in_front xs ys i x h }
 
+-- and in a list that is the same
 pub same_kept : {X : Type 0} {xs ys : List X} → ys ≡ xs → Kept xs ys
 same_kept e = record { kept = λ i x h. ap (λ zs. slice_get zs i) e ∙ h }
 
+-- a world is later than itself
 pub itself : (w : World) → Later w w
 itself w = record { kinds = kept_itself w.kinds; own = refl; start = refl }
 
+-- a world after a later one
 pub after_that : {w u x : World} → Later w u → Later u x → Later w x
 after_that a b = record { kinds = kept_after a.kinds b.kinds; own = b.own ∙ a.own; start = b.start ∙ a.start }
 
+-- dynamic bindings in a later world
 pub same_later : {ks ls : List Kind} → Kept ks ls → (bs cs : List (List ℕ × ℕ)) → SameBindings ks bs cs → SameBindings ls bs cs
 same_later l [] [] e = e
 same_later l [] (c ∷ cs) e = e
@@ -51,6 +56,7 @@ same_later l (b ∷ bs) (c ∷ cs) e = (e.0, l.kept b.1 (cell c.1) e.1, same_lat
 abbrev pub bound_later : {ks ls : List Kind} (bs : List (List ℕ × ℕ)) → Kept ks ls → BindingsAlike ks bs → BindingsAlike ls bs
 bound_later bs l b = record { bindings = b.bindings; same = same_later l bs b.bindings b.same }
 
+-- a place stays that of its variable where more is known
 in_slot_kept : (w u : World) → Kept w.kinds u.kinds → (n : ℕ) (fixed : Bool) (i : ℕ) → InSlot w n fixed i → InSlot u n fixed i
 in_slot_kept w u l n true i h = (h.0, l.kept i (constant h.0) h.1)
 in_slot_kept w u l n false i h = l.kept i (slot n) h
@@ -61,10 +67,12 @@ place_kept w u e l o (SlotCell n) fixed i h = (o.kept n i h.0, (h.1.0, l.kept i 
 place_kept w u e l o (CapturedValue n) fixed i h = (h.0, (h.1.0, l.kept i (constant h.0) h.1.1, h.1.2))
 place_kept w u e l o (CapturedCell n) fixed i h = (h.0, (h.1.0, l.kept i (cell h.0) h.1.1))
 
+-- so does that of a name
 pub variable_kept : (w u : World) (e : FlatEnvironment) → Kept w.kinds u.kinds → Kept w.own u.own → (k : Known) (o : Option ℕ) → VariableAt w e k o → VariableAt u e k o
 variable_kept w u e l o k None h = h
 variable_kept w u e l o k (Some i) h = place_kept w u e l o k.place k.fixed i h
 
+-- environments match where more is known, and in a later world
 pub matches_kept : {w u : World} {s : Scope} {env : Environment} {e : FlatEnvironment} → Kept w.kinds u.kinds → u.own ≡ w.own → Matches w s env e → Matches u s env e
 matches_kept {w} {u} {s} {env} {e} l same m = record {
   variables = λ v k h. variable_kept w u e l (same_kept same) k (under_number v env.variables) (m.variables v k h);
@@ -324,12 +332,12 @@ module _ {ps : List FlatProcedure} where
       (f x (charged 1 z) (flat.charged 1 y) (charges 1 b))
       (searches p f o xs (charged 1 z) (flat.charged 1 y) (charges 1 b))
 
-  -- new variables with new slots: while they are there, and when they are gone
+  -- new variables, with new slots
   pub slots_made : {w : World} {z : State} {y : FlatState} (hs : List Home) (ss : List Bool) (vs : List Value) → length hs ≡ length vs → length ss ≡ length vs
-      → (b : Beside ps w z y) → Beside ps (with_new b.world hs ss vs (length z.variables) (length b.cells)) (with_values vs z) (flat.with_slots hs vs y)
+      → (b : Beside ps w z y) → Beside ps (with_new_slots b.world hs ss vs (length z.variables) (length b.cells)) (with_values vs z) (flat.with_slots hs vs y)
   slots_made {w} {z} {y} hs ss vs e f b = record {
-    world = with_new b.world hs ss vs (length z.variables) (length b.cells);
-    later = itself (with_new b.world hs ss vs (length z.variables) (length b.cells));
+    world = with_new_slots b.world hs ss vs (length z.variables) (length b.cells);
+    later = itself (with_new_slots b.world hs ss vs (length z.variables) (length b.cells));
     store = b.store;
     cells = b.cells ++ flat.new_cells hs vs;
     frame = b.frame ++ flat.new_slots hs vs (length b.cells);
@@ -342,8 +350,9 @@ module _ {ps : List FlatProcedure} where
     is = ap (λ (x : FlatState). flat.with_slots hs vs x) b.is;
   }
 
+  -- and when they are gone
   pub slots_gone : {w : World} {z : State} {y : FlatState} (hs : List Home) (ss : List Bool) (vs : List Value)
-      → (b : Beside ps w z y) → {r : Evaluated} {q : FlatEvaluated} → Sim ps (with_new b.world hs ss vs (length z.variables) (length b.cells)) r q
+      → (b : Beside ps w z y) → {r : Evaluated} {q : FlatEvaluated} → Sim ps (with_new_slots b.world hs ss vs (length z.variables) (length b.cells)) r q
       → Sim ps w r (flat.without_slots_from (length y.frame) q)
   slots_gone {w} {z} {y} hs ss vs b {r} {q} x =
       let many : length b.world.own ≡ length y.frame = sym (ap (λ (s : FlatState). length s.frame) b.is ∙ b.related.values.slot_count) in
@@ -369,7 +378,7 @@ module _ {ps : List FlatProcedure} where
         same = x.same;
       })
 
-  -- a frame of its own: at first, and when it is left
+  -- a frame of its own
   pub frame_made : {w : World} {z : State} {y : FlatState} → (b : Beside ps w z y)
       → Beside ps (record b.world { own = []; start = z.variables }) z (record y { frame = [] })
   frame_made {w} {z} {y} b = record {
@@ -383,6 +392,7 @@ module _ {ps : List FlatProcedure} where
     is = ap (λ (s : FlatState). record s { frame = [] }) b.is;
   }
 
+  -- and when it is left
   pub frame_left : {w u : World} {z : State} {y : FlatState} (b : Beside ps w z y) → Kept b.world.kinds u.kinds → u.start ≡ z.variables
       → {r : Evaluated} {q : FlatEvaluated} → Sim ps u r q → Sim ps w r (flat.with_frame y.frame q)
   frame_left {w} {u} {z} {y} b l began {r} {q} x =
@@ -404,12 +414,12 @@ module _ {ps : List FlatProcedure} where
         same = x.same;
       })
 
-  -- new dynamic variables
+  -- new dynamic bindings
   pub dynamics_made : {w : World} {z : State} {y : FlatState} (vs : List Value)
-      → (b : Beside ps w z y) → Beside ps (with_cells_of b.world vs (length z.variables) (length b.cells)) (with_values vs z) (flat.with_values vs y)
+      → (b : Beside ps w z y) → Beside ps (with_new_dynamics b.world vs (length z.variables) (length b.cells)) (with_values vs z) (flat.with_values vs y)
   dynamics_made {w} {z} {y} vs b = record {
-    world = with_cells_of b.world vs (length z.variables) (length b.cells);
-    later = itself (with_cells_of b.world vs (length z.variables) (length b.cells));
+    world = with_new_dynamics b.world vs (length z.variables) (length b.cells);
+    later = itself (with_new_dynamics b.world vs (length z.variables) (length b.cells));
     store = b.store;
     cells = b.cells ++ vs;
     frame = b.frame;

@@ -1,5 +1,5 @@
 -- Environments that match: with new variables, with a new exit, and those of functions.
-use Rattle.std.proofs.Common.{◌≡◌, ℕ, zero, suc, ◌+◌, ◌==◌, Bool, true, false, List, [], ◌∷◌, ◌++◌, refl, sym, ap, subst, ◌∙◌, Option, Some, None, length, map, arith, length-append}
+use Rattle.std.proofs.Common.{◌≡◌, ℕ, suc, ◌+◌, ◌==◌, Bool, true, false, List, [], ◌∷◌, ◌++◌, refl, sym, ap, subst, ◌∙◌, Option, Some, None, length, map, arith, length-append}
 use Rattle.std.specs.List.{range_with_len}
 use Rattle.std.proofs.lemmas.Option.{get_or_from_slice_get}
 use Rattle.std.specs.Prelude.{not, slice_get, slice_set, if◌then◌else◌}
@@ -31,7 +31,7 @@ use Rattle.isl_closure.specs.Scope.{Scope, home_of, homes_of, slot_at, in_slots,
 use Rattle.isl_closure.proofs.Alike.{Kind, constant, cell, slot, World, alone, Kept, Bound, flat_around, PlaceAt, VariableAt, VariableAlike, VariablesAlike, ExitAt, Matches, KeepsValue, PartIsThere, Beside, twin, Sim, Follows, Acts}
 use Rattle.isl_closure.proofs.Lists.{in_front, behind, length-range}
 use Rattle.isl_closure.proofs.Frames.{slot_known, set_in_cell, set_in_slot}
-use Rattle.isl_closure.proofs.NewSlots.{kind_at, after_it, kinds_at, with_new}
+use Rattle.isl_closure.proofs.NewSlots.{kind_at, after_it, kinds_at, with_new_slots}
 use Rattle.isl_closure.proofs.Combined.{kept_after, kept_more, same_kept, place_kept, variable_kept, matches_kept, matches_later, bound_later, charges, requests, slots_made, slots_gone, frame_made, frame_left}
 pub use Rattle.isl_closure.proofs.Lists.{some_same, equal_or_not}
 
@@ -40,10 +40,12 @@ abbrev pub sets_of : List ℕ → Form → List Bool
 sets_of [] body = []
 sets_of (v ∷ vs) body = sets v body ∷ sets_of vs body
 
+-- as many as there are variables
 length-sets : (vs : List ℕ) (body : Form) → length (sets_of vs body) ≡ length vs
 length-sets [] body = refl
 length-sets (v ∷ vs) body = ap suc (length-sets vs body)
 
+-- a new variable is at its place
 place_new : (w : World) (e : FlatEnvironment) (h : Home) (is_set : Bool) (x : Value) (n j i : ℕ) → slice_get w.own n ≡ Some i
     → slice_get w.kinds i ≡ Some (kind_at h is_set x n j) → PlaceAt w e (slot_at h n) (not is_set) i
 place_new w e home.Slot true x n j i p q = (p, q)
@@ -111,17 +113,19 @@ found w e known around rest (u ∷ vs) body (x ∷ ws) len n i j own kinds v k h
     (λ m l g. let q : i + suc m ≡ (i + 1) + m = omega arith in subst (λ a. slice_get w.kinds a ≡ Some l) q (kinds (suc m) l g))
     v k (sym (under_after v u _ (in_slots vs body (n + 1) ++ known) f) ∙ h)))
 
+-- as many homes as variables
 pub length-homes : (vs : List ℕ) (body : Form) → length (homes_of vs body) ≡ length vs
 length-homes [] body = refl
 length-homes (v ∷ vs) body = ap suc (length-homes vs body)
 
+-- environments match with them
 bound_matches : {w : World} {s : Scope} {env : Environment} {e : FlatEnvironment} → Matches w s env e
     → (vs : List ℕ) (body : Form) (ws : List Value) → length ws ≡ length vs → (i j : ℕ) → length w.kinds ≡ i
-    → Matches (with_new w (homes_of vs body) (sets_of vs body) ws i j) (with_bound vs body s) (record env { variables = numbered vs i ++ env.variables }) e
+    → Matches (with_new_slots w (homes_of vs body) (sets_of vs body) ws i j) (with_bound vs body s) (record env { variables = numbered vs i ++ env.variables }) e
 bound_matches {w} {s} {env} {e} m vs body ws len i j count =
     let kinds : List Kind = kinds_at (homes_of vs body) (sets_of vs body) ws (length w.own) j in
     let own : List ℕ = range_with_len i (length ws) in
-    let u : World = with_new w (homes_of vs body) (sets_of vs body) ws i j in record {
+    let u : World = with_new_slots w (homes_of vs body) (sets_of vs body) ws i j in record {
       variables = λ v k h.
           found u e s.variables env.variables
           (λ x q g. variable_kept w u e (kept_more w.kinds kinds) (kept_more w.own own) q (under_number x env.variables) (m.variables x q g))
@@ -165,6 +169,7 @@ around_matches {w} {s} {env} {e} m x z y same = record {
 -- what a function captured is what it names where it was made
 module _ {w : World} {s : Scope} {env : Environment} {e : FlatEnvironment} (m : Matches w s env e)
     {variables cells : List Value} {frame : List FrameSlot} (r : VariablesAlike w variables cells frame) (y : FlatState) (same : y.frame ≡ frame) where
+  -- what a function captured of a place is there inside
   place_captured : (inside : FlatEnvironment) (n : ℕ) (p : VariablePlace) (fixed : Bool) (i : ℕ) → PlaceAt w e p fixed i → KeepsValue p fixed
       → slice_get inside.captured n ≡ Some (captured_variable p e y) → PlaceAt (alone w.kinds) inside (captured_place p n) fixed i
   place_captured inside n (Slot l) true i h k c =
@@ -293,12 +298,12 @@ module _ {ps : List FlatProcedure} where
       → {run : Environment → Act} (run' : FlatAct)
       → ((v : World) (inner : Environment) → Matches v (with_bound vs body s) inner e → Acts ps v (run inner) run')
       → (around : Surroundings) (bound : Bound b.world around)
-      → Sim ps (with_new b.world (homes_of vs body) (sets_of vs body) ws (length z.variables) (length b.cells))
+      → Sim ps (with_new_slots b.world (homes_of vs body) (sets_of vs body) ws (length z.variables) (length b.cells))
       (run (with_variables vs z env) around (with_values ws z)) (run' (flat_around around bound) (flat_state.with_slots (homes_of vs body) ws y))
   run_bound {u} {s} {env} {e} {z} {y} b m vs body ws len run' r around bound =
       let hs : List Home = homes_of vs body in
       let ss : List Bool = sets_of vs body in
-      let now : World = with_new b.world hs ss ws (length z.variables) (length b.cells) in
+      let now : World = with_new_slots b.world hs ss ws (length z.variables) (length b.cells) in
       let kinds : Kept b.world.kinds now.kinds = kept_more b.world.kinds (kinds_at hs ss ws (length b.world.own) (length b.cells)) in
       r now (with_variables vs z env) (bound_matches m vs body ws len (length z.variables) (length b.cells) b.related.values.count)
       around (bound_later around.bindings kinds bound) _ _

@@ -1,7 +1,6 @@
 -- Forms, and tasks, of a program and of it made flat.
-use Rattle.std.proofs.Common.{◌≡◌, ℕ, zero, suc, ◌+◌, ◌-◌, ◌==◌, Bool, false, T, List, [], ◌∷◌, ◌++◌, refl, sym, ap, subst, ◌∙◌, inr, Option, Some, None, length, map, arith, length-append}
+use Rattle.std.proofs.Common.{◌≡◌, ℕ, zero, suc, ◌+◌, ◌-◌, Bool, false, List, [], ◌∷◌, ◌++◌, refl, sym, ap, subst, ◌∙◌, inr, Option, Some, None, length, map, arith, length-append}
 use Rattle.std.specs.Str.{bytes_eq}
-use Rattle.std.proofs.Math.Dec.{eqb_refl}
 use Rattle.std.specs.Prelude.{slice_get, if◌then◌else◌}
 use Rattle.isl_meaning.specs.declared.part.Part.{Part}
 use Rattle.isl_meaning.specs.declared.program.LiteralRow.{LiteralRow}
@@ -9,7 +8,6 @@ use Rattle.isl_meaning.specs.declared.program.LiteralRow.TheVariants as row
 use Rattle.isl_meaning.specs.Form.{Form, Forms, ClauseForms, MaybeForm, BindingForms, DynamicForms}
 use Rattle.isl_meaning.specs.Form as core
 use Rattle.isl_meaning.specs.Counts as core_counts
-use Rattle.isl_meaning.specs.Subforms.{Each}
 use Rattle.isl_meaning.specs.Values.{Value, integer, character, symbol, named, nil, object, truth, is_true}
 use Rattle.isl_meaning.specs.Objects.{Called, Environment, no_environment, Object, cons, string, vector, instance, generic_function, class_object, input_stream, output_stream, fresh_symbol, closure, function, function_class, list_class, serious_condition_class, control_error_class, unbound_variable_class}
 use Rattle.isl_meaning.specs.State.{State, Surroundings, block_exit, catch_exit, Landing, at_segment, value, Evaluated, gives, Act, inside, exit_made, charged, caught, Limit, make, stored}
@@ -32,7 +30,7 @@ use Rattle.isl_closure.specs.Scope.{Scope, homes_of, home_of, with_bound, with_a
 use Rattle.isl_closure.specs.Flatten.{functions, functions_of_values, functions_of_body, functions_of_dynamics, flat, flat_forms, flat_clauses, flat_body, flat_bindings, flat_dynamics}
 use Rattle.isl_closure.proofs.Alike.{Kind, cell, World, Kept, Later, SameBindings, BindingsAlike, Bound, flat_around, Matches, IsAround, IsInMethod, Sound, SoundForms, SoundClauses, SoundBody, SoundValues, SoundDynamics, ClosureAlike, ObjectsAlike, Beside, twin, Sim, Follows, Acts}
 use Rattle.isl_closure.proofs.Combined.{now, kept_after, kept_more, bound_later, after_that, matches_kept, matches_later, at_twin, step, charges, exits_made, sooner, given, on, tests, lands_on, catches, cleans, some, requests, dynamics_made}
-use Rattle.isl_closure.proofs.NewSlots.{cells_from, with_cells_of}
+use Rattle.isl_closure.proofs.NewSlots.{cells_from, with_new_dynamics}
 use Rattle.isl_closure.proofs.Environments.{binds, around_matches, value_same, cell_value, variable_set, place_set, seen_matches, under_first, under_after}
 use Rattle.isl_closure.proofs.Lists.{equal_or_not, unequal, pushed, behind}
 use Rattle.isl_closure.proofs.Nodes.{length-parts, forms_counted, clauses_counted, bindings_counted, dynamics_counted}
@@ -475,7 +473,7 @@ module _ (r : Both) where
         (record around { bindings = numbered (bound_names r.names ds) j ++ bound.bindings })
         (flat_state.with_values vs later)))
         (sym (ap (λ (q : FlatState). length q.state.variables) a.is))
-        (let u : World = with_cells_of a.world vs (length after.variables) (length a.cells) in
+        (let u : World = with_new_dynamics a.world vs (length after.variables) (length a.cells) in
         let l : Later a.world u = record { kinds = kept_more a.world.kinds (cells_from (length a.cells) vs); own = refl; start = refl } in
         let now : BindingsAlike u.kinds around.bindings = bound_later around.bindings (kept_after a.later.kinds l.kinds) bound in
         sooner (after_that a.later l)

@@ -1,16 +1,14 @@
 -- Variables beside cells and slots: what new variables, settings, and the begin and the end of an activation make of them.
-use Rattle.std.proofs.Common.{◌≡◌, ℕ, ◌+◌, ◌==◌, ◌≤◌, ◌<◌, Bool, true, false, List, [], ◌∷◌, ◌++◌, refl, sym, ap, subst, ◌∙◌, ⊎_elim, Option, Some, None, length, take, arith, length-append}
+use Rattle.std.proofs.Common.{◌≡◌, ℕ, ◌+◌, ◌<◌, List, [], ◌++◌, refl, sym, ap, subst, ◌∙◌, ⊎_elim, Some, length, take, arith, length-append}
 use Rattle.std.proofs.lemmas.List.{length-take-le}
 use Rattle.std.proofs.lemmas.Option.{slice_get_within}
 use Rattle.std.specs.Prelude.{⊤, slice_get, slice_set}
 use Rattle.isl_meaning.specs.Values.{Value}
-use Rattle.isl_closure.specs.FlatState.{FrameSlot, holds, holds_cell}
+use Rattle.isl_closure.specs.FlatState.{FrameSlot, holds}
 use Rattle.isl_closure.proofs.Alike.{Kind, constant, cell, slot, World, Kept, ValueAlike, VariableAlike, slot_for, IsInSlot, SlotAlike, VariablesAlike}
 use Rattle.isl_closure.proofs.Lists.{some_same, same_or_not, other_place, length-changed, changed_place, in_front, behind, behind_all, IsBehind, of_either, IsThere, is_there, among_first}
 
--- more variables, with more cells
-
--- what is known of a new variable, where the new ones have the numbers from i on, and the new cells those from j on
+-- what is known of the m-th new variable, where the new ones have the numbers from i on, and the new cells those from j on
 abbrev pub NewValue : (holders : List ℕ) (cells : List Value) (i j m : ℕ) → Kind → Value → Type 0
 NewValue holders cells i j m (constant u) v = u ≡ v
 NewValue holders cells i j m (cell l) v = (p : ℕ) × (l ≡ j + p × slice_get holders p ≡ Some (i + m) × slice_get cells p ≡ Some v)
@@ -23,11 +21,13 @@ pub record NewVariable (holders : List ℕ) (values cells : List Value) (i j m :
 
 module _ {w : World} {variables cells : List Value} {frame : List FrameSlot} (r : VariablesAlike w variables cells frame)
     (kinds : List Kind) (holders : List ℕ) (values new_cells : List Value) where
+  -- what was known of an old value
   grown : (i : ℕ) (k : Kind) (v : Value) → ValueAlike w.holders w.start cells i k v → ValueAlike (w.holders ++ holders) w.start (cells ++ new_cells) i k v
   grown i (constant u) v a = a
   grown i (cell j) v a = (in_front w.holders holders j i a.0, in_front cells new_cells j v a.1)
   grown i (slot n) v a = a
 
+  -- what is known of a new one
   added : (i m : ℕ) → i ≡ length variables + m → (k : Kind) (v : Value) → NewValue holders new_cells (length variables) (length cells) m k v
       → ValueAlike (w.holders ++ holders) w.start (cells ++ new_cells) i k v
   added i m e (constant u) v a = a
@@ -37,6 +37,7 @@ module _ {w : World} {variables cells : List Value} {frame : List FrameSlot} (r 
   )
   added i m e (slot n) v a = λ u h. absurd (omega (arith, slice_get_within w.start i u h, r.since, e))
 
+  -- with more variables and cells the frame stays
   pub more_variables : length kinds ≡ length values → length holders ≡ length new_cells
       → ((m : ℕ) (k : Kind) → slice_get kinds m ≡ Some k → NewVariable holders values new_cells (length variables) (length cells) m k)
       → VariablesAlike (record w { kinds = w.kinds ++ kinds; holders = w.holders ++ holders }) (variables ++ values) (cells ++ new_cells) frame
@@ -95,7 +96,7 @@ more_slots {w} {variables} {cells} {frame} r own slots e new = record {
       (of_either w.own own n i h);
 }
 
--- the last slots are gone
+-- fewer slots: the last ones are gone
 pub fewer_slots : {w : World} {variables cells : List Value} {frame : List FrameSlot} → VariablesAlike w variables cells frame
     → (own gone : List ℕ) → w.own ≡ own ++ gone → VariablesAlike (record w { own = own }) variables cells (take (length own) frame)
 fewer_slots {w} {variables} {cells} {frame} r own gone e =
@@ -117,14 +118,14 @@ fewer_slots {w} {variables} {cells} {frame} r own gone e =
           };
     }
 
--- an activation begins
-
+-- a value when an activation begins is as it is
 begun_value : (holders : List ℕ) (start variables cells : List Value) (i : ℕ) (k : Kind) (v : Value) → slice_get variables i ≡ Some v
     → ValueAlike holders start cells i k v → ValueAlike holders variables cells i k v
 begun_value holders start variables cells i (constant u) v h a = a
 begun_value holders start variables cells i (cell j) v h a = a
 begun_value holders start variables cells i (slot n) v h a = λ u g. some_same (sym g ∙ h)
 
+-- an activation begins, without slots
 pub begun : {w : World} {variables cells : List Value} {frame : List FrameSlot} → VariablesAlike w variables cells frame
     → VariablesAlike (record w { own = []; start = variables }) variables cells []
 begun {w} {variables} {cells} {frame} r = record {
@@ -140,7 +141,7 @@ begun {w} {variables} {cells} {frame} r = record {
   slots = λ n i h. absurd (cc h);
 }
 
--- and ends: the slots of the one around it are as they were when it began
+-- and it ends: the frame of the one around it is again the frame there
 module _ {w u : World} {variables cells now_variables now_cells : List Value} {frame inner : List FrameSlot}
     (r : VariablesAlike w variables cells frame) (l : Kept w.kinds u.kinds) (began : u.start ≡ variables) (s : VariablesAlike u now_variables now_cells inner) where
   -- what was known of a variable when the activation began
@@ -149,11 +150,12 @@ module _ {w u : World} {variables cells now_variables now_cells : List Value} {f
       let old : IsThere w.kinds i = is_there w.kinds i b in
       old.there ∙ (sym (l.kept i old.item old.there) ∙ h)
 
-  -- an old variable that has a slot, or keeps its value
+  -- a variable with a slot elsewhere is as it was
   unchanged : (i n : ℕ) → slice_get w.kinds i ≡ Some (slot n) → (v : Value) → slice_get variables i ≡ Some v
       → (x : Value) → ValueAlike u.holders u.start now_cells i (slot n) x → v ≡ x
   unchanged i n h v there x a = a v (ap (λ (vs : List Value). slice_get vs i) began ∙ there)
 
+  -- a value after the activation, for the one around it
   ended_value : (i : ℕ) (k : Kind) → slice_get u.kinds i ≡ Some k → (x : Value) → ValueAlike u.holders u.start now_cells i k x
       → ValueAlike u.holders w.start now_cells i k x
   ended_value i (constant v) h x a = a
@@ -164,7 +166,7 @@ module _ {w u : World} {variables cells now_variables now_cells : List Value} {f
       let old : VariableAlike w.holders w.start variables cells i (slot n) = r.known i (slot n) known in
       old.alike v g ∙ unchanged i n known old.now old.there x a
 
-  -- what a slot has is the same
+  -- a slot of the one around it holds what it held
   same_slot : (i : ℕ) (k : Kind) → slice_get w.kinds i ≡ Some k → (v x : Value) → slice_get variables i ≡ Some v
       → ValueAlike u.holders u.start now_cells i k x → slot_for k v ≡ slot_for k x
   same_slot i (constant c) h v x there a =
@@ -173,6 +175,7 @@ module _ {w u : World} {variables cells now_variables now_cells : List Value} {f
   same_slot i (cell j) h v x there a = refl
   same_slot i (slot n) h v x there a = ap holds (unchanged i n h v there x a)
 
+  -- the frame around is right again
   pub ended : VariablesAlike (record u { own = w.own; start = w.start }) now_variables now_cells frame
   ended = record {
     count = s.count;
@@ -208,7 +211,6 @@ slot_known {w} {variables} {cells} {frame} r n i h k known v there =
     ∙ ap (λ x. Some (slot_for k x)) (some_same (sym s.there ∙ there))
 
 -- a variable is set
-
 module _ {w : World} {variables cells : List Value} {frame : List FrameSlot} (r : VariablesAlike w variables cells frame) (i : ℕ) (v : Value) where
   -- another variable
   other_variable : (m : ℕ) (x : Value) → (m ≡ i → ⊥) → slice_get variables m ≡ Some x → slice_get (slice_set variables i v) m ≡ Some x
@@ -216,9 +218,11 @@ module _ {w : World} {variables cells : List Value} {frame : List FrameSlot} (r 
 
   -- in its cell
   module _ (j : ℕ) (known : slice_get w.kinds i ≡ Some (cell j)) where
+    -- what is known of it
     in_cell : VariableAlike w.holders w.start variables cells i (cell j)
     in_cell = r.known i (cell j) known
 
+    -- the values of others
     other_value : (m : ℕ) (k : Kind) (x : Value) → (m ≡ i → ⊥) → ValueAlike w.holders w.start cells m k x → ValueAlike w.holders w.start (slice_set cells j v) m k x
     other_value m (constant u) x apart a = a
     other_value m (slot n) x apart a = a
@@ -227,6 +231,7 @@ module _ {w : World} {variables cells : List Value} {frame : List FrameSlot} (r 
       other_place cells j l v (λ e. apart (some_same (sym a.0 ∙ ap (λ n. slice_get w.holders n) e ∙ in_cell.alike.0))) ∙ a.1,
     )
 
+    -- all is right after it
     pub set_in_cell : VariablesAlike w (slice_set variables i v) (slice_set cells j v) frame
     set_in_cell = record {
       count = r.count ∙ sym (length-changed variables i v);
@@ -269,20 +274,23 @@ module _ {w : World} {variables cells : List Value} {frame : List FrameSlot} (r 
 
   -- in its slot
   module _ (n : ℕ) (mine : slice_get w.own n ≡ Some i) (known : slice_get w.kinds i ≡ Some (slot n)) where
+    -- what is known of its slot
     in_slot : SlotAlike w.kinds w.start variables frame n i
     in_slot = r.slots n i mine
 
+    -- its value is not one of before the activation
     new_value : (k : Kind) → slot n ≡ k → ValueAlike w.holders w.start cells i k v
     new_value (constant u) e = absurd (cc e)
     new_value (cell j) e = absurd (cc e)
     new_value (slot m) e = λ u h. absurd (omega (arith, slice_get_within w.start i u h, in_slot.newer))
 
-    -- that slot is the only one that has it
+    -- no other slot has it
     same_place : (m : ℕ) (k : Kind) → slot n ≡ k → IsInSlot m k → m ≡ n
     same_place m (constant u) e a = absurd (cc e)
     same_place m (cell j) e a = absurd (cc e)
     same_place m (slot l) e a = sym (let q : n ≡ l = cc e in q ∙ a)
 
+    -- all is right after it
     pub set_in_slot : VariablesAlike w (slice_set variables i v) cells (slice_set frame n (holds v))
     set_in_slot = record {
       count = r.count ∙ sym (length-changed variables i v);

@@ -111,9 +111,8 @@ module _ (context : FlatContext) where
       wrong domain_error_class (v ∷ class_value context.names (tables context.program) expected ∷ [])
 
   -- the application of a procedure with what its function captured and what its method is called with; the number of
-  -- arguments is judged first, and then each request comes one by one. The body runs in a frame of its own, whose slots are those of
-  -- the arguments. `wrong` signals what goes wrong in the
-  -- application itself: inside a handler, under the handlers outside.
+  -- arguments is judged first, and then each request comes one by one. The body runs in a frame of its own, which has the slots
+  -- of the arguments. `wrong` signals what goes wrong in the application itself: inside a handler, under the handlers outside.
   abbrev pub enter : FlatSignals → FlatProcedure → List Captured → Option Called → List Value → FlatAct
   enter wrong p captured called vs around z =
       if takes (length p.required) (is_some p.rest) (length vs) then

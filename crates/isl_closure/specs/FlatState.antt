@@ -78,27 +78,28 @@ captured_by v z = None
 
 -- frames
 
--- new slots for variables with these homes and values, where the next cell has that number
+-- the slots of new variables with these homes and values, where the next cell has that number
 abbrev pub new_slots : List Home → List Value → ℕ → List FrameSlot
 new_slots [] vs n = []
 new_slots (h ∷ hs) [] n = []
 new_slots (home.Slot ∷ hs) (v ∷ vs) n = holds v ∷ new_slots hs vs n
 new_slots (home.Cell ∷ hs) (v ∷ vs) n = holds_cell n ∷ new_slots hs vs (n + 1)
 
--- the values of those that have cells
+-- the values of those among them that have cells
 abbrev pub new_cells : List Home → List Value → List Value
 new_cells [] vs = []
 new_cells (h ∷ hs) [] = []
 new_cells (home.Slot ∷ hs) (v ∷ vs) = new_cells hs vs
 new_cells (home.Cell ∷ hs) (v ∷ vs) = v ∷ new_cells hs vs
 
--- slots behind those of the frame
+-- new variables: their slots stand behind those of the frame, and each that has a cell has a new one
 abbrev pub with_slots : List Home → List Value → FlatState → FlatState
 with_slots hs vs z =
     record (with_values (new_cells hs vs) z) { frame = z.frame ++ new_slots hs vs (length z.state.variables) }
 
 -- places
 
+-- what a slot holds, and what was captured
 abbrev pub value_held : Option FrameSlot → Value
 value_held (Some (holds v)) = v
 value_held s = nil
@@ -230,6 +231,7 @@ make_closure limit p cs z next =
 abbrev pub with_stack : ℕ → FlatEvaluated → FlatEvaluated
 with_stack stack r = record { outcome = r.outcome; state = on_state (λ y. record y { stack = stack }) r.state }
 
+-- the words of an application, which are given back when it is left
 abbrev pub in_frame : Limit → ℕ → (FlatState → FlatEvaluated) → FlatState → FlatEvaluated
 in_frame limit size body z = request limit 0 size z (λ entered. with_stack z.state.stack (body entered))
 
