@@ -1,6 +1,6 @@
 // What stands above a class: the superclasses that go together, and their precedence lists joined.
 
-ghost use Rattle.std.specs.Prelude.{◌≡◌, ◌+◌, ◌<◌, ◌++◌, OnOk, OnErr, IfOk, drop, get_or, length, slice_get};
+ghost use Rattle.std.specs.Prelude.{◌≡◌, ◌++◌, OnOk, IfOk, slice_get};
 ghost use Rattle.std.specs.List.{list_all, list_any};
 ghost use Rattle.isl_meaning.specs.Classes.{precedence_of};
 ghost use Rattle.isl_meaning.specs.Lookup.{all_differ};
