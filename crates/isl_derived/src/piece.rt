@@ -202,10 +202,7 @@ pub(crate) fn form_two<'a>(
 }
 
 /// Appends parts of the form, in their order.
-pub(crate) fn push_taken<'a>(
-    list: &mut PieceList<'a>,
-    items: &'a [Datum],
-) -> Result<(), NoMemory>
+pub(crate) fn push_taken<'a>(list: &mut PieceList<'a>, items: &'a [Datum]) -> Result<(), NoMemory>
     ensures { OnOk result (list.new ≡ list.old ++ all_taken items.now) }
 {
     for item in items {

@@ -15,10 +15,10 @@ pub loop-generic-preserved : goal.loop-generic-preserved
 loop-generic-preserved c =
     let there = item_at c.as_slice-generic-items.result.now c.args.generics.now c.loop-generic.generic-index c.generic-item.result c.as_slice-generic-items.ensures c.loop-generic-test.true c.generic-item.is in
     record {
-  count = ap length c.in_ok-push.ensures.ok ∙ length-append c.loop-generic.found (c.in_ok-table.table ∷ []) ∙ ap (λ n. n + 1) c.loop-generic.invariant.count;
-  each = tables_more (with_classes c.args.classes.now) c.args.generics.now c.loop-generic.found c.push.new.self c.loop-generic.generic-index c.generic-item.result c.in_ok-table.table
-      c.loop-generic.invariant.each c.loop-generic.invariant.count there c.in_ok-table.ensures c.in_ok-push.ensures.ok;
-}
+      count = ap length c.in_ok-push.ensures.ok ∙ length-append c.loop-generic.found (c.in_ok-table.table ∷ []) ∙ ap (λ n. n + 1) c.loop-generic.invariant.count;
+      each = tables_more (with_classes c.args.classes.now) c.args.generics.now c.loop-generic.found c.push.new.self c.loop-generic.generic-index c.generic-item.result c.in_ok-table.table
+          c.loop-generic.invariant.each c.loop-generic.invariant.count there c.in_ok-table.ensures c.in_ok-push.ensures.ok;
+    }
 
 pub returns : goal.returns
 returns c =
