@@ -1,5 +1,5 @@
 -- The answer for a file, by the verdict on its text.
-use Rattle.std.proofs.Common.{◌≡◌, refl, sym, subst}
+use Rattle.std.proofs.Common.{refl, sym, subst}
 use Rattle.isl_top.specs.Loads.{IsTaken}
 use Rattle.isl_top.proofs.Judging.{accepted-small}
 use Rattle.isl_top.proofs.Ends.{of_run}
