@@ -1,5 +1,5 @@
 -- What functions of the walk keep, from one to the one around it.
-use Rattle.std.proofs.Common.{◌≡◌, ℕ, List, [], ◌∷◌, ◌++◌, length, take, Result, Ok, Err, refl, ap, subst, sym, ◌∙◌, inl, inr}
+use Rattle.std.proofs.Common.{◌≡◌, ℕ, List, ◌++◌, length, take, Result, Ok, Err, refl, ap, subst, sym, ◌∙◌, inl, inr}
 use Rattle.std.proofs.Math.Seq.{take-append_seam}
 use Rattle.isl_base.specs.Names.{Extends, Extends-same, Extends-then}
 use Rattle.isl_base.specs.Data.{Item}
@@ -8,9 +8,7 @@ use Rattle.isl_base.specs.declared.reason.Stop.{Stop}
 use Rattle.isl_base.specs.declared.reason.Stop.TheVariants.{Refused, NoMemory}
 use Rattle.isl_meaning.specs.Form.{Form}
 use Rattle.isl_profile.specs.declared.bound.Bound.{Bound}
-use Rattle.isl_profile.specs.declared.bound.Bound.TheVariants.{Variable}
 use Rattle.isl_profile.specs.declared.making.Found.{Found}
-use Rattle.isl_profile.specs.declared.making.Found.TheVariants.{Value, Binding}
 use Rattle.isl_profile.specs.declared.making.Made.{Made}
 use Rattle.isl_profile.specs.declared.spot.Spot.{Spot}
 use Rattle.isl_profile.specs.declared.tables.Tables.{Tables}

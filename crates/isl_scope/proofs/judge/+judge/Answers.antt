@@ -4,9 +4,7 @@ use Rattle.std.proofs.lemmas.Result.{err_from_is_err_and}
 use Rattle.isl_base.specs.Names.{Extends-same, Extends-then}
 use Rattle.isl_base.specs.GoodData.{Good}
 use Rattle.isl_profile.specs.declared.bound.Bound.{Bound}
-use Rattle.isl_profile.specs.Nodes.{whole}
 use Rattle.isl_profile.specs.Promises.{FormStops, Settles, settled_datum}
-use Rattle.isl_profile.specs.Rows.{plain_node}
 use Rattle.isl_profile.specs.Sound.{weight, AllSound}
 use Rattle.isl_profile.specs.Walks.{PartTaken, PartStops, Through}
 use Rattle.isl_profile.specs.bridge.Growing.{grows_then}
