@@ -7,7 +7,7 @@ ghost use Rattle.isl_meaning.specs.model.View.{bindings_of};
 ghost use Rattle.isl_closure.specs.Scope.{homes_of};
 ghost use Rattle.isl_meaning.specs.Captured.{sets};
 ghost use Rattle.isl_flatten.specs.Found.{has_variable};
-ghost use Rattle.isl_flatten.specs.NewVariables.{new_variable, new_variables, homes_of_new};
+ghost use Rattle.isl_flatten.specs.NewVariables.{new_variable, new_variables, homes_of_new, home_or_slot};
 
 use crate::cells::{captures, is_set, set_inside};
 use isl_base::{ItemList, NoMemory};
@@ -25,6 +25,16 @@ pub(crate) struct NewVariable {
 
 /// Variables that a body binds, in their order.
 pub(crate) type NewVariables = ItemList<NewVariable>;
+
+/// A body in which variables are bound: these variables, and whether a function made in it captures the method.
+#[derive(Drop)]
+pub(crate) struct Binder {
+    pub(crate) variables: NewVariables,
+    pub(crate) keeps_method: bool,
+}
+
+/// The binders of a form, in the order in which a walk meets them.
+pub(crate) type BinderList = ItemList<Binder>;
 
 // The variables of that body.
 pub(crate) fn new_variables(
@@ -95,17 +105,16 @@ pub(crate) fn bound(alloc: Global, list: &BindingList) -> Result<VarList, NoMemo
     Ok(variables)
 }
 
-// Where the first of these live, as many as are asked.
+// Where the first of these live, as many as are asked if there are as many.
 pub(crate) fn first_homes(
     alloc: Global,
     news: &NewVariables,
     count: usize,
 ) -> Result<HomeList, NoMemory>
-    requires { count ≤ length news.now }
     ensures { IfOk result (λ homes. homes ≡ take count (homes_of_new news.now)) }
 {
     let mut homes = HomeList::new(alloc);
-    for at in 0..count {
+    for at in 0..count.min(news.len()) {
         let Some(new) = news.get(at) else {
             unreachable!()
         };
@@ -121,5 +130,15 @@ pub(crate) fn home_at(news: &NewVariables, at: usize) -> Option<Home>
     match news.get(at) {
         None => None,
         Some(new) => Some(new.home),
+    }
+}
+
+// Where the variable of that binding lives; in a slot where there is none.
+pub(crate) fn home_of_binding(news: &NewVariables, at: usize) -> Home
+    ensures { result ≡ home_or_slot (slice_get (homes_of_new news.now) at) }
+{
+    match home_at(news, at) {
+        None => Home::Slot,
+        Some(home) => home,
     }
 }
