@@ -115,6 +115,7 @@ known_inside vs news body table p q r before after made same are g = λ rest e.
     viewed (λ y. y) (λ n. flat (with_new news (scope_of q)) n body) (λ n. inner_procedures (with_new news (scope_of q)) n body) (λ n. flat (with_bound vs body (scope_of p)) n body) (λ n. inner_procedures (with_bound vs body (scope_of p)) n body)
     table before after made rest (λ n. ap (λ w. flat w n body) t) (λ n. ap (λ w. inner_procedures w n body) t) (g.so rest e)
 
+-- bindings and their body
 pub let_made : (bs : BindingForms) (body : Form) (table : List Binder) (p q r : Places) (before next between after : Progress) (own : Binder) (made : FlatBindings) (more : FlatForm)
     → ComesNext table before next own → MakesValues own.variables bs table p q next between made → MakesInside own.variables body table q r between after more
     → MakesLet bs body table p r before after (made, more)
@@ -132,6 +133,7 @@ let_made bs body table p q r before next between after own made more comes value
       (λ n. values_counted s n bs) a (known_inside vs own.variables body table p q r between after more values.same are inside rest a.left_so));
 }
 
+-- a procedure
 abbrev a_procedure : List CapturedKind → List Home → Option Home → Bool → FlatForm → FlatProcedure
 a_procedure captured required rest keeps body =
     record { captured = captured; required = required; rest = rest; keeps_method = keeps; body = body }

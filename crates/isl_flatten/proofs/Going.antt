@@ -51,9 +51,11 @@ module _ {X Y : Type 0} (one : ℕ → X → Y) (inside : ℕ → X → List Fla
     pub inside_so : now.lambdas ++ all_inside one inside count (length now.lambdas) (drop at xs) ≡ first.lambdas ++ all_inside one inside count (length first.lambdas) xs
     pub left_so : drop now.binders table ≡ all_front front (drop at xs) rest
 
+  -- where the binders of all are the first of those that were left
   abbrev pub Going : List X → Progress → ℕ → List Y → Progress → Type 0
   Going xs first at made now = (rest : List Binder) → drop first.binders table ≡ all_front front xs rest → GoingSo xs first at made now rest
 
+  -- before the first item, behind one more, and behind all
   pub started : (xs : List X) (first : Progress) → Going xs first 0 [] first
   started xs first = λ rest e. record { made_so = refl; inside_so = refl; left_so = e }
 
@@ -168,6 +170,7 @@ body_front : (b : Option Form) (fs : List (List Binder → List Binder)) (rest :
 body_front None fs rest = refl
 body_front (Some f) fs rest = refl
 
+-- of a clause, of a binding and of a dynamic one
 abbrev pub clause_front : Clause → List Binder → List Binder
 clause_front c rest = binders c.test (binders_of_body (maybe_form c.body) rest)
 
@@ -224,6 +227,7 @@ pub inner_counted : (n : ℕ) (xs : List Procedure) → length (inner_of_procedu
 inner_counted n [] = refl
 inner_counted n (p ∷ ps) = joined (procedure_inside n p) _ _ _ (procedure_counted n p) (inner_counted (n + procedure_count p) ps)
 
+-- the binders of procedures and of main forms
 abbrev pub procedure_front : Procedure → List Binder → List Binder
 procedure_front p = binders_of_function p.required p.rest p.body
 

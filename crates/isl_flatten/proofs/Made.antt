@@ -62,6 +62,7 @@ mapped h one inside front table p q before after made g = record {
   so = λ rest e. viewed (h (scope_of p)) (one (scope_of p)) (inside (scope_of p)) (λ n. h (scope_of p) (one (scope_of p) n)) (inside (scope_of p)) table before after made rest (λ n. refl) (λ n. refl) (g.so rest e);
 }
 
+-- and where the places around are as they were
 pub both : {X Y : Type 0} (one : Scope → ℕ → X) (inside : Scope → ℕ → List FlatProcedure) (front : List Binder → List Binder) (other : Scope → ℕ → Y) (behind : Scope → ℕ → List FlatProcedure) (next : List Binder → List Binder) (count : ℕ)
     (table : List Binder) (p q r : Places) (before between after : Progress) (made : X) (more : Y)
     → ((s : Scope) (n : ℕ) → length (inside s n) ≡ count) → Makes one inside front table p q before between made → Makes other behind next table q r between after more
@@ -133,12 +134,14 @@ row x y make one inside front table p q before after part made seen g is same al
 pub at_form : (f g : Form) (table : List Binder) (p q : Places) (before after : Progress) (made : FlatForm) → f ≡ g → MakesForm f table p q before after made → MakesForm g table p q before after made
 at_form f g table p q before after made e h = let P : Form → Type 0 = λ x. MakesForm x table p q before after made in subst P e h
 
+-- of two forms
 pub at_two : (f g x y : Form) (table : List Binder) (p q : Places) (before after : Progress) (made : FlatForm × FlatForm) → f ≡ x → g ≡ y → MakesTwo f g table p q before after made → MakesTwo x y table p q before after made
 at_two f g x y table p q before after made e d h =
     let P : Form → Type 0 = λ z. MakesTwo z g table p q before after made in
     let Q : Form → Type 0 = λ z. MakesTwo x z table p q before after made in
     subst Q d (subst P e h)
 
+-- of bodies
 pub at_let : (bs : BindingForms) (f g : Form) (table : List Binder) (p q : Places) (before after : Progress) (made : FlatBindings × FlatForm) → f ≡ g → MakesLet bs f table p q before after made → MakesLet bs g table p q before after made
 at_let bs f g table p q before after made e h = let P : Form → Type 0 = λ x. MakesLet bs x table p q before after made in subst P e h
 

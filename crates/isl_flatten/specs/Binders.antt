@@ -24,6 +24,7 @@ abbrev pub all_before : List (List Binder → List Binder) → List Binder → L
 all_before [] behind = behind
 all_before (f ∷ fs) behind = f (all_before fs behind)
 
+-- a form's own, those of the forms that stand where it stands, and those of the forms inside what it binds
 abbrev pub binders_step : Form → List (List Binder → List Binder) → List (List Binder → List Binder) → List Binder → List Binder
 binders_step f outer inner behind = own_binders f ++ all_before outer (all_before inner behind)
 
@@ -31,6 +32,7 @@ binders_step f outer inner behind = own_binders f ++ all_before outer (all_befor
 abbrev pub binders : Form → List Binder → List Binder
 binders f = fold binders_step f
 
+-- those of the parts of forms
 abbrev pub binders_of_forms : Forms → List Binder → List Binder
 binders_of_forms fs = all_before (fold_forms binders_step fs)
 

@@ -12,6 +12,7 @@ use Rattle.isl_flatten.specs.declared.variables.Binder.{Binder}
 use Rattle.isl_flatten.specs.Binders.{binders_of_procedures, binders_of_mains}
 use Rattle.isl_flatten.specs.Makes.{MakesSo}
 
+-- all procedures, and all main forms
 abbrev pub MakesProcedures : List Procedure → List Binder → Progress → Progress → List FlatProcedure → Type 0
 MakesProcedures ps table before after made =
     (rest : List Binder) → drop before.binders table ≡ binders_of_procedures ps rest

@@ -30,6 +30,7 @@ pub record Makes {X : Type 0} (one : Scope → ℕ → X) (inside : Scope → �
   pub longer : length before.lambdas ≤ length after.lambdas
   pub so : (rest : List Binder) → drop before.binders table ≡ front rest → MakesSo (one (scope_of around)) (inside (scope_of around)) table before after made rest
 
+-- a form, and two one after another
 abbrev pub MakesForm : Form → List Binder → Places → Places → Progress → Progress → FlatForm → Type 0
 MakesForm f = Makes (λ s n. flat s n f) (λ s n. inner_procedures s n f) (binders f)
 
@@ -38,6 +39,7 @@ MakesTwo f g =
     Makes (λ s n. (flat s n f, flat s (n + functions f) g)) (λ s n. inner_procedures s n f ++ inner_procedures s (n + functions f) g)
     (λ rest. binders f (binders g rest))
 
+-- forms, clauses, and the body of a clause
 abbrev pub MakesForms : Forms → List Binder → Places → Places → Progress → Progress → FlatForms → Type 0
 MakesForms fs = Makes (λ s n. flat_forms s n fs) (λ s n. procedures_of_forms s n fs) (binders_of_forms fs)
 
@@ -61,9 +63,11 @@ pub record MakesValues (news : List NewVariable) (bs : BindingForms) (table : Li
   pub so : (body : Form) → news ≡ new_variables (bound_variables bs) body → (rest : List Binder) → drop before.binders table ≡ binders_of_values bs rest
       → MakesSo (λ n. flat_bindings (scope_of around) n body bs) (λ n. procedures_of_values (scope_of around) n bs) table before after made rest
 
+-- a body in which these variables are new
 abbrev pub MakesInside : List NewVariable → Form → List Binder → Places → Places → Progress → Progress → FlatForm → Type 0
 MakesInside news body = Makes (λ s n. flat (with_new news s) n body) (λ s n. inner_procedures (with_new news s) n body) (binders body)
 
+-- dynamic bindings, with their body and alone
 abbrev pub MakesDynamicLet : DynamicForms → Form → List Binder → Places → Places → Progress → Progress → FlatDynamics × FlatForm → Type 0
 MakesDynamicLet ds body =
     Makes (λ s n. (flat_dynamics s n ds, flat s (n + functions_of_dynamics ds) body))
@@ -80,6 +84,7 @@ MakesFunction required rest body parts =
     (λ s n. flat_procedure (seen s parts) (n + 1) (kinds_of s parts) required rest body ∷ inner_procedures (body_scope required rest body (seen s parts)) (n + 1) body)
     (binders_of_function required rest body)
 
+-- a procedure, and those of the functions inside it
 abbrev pub MakesProcedure : List CapturedKind → List ℕ → Option ℕ → Form → List Binder → Places → Places → Progress → Progress → FlatProcedure → Type 0
 MakesProcedure captured required rest body =
     Makes (λ s n. flat_procedure s n captured required rest body) (λ s n. inner_procedures (body_scope required rest body s) n body)
