@@ -5,5 +5,5 @@ pub mod Made
 pub mod Going
 pub mod Bodies
 pub mod Whole
-pub mod FoundWalks
+pub mod Marking
 pub mod Listing

@@ -5,3 +5,5 @@ pub mod Binders
 pub mod Progress
 pub mod Makes
 pub mod Bodies
+pub mod Marks
+pub mod Listing

@@ -3,8 +3,8 @@
 
 mod binders;
 mod bindings;
-mod cells;
 mod forms;
+mod marks;
 mod places;
 pub mod program;
 mod progress;

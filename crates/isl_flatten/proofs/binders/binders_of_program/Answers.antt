@@ -7,7 +7,7 @@ use Rattle.isl_flatten.proofs.binders.binders_of_program.Goals as goal
 pub returns : goal.returns
 returns c =
     let rows = c.args.rows.now in
-    sym (append-nil c.put_mains.new.made)
-    ∙ c.in_ok-put_mains.ensures []
-    ∙ c.in_ok-put_procedures.ensures (binders_of_mains rows.main [])
+    sym (append-nil c.list_mains.new.made)
+    ∙ c.in_ok-list_mains.ensures []
+    ∙ c.in_ok-list_procedures.ensures (binders_of_mains rows.main [])
     ∙ ap (λ ys. ys ++ binders_of_procedures rows.procedures (binders_of_mains rows.main [])) c.new-made.ensures

@@ -1,13 +1,13 @@
--- One more is put; and at the end all are.
-use Rattle.std.proofs.Common.{◌≤◌, ◌++◌, sym, ap, ◌∙◌, length, arith}
+-- One more is listed; and at the end all are.
+use Rattle.std.proofs.Common.{◌≡◌, ◌≤◌, ◌++◌, sym, ap, ◌∙◌, length, arith}
 use Rattle.std.proofs.Math.ListN.{drop_of_length-le}
 use Rattle.isl_flatten.specs.Binders.{binders_of_mains}
-use Rattle.isl_flatten.proofs.Listing.{main_put}
-use Rattle.isl_flatten.proofs.binders.put_mains.Goals as goal
+use Rattle.isl_flatten.proofs.Listing.{main_listed}
+use Rattle.isl_flatten.proofs.binders.list_mains.Goals as goal
 
 pub loop-at-preserved : goal.loop-at-preserved
 loop-at-preserved c =
-    main_put c.args.list.now c.loop-at.at c.in-Some.form.now c.args.made.now c.loop-at.made c.put.new.made c.in-Some.ensures c.loop-at.invariant c.in_ok-put.ensures
+    main_listed c.args.list.now c.loop-at.at c.in-Some.form.now c.args.made.now c.loop-at.made c.list_form.new.made c.in-Some.ensures c.loop-at.invariant c.in_ok-list_form.ensures.put
 
 pub returns : goal.returns
 returns c = λ rest.
