@@ -238,3 +238,8 @@ or_swap false false = refl
 -- the same union, the other way round
 pub swapped : (s t all : BTreeSet ℕ) → IsUnion t s all → IsUnion s t all
 swapped s t all u = λ v. u v ∙ or_swap (contains nat_cmp t v) (contains nat_cmp s v)
+
+-- of sets that are the same
+pub same_union : (s t x y all : BTreeSet ℕ) → x ≡ s → y ≡ t → IsUnion x y all → IsUnion s t all
+same_union s t x y all e d u = λ v.
+    u v ∙ ap (λ (z : BTreeSet ℕ). contains nat_cmp z v || contains nat_cmp y v) e ∙ ap (λ (z : BTreeSet ℕ). contains nat_cmp s v || contains nat_cmp z v) d

@@ -16,8 +16,7 @@ list_plain-returns t c =
 pub list_let-list_body-requires : goal.list_let-list_body-requires
 list_let-list_body-requires t c =
     let put = c.in_ok-list_all.ensures.put in
-    (omega (arith, ap form_size c.requires, c.decreases),
-    (omega (arith, c.len-number.ensures, ap length c.in_ok-push.ensures.ok, length-append c.args.made.now (c.reserved.result ∷ []), still_there c.push.new.self c.list_all.new.made (λ r. all_before (map binders c.outer.result) r) put), tt))
+    omega (arith, c.len-number.ensures, ap length c.in_ok-push.ensures.ok, length-append c.args.made.now (c.reserved.result ∷ []), still_there c.push.new.self c.list_all.new.made (λ r. all_before (map binders c.outer.result) r) put)
 
 pub list_let-returns : goal.list_let-returns
 list_let-returns t c =
