@@ -1,5 +1,5 @@
 -- The binders of a form are its own, and those of the forms right inside it; and lists of them that grow.
-use Rattle.std.proofs.Common.{◌≡◌, ◌≤◌, ◌<◌, ℕ, ◌+◌, Bool, false, ◌||◌, List, [], ◌∷◌, ◌++◌, refl, sym, ap, subst, ◌∙◌, Option, Some, length, drop, arith, append_assoc, length-append}
+use Rattle.std.proofs.Common.{◌≡◌, ◌≤◌, ℕ, ◌+◌, false, ◌||◌, List, [], ◌∷◌, ◌++◌, refl, sym, ap, subst, ◌∙◌, Option, Some, length, drop, arith, append_assoc, length-append}
 use Rattle.std.specs.Prelude.{map, slice_get, slice_set}
 use Rattle.std.specs.List.{list_any}
 use Rattle.std.proofs.lemmas.List.{append-nil}
@@ -19,7 +19,7 @@ use Rattle.isl_flatten.specs.declared.marks.Marks.{Marks}
 use Rattle.isl_flatten.specs.declared.variables.Binder.{Binder}
 use Rattle.isl_flatten.specs.Binders.{binder, own_binders, all_before, binders_step, binders, binders_of_procedures, binders_of_mains}
 use Rattle.isl_flatten.specs.Listing.{IsPlain, Lists, ListsAll, ListsBody}
-use Rattle.isl_flatten.specs.Marks.{AreMarks, Adds, is_set, is_captured}
+use Rattle.isl_flatten.specs.Marks.{Adds, is_set, is_captured}
 use Rattle.isl_flatten.proofs.Marking.{or_assoc, or_false, plain_marked, let_marked, function_marked}
 
 -- with the binders and the marks of the forms that are left all are there
@@ -81,9 +81,9 @@ pub placed : (xs : List Binder) (r p : Binder) (between all after : List Binder)
 placed xs r p between all after number behind b a n e rest =
     let whole : all ≡ between ++ behind [] = sym (append-nil all) ∙ a [] in
     let same : behind [] ++ rest ≡ behind rest =
-        sym (drop-append_seam between (behind [] ++ rest))
-        ∙ ap (drop (length between)) (sym (append_assoc between (behind []) rest) ∙ ap (λ ys. ys ++ rest) (sym whole) ∙ a rest)
-        ∙ drop-append_seam between (behind rest) in
+    sym (drop-append_seam between (behind [] ++ rest))
+    ∙ ap (drop (length between)) (sym (append_assoc between (behind []) rest) ∙ ap (λ ys. ys ++ rest) (sym whole) ∙ a rest)
+    ∙ drop-append_seam between (behind rest) in
     ap (λ ys. ys ++ rest)
     (e ∙ ap (λ k. slice_set all k p) n ∙ ap (λ ys. slice_set ys (length xs) p) (whole ∙ ap (λ ys. ys ++ behind []) b) ∙ replaced xs r p (behind []))
     ∙ append_assoc xs (p ∷ behind []) rest

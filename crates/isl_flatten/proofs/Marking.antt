@@ -1,6 +1,6 @@
 -- Marks of forms, by those of the forms right inside them; and of the variables that a body binds.
 use Rattle.std.proofs.Common.{◌≡◌, ℕ, Bool, true, false, not, ◌&&◌, ◌||◌, List, [], ◌∷◌, ◌+◌, Some, take, Option, length, ◌≤◌, refl, sym, ap, subst, ◌∙◌, arith, ⊎_elim}
-use Rattle.std.specs.Prelude.{◌==◌, if◌then◌else◌, cond, nat_lt, slice_get}
+use Rattle.std.specs.Prelude.{◌==◌, cond, nat_lt, slice_get}
 use Rattle.std.specs.BTreeMap.{is_at}
 use Rattle.std.specs.BTreeSet.{BTreeSet, contains, Updates, UpdatesBy}
 use Rattle.std.specs.Ordering.{nat_cmp}
@@ -10,10 +10,10 @@ use Rattle.isl_base.specs.model.DataRest.{take_at}
 use Rattle.std.specs.List.{list_any}
 use Rattle.isl_meaning.specs.declared.part.Part.{Part}
 use Rattle.isl_meaning.specs.declared.part.Part.TheVariants.{Variable, Method}
-use Rattle.isl_meaning.specs.Captured.{captures, captures_inside, sets, sets_itself}
+use Rattle.isl_meaning.specs.Captured.{captures, sets, sets_itself}
 use Rattle.isl_meaning.specs.Form.{Form, BindingForms, no_binding, binding_and, let_form, lambda, parameters}
 use Rattle.isl_meaning.specs.Meaning.{bound_variables}
-use Rattle.isl_meaning.specs.Mentions.{binds, owns, variables_bound, same_part}
+use Rattle.isl_meaning.specs.Mentions.{owns, variables_bound, same_part}
 use Rattle.isl_meaning.specs.Subforms.{outer, inner}
 use Rattle.isl_flatten.specs.declared.marks.Marks.{Marks}
 use Rattle.isl_flatten.specs.Binders.{binder}

@@ -1,7 +1,6 @@
 -- What the walk that lists binders makes of a form: its binders, and its marks.
-use Rattle.std.specs.Prelude.{◌≡◌, ℕ, Bool, false, not, ◌&&◌, ◌||◌, List, [], ◌∷◌, ◌++◌, map, slice_set}
+use Rattle.std.specs.Prelude.{◌≡◌, ℕ, Bool, false, not, ◌&&◌, List, [], ◌++◌, map, slice_set}
 use Rattle.std.specs.List.{list_any}
-use Rattle.isl_meaning.specs.declared.part.Part.{Part}
 use Rattle.isl_meaning.specs.declared.part.Part.TheVariants.{Variable, Method}
 use Rattle.isl_meaning.specs.Captured.{captures, captures_inside, sets}
 use Rattle.isl_meaning.specs.Form.{Form, let_form, lambda}

@@ -1,18 +1,11 @@
 -- What a walk has found to be set and captured.
-use Rattle.std.specs.Prelude.{◌≡◌, ℕ, Bool, not, ◌&&◌, ◌||◌, List, [], ◌∷◌, ◌++◌, slice_set, if◌then◌else◌}
-use Rattle.std.specs.List.{list_any}
+use Rattle.std.specs.Prelude.{◌≡◌, ℕ, Bool, not, ◌&&◌, ◌||◌, List, [], ◌∷◌, if◌then◌else◌}
 use Rattle.std.specs.Ordering.{nat_cmp}
 use Rattle.std.specs.BTreeSet.{BTreeSet, contains}
-use Rattle.isl_meaning.specs.declared.part.Part.{Part}
-use Rattle.isl_meaning.specs.declared.part.Part.TheVariants.{Variable, Method}
-use Rattle.isl_meaning.specs.Captured.{captures, captures_inside, sets}
-use Rattle.isl_meaning.specs.Form.{Form, let_form, lambda}
-use Rattle.isl_meaning.specs.Mentions.{binds}
 use Rattle.isl_closure.specs.declared.place.Home.TheVariants.{Slot, Cell}
 use Rattle.isl_flatten.specs.declared.marks.Marks.{Marks}
 use Rattle.isl_flatten.specs.declared.variables.Binder.{Binder}
 use Rattle.isl_flatten.specs.declared.variables.NewVariable.{NewVariable}
-use Rattle.isl_flatten.specs.Binders.{own_binders, binders, all_before, binder}
 use Rattle.isl_flatten.specs.Found.{has_variable}
 
 -- a set of variables with those of two others

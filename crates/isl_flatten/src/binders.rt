@@ -28,7 +28,11 @@ pub(crate) fn binders_of_program(alloc: Global, rows: &ProgramRows) -> Result<Bi
     Ok(made)
 }
 
-fn list_procedures(alloc: Global, made: &mut BinderList, list: &ProcedureList) -> Result<(), NoMemory>
+fn list_procedures(
+    alloc: Global,
+    made: &mut BinderList,
+    list: &ProcedureList,
+) -> Result<(), NoMemory>
     ensures { OnOk result ((rest : List ABinder) → made.new ++ rest ≡ made.old ++ binders_of_procedures list.now rest) }
 {
     for at in 0..list.len() {
@@ -58,7 +62,12 @@ fn list_mains(alloc: Global, made: &mut BinderList, list: &CoreList) -> Result<(
 
 // The binders of the form are put behind those that are there, and its marks are added.
 #[cycle(list_form)]
-fn list_form(alloc: Global, made: &mut BinderList, marks: &mut Marks, form: &Core) -> Result<(), NoMemory>
+fn list_form(
+    alloc: Global,
+    made: &mut BinderList,
+    marks: &mut Marks,
+    form: &Core,
+) -> Result<(), NoMemory>
     ensures { OnOk result (Lists form.now made.old made.new marks.old marks.new) }
 {
     match binding_of(form) {
@@ -71,7 +80,12 @@ fn list_form(alloc: Global, made: &mut BinderList, marks: &mut Marks, form: &Cor
 }
 
 #[cycle(list_form)]
-fn list_all(alloc: Global, made: &mut BinderList, marks: &mut Marks, forms: Subforms<'_>) -> Result<(), NoMemory>
+fn list_all(
+    alloc: Global,
+    made: &mut BinderList,
+    marks: &mut Marks,
+    forms: Subforms<'_>,
+) -> Result<(), NoMemory>
     ensures { OnOk result (ListsAll forms.entry made.old made.new marks.old marks.new) }
 {
     for form in forms {
@@ -83,7 +97,12 @@ fn list_all(alloc: Global, made: &mut BinderList, marks: &mut Marks, forms: Subf
 // A form that binds no variables.
 #[cycle(list_form)]
 #[tactic(auto, using(isl_meaning::specs::bridge::Smaller::outer_is_smaller, isl_meaning::specs::bridge::Smaller::inner_is_smaller))]
-fn list_plain(alloc: Global, made: &mut BinderList, marks: &mut Marks, form: &Core) -> Result<(), NoMemory>
+fn list_plain(
+    alloc: Global,
+    made: &mut BinderList,
+    marks: &mut Marks,
+    form: &Core,
+) -> Result<(), NoMemory>
     requires { IsPlain form.now }
     ensures { OnOk result (Lists form.now made.old made.new marks.old marks.new) }
 {

@@ -5,7 +5,7 @@ use Rattle.isl_meaning.specs.Form.{form_size}
 use Rattle.isl_flatten.specs.Binders.{binders, all_before}
 use Rattle.isl_flatten.proofs.Marking.{binder_made, from_none, body_forgotten}
 use Rattle.isl_meaning.specs.model.View.{bindings_of}
-use Rattle.isl_flatten.proofs.Listing.{to_list, one_listed, all_listed, plain_listed, let_listed, function_listed, still_there}
+use Rattle.isl_flatten.proofs.Listing.{plain_listed, let_listed, function_listed, still_there}
 use Rattle.isl_flatten.proofs.binders.+list_form.Goals as goal
 
 pub list_plain-returns : goal.list_plain-returns
@@ -15,8 +15,10 @@ list_plain-returns t c =
 
 pub list_let-list_body-requires : goal.list_let-list_body-requires
 list_let-list_body-requires t c =
-    let put = c.in_ok-list_all.ensures.put in
-    omega (arith, c.len-number.ensures, ap length c.in_ok-push.ensures.ok, length-append c.args.made.now (c.reserved.result ∷ []), still_there c.push.new.self c.list_all.new.made (λ r. all_before (map binders c.outer.result) r) put)
+    let put = c.in_ok-list_all.ensures.put in (
+      omega (arith, ap form_size c.requires, c.decreases),
+      omega (arith, c.len-number.ensures, ap length c.in_ok-push.ensures.ok, length-append c.args.made.now (c.reserved.result ∷ []), still_there c.push.new.self c.list_all.new.made (λ r. all_before (map binders c.outer.result) r) put),
+    )
 
 pub list_let-returns : goal.list_let-returns
 list_let-returns t c =

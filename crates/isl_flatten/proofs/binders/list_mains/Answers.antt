@@ -1,5 +1,5 @@
 -- One more is listed; and at the end all are.
-use Rattle.std.proofs.Common.{◌≡◌, ◌≤◌, ◌++◌, sym, ap, ◌∙◌, length, arith}
+use Rattle.std.proofs.Common.{◌≤◌, ◌++◌, sym, ap, ◌∙◌, length, arith}
 use Rattle.std.proofs.Math.ListN.{drop_of_length-le}
 use Rattle.isl_flatten.specs.Binders.{binders_of_mains}
 use Rattle.isl_flatten.proofs.Listing.{main_listed}
