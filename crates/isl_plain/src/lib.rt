@@ -1,0 +1,2 @@
+// The plain evaluator: a machine with a stack of its own that runs flat programs.
+#![tactic(auto)]
