@@ -231,7 +231,7 @@ module _ (s : Setting) where
   resumed (main_forms k (f ∷ fs)) last frames z =
       then_on (requested s.limit 0 (application_words (nodes f)) z) (awaits (main_forms k fs) ∷ frames) (λ ignored entered.
       to (evaluate f (record { level = k; environment = no_environment; around = main_surroundings }))
-      (slots_back z.frame ∷ awaits (main_form z.state.stack) ∷ awaits (main_forms k fs) ∷ frames) (record entered { frame = [] }))
+      (slots_back entered.frame ∷ awaits (main_form z.state.stack) ∷ awaits (main_forms k fs) ∷ frames) (record entered { frame = [] }))
 
   -- an outcome comes to a place that waits for a value
   abbrev pub waited : Wait → Outcome → Move
