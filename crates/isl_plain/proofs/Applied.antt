@@ -1,6 +1,6 @@
 -- Applications, methods, signals and transfers: the machine comes to what they come to, where it does so for what is evaluated one
 -- level below. An application's own failure is signalled under the handlers around.
-use Rattle.std.proofs.Common.{◌≡◌, ℕ, zero, suc, ◌+◌, ◌==◌, Bool, true, false, List, [], ◌∷◌, ◌++◌, Option, Some, None, refl, sym, ap, subst}
+use Rattle.std.proofs.Common.{◌≡◌, ℕ, zero, suc, ◌+◌, Bool, true, false, List, [], ◌∷◌, Option, Some, None, sym, subst}
 use Rattle.std.specs.Prelude.{⊤, if◌then◌else◌, length, take, drop, map, slice_get, is_some}
 use Rattle.isl_meaning.specs.declared.program.GenericRow.{GenericRow}
 use Rattle.isl_meaning.specs.declared.program.FunctionRow.{FunctionRow}
@@ -10,22 +10,22 @@ use Rattle.isl_meaning.specs.Counts.{application_words}
 use Rattle.isl_meaning.specs.Values.{Value, nil, symbol, named}
 use Rattle.isl_meaning.specs.Objects.{Chain, Called, Object, cons, string, vector, instance, function, closure, generic_function, class_object, input_stream, output_stream, fresh_symbol, function_class, control_error_class, program_error_class, domain_error_class, undefined_function_class}
 use Rattle.isl_meaning.specs.Layout.{class_value}
-use Rattle.isl_meaning.specs.State.{Surroundings, value, Exit, signal_exit, Landing, at_segment, Limit}
+use Rattle.isl_meaning.specs.State.{Surroundings, value, Exit, signal_exit, Landing, at_segment}
 use Rattle.isl_meaning.specs.Lookup.{text}
 use Rattle.isl_meaning.specs.Classes.{class_of, fetch, chain}
-use Rattle.isl_meaning.specs.Primitives.{Answer, result, makes, makes_symbol, fails, domain_error, instance_words}
-use Rattle.isl_meaning.specs.Signals.{takes, is_catch, is_signal, is_continuable}
+use Rattle.isl_meaning.specs.Primitives.{Answer, result, makes, makes_symbol, fails, domain_error}
+use Rattle.isl_meaning.specs.Signals.{takes, is_continuable}
 use Rattle.isl_closure.specs.declared.program.FlatProcedure.{FlatProcedure}
 use Rattle.isl_closure.specs.FlatForm.{FlatForm, FlatForms}
 use Rattle.isl_closure.specs.FlatNodes.{tables, homes, nodes}
-use Rattle.isl_closure.specs.FlatState.{Captured, FlatEnvironment, no_environment, FlatState, FlatEvaluated, FlatAct, gives, leaves, go_on, charged, exit_made, captured_by, with_slots, with_stack, in_own_frame}
-use Rattle.isl_closure.specs.FlatSignals.{FlatContext, FlatTask, nothing, form, turn, methods, FlatEvaluation, FlatSignals, descend, inside, marked, gathered, new_condition, signal_under, signal, enter}
+use Rattle.isl_closure.specs.FlatState.{Captured, FlatEnvironment, no_environment, FlatState, FlatEvaluated, FlatAct, gives, leaves, go_on, charged, captured_by, with_slots, with_stack, in_own_frame}
+use Rattle.isl_closure.specs.FlatSignals.{FlatContext, FlatTask, nothing, form, turn, methods, FlatEvaluation, FlatSignals, inside, marked, gathered, new_condition, signal_under, signal}
 use Rattle.isl_closure.specs.FlatSignals as flat
 use Rattle.isl_closure.specs.FlatMeaning.{none_below, context_of, flat_meaning_at}
-use Rattle.isl_plain.specs.Moment.{Setting, Situation, Wait, Frame, Moment, Control, Move, evaluate, signals, come_to, kept, method_value, before_methods, primary_method, handler_return, awaits, catches, stack_back, slots_back, to, ended, then_on, some_or, down}
-use Rattle.isl_plain.specs.Applications.{requested, made, listed, rest_listed, variable_values, recorded, celled, condition_made, signal_class, signal_domain, signal_undefined, body_begun, entered, apply_procedure, apply_function, apply_method, apply_each, run_primary, run_around, run_chain, apply_chain, apply_generic, apply_object, apply_value, apply_callee, apply_row, answered, to_exit, transfer, throw_to, continue_with}
-use Rattle.isl_plain.specs.Step.{turns_moved}
-use Rattle.isl_plain.proofs.Reach.{Comes, here, after_step, by_way, on, on_now, catching, either, stack_left, slots_left, asks, makes as makes_object, lists, records, cells, searching, some}
+use Rattle.isl_plain.specs.Moment.{Setting, Situation, Frame, Moment, Step, evaluate, signals, kept, method_value, before_methods, primary_method, awaits, restores_stack, restores_slots, moment, ended, then_on, some_or}
+use Rattle.isl_plain.specs.Applications.{rest_listed, variable_values, signal_class, signal_domain, enter, apply_procedure, apply_function, apply_each, run_primary, run_around, run_chain, apply_chain, apply_generic, apply_object, apply_value, apply_callee, apply_row, answered, to_exit, transfer, throw_to, continue_with}
+use Rattle.isl_plain.specs.Step.{segments_step}
+use Rattle.isl_plain.proofs.Reach.{Comes, here, after_step, on, catching, either, stack_left, slots_left, asks, makes as makes_object, lists, records, cells, searching, some}
 
 -- the meaning one level below, and a context with so many levels below
 abbrev pub below_at : Setting → ℕ → FlatTask → FlatEvaluation
@@ -42,9 +42,9 @@ situation k env around = record { level = k; environment = env; around = around 
 pub record TasksCome (s : Setting) (k : ℕ) : Type 0 where
   pub nothing_comes : (around : Surroundings) (z : FlatState) → flat_meaning_at s.names s.program s.limit k nothing no_environment around z ≡ gives nil z
   pub form_comes : (f : FlatForm) (env : FlatEnvironment) (around : Surroundings) (frames : List Frame) (z : FlatState)
-      → Comes s (to (evaluate f (situation k env around)) frames z) (flat_meaning_at s.names s.program s.limit k (form f) env around z) frames
+      → Comes s (moment (evaluate f (situation k env around)) frames z) (flat_meaning_at s.names s.program s.limit k (form f) env around z) frames
   pub turn_comes : (e : ℕ) (left all : FlatForms) (env : FlatEnvironment) (around : Surroundings) (frames : List Frame) (z : FlatState)
-      → Comes s (turns_moved s e left all (situation k env around) frames z) (flat_meaning_at s.names s.program s.limit k (turn e left all) env around z) frames
+      → Comes s (segments_step s e left all (situation k env around) frames z) (flat_meaning_at s.names s.program s.limit k (turn e left all) env around z) frames
   pub methods_come : (c : Chain) (vs : List Value) (around : Surroundings) (frames : List Frame) (z : FlatState)
       → Comes s (run_chain s c vs k around frames z) (flat_meaning_at s.names s.program s.limit k (methods c vs) no_environment around z) frames
 
@@ -62,16 +62,16 @@ SignalsCome s l wrong around =
 module _ (s : Setting) where
   -- a level is there
   descends : (k : ℕ) → TasksCome s k → {m : Moment} (follow : FlatState → FlatEvaluated) (around : Surroundings) {frames : List Frame} (z : FlatState)
-      → Comes s m (follow z) frames → Comes s m (descend (flat_meaning_at s.names s.program s.limit k) follow around z) frames
+      → Comes s m (follow z) frames → Comes s m (flat.descend (flat_meaning_at s.names s.program s.limit k) follow around z) frames
   descends k t {m} follow around {frames} z x =
       subst (λ r. Comes s m (go_on r (λ v after. follow after)) frames) (sym (t.nothing_comes around z)) x
 
   -- the values of the variables
-  gathers : (required : ℕ) (rest : Bool) (vs : List Value) (z : FlatState) {frames : List Frame} (move : Value → FlatState → Moment) (follow : List Value → FlatState → FlatEvaluated)
-      → ((v : Value) (y : FlatState) → Comes s (move v y) (follow (variable_values required rest vs v) y) frames)
-      → Comes s (then_on (rest_listed s.limit required rest vs z) frames move) (gathered s.limit required rest vs z follow) frames
-  gathers required false vs z move follow c = c nil z
-  gathers required true vs z move follow c = lists s s.limit (drop required vs) z move c
+  gathers : (required : ℕ) (rest : Bool) (vs : List Value) (z : FlatState) {frames : List Frame} (ahead : Value → FlatState → Moment) (follow : List Value → FlatState → FlatEvaluated)
+      → ((v : Value) (y : FlatState) → Comes s (ahead v y) (follow (variable_values required rest vs v) y) frames)
+      → Comes s (then_on (rest_listed s.limit required rest vs z) frames ahead) (gathered s.limit required rest vs z follow) frames
+  gathers required false vs z ahead follow c = c nil z
+  gathers required true vs z ahead follow c = lists s s.limit (drop required vs) z ahead c
 
   -- a procedure is entered: what its body comes to, when the arguments are gathered, and from when there are words for its frame
   abbrev prepared : ℕ → FlatProcedure → List Captured → Option Called → Surroundings → List Value → FlatState → FlatEvaluated
@@ -88,14 +88,14 @@ module _ (s : Setting) where
 
   enters : (k : ℕ) → TasksCome s k → (wrong : FlatSignals) (around : Surroundings) → SignalsCome s (suc k) wrong around
       → (p : FlatProcedure) (captured : List Captured) (called : Option Called) (vs : List Value) (frames : List Frame) (z : FlatState)
-      → Comes s (entered s p captured called vs k around frames z) (enter (context_at s (suc k)) wrong p captured called vs around z) frames
+      → Comes s (enter s p captured called vs k around frames z) (flat.enter (context_at s (suc k)) wrong p captured called vs around z) frames
   enters k t wrong around w p captured called vs frames z =
       either s (takes (length p.required) (is_some p.rest) (length vs))
       (asks s s.limit 0 (application_words (nodes p.body) + length vs) z _ {follow = framed k p captured called around vs z.state.stack} (λ ignored inner.
       stack_left s (gathers (length p.required) (is_some p.rest) vs (charged (length vs) inner) _ (prepared k p captured called around) (λ tail gone.
       records s s.limit called p.keeps_method gone _ (λ nothing noted.
       cells s s.limit (homes p) noted _ (λ none ready.
-      slots_left s (t.form_comes p.body (record no_environment { captured = captured; method = called }) around (slots_back ready.frame ∷ stack_back z.state.stack ∷ frames)
+      slots_left s (t.form_comes p.body (record no_environment { captured = captured; method = called }) around (restores_slots ready.frame ∷ restores_stack z.state.stack ∷ frames)
       (with_slots (homes p) (variable_values (length p.required) (is_some p.rest) vs tail) (record ready { frame = [] })))))))))
       (w program_error_class [] frames z)
 
@@ -105,7 +105,7 @@ module _ (s : Setting) where
       → Comes s (apply_procedure s i called vs l around frames z) (flat.apply_procedure (context_at s l) wrong i called vs around z) frames
   procedures zero t wrong around w i called vs frames z = here s
   procedures (suc k) t wrong around w i called vs frames z =
-      descends k t _ around z (some s (slice_get s.program.procedures i) _ _ (λ a y. gives nil y) (λ p. enter (context_at s (suc k)) wrong p [] called vs)
+      descends k t _ around z (some s (slice_get s.program.procedures i) _ _ (λ a y. gives nil y) (λ p. flat.enter (context_at s (suc k)) wrong p [] called vs)
       (here s) (λ p. enters k t wrong around w p [] called vs frames z))
 
   functions : (l : ℕ) → LowerCome s l → (wrong : FlatSignals) (around : Surroundings) → SignalsCome s l wrong around
@@ -113,7 +113,7 @@ module _ (s : Setting) where
       → Comes s (apply_function s i captured vs l around frames z) (flat.apply_function (context_at s l) wrong i captured vs around z) frames
   functions zero t wrong around w i captured vs frames z = here s
   functions (suc k) t wrong around w i captured vs frames z =
-      descends k t _ around z (some s (slice_get s.program.lambdas i) _ _ (λ a y. gives nil y) (λ p. enter (context_at s (suc k)) wrong p captured None vs)
+      descends k t _ around z (some s (slice_get s.program.lambdas i) _ _ (λ a y. gives nil y) (λ p. flat.enter (context_at s (suc k)) wrong p captured None vs)
       (here s) (λ p. enters k t wrong around w p captured None vs frames z))
 
   -- generic functions: a chain with enough words
@@ -126,7 +126,7 @@ module _ (s : Setting) where
       descends k t _ around z
       (asks s s.limit 0 (16 + length vs) z _
       {follow = λ inner. with_stack z.state.stack (flat_meaning_at s.names s.program s.limit k (methods c vs) no_environment around (charged (length vs) inner))} (λ ignored inner.
-      stack_left s (t.methods_come c vs around (stack_back z.state.stack ∷ frames) (charged (length vs) inner))))
+      stack_left s (t.methods_come c vs around (restores_stack z.state.stack ∷ frames) (charged (length vs) inner))))
 
   -- at a level, with what is signalled where an application fails
   module _ (l : ℕ) (t : LowerCome s l) (wrong : FlatSignals) (around : Surroundings) (w : SignalsCome s l wrong around) where
@@ -212,7 +212,7 @@ module _ (s : Setting) where
 
     -- under handlers, which are those around
     pub under : (hs : List Value) (c mark : Value) (around : Surroundings) (frames : List Frame) (z : FlatState)
-        → Comes s (to (signals c mark l (record around { handlers = hs })) frames z) (signal_under (context_at s l) hs c mark (record around { handlers = hs }) z) frames
+        → Comes s (moment (signals c mark l (record around { handlers = hs })) frames z) (signal_under (context_at s l) hs c mark (record around { handlers = hs }) z) frames
     under [] c mark around frames z = after_step s (here s)
     under (h ∷ hs) c mark around frames z =
         let within : Surroundings = record (inside (signal_exit c mark) around z) { handlers = hs } in
@@ -234,11 +234,11 @@ module _ (s : Setting) where
         domains l t (signal (context_at s l)) around (signals_come around) v expected frames (record z { state = x })
 
     -- transfers
-    exits_searched : (around : Surroundings) (p : Exit → Bool) (move : Exit → Move) (go : Exit → FlatAct) (frames : List Frame)
-        → ((x : Exit) (y : FlatState) → Comes s (move x frames y) (go x around y) frames) → (z : FlatState)
-        → Comes s (to_exit s p move l around frames z) (flat.to_exit (context_at s l) p go around z) frames
-    exits_searched around p move go frames c z =
-        searching s p move _ (λ x y. c x y) (λ y. signals_come around control_error_class [] frames y) around.exits z
+    exits_searched : (around : Surroundings) (p : Exit → Bool) (ahead : Exit → Step) (go : Exit → FlatAct) (frames : List Frame)
+        → ((x : Exit) (y : FlatState) → Comes s (ahead x frames y) (go x around y) frames) → (z : FlatState)
+        → Comes s (to_exit s p ahead l around frames z) (flat.to_exit (context_at s l) p go around z) frames
+    exits_searched around p ahead go frames c z =
+        searching s p ahead _ (λ x y. c x y) (λ y. signals_come around control_error_class [] frames y) around.exits z
 
     pub transfers : (around : Surroundings) (o : Option ℕ) (v : Value) (landing : Landing) (frames : List Frame) (z : FlatState)
         → Comes s (transfer s o v landing l around frames z) (flat.transfer (context_at s l) o v landing around z) frames

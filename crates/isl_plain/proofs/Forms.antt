@@ -1,14 +1,13 @@
 -- Forms: from where a form is evaluated the machine comes to what it means, where it does so for what is evaluated one level below.
-use Rattle.std.proofs.Common.{◌≡◌, ℕ, zero, suc, ◌+◌, ◌==◌, Bool, true, false, List, [], ◌∷◌, ◌++◌, Option, Some, None, refl}
-use Rattle.std.specs.Prelude.{if◌then◌else◌, length, slice_get}
+use Rattle.std.proofs.Common.{ℕ, zero, suc, ◌+◌, List, [], ◌∷◌, ◌++◌, Option, Some, None}
+use Rattle.std.specs.Prelude.{length, slice_get}
 use Rattle.std.specs.Str.{bytes_eq}
-use Rattle.isl_meaning.specs.declared.primitive.Primitive.{Primitive}
 use Rattle.isl_meaning.specs.declared.program.LiteralRow.{LiteralRow}
 use Rattle.isl_meaning.specs.declared.program.LiteralRow.TheVariants as row
 use Rattle.isl_meaning.specs.Values.{Value, nil, symbol, named, is_true}
 use Rattle.isl_meaning.specs.Objects.{Called, function_class, list_class, serious_condition_class, control_error_class, undefined_function_class, unbound_variable_class}
-use Rattle.isl_meaning.specs.State.{State, Surroundings, block_exit, catch_exit, Landing, at_segment}
-use Rattle.isl_meaning.specs.Lookup.{text, under_text, value_at, set_at}
+use Rattle.isl_meaning.specs.State.{State, Surroundings, block_exit, catch_exit, at_segment}
+use Rattle.isl_meaning.specs.Lookup.{text, under_text}
 use Rattle.isl_meaning.specs.Literals.{function_row}
 use Rattle.isl_meaning.specs.Layout.{function_value}
 use Rattle.isl_meaning.specs.Classes.{fetch, is_condition}
@@ -18,24 +17,24 @@ use Rattle.isl_closure.specs.FlatForm.{FlatForm, literal, local, set_local, glob
 use Rattle.isl_closure.specs.FlatForm.{FlatForms, no_form, form_and, FlatClauses, no_clause, clause_and, FlatBody, no_body, with_body}
 use Rattle.isl_closure.specs.FlatForm.{FlatBindings, no_binding, binding_and, FlatDynamics, no_dynamic, dynamic_and}
 use Rattle.isl_closure.specs.FlatNodes.{tables}
-use Rattle.isl_closure.specs.FlatState.{FlatEnvironment, FlatState, FlatEvaluated, FlatAct, on_state, gives, charged, exit_made, exit_of, method_of}
-use Rattle.isl_closure.specs.FlatSignals.{FlatContext, FlatTask, nothing, form, turn, methods, inside, with_some, undefined_function, unbound_variable, signal, signal_domain_error, apply_row, answered}
-use Rattle.isl_closure.specs.FlatMeaning.{mean, mean_sequence, mean_arguments, mean_clauses, mean_body, mean_bindings, mean_dynamics, mean_literal, mean_global, set_global_to, mean_dynamic, set_dynamic_to, mean_apply, mean_call_value, mean_signal, with_handler_value, mean_next, turned, mean_task, from_segment, binding_homes, with_exit}
-use Rattle.isl_plain.specs.Moment.{Setting, Situation, Operation, call_name, call_first, compute, Frame, Moment, Move, evaluate, to, ended, down, some_or, awaits, turns, segments_done}
+use Rattle.isl_closure.specs.FlatState.{FlatEnvironment, FlatState, FlatEvaluated, FlatAct, on_state, gives, charged, exit_of, method_of}
+use Rattle.isl_closure.specs.FlatSignals.{FlatContext, form, turn, inside, with_some, undefined_function, unbound_variable, signal, signal_domain_error, apply_row, answered}
+use Rattle.isl_closure.specs.FlatMeaning.{mean, mean_sequence, mean_arguments, mean_clauses, mean_body, mean_bindings, mean_dynamics, mean_literal, mean_global, set_global_to, mean_dynamic, set_dynamic_to, mean_apply, mean_call_value, mean_signal, mean_next, turned, from_segment, binding_homes, with_exit}
+use Rattle.isl_plain.specs.Moment.{Setting, Operation, call_name, call_first, compute, Frame, Moment, Step, evaluate, moment, descend, some_or, awaits, turns, last_segment}
 use Rattle.isl_plain.specs.Applications.{signal_domain, signal_unbound}
-use Rattle.isl_plain.specs.Step.{literal_moved, global_moved, set_global_moved, dynamic_moved, set_dynamic_moved, apply_moved, call_value_moved, operated, signal_moved, handler_moved, next_moved, sequence_moved, clauses_moved, body_moved, arguments_moved, let_moved, bindings_moved, dynamic_let_moved, dynamics_moved, turns_moved}
+use Rattle.isl_plain.specs.Step.{literal_step, global_step, set_global_step, dynamic_step, set_dynamic_step, apply_step, operation_step, signal_step, next_method_step, sequence_step, clauses_step, clause_body_step, arguments_step, let_step, bindings_step, dynamic_let_step, dynamics_step, segments_step}
 use Rattle.isl_plain.proofs.Reach.{Comes, here, after_step, on, catching, turning, cleaning, slots_dropped, either, cells, searching, some}
 use Rattle.isl_plain.proofs.Applied.{below_at, context_at, situation, LowerCome, domains, values_apply, rows_apply, chains, under, signals_come, answers, transfers, throws, continues}
 
 module _ (s : Setting) where
   -- what goes on one level below
   form_below : (l : ℕ) → LowerCome s l → (f : FlatForm) (env : FlatEnvironment) (around : Surroundings) (frames : List Frame) (z : FlatState)
-      → Comes s (down l (λ k. to (evaluate f (situation k env around))) frames z) (below_at s l (form f) env around z) frames
+      → Comes s (descend l (λ k. moment (evaluate f (situation k env around))) frames z) (below_at s l (form f) env around z) frames
   form_below zero t f env around frames z = here s
   form_below (suc k) t f env around frames z = t.form_comes f env around frames z
 
   turn_below : (l : ℕ) → LowerCome s l → (e : ℕ) (left all : FlatForms) (env : FlatEnvironment) (around : Surroundings) (frames : List Frame) (z : FlatState)
-      → Comes s (down l (λ k. turns_moved s e left all (situation k env around)) frames z) (below_at s l (turn e left all) env around z) frames
+      → Comes s (descend l (λ k. segments_step s e left all (situation k env around)) frames z) (below_at s l (turn e left all) env around z) frames
   turn_below zero t e left all env around frames z = here s
   turn_below (suc k) t e left all env around frames z = t.turn_comes e left all env around frames z
 
@@ -44,7 +43,7 @@ module _ (s : Setting) where
     context = context_at s l
 
     literals : (id : ℕ) (o : Option LiteralRow) (env : FlatEnvironment) (around : Surroundings) (frames : List Frame) (z : FlatState)
-        → Comes s (literal_moved s id o (situation l env around) frames z) (mean_literal context id o around z) frames
+        → Comes s (literal_step s id o (situation l env around) frames z) (mean_literal context id o around z) frames
     literals id None env around frames z = here s
     literals id (Some (row.Datum d)) env around frames z = here s
     literals id (Some (row.Class c)) env around frames z = here s
@@ -55,33 +54,33 @@ module _ (s : Setting) where
         (signals_come s l t around undefined_function_class (symbol (named (text s.names name.0)) ∷ []) frames z) (λ f. here s)
 
     -- variables that no form has bound: global ones, and the outermost dynamic ones
-    outermost : (name : List ℕ) (o : Option Value) (move : Value → Move) (follow : Value → FlatAct) (around : Surroundings) (frames : List Frame) (z : FlatState)
-        → ((v : Value) → Comes s (move v frames z) (follow v around z) frames)
-        → Comes s (some_or o (signal_unbound s name l around) move frames z) (with_some o (unbound_variable (signal context) name) follow around z) frames
-    outermost name o move follow around frames z c =
+    outermost : (name : List ℕ) (o : Option Value) (ahead : Value → Step) (follow : Value → FlatAct) (around : Surroundings) (frames : List Frame) (z : FlatState)
+        → ((v : Value) → Comes s (ahead v frames z) (follow v around z) frames)
+        → Comes s (some_or o (signal_unbound s name l around) ahead frames z) (with_some o (unbound_variable (signal context) name) follow around z) frames
+    outermost name o ahead follow around frames z c =
         some s o _ _ (unbound_variable (signal context) name) follow
         (signals_come s l t around unbound_variable_class (symbol (named name) ∷ []) frames z) c
 
     globals : (name : List ℕ) (env : FlatEnvironment) (around : Surroundings) (frames : List Frame) (z : FlatState)
-        → Comes s (global_moved s name (situation l env around) frames z) (mean_global context name around z) frames
+        → Comes s (global_step s name (situation l env around) frames z) (mean_global context name around z) frames
     globals name env around frames z = outermost name (under_text name z.state.globals) _ (λ v a y. gives v y) around frames z (λ v. here s)
 
     globals_set : (name : List ℕ) (v : Value) (env : FlatEnvironment) (around : Surroundings) (frames : List Frame) (z : FlatState)
-        → Comes s (set_global_moved s name v (situation l env around) frames z) (set_global_to context name v around z) frames
+        → Comes s (set_global_step s name v (situation l env around) frames z) (set_global_to context name v around z) frames
     globals_set name v env around frames z =
         outermost name (under_text name z.state.globals) _
         (λ old a y. gives v (on_state (λ (x : State). record x { globals = (name, v) ∷ x.globals }) y)) around frames z (λ old. here s)
 
     -- dynamic variables
     dynamics : (name : List ℕ) (env : FlatEnvironment) (around : Surroundings) (frames : List Frame) (z : FlatState)
-        → Comes s (dynamic_moved s name (situation l env around) frames z) (mean_dynamic context name around z) frames
+        → Comes s (dynamic_step s name (situation l env around) frames z) (mean_dynamic context name around z) frames
     dynamics name env around frames z =
         searching s (λ (b : List ℕ × ℕ). bytes_eq name b.0) _ _ (λ b y. here s)
         (λ y. outermost name (under_text name y.state.dynamics) _ (λ v a x. gives v x) around frames y (λ v. here s))
         around.bindings z
 
     dynamics_set : (name : List ℕ) (v : Value) (env : FlatEnvironment) (around : Surroundings) (frames : List Frame) (z : FlatState)
-        → Comes s (set_dynamic_moved s name v (situation l env around) frames z) (set_dynamic_to context name v around z) frames
+        → Comes s (set_dynamic_step s name v (situation l env around) frames z) (set_dynamic_to context name v around z) frames
     dynamics_set name v env around frames z =
         searching s (λ (b : List ℕ × ℕ). bytes_eq name b.0) _ _ (λ b y. here s)
         (λ y. outermost name (under_text name y.state.dynamics) _
@@ -94,7 +93,7 @@ module _ (s : Setting) where
     domain_errors around v expected frames z = domains s l t (signal context) around (signals_come s l t around) v expected frames z
 
     lists_apply : (f list : Value) (env : FlatEnvironment) (around : Surroundings) (frames : List Frame) (z : FlatState)
-        → Comes s (apply_moved s f list (situation l env around) frames z) (mean_apply context f list around z) frames
+        → Comes s (apply_step s f list (situation l env around) frames z) (mean_apply context f list around z) frames
     lists_apply f list env around frames z =
         let found : Spread = spread (length z.state.store + 1) z.state [] list in
         either s (is_function (fetch z.state f))
@@ -109,7 +108,7 @@ module _ (s : Setting) where
     of_operation (compute which) vs around z = answered context (primitive s.names (tables s.program) which vs z.state) around z
 
     operates : (o : Operation) (vs : List Value) (env : FlatEnvironment) (around : Surroundings) (frames : List Frame) (z : FlatState)
-        → Comes s (operated s o vs (situation l env around) frames z) (of_operation o vs around z) frames
+        → Comes s (operation_step s o vs (situation l env around) frames z) (of_operation o vs around z) frames
     operates (call_name n) vs env around frames z =
         rows_apply s l t (signal context) around (signals_come s l t around) (text s.names n) (function_row s.names s.program.functions (text s.names n)) vs frames z
     operates call_first [] env around frames z = here s
@@ -118,21 +117,21 @@ module _ (s : Setting) where
 
     -- conditions and methods
     signal_forms : (c mark : Value) (env : FlatEnvironment) (around : Surroundings) (frames : List Frame) (z : FlatState)
-        → Comes s (signal_moved s c mark (situation l env around) frames z) (mean_signal context c mark around z) frames
+        → Comes s (signal_step s c mark (situation l env around) frames z) (mean_signal context c mark around z) frames
     signal_forms c mark env around frames z =
         either s (is_condition (tables s.program) z.state c)
         (under s l t around.handlers c mark around frames z)
         (domain_errors around c serious_condition_class frames z)
 
     next_methods : (m : Option Called) (env : FlatEnvironment) (around : Surroundings) (frames : List Frame) (z : FlatState)
-        → Comes s (next_moved s m (situation l env around) frames z) (mean_next context m around z) frames
+        → Comes s (next_method_step s m (situation l env around) frames z) (mean_next context m around z) frames
     next_methods None env around frames z = signals_come s l t around control_error_class [] frames z
     next_methods (Some called) env around frames z =
         chains s l t (signal context) around (signals_come s l t around) called.rest called.arguments frames z
 
     -- a tagbody
     pub segments_turn : (e : ℕ) (all : FlatForms) (env : FlatEnvironment) (around : Surroundings) {frames : List Frame} {m : Moment} {r : FlatEvaluated}
-        → Comes s m r (awaits segments_done ∷ turns e all (situation l env around) ∷ frames)
+        → Comes s m r (awaits last_segment ∷ turns e all (situation l env around) ∷ frames)
         → Comes s m (turned context e all env around r) frames
     segments_turn e all env around x =
         turning s (on s x (λ v z. here s)) (λ v landing z. turn_below l t e (from_segment (segment_of landing) all) all env around _ z)
@@ -141,7 +140,7 @@ module _ (s : Setting) where
       unfolding mean
 
       pub form_means : (f : FlatForm) (env : FlatEnvironment) (around : Surroundings) (frames : List Frame) (z : FlatState)
-          → Comes s (to (evaluate f (situation l env around)) frames z) (mean context f env around z) frames
+          → Comes s (moment (evaluate f (situation l env around)) frames z) (mean context f env around z) frames
       form_means (literal id) env around frames z = after_step s (literals id (slice_get s.program.literals id) env around frames _)
       form_means (local p) env around frames z = after_step s (here s)
       form_means (set_local p f) env around frames z = after_step s (on s (form_means f env around _ _) (λ x after. here s))
@@ -210,43 +209,43 @@ module _ (s : Setting) where
           after_step s (form_means f env (record around { site = place_of_site s.program.sites site }) frames z)
 
       pub sequence_means : (last : Value) (fs : FlatForms) (env : FlatEnvironment) (around : Surroundings) (frames : List Frame) (z : FlatState)
-          → Comes s (sequence_moved s last fs (situation l env around) frames z) (mean_sequence context last fs env around z) frames
+          → Comes s (sequence_step s last fs (situation l env around) frames z) (mean_sequence context last fs env around z) frames
       sequence_means last no_form env around frames z = here s
       sequence_means last (form_and f fs) env around frames z =
           on s (form_means f env around _ z) (λ v after. sequence_means v fs env around frames after)
 
       arguments_mean : (o : Operation) (fs : FlatForms) (vs : List Value) (env : FlatEnvironment) (around : Surroundings) (frames : List Frame) (z : FlatState)
           → {follow : List Value → FlatState → FlatEvaluated}
-          → ((us : List Value) (y : FlatState) → Comes s (operated s o us (situation l env around) frames y) (follow us y) frames)
-          → Comes s (arguments_moved s o fs vs (situation l env around) frames z) (mean_arguments context fs vs env around z follow) frames
+          → ((us : List Value) (y : FlatState) → Comes s (operation_step s o us (situation l env around) frames y) (follow us y) frames)
+          → Comes s (arguments_step s o fs vs (situation l env around) frames z) (mean_arguments context fs vs env around z follow) frames
       arguments_mean o no_form vs env around frames z c = c vs z
       arguments_mean o (form_and f fs) vs env around frames z c =
           on s (form_means f env around _ z) (λ v after. arguments_mean o fs (vs ++ v ∷ []) env around frames after c)
 
       clauses_mean : (cs : FlatClauses) (env : FlatEnvironment) (around : Surroundings) (frames : List Frame) (z : FlatState)
-          → Comes s (clauses_moved s cs (situation l env around) frames z) (mean_clauses context cs env around z) frames
+          → Comes s (clauses_step s cs (situation l env around) frames z) (mean_clauses context cs env around z) frames
       clauses_mean no_clause env around frames z = here s
       clauses_mean (clause_and test body cs) env around frames z =
           on s (form_means test env around _ z) (λ v after.
           either s (is_true v) (body_means v body env around frames after) (clauses_mean cs env around frames after))
 
       body_means : (v : Value) (b : FlatBody) (env : FlatEnvironment) (around : Surroundings) (frames : List Frame) (z : FlatState)
-          → Comes s (body_moved s v b (situation l env around) frames z) (mean_body context v b env around z) frames
+          → Comes s (clause_body_step s v b (situation l env around) frames z) (mean_body context v b env around z) frames
       body_means v no_body env around frames z = here s
       body_means v (with_body f) env around frames z = form_means f env around frames z
 
       bindings_mean : (bs all : FlatBindings) (body : FlatForm) (vs : List Value) (env : FlatEnvironment) (around : Surroundings) (frames : List Frame) (z : FlatState)
           → {follow : List Value → FlatState → FlatEvaluated}
-          → ((us : List Value) (y : FlatState) → Comes s (let_moved s all body us (situation l env around) frames y) (follow us y) frames)
-          → Comes s (bindings_moved s bs vs all body (situation l env around) frames z) (mean_bindings context bs vs env around z follow) frames
+          → ((us : List Value) (y : FlatState) → Comes s (let_step s all body us (situation l env around) frames y) (follow us y) frames)
+          → Comes s (bindings_step s bs vs all body (situation l env around) frames z) (mean_bindings context bs vs env around z follow) frames
       bindings_mean no_binding all body vs env around frames z c = c vs z
       bindings_mean (binding_and h f bs) all body vs env around frames z c =
           on s (form_means f env around _ z) (λ v after. bindings_mean bs all body (vs ++ v ∷ []) env around frames after c)
 
       dynamics_mean : (bs all : FlatDynamics) (body : FlatForm) (vs : List Value) (env : FlatEnvironment) (around : Surroundings) (frames : List Frame) (z : FlatState)
           → {follow : List Value → FlatState → FlatEvaluated}
-          → ((us : List Value) (y : FlatState) → Comes s (dynamic_let_moved s all body us (situation l env around) frames y) (follow us y) frames)
-          → Comes s (dynamics_moved s bs vs all body (situation l env around) frames z) (mean_dynamics context bs vs env around z follow) frames
+          → ((us : List Value) (y : FlatState) → Comes s (dynamic_let_step s all body us (situation l env around) frames y) (follow us y) frames)
+          → Comes s (dynamics_step s bs vs all body (situation l env around) frames z) (mean_dynamics context bs vs env around z follow) frames
       dynamics_mean no_dynamic all body vs env around frames z c = c vs z
       dynamics_mean (dynamic_and n f bs) all body vs env around frames z c =
           on s (form_means f env around _ z) (λ v after. dynamics_mean bs all body (vs ++ v ∷ []) env around frames after c)

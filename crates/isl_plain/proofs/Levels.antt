@@ -1,5 +1,5 @@
 -- Whole runs of the machine: by induction on the levels, and main form after main form.
-use Rattle.std.proofs.Common.{ℕ, zero, suc, ◌+◌, List, [], ◌∷◌, refl}
+use Rattle.std.proofs.Common.{ℕ, zero, suc, List, [], ◌∷◌, refl}
 use Rattle.isl_meaning.specs.Counts.{application_words}
 use Rattle.isl_meaning.specs.Values.{Value, nil}
 use Rattle.isl_meaning.specs.State.{State, main_surroundings}
@@ -9,9 +9,9 @@ use Rattle.isl_closure.specs.FlatNodes.{nodes}
 use Rattle.isl_closure.specs.FlatState.{no_environment, FlatState, gives, go_on, on_state, in_own_frame}
 use Rattle.isl_closure.specs.FlatSignals.{form, signal}
 use Rattle.isl_closure.specs.FlatMeaning.{flat_meaning_at, mean_main, mean_mains}
-use Rattle.isl_plain.specs.Moment.{Setting, Frame, evaluate, main_form, main_forms, awaits, slots_back, to, then_on}
+use Rattle.isl_plain.specs.Moment.{Setting, Frame, evaluate, main_form, main_forms, awaits, restores_slots, moment, then_on}
 use Rattle.isl_plain.specs.Applications.{requested}
-use Rattle.isl_plain.specs.Step.{resumed}
+use Rattle.isl_plain.specs.Step.{value_step}
 use Rattle.isl_plain.proofs.Reach.{Comes, here, on, slots_left, asks}
 use Rattle.isl_plain.proofs.Applied.{context_at, situation, TasksCome, LowerCome, chains, signals_come}
 use Rattle.isl_plain.proofs.Forms.{form_means, sequence_means, segments_turn}
@@ -44,8 +44,8 @@ module _ (s : Setting) where
   -- a main form, which has a frame of its own
   main_comes : (k : ℕ) (f : FlatForm) (frames : List Frame) (z : FlatState)
       → Comes s (then_on (requested s.limit 0 (application_words (nodes f)) z) frames (λ ignored entered.
-      to (evaluate f (situation k no_environment main_surroundings))
-      (slots_back entered.frame ∷ awaits (main_form z.state.stack) ∷ frames) (record entered { frame = [] })))
+      moment (evaluate f (situation k no_environment main_surroundings))
+      (restores_slots entered.frame ∷ awaits (main_form z.state.stack) ∷ frames) (record entered { frame = [] })))
       (mean_main s.names s.program s.limit k f z) frames
   main_comes k f frames z =
       asks s s.limit 0 (application_words (nodes f)) z _
@@ -54,10 +54,10 @@ module _ (s : Setting) where
       gives v (on_state (λ (y : State). record y { stack = z.state.stack }) after))}
       (λ ignored entered.
       on s (slots_left s ((level_comes k).form_comes f no_environment main_surroundings
-      (slots_back entered.frame ∷ awaits (main_form z.state.stack) ∷ frames) (record entered { frame = [] }))) (λ v after. here s))
+      (restores_slots entered.frame ∷ awaits (main_form z.state.stack) ∷ frames) (record entered { frame = [] }))) (λ v after. here s))
 
   -- main forms in order
   pub mains_come : (k : ℕ) (fs : List FlatForm) (last : Value) (frames : List Frame) (z : FlatState)
-      → Comes s (resumed s (main_forms k fs) last frames z) (mean_mains s.names s.program s.limit k fs last z) frames
+      → Comes s (value_step s (main_forms k fs) last frames z) (mean_mains s.names s.program s.limit k fs last z) frames
   mains_come k [] last frames z = here s
   mains_come k (f ∷ fs) last frames z = on s (main_comes k f (awaits (main_forms k fs) ∷ frames) z) (λ v after. mains_come k fs v frames after)

@@ -1,4 +1,4 @@
--- How the machine applies functions, runs methods, signals conditions and transfers control. Each is one move: it ends where a
+-- How the machine applies functions, runs methods, signals conditions and transfers control. Each is one step: it ends where a
 -- form is to be evaluated, where a condition is to be signalled, or with an outcome. What goes wrong in an application is always
 -- signalled under the handlers around it.
 use Rattle.std.specs.Prelude.{ℕ, suc, ◌+◌, ◌==◌, Bool, true, false, List, [], ◌∷◌, ◌++◌, length, map, take, drop, Option, Some, None, slice_get, is_some, if◌then◌else◌}
@@ -20,7 +20,7 @@ use Rattle.isl_closure.specs.declared.program.FlatProcedure.{FlatProcedure}
 use Rattle.isl_closure.specs.FlatNodes.{tables, homes, nodes}
 use Rattle.isl_closure.specs.FlatState.{Captured, no_environment, FlatState, FlatEvaluated, on_state, captured_by, gives, leaves, go_on, charged, exit_made, request, make, with_slots}
 use Rattle.isl_closure.specs.FlatSignals.{with_record, with_cells, inside, marked}
-use Rattle.isl_plain.specs.Moment.{Setting, Situation, Frame, awaits, catches, stack_back, slots_back, evaluate, signals, kept, method_value, before_methods, primary_method, handler_return, Moment, Move, to, ended, then_on, some_or, down, first_of_those}
+use Rattle.isl_plain.specs.Moment.{Setting, awaits, catches, restores_stack, restores_slots, evaluate, signals, method_value, before_methods, handler_return, Step, moment, ended, then_on, some_or, descend, first_that}
 
 -- words of the heap and of the stack are asked for
 abbrev pub requested : Limit → ℕ → ℕ → FlatState → FlatEvaluated
@@ -52,8 +52,8 @@ abbrev pub celled : Limit → List Home → FlatState → FlatEvaluated
 celled limit hs z = with_cells limit hs z (λ entered. gives nil entered)
 
 -- the first one from the innermost on, where each one that is passed counts
-abbrev pub searched : {X : Type 0} → (X → Bool) → (X → Move) → Move → List X → Move
-searched p found otherwise xs frames z = some_or (first_of_those p xs) otherwise found frames (charged (passed p xs) z)
+abbrev pub searched : {X : Type 0} → (X → Bool) → (X → Step) → Step → List X → Step
+searched p found otherwise xs frames z = some_or (first_that p xs) otherwise found frames (charged (passed p xs) z)
 
 module _ (s : Setting) where
   -- a new condition of a class, with its slots
@@ -62,77 +62,77 @@ module _ (s : Setting) where
       made s.limit (instance_words (tables s.program) class (length slots)) 0 (instance class (map Some slots) nil) z
 
   -- a condition is made, and then signalled; its mark is nil
-  abbrev pub signal_class : ℕ → List Value → (level : ℕ) → Surroundings → Move
+  abbrev pub signal_class : ℕ → List Value → (level : ℕ) → Surroundings → Step
   signal_class class slots level around frames z =
-      then_on (condition_made class slots z) frames (λ c after. to (signals c nil level around) frames after)
+      then_on (condition_made class slots z) frames (λ c after. moment (signals c nil level around) frames after)
 
-  abbrev pub signal_domain : Value → (expected : ℕ) → (level : ℕ) → Surroundings → Move
+  abbrev pub signal_domain : Value → (expected : ℕ) → (level : ℕ) → Surroundings → Step
   signal_domain v expected = signal_class domain_error_class (v ∷ class_value s.names (tables s.program) expected ∷ [])
 
-  abbrev pub signal_undefined : List ℕ → (level : ℕ) → Surroundings → Move
+  abbrev pub signal_undefined : List ℕ → (level : ℕ) → Surroundings → Step
   signal_undefined name = signal_class undefined_function_class (symbol (named name) ∷ [])
 
-  abbrev pub signal_unbound : List ℕ → (level : ℕ) → Surroundings → Move
+  abbrev pub signal_unbound : List ℕ → (level : ℕ) → Surroundings → Step
   signal_unbound name = signal_class unbound_variable_class (symbol (named name) ∷ [])
 
   -- the body of a procedure, with one level less, in a frame of its own
-  abbrev pub body_begun : FlatProcedure → List Captured → Option Called → List Value → (level : ℕ) → Surroundings → Move
-  body_begun p captured called ws k around frames z =
-      to (evaluate p.body (record { level = k; environment = record no_environment { captured = captured; method = called }; around = around }))
-      (slots_back z.frame ∷ frames) (with_slots (homes p) ws (record z { frame = [] }))
+  abbrev pub begin_body : FlatProcedure → List Captured → Option Called → List Value → (level : ℕ) → Surroundings → Step
+  begin_body p captured called ws k around frames z =
+      moment (evaluate p.body (record { level = k; environment = record no_environment { captured = captured; method = called }; around = around }))
+      (restores_slots z.frame ∷ frames) (with_slots (homes p) ws (record z { frame = [] }))
 
   -- a procedure is entered: the number of arguments is judged first, and then each request comes one by one
-  abbrev pub entered : FlatProcedure → List Captured → Option Called → List Value → (level : ℕ) → Surroundings → Move
-  entered p captured called vs k around frames z =
+  abbrev pub enter : FlatProcedure → List Captured → Option Called → List Value → (level : ℕ) → Surroundings → Step
+  enter p captured called vs k around frames z =
       if takes (length p.required) (is_some p.rest) (length vs) then
       then_on (requested s.limit 0 (application_words (nodes p.body) + length vs) z) frames (λ ignored inner.
-      then_on (rest_listed s.limit (length p.required) (is_some p.rest) vs (charged (length vs) inner)) (stack_back z.state.stack ∷ frames) (λ tail gone.
-      then_on (recorded s.limit called p.keeps_method gone) (stack_back z.state.stack ∷ frames) (λ nothing noted.
-      then_on (celled s.limit (homes p) noted) (stack_back z.state.stack ∷ frames) (λ none ready.
-      body_begun p captured called (variable_values (length p.required) (is_some p.rest) vs tail) k around (stack_back z.state.stack ∷ frames) ready))))
+      then_on (rest_listed s.limit (length p.required) (is_some p.rest) vs (charged (length vs) inner)) (restores_stack z.state.stack ∷ frames) (λ tail gone.
+      then_on (recorded s.limit called p.keeps_method gone) (restores_stack z.state.stack ∷ frames) (λ nothing noted.
+      then_on (celled s.limit (homes p) noted) (restores_stack z.state.stack ∷ frames) (λ none ready.
+      begin_body p captured called (variable_values (length p.required) (is_some p.rest) vs tail) k around (restores_stack z.state.stack ∷ frames) ready))))
       else signal_class program_error_class [] (suc k) around frames z
 
   -- a procedure by its number, which captured nothing; and a function that a form made, with what it captured
-  abbrev pub apply_procedure : ℕ → Option Called → List Value → (level : ℕ) → Surroundings → Move
+  abbrev pub apply_procedure : ℕ → Option Called → List Value → (level : ℕ) → Surroundings → Step
   apply_procedure i called vs level around =
-      down level (λ k. some_or (slice_get s.program.procedures i) (λ frames z. ended (gives nil z) frames)
-      (λ p. entered p [] called vs k around))
+      descend level (λ k. some_or (slice_get s.program.procedures i) (λ frames z. ended (gives nil z) frames)
+      (λ p. enter p [] called vs k around))
 
-  abbrev pub apply_function : ℕ → List Captured → List Value → (level : ℕ) → Surroundings → Move
+  abbrev pub apply_function : ℕ → List Captured → List Value → (level : ℕ) → Surroundings → Step
   apply_function i captured vs level around =
-      down level (λ k. some_or (slice_get s.program.lambdas i) (λ frames z. ended (gives nil z) frames)
-      (λ p. entered p captured None vs k around))
+      descend level (λ k. some_or (slice_get s.program.lambdas i) (λ frames z. ended (gives nil z) frames)
+      (λ p. enter p captured None vs k around))
 
   -- a method, with the arguments and the rest of the chain
-  abbrev pub apply_method : ℕ → Called → (level : ℕ) → Surroundings → Move
+  abbrev pub apply_method : ℕ → Called → (level : ℕ) → Surroundings → Step
   apply_method m called = apply_procedure m (Some called) called.arguments
 
   -- methods one after another
-  abbrev pub apply_each : List ℕ → List Value → (level : ℕ) → Surroundings → Move
+  abbrev pub apply_each : List ℕ → List Value → (level : ℕ) → Surroundings → Step
   apply_each [] vs level around frames z = ended (gives nil z) frames
   apply_each (m ∷ ms) vs level around frames z = apply_procedure m None vs level around (awaits (method_value ms vs level around) ∷ frames) z
 
   -- the methods of a chain: the first around method; else all before methods, the first primary method and all after methods
-  abbrev pub run_primary : Chain → List ℕ → List Value → (level : ℕ) → Surroundings → Move
+  abbrev pub run_primary : Chain → List ℕ → List Value → (level : ℕ) → Surroundings → Step
   run_primary c [] vs level around frames z = signal_class control_error_class [] level around frames z
   run_primary c (p ∷ ps) vs level around frames z = apply_each c.before vs level around (awaits (before_methods c p ps vs level around) ∷ frames) z
 
-  abbrev pub run_around : Chain → List ℕ → List Value → (level : ℕ) → Surroundings → Move
+  abbrev pub run_around : Chain → List ℕ → List Value → (level : ℕ) → Surroundings → Step
   run_around c [] vs = run_primary c c.primary vs
   run_around c (m ∷ ms) vs = apply_method m (record { arguments = vs; rest = record c { around = ms } })
 
-  abbrev pub run_chain : Chain → List Value → (level : ℕ) → Surroundings → Move
+  abbrev pub run_chain : Chain → List Value → (level : ℕ) → Surroundings → Step
   run_chain c vs = run_around c c.around vs
 
   -- a generic function
-  abbrev pub apply_chain : GenericRow → Option Chain → List Value → (level : ℕ) → Surroundings → Move
+  abbrev pub apply_chain : GenericRow → Option Chain → List Value → (level : ℕ) → Surroundings → Step
   apply_chain g None vs level around = signal_undefined (text s.names g.name.0) level around
   apply_chain g (Some c) vs level around =
-      down level (λ k frames z.
+      descend level (λ k frames z.
       then_on (requested s.limit 0 (16 + length vs) z) frames (λ ignored inner.
-      run_chain c vs k around (stack_back z.state.stack ∷ frames) (charged (length vs) inner)))
+      run_chain c vs k around (restores_stack z.state.stack ∷ frames) (charged (length vs) inner)))
 
-  abbrev pub apply_generic : ℕ → List Value → (level : ℕ) → Surroundings → Move
+  abbrev pub apply_generic : ℕ → List Value → (level : ℕ) → Surroundings → Step
   apply_generic i vs level around =
       some_or (slice_get s.program.generics i) (λ frames z. ended (gives nil z) frames) (λ g frames z.
       if takes g.required g.rest (length vs) then
@@ -140,27 +140,27 @@ module _ (s : Setting) where
       else signal_class program_error_class [] level around frames z)
 
   -- a value, which is to be a function
-  abbrev pub apply_object : Option Object → Option (List Captured) → Value → List Value → (level : ℕ) → Surroundings → Move
+  abbrev pub apply_object : Option Object → Option (List Captured) → Value → List Value → (level : ℕ) → Surroundings → Step
   apply_object (Some (function p)) None f vs = apply_procedure p None vs
   apply_object (Some (function p)) (Some captured) f vs = apply_function p captured vs
   apply_object (Some (generic_function g)) captured f vs = apply_generic g vs
   apply_object o captured f vs = signal_domain f function_class
 
-  abbrev pub apply_value : Value → List Value → (level : ℕ) → Surroundings → Move
+  abbrev pub apply_value : Value → List Value → (level : ℕ) → Surroundings → Step
   apply_value f vs level around frames z = apply_object (fetch z.state f) (captured_by f z) f vs level around frames z
 
   -- the function of a name
-  abbrev pub apply_callee : Callee → List Value → (level : ℕ) → Surroundings → Move
+  abbrev pub apply_callee : Callee → List Value → (level : ℕ) → Surroundings → Step
   apply_callee (callee.Procedure p) vs = apply_procedure p None vs
   apply_callee (callee.Generic g) vs = apply_generic g vs
 
-  abbrev pub apply_row : List ℕ → Option FunctionRow → List Value → (level : ℕ) → Surroundings → Move
+  abbrev pub apply_row : List ℕ → Option FunctionRow → List Value → (level : ℕ) → Surroundings → Step
   apply_row name None vs = signal_undefined name
   apply_row name (Some f) vs = apply_callee f.callee vs
 
   -- a condition is signalled under handlers: without any, the program ends unhandled; else the innermost one is applied to
   -- it, under those outside it
-  abbrev pub signal_under : List Value → Value → Value → (level : ℕ) → Surroundings → Move
+  abbrev pub signal_under : List Value → Value → Value → (level : ℕ) → Surroundings → Step
   signal_under [] c mark level around frames z = ended (leaves 0 c (at_site around.site) (exit_made (marked c mark z))) frames
   signal_under (h ∷ hs) c mark level around frames z =
       let within = record (inside (signal_exit c mark) around z) { handlers = hs } in
@@ -168,7 +168,7 @@ module _ (s : Setting) where
       (charged 1 (exit_made (marked c mark z)))
 
   -- the answer of a primitive
-  abbrev pub answered : Answer → (level : ℕ) → Surroundings → Move
+  abbrev pub answered : Answer → (level : ℕ) → Surroundings → Step
   answered (result v x) level around frames z = ended (gives v (record z { state = x })) frames
   answered (makes size besides o x) level around frames z = ended (made s.limit size besides o (record z { state = x })) frames
   answered (makes_symbol x) level around frames z =
@@ -178,19 +178,19 @@ module _ (s : Setting) where
   answered (domain_error v expected x) level around frames z = signal_domain v expected level around frames (record z { state = x })
 
   -- transfers: where there is no such exit, a control error
-  abbrev pub to_exit : (Exit → Bool) → (Exit → Move) → (level : ℕ) → Surroundings → Move
+  abbrev pub to_exit : (Exit → Bool) → (Exit → Step) → (level : ℕ) → Surroundings → Step
   to_exit p go level around = searched p go (signal_class control_error_class [] level around) around.exits
 
-  abbrev pub transfer : Option ℕ → Value → Landing → (level : ℕ) → Surroundings → Move
+  abbrev pub transfer : Option ℕ → Value → Landing → (level : ℕ) → Surroundings → Step
   transfer None v landing level around = signal_class control_error_class [] level around
   transfer (Some e) v landing level around =
       to_exit (λ x. x.number == e) (λ x frames z. ended (leaves x.number v landing z) frames) level around
 
-  abbrev pub throw_to : Value → Value → (level : ℕ) → Surroundings → Move
+  abbrev pub throw_to : Value → Value → (level : ℕ) → Surroundings → Step
   throw_to tag v level around =
       to_exit (λ x. is_catch tag x.kind) (λ x frames z. ended (leaves x.number v (at_segment 0) z) frames) level around
 
-  abbrev pub continue_with : Value → Value → (level : ℕ) → Surroundings → Move
+  abbrev pub continue_with : Value → Value → (level : ℕ) → Surroundings → Step
   continue_with c v level around =
       to_exit (λ x. is_signal c x.kind) (λ x frames z.
       if is_continuable x.kind then ended (leaves x.number v (at_segment 0) z) frames

@@ -1,6 +1,6 @@
 -- The machine that runs flat programs: what it is about to do, what waits for what it comes to, and the state. All of it is plain
 -- data: a frame has the forms that are left and the values so far, and says in which situation to go on.
-use Rattle.std.specs.Prelude.{ℕ, zero, suc, List, [], ◌∷◌, Bool, true, false, Option, Some, None, if◌then◌else◌}
+use Rattle.std.specs.Prelude.{ℕ, zero, suc, List, [], ◌∷◌, Bool, Option, Some, None, if◌then◌else◌}
 use Rattle.isl_meaning.specs.declared.primitive.Primitive.{Primitive}
 use Rattle.isl_meaning.specs.Values.{Value}
 use Rattle.isl_meaning.specs.Objects.{Chain}
@@ -40,13 +40,13 @@ pub data Wait : Type 0 where
   binding_value : (left : FlatBindings) → List Value → (all : FlatBindings) → (body : FlatForm) → Situation → Wait
   -- an argument: the arguments left and the values so far
   argument : Operation → (left : FlatForms) → List Value → Situation → Wait
-  apply_function : (list : FlatForm) → Situation → Wait
-  apply_list : (function : Value) → Situation → Wait
+  applied_function : (list : FlatForm) → Situation → Wait
+  applied_list : (function : Value) → Situation → Wait
   while_test : (test body : FlatForm) → Situation → Wait
   while_body : (test body : FlatForm) → Situation → Wait
   return_value : ExitPlace → Situation → Wait
   -- the value of a tagbody's last segment, which is nil
-  segments_done : Wait
+  last_segment : Wait
   catch_tag : (body : FlatForm) → Situation → Wait
   throw_tag : FlatForm → Situation → Wait
   throw_value : (tag : Value) → Situation → Wait
@@ -81,10 +81,10 @@ pub data Frame : Type 0 where
   -- a form with a cleanup
   cleans : (cleanup : FlatForm) → Situation → Frame
   -- an application: the words of the stack that were in use, and the slots of the caller
-  stack_back : ℕ → Frame
-  slots_back : List FrameSlot → Frame
+  restores_stack : ℕ → Frame
+  restores_slots : List FrameSlot → Frame
   -- a body with new slots: how many there were before
-  slots_gone : ℕ → Frame
+  drops_slots : ℕ → Frame
 
 -- what is done next: a form is evaluated; a condition is signalled with a mark under the handlers around; or an outcome
 -- goes into the innermost frame
@@ -100,37 +100,38 @@ pub record Moment : Type 0 where
   pub state : FlatState
 
 -- a step's end, given the frames and the state
-abbrev pub Move : Type 0
-Move = List Frame → FlatState → Moment
+abbrev pub Step : Type 0
+Step = List Frame → FlatState → Moment
 
-abbrev pub to : Control → Move
-to c frames z = record { control = c; frames = frames; state = z }
+-- the machine with these frames and this state, about to do that
+abbrev pub moment : Control → Step
+moment c frames z = record { control = c; frames = frames; state = z }
 
 -- what was evaluated, into the frames
 abbrev pub ended : FlatEvaluated → List Frame → Moment
-ended r frames = to (come_to r.outcome) frames r.state
+ended r frames = moment (come_to r.outcome) frames r.state
 
 -- what goes on with the value of what was evaluated right now; any other outcome goes into the frames
 abbrev pub then_on_from : Outcome → FlatState → List Frame → (Value → FlatState → Moment) → Moment
 then_on_from (value v) z frames next = next v z
-then_on_from (exit e v landing) z frames next = to (come_to (exit e v landing)) frames z
-then_on_from (full asked left) z frames next = to (come_to (full asked left)) frames z
-then_on_from more z frames next = to (come_to more) frames z
+then_on_from (exit e v landing) z frames next = moment (come_to (exit e v landing)) frames z
+then_on_from (full asked left) z frames next = moment (come_to (full asked left)) frames z
+then_on_from more z frames next = moment (come_to more) frames z
 
 abbrev pub then_on : FlatEvaluated → List Frame → (Value → FlatState → Moment) → Moment
 then_on r frames next = then_on_from r.outcome r.state frames next
 
--- a move with what stands there, if something does
-abbrev pub some_or : {X : Type 0} → Option X → Move → (X → Move) → Move
+-- a step with what stands there, if something does
+abbrev pub some_or : {X : Type 0} → Option X → Step → (X → Step) → Step
 some_or None otherwise next = otherwise
 some_or (Some x) otherwise next = next x
 
 -- what needs a level, with the one below: More where there is none
-abbrev pub down : (level : ℕ) → (ℕ → Move) → Move
-down zero next = to (come_to more)
-down (suc k) next = next k
+abbrev pub descend : (level : ℕ) → (ℕ → Step) → Step
+descend zero next = moment (come_to more)
+descend (suc k) next = next k
 
 -- the first one that is looked for
-abbrev pub first_of_those : {X : Type 0} → (X → Bool) → List X → Option X
-first_of_those p [] = None
-first_of_those p (x ∷ xs) = if p x then Some x else first_of_those p xs
+abbrev pub first_that : {X : Type 0} → (X → Bool) → List X → Option X
+first_that p [] = None
+first_that p (x ∷ xs) = if p x then Some x else first_that p xs

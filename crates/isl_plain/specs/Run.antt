@@ -1,10 +1,9 @@
 -- Runs of the machine: so many steps, where it begins, and what it has done when it has ended.
 use Rattle.std.specs.Prelude.{◌≡◌, ℕ, zero, suc, List, [], ◌∷◌, Option, Some, None}
 use Rattle.isl_meaning.specs.Values.{nil}
-use Rattle.isl_meaning.specs.State.{Outcome, value, more, first_state, Limit}
+use Rattle.isl_meaning.specs.State.{Outcome, value, more, first_state}
 use Rattle.isl_meaning.specs.Layout.{objects_at_start}
 use Rattle.isl_meaning.specs.Meaning.{Meant}
-use Rattle.isl_closure.specs.declared.program.FlatProgram.{FlatProgram}
 use Rattle.isl_closure.specs.FlatNodes.{tables}
 use Rattle.isl_closure.specs.FlatMeaning.{meant}
 use Rattle.isl_plain.specs.Moment.{Setting, Control, evaluate, signals, come_to, Moment, awaits, main_forms}
