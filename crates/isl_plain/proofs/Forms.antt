@@ -23,7 +23,7 @@ use Rattle.isl_closure.specs.FlatMeaning.{mean, mean_sequence, mean_arguments, m
 use Rattle.isl_plain.specs.Moment.{Setting, Operation, call_name, call_first, compute, Frame, Moment, Step, evaluate, moment, descend, some_or, awaits, turns, last_segment}
 use Rattle.isl_plain.specs.Applications.{signal_domain, signal_unbound}
 use Rattle.isl_plain.specs.Step.{literal_step, global_step, set_global_step, dynamic_step, set_dynamic_step, apply_step, operation_step, signal_step, next_method_step, sequence_step, clauses_step, clause_body_step, arguments_step, let_step, bindings_step, dynamic_let_step, dynamics_step, segments_step}
-use Rattle.isl_plain.proofs.Reach.{Comes, here, after_step, on, catching, turning, cleaning, slots_dropped, either, cells, searching, some}
+use Rattle.isl_plain.proofs.Reach.{Comes, here, after_step, on, catching, turning, cleaning, slots_dropped, unbound, either, cells, searching, some}
 use Rattle.isl_plain.proofs.Applied.{below_at, context_at, situation, LowerCome, domains, values_apply, rows_apply, chains, under, signals_come, answers, transfers, throws, continues}
 
 module _ (s : Setting) where
@@ -187,7 +187,7 @@ module _ (s : Setting) where
       form_means (unwind f cleanup) env around frames z =
           after_step s (cleaning s {act = λ within y. mean context cleanup env within y} (form_means f env around _ _) (λ within outer y. form_means cleanup env within outer y))
       form_means (dynamic_let bs body) env around frames z =
-          after_step s (dynamics_mean bs bs body [] env around frames _ (λ vs after. form_means body env _ frames _))
+          after_step s (dynamics_mean bs bs body [] env around frames _ (λ vs after. unbound s (form_means body env _ _ _)))
       form_means (dynamic n) env around frames z = after_step s (dynamics (text s.names n) env around frames _)
       form_means (set_dynamic n f) env around frames z =
           after_step s (on s (form_means f env around _ _) (λ x after. dynamics_set (text s.names n) x env around frames after))
@@ -195,7 +195,7 @@ module _ (s : Setting) where
       form_means (with_handler handler body) env around frames z =
           after_step s (on s (form_means handler env around _ _) (λ h after.
           either s (is_function (fetch after.state h))
-          (form_means body env (record around { handlers = h ∷ around.handlers }) frames after)
+          (unbound s (form_means body env (record around { handlers = h ∷ around.handlers }) _ after))
           (domain_errors around h function_class frames after)))
       form_means (signal_form condition continuable) env around frames z =
           after_step s (on s (form_means condition env around _ _) (λ c after.

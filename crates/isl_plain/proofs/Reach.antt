@@ -15,7 +15,7 @@ use Rattle.isl_closure.specs.FlatState as flat
 use Rattle.isl_closure.specs.FlatSignals.{make_list, with_record, with_cells}
 use Rattle.isl_closure.specs.FlatSignals as flat_signals
 use Rattle.isl_closure.specs.FlatMeaning.{from_segment}
-use Rattle.isl_plain.specs.Moment.{Setting, Situation, Wait, Frame, Moment, Step, evaluate, come_to, kept, awaits, catches, turns, cleans, restores_stack, restores_slots, drops_slots, moment, ended, then_on, then_on_from, first_that, some_or, descend}
+use Rattle.isl_plain.specs.Moment.{Setting, Situation, Wait, Frame, Moment, Step, evaluate, come_to, kept, awaits, catches, turns, cleans, restores_stack, restores_slots, drops_slots, unbinds, moment, ended, then_on, then_on_from, first_that, some_or, descend}
 use Rattle.isl_plain.specs.Applications.{requested, made, listed, recorded, celled, searched}
 use Rattle.isl_plain.specs.Step.{value_step, segments_step}
 use Rattle.isl_plain.specs.Run.{next, steps}
@@ -74,6 +74,10 @@ module _ (s : Setting) where
   -- a form with an exit
   pub catching : {m : Moment} {r : FlatEvaluated} {e : ℕ} {frames : List Frame} → Comes m r (catches e ∷ frames) → Comes m (caught e r) frames
   catching x = by_way x (after_step here)
+
+  -- the end of a body with a handler or dynamic bindings of its own
+  pub unbound : {m : Moment} {r : FlatEvaluated} {frames : List Frame} → Comes m r (unbinds ∷ frames) → Comes m r frames
+  unbound x = by_way x (after_step here)
 
   -- either of two
   pub either : (b : Bool) {m m' : Moment} {r r' : FlatEvaluated} {frames : List Frame}

@@ -85,6 +85,8 @@ pub data Frame : Type 0 where
   restores_slots : List FrameSlot → Frame
   -- a body with new slots: how many there were before
   drops_slots : ℕ → Frame
+  -- a body with a handler or dynamic bindings of its own, which are around nothing when it is left
+  unbinds : Frame
 
 -- what is done next: a form is evaluated; a condition is signalled with a mark under the handlers around; or an outcome
 -- goes into the innermost frame

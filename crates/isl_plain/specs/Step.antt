@@ -23,7 +23,7 @@ use Rattle.isl_closure.specs.FlatSignals.{inside}
 use Rattle.isl_closure.specs.FlatMeaning.{charged_for, from_segment, binding_homes, bound_names, with_exit}
 use Rattle.isl_plain.specs.Moment.{Setting, Situation, Operation, call_name, call_first, compute, Wait, Frame, Control, evaluate, signals, come_to, Moment, Step, moment, ended, then_on, some_or, descend}
 use Rattle.isl_plain.specs.Moment.{set_local_value, set_global_value, def_global_value, sequence_form, clause_test, binding_value, argument, applied_function, applied_list, while_test, while_body, return_value, last_segment, catch_tag, throw_tag, throw_value, dynamic_value, set_dynamic_value, def_dynamic_value, handler_value, signal_condition, signal_mark, continue_condition, continue_value}
-use Rattle.isl_plain.specs.Moment.{kept, method_value, before_methods, primary_method, handler_return, main_form, main_forms, awaits, catches, turns, cleans, restores_stack, restores_slots, drops_slots}
+use Rattle.isl_plain.specs.Moment.{kept, method_value, before_methods, primary_method, handler_return, main_form, main_forms, awaits, catches, turns, cleans, restores_stack, restores_slots, drops_slots, unbinds}
 use Rattle.isl_plain.specs.Applications.{requested, celled, searched, signal_class, signal_domain, signal_undefined, signal_unbound, apply_method, apply_each, run_chain, apply_value, apply_row, signal_under, answered, transfer, throw_to, continue_with}
 
 module _ (s : Setting) where
@@ -91,7 +91,7 @@ module _ (s : Setting) where
 
   abbrev pub handler_step : Value → FlatForm → Situation → Step
   handler_step h body at frames z =
-      if is_function (fetch z.state h) then moment (evaluate body (record at { around = record at.around { handlers = h ∷ at.around.handlers } })) frames z
+      if is_function (fetch z.state h) then moment (evaluate body (record at { around = record at.around { handlers = h ∷ at.around.handlers } })) (unbinds ∷ frames) z
       else signal_domain s h function_class at.level at.around frames z
 
   abbrev pub next_method_step : Option Called → Situation → Step
@@ -130,7 +130,7 @@ module _ (s : Setting) where
   dynamic_let_step all body vs at frames z =
       moment (evaluate body
       (record at { around = record at.around { bindings = numbered (bound_names s.names all) (length z.state.variables) ++ at.around.bindings } }))
-      frames (with_values vs z)
+      (unbinds ∷ frames) (with_values vs z)
 
   abbrev pub dynamics_step : FlatDynamics → List Value → FlatDynamics → FlatForm → Situation → Step
   dynamics_step no_dynamic vs all body at frames z = dynamic_let_step all body vs at frames z
@@ -260,6 +260,7 @@ module _ (s : Setting) where
   outcome_step (cleans cleanup at) o frames z = cleanup_step cleanup at o frames z
   outcome_step (restores_stack n) o frames z = ended (with_stack n (record { outcome = o; state = z })) frames
   outcome_step (restores_slots frame) o frames z = ended (with_frame frame (record { outcome = o; state = z })) frames
+  outcome_step unbinds o frames z = moment (come_to o) frames z
   outcome_step (drops_slots n) o frames z = ended (without_slots_from n (record { outcome = o; state = z })) frames
 
   -- what the machine is about to do is done; an outcome without a frame is the end
