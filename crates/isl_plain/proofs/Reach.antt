@@ -60,17 +60,6 @@ module _ (s : Setting) where
       at (full asked left) z = after_step here
       at more z = after_step here
 
-  -- what was evaluated right now, and what goes on with its value
-  pub on_now : {frames : List Frame} (ahead : Value → FlatState → Moment) {follow : Value → FlatState → FlatEvaluated} (r : FlatEvaluated)
-      → ((v : Value) (z : FlatState) → Comes (ahead v z) (follow v z) frames) → Comes (then_on r frames ahead) (go_on r follow) frames
-  on_now {frames} ahead {follow} r c = at r.outcome r.state
-    where
-      at : (o : Outcome) (z : FlatState) → Comes (then_on_from o z frames ahead) (go_on_from o z follow) frames
-      at (value v) z = c v z
-      at (exit e v landing) z = here
-      at (full asked left) z = here
-      at more z = here
-
   -- a form with an exit
   pub catching : {m : Moment} {r : FlatEvaluated} {e : ℕ} {frames : List Frame} → Comes m r (catches e ∷ frames) → Comes m (caught e r) frames
   catching x = by_way x (after_step here)
