@@ -1,5 +1,5 @@
--- What a form captures and sets, by the forms right inside it.
-use Rattle.std.proofs.Common.{◌≡◌, ℕ, Bool, not, ◌&&◌, ◌||◌, List, [], ◌∷◌, ◌++◌, refl, ap, ◌∙◌}
+-- What a form captures and sets, by the forms right inside it; and loops over those.
+use Rattle.std.proofs.Common.{◌≡◌, ◌≤◌, ℕ, Bool, not, ◌&&◌, ◌||◌, List, [], ◌∷◌, ◌++◌, refl, ap, ◌∙◌}
 use Rattle.std.specs.Prelude.{map}
 use Rattle.std.specs.List.{list_any}
 use Rattle.std.proofs.lemmas.List.Folds.{list_any-append}
@@ -9,7 +9,13 @@ use Rattle.isl_meaning.specs.Form.{Form}
 use Rattle.isl_meaning.specs.Subforms.{outer, inner}
 use Rattle.isl_meaning.specs.Mentions.{binds, some}
 use Rattle.isl_meaning.specs.Captured.{captures, captures_inside, sets, sets_itself}
+use Rattle.isl_meaning.specs.bridge.Smaller.{sizes}
 use Rattle.isl_meaning.specs.bridge.Walks.{folded}
+
+-- what is asked of all forms is left to see of these
+pub record IsLeft (asked : List Form → Bool) (all left : List Form) : Type 0 where
+  pub smaller : sizes left ≤ sizes all
+  pub same : asked left ≡ asked all
 
 pub any_of_both : {X : Type 0} (p : X → Bool) (xs ys : List X) → list_any p (xs ++ ys) ≡ (list_any p xs || list_any p ys)
 any_of_both p xs ys = list_any-append p xs ys
