@@ -9,7 +9,13 @@ pub mod ValueRows
 pub mod BindingRows
 pub mod ExitRows
 pub mod CallRows
+pub mod FunctionNodes
 pub mod DefiningRows
+pub mod GivenNames
+pub mod MethodShapes
+pub mod GenericRows
+pub mod ClassShapes
+pub mod ClassRows
 pub mod Rows
 pub mod Judged
 pub mod Marks
