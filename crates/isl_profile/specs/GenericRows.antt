@@ -192,14 +192,17 @@ generic_with a s d n l ms None = bad_binding l
 generic_with a s d n l ms (Some ps) =
     methods_of a s d n (New n (length ps.required) (is_some ps.rest)) (each_method s n ms) (all_heads s ms)
 
+abbrev pub generic_checked : Around → Tables → Place → Item → Item → List GenericOption → Name → Node
+generic_checked a s p d l os n =
+    if all_fit s (generic_row n (parameters_in s.words l)) (methods_among os)
+    then generic_with a s d n l (methods_among os) (parameters_in s.words l)
+    else offends p BadMethod
+
 abbrev pub generic_of : List (List ℕ) → Around → Tables → Place → Item → Item → List GenericOption → Name → Node
 generic_of names a s p d l os n =
     defining a p (is_taken a.spot.sited s n) (is_reserved (keeps names n) a s n)
     (if list_any is_of_left_out os then offends p LeftOut
-    else within_depth 1 a p
-    (if all_fit s (generic_row n (parameters_in s.words l)) (methods_among os)
-    then generic_with a s d n l (methods_among os) (parameters_in s.words l)
-    else offends p BadMethod))
+    else within_depth 1 a p (generic_checked a s p d l os n))
 
 abbrev pub generic_named_as : List (List ℕ) → Around → Tables → Place → Item → Item → List GenericOption → GivenName → Node
 generic_named_as names a s p d l os no_name = bad_shape p

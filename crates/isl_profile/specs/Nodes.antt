@@ -1,6 +1,6 @@
 -- What judging meets: a node that offends, a derived form that stands for its step, or a core form with its parts, which
 -- stand where the whole stands, or where what it binds is bound (ISO/IEC 13816:2007, 12).
-use Rattle.std.specs.Prelude.{Bool, List, [], ◌∷◌, ◌++◌}
+use Rattle.std.specs.Prelude.{◌≡◌, ◌⊎◌, Bool, List, [], ◌∷◌, ◌++◌}
 use Rattle.isl_base.specs.declared.place.Place.{Place}
 use Rattle.isl_base.specs.declared.reason.Reason.{Reason}
 use Rattle.isl_base.specs.declared.datum.Name.{Name}
@@ -53,6 +53,10 @@ pub data Node : Type 0 where
   steps : Around → Tables → Item → Node
   -- the parts stand there, outside and inside
   whole : Around → Around → Tables → List Part → Made → Node
+
+-- what a form is under a table of names, and under a later one: the same, unless the earlier table lacks a name
+abbrev pub Stays : Node → Node → Type 0
+Stays x y = (x ≡ unnamed) ⊎ (x ≡ y)
 
 -- how judging ends: the core form and the tables behind it, or the end of it all
 pub data Ending : Type 0 where

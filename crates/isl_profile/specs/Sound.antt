@@ -1,6 +1,7 @@
 -- Parts of a row: their data are in form with names in the table, and they stand deeper than the form, or in the body of a
 -- definition at top level, so judging ends.
-use Rattle.std.specs.Prelude.{ℕ, ◌+◌, ◌-◌, ◌<◌, List, [], ◌∷◌, All, if◌then◌else◌}
+use Rattle.std.specs.Prelude.{ℕ, ◌+◌, ◌-◌, ◌<◌, List, [], ◌∷◌, if◌then◌else◌}
+use Rattle.isl_base.specs.DataParts.{AllOf}
 use Rattle.isl_base.specs.GoodData.{Good}
 use Rattle.isl_profile.specs.declared.spot.Spot.{Spot}
 use Rattle.isl_profile.specs.Nodes.{Around, Part, form, below, inner, bind, parameter, wrong, function, Written, initform, accessor, method, Node, offends, unnamed, steps, whole}
@@ -18,7 +19,7 @@ HasBelow w spot = (weight (deeper_spot 1 spot) < w) × (spot.depth < 1000)
 abbrev pub SoundFunction : ℕ → ℕ → Written → Type 0
 SoundFunction n w (initform d) = Good n d × (1001 < w)
 SoundFunction n w (accessor m k d) = 1001 < w
-SoundFunction n w (method m has_next ps fs) = All (Good n) fs × (1001 < w)
+SoundFunction n w (method m has_next ps fs) = AllOf (Good n) fs × (1001 < w)
 
 -- where the datum of a part stands, and that datum
 abbrev pub SoundPart : ℕ → ℕ → Around → Around → Part → Type 0
