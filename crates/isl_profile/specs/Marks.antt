@@ -20,7 +20,6 @@ pub record Grows (s t : Tables) : Type 0 where
   pub words : t.words ≡ s.words
   pub classes : StandsFirst s.classes.rows t.classes.rows
   pub slots : StandsFirst s.classes.own t.classes.own
-  pub prelude_classes : s.prelude_classes ≤ t.prelude_classes
   pub generics : AreThere s.generics t.generics
   pub literals : StandsFirst s.literals t.literals
   pub procedures : StandsFirst s.procedures t.procedures
