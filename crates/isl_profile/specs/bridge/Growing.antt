@@ -234,7 +234,8 @@ with_method_grows mark s i h p g = grows_generics mark s _ g (method_there mark.
 
 with_methods_grows : (mark s : Tables) (i : ℕ) (hs : List Head) (p : ℕ) → Grows mark s → Grows mark (with_methods i hs p s)
 with_methods_grows mark s i [] p g = g
-with_methods_grows mark s i (h ∷ hs) p g = with_methods_grows mark _ i hs (p + 1) (with_method_grows mark s i h p g)
+with_methods_grows mark s i (h ∷ hs) p g =
+    with_methods_grows mark (with_method_at i h p s) i hs (p + 1) (with_method_grows mark s i h p g)
 
 methods_grow : (mark s : Tables) (t : Taker) (hs : List Head) (p : ℕ) (of_file : Bool) → Grows mark s → Grows mark (finish_methods t hs p of_file s)
 methods_grow mark s (New n required rest) hs p of_file g =
@@ -252,7 +253,8 @@ slot_function_grows mark s (Method n k) c p of_file g = accessor_grows mark s (g
 
 slot_functions_grow : (mark s : Tables) (xs : List SlotFunction) (c p : ℕ) (of_file : Bool) → Grows mark s → Grows mark (with_slot_functions xs c p of_file s)
 slot_functions_grow mark s [] c p of_file g = g
-slot_functions_grow mark s (x ∷ xs) c p of_file g = slot_functions_grow mark _ xs c (p + 1) of_file (slot_function_grows mark s x c p of_file g)
+slot_functions_grow mark s (x ∷ xs) c p of_file g =
+    slot_functions_grow mark (with_slot_function x c p of_file s) xs c (p + 1) of_file (slot_function_grows mark s x c p of_file g)
 
 rows_with : (xs : List ClassRow) (h : Hierarchy) (name : Name) (supers : List ℕ) (slots : List GivenSlot) (a : Bool) → StandsFirst xs h.rows
     → StandsFirst xs (with_class h name supers slots a).rows
