@@ -60,7 +60,7 @@ module _ (h : Hierarchy) (row : ClassRow) (own : List SlotRow) (a : AreClasses h
       let P : ℕ → ClassRow → Type 0 = λ d x. IsRow h.rows (h.own ++ own ∷ []) d x in
       rw (rows_stay, own_stays) (subst (λ d. P d r) (sym e) (subst (λ x. P (length h.rows) x) k right))
 
-  added : AreClasses (record { rows = h.rows ++ row ∷ []; own = h.own ++ own ∷ [] })
+  pub added : AreClasses (record { rows = h.rows ++ row ∷ []; own = h.own ++ own ∷ [] })
   added = record {
     paired = length-append h.own (own ∷ []) ∙ ap (λ n. n + 1) a.paired ∙ sym (length-append h.rows (row ∷ []));
     right = λ c r k. ⊎_elim (λ front. front_right c r front) (λ last. last_right c r last.0 last.1) (slice_get-push h.rows row c r k);

@@ -6,3 +6,4 @@ pub mod Given
 pub mod Table
 pub mod FirstClasses
 pub mod Lines
+pub mod Keeping

@@ -1,12 +1,13 @@
 -- What a node has to say so that what it comes to is right: its parts are good and stand at good places, and what is made of
 -- right forms is right.
-use Rattle.std.proofs.Common.{◌≡◌, ◌+◌, ◌≤◌, ℕ, nat_le, Bool, true, false, List, [], ◌∷◌, ◌++◌, length, Option, Some, None, if◌then◌else◌, refl, sym, subst, ◌∙◌, arith}
+use Rattle.std.proofs.Common.{◌≡◌, ◌+◌, ◌≤◌, ℕ, nat_le, Bool, true, false, List, [], ◌∷◌, ◌++◌, length, Option, Some, None, if◌then◌else◌, refl, sym, ap, subst, ◌∙◌, arith}
 use Rattle.std.proofs.lemmas.Bool.{leb-true}
 use Rattle.std.proofs.lemmas.List.{length-append}
 use Rattle.isl_base.specs.declared.place.Place.{Place}
 use Rattle.isl_base.specs.declared.datum.Symbol.{Symbol}
 use Rattle.isl_base.specs.declared.reason.Reason.TheVariants.{DepthLimit}
 use Rattle.isl_base.specs.Data.{Item}
+use Rattle.isl_base.specs.DataFormed.{is_formed}
 use Rattle.isl_base.specs.DataParts.{AllOf}
 use Rattle.isl_base.specs.GoodData.{Good}
 use Rattle.isl_meaning.specs.declared.program.LiteralRow.{LiteralRow}
@@ -24,18 +25,19 @@ use Rattle.isl_profile.specs.declared.making.Leaf.{Leaf}
 use Rattle.isl_profile.specs.declared.making.Leaf.TheVariants.{Literal}
 use Rattle.isl_profile.specs.declared.making.Making.{Making}
 use Rattle.isl_profile.specs.declared.making.Making.TheVariants.{Ready}
-use Rattle.isl_profile.specs.Nodes.{Around, Part, form, below, inner, bind, parameter, Node, offends, steps, whole}
+use Rattle.isl_profile.specs.Nodes.{Around, Part, form, below, inner, bind, parameter, wrong, function, Written, initform, accessor, method, Node, offends, unnamed, steps, whole}
 use Rattle.isl_profile.specs.Makings.{leaf_form, make, at_site, made_form, finish, finished}
 use Rattle.isl_profile.specs.Shapes.{Pair}
 use Rattle.isl_profile.specs.RowWords.{deeper, with_site_if, site_if, within_depth, made_of, made_at_once, unsited, with_literal, literal_node, each_form, each_below, each_inner, each_bound, each_parameter}
 use Rattle.isl_profile.specs.bridge.GoodParts.{GoodPairs}
-use Rattle.isl_whole.specs.Definitions.{Definitions, defined, rows_of, Later, WholeDefinitions}
+use Rattle.isl_whole.specs.Definitions.{Definitions, defined, rows_of, Later, Undefined, SoundDefinitions, EachStands}
 use Rattle.isl_whole.specs.Numbers.{Numbered}
-use Rattle.isl_whole.specs.Places.{scope_of, GoodAround}
-use Rattle.isl_whole.specs.Right.{RightIn, RightAt, Behind, Counted}
+use Rattle.isl_whole.specs.Places.{scope_of, NothingAround, GoodAround}
+use Rattle.isl_whole.specs.Right.{RightIn, RightAt, Counted}
 use Rattle.isl_whole.proofs.Forms.{each_more, right_sited}
-use Rattle.isl_whole.proofs.Definitions.{Entered, later_same, later_then, entered_same, entered_then, entered_site, entered_literal, behind_same, counted_same, counted_then, counted_more}
-use Rattle.isl_whole.proofs.Nodes.{found_nodes, site_nodes}
+use Rattle.isl_whole.proofs.Definitions.{undefined_then, each_stands_same, Entered, later_same, later_then, entered_same, entered_then, entered_site, entered_literal, Leaves, counted_same, counted_then, counted_more}
+use Rattle.isl_whole.proofs.Procedures.{MadeFrom, Same, OneMore, IsOrdinary, AllOrdinary, AllLow, all_low}
+use Rattle.isl_whole.proofs.Nodes.{nodes_of, found_nodes, site_nodes}
 use Rattle.isl_whole.proofs.Numbers.{AllNumbered, OwnNumbers, make_numbered, site_numbered, all_numbered_wider}
 use Rattle.isl_whole.proofs.FoundNodes.{none_found}
 use Rattle.isl_whole.proofs.Good.{good_later, good_deeper}
@@ -54,70 +56,157 @@ spots g o i rs = record {
 
 -- what all parts came to
 pub record AllCame (o i : Around) (g : Definitions) (xs : List Part) (rs : List Found) (h : Definitions) : Type 0 where
-  pub whole : WholeDefinitions h
+  pub whole : SoundDefinitions h
   pub later : Later g h
   pub main : h.main ≡ g.main
-  pub functions : o.spot.top ≡ false → i.spot.top ≡ false → h.functions ≡ g.functions
+  pub same : AllLow o.spot.top i.spot.top xs → Same g h
+  pub made : AllLow o.spot.top i.spot.top xs → MadeFrom (length g.procedures) xs h.procedures
+  pub undefined : AllOrdinary xs → AllLow o.spot.top i.spot.top xs → Undefined g h
+  pub stand : AllOrdinary xs → EachStands g → EachStands h
   pub newer : Each (λ v. g.variables ≤ v) (new_variables rs)
   pub match : AllMatch (spots h o i rs) xs rs
 
--- data are good, and variables are bound below top level
+-- what functions of definitions are of
+abbrev pub AptFunction : ℕ → Written → Type 0
+AptFunction n (initform d) = Good n d
+AptFunction n (accessor m k d) = is_formed d ≡ true
+AptFunction n (method m has_next ps fs) = AllOf (Good n) fs
+
+-- data are good, variables are bound below top level, and functions of definitions stand at top level
 abbrev pub AptPart : ℕ → Around → Part → Type 0
 AptPart n i (form d) = Good n d
 AptPart n i (below d) = Good n d
 AptPart n i (inner d) = Good n d
 AptPart n i (bind x d) = Good n d × (i.spot.top ≡ false)
 AptPart n i (parameter x) = i.spot.top ≡ false
+AptPart n i (wrong p r) = Unit {0}
+AptPart n i (function w) = AptFunction n w × (i.spot.top ≡ true)
 
 abbrev pub AllApt : ℕ → Around → List Part → Type 0
 AllApt n i [] = Unit {0}
 AllApt n i (x ∷ xs) = AptPart n i x × AllApt n i xs
 
--- what a form has to be: right at a place, or anything
-abbrev pub Wanted : Option Around → Definitions → Form → Type 0
-Wanted None h f = Unit {0}
-Wanted (Some a) h f = RightAt h a f
+part_ordinary : (n : ℕ) (i : Around) (x : Part) → i.spot.top ≡ false → AptPart n i x → IsOrdinary x
+part_ordinary n i (form d) e a = tt
+part_ordinary n i (below d) e a = tt
+part_ordinary n i (inner d) e a = tt
+part_ordinary n i (bind x d) e a = tt
+part_ordinary n i (parameter x) e a = tt
+part_ordinary n i (wrong p r) e a = tt
+part_ordinary n i (function w) e a = absurd (cc (e, a.1))
 
-abbrev pub wanted_nodes : Option Around → Form → ℕ
-wanted_nodes None f = 0
-wanted_nodes (Some a) f = all_nodes f
+-- below top level all parts are ordinary
+pub all_ordinary : (n : ℕ) (i : Around) (xs : List Part) → i.spot.top ≡ false → AllApt n i xs → AllOrdinary xs
+all_ordinary n i [] e a = tt
+all_ordinary n i (x ∷ xs) e a = (part_ordinary n i x e a.0, all_ordinary n i xs e a.1)
+
+-- nodes that are counted where the whole stands: those of a function of a definition are counted by its procedure
+
+abbrev pub part_nodes : Part → Found → ℕ
+part_nodes (form d) r = nodes_of r
+part_nodes (below d) r = nodes_of r
+part_nodes (inner d) r = nodes_of r
+part_nodes (bind x d) r = nodes_of r
+part_nodes (parameter x) r = nodes_of r
+part_nodes (wrong p q) r = nodes_of r
+part_nodes (function w) r = 0
+
+abbrev pub counted_nodes : List Part → List Found → ℕ
+counted_nodes [] rs = 0
+counted_nodes (x ∷ xs) [] = 0
+counted_nodes (x ∷ xs) (r ∷ rs) = part_nodes x r + counted_nodes xs rs
+
+part_at_most : (x : Part) (r : Found) → part_nodes x r ≤ nodes_of r
+part_at_most (form d) r = omega arith
+part_at_most (below d) r = omega arith
+part_at_most (inner d) r = omega arith
+part_at_most (bind x d) r = omega arith
+part_at_most (parameter x) r = omega arith
+part_at_most (wrong p q) r = omega arith
+part_at_most (function w) r = omega arith
+
+pub counted_at_most : (xs : List Part) (rs : List Found) → counted_nodes xs rs ≤ found_nodes rs
+counted_at_most [] rs = omega arith
+counted_at_most (x ∷ xs) [] = omega arith
+counted_at_most (x ∷ xs) (r ∷ rs) = both_at_most _ _ _ _ (part_at_most x r) (counted_at_most xs rs)
+  where
+    both_at_most : (a b c d : ℕ) → a ≤ b → c ≤ d → a + c ≤ b + d
+    both_at_most a b c d h k = omega (arith, h, k)
+
+-- what a node has to come to: nothing, or what never stands, or a form that is right at a place, or the procedure of a function
+pub data Want : Type 0 where
+  nothing : Want
+  never : Want
+  right_at : Around → Want
+  one_procedure : Written → Want
+
+abbrev pub Wanted : Want → Definitions → Form → Type 0
+Wanted nothing h f = Unit {0}
+Wanted never h f = ⊥
+Wanted (right_at a) h f = RightAt h a f
+Wanted (one_procedure w) h f = Unit {0}
+
+abbrev pub wanted_nodes : Want → Form → ℕ
+wanted_nodes nothing f = 0
+wanted_nodes never f = 0
+wanted_nodes (right_at a) f = all_nodes f
+wanted_nodes (one_procedure w) f = 0
+
+-- what it leaves
+abbrev pub LeavesAs : Want → Bool → Definitions → Definitions → Type 0
+LeavesAs nothing top g h = Leaves top g h
+LeavesAs never top g h = Leaves top g h
+LeavesAs (right_at a) top g h = Leaves top g h
+LeavesAs (one_procedure w) top g h = OneMore w g h
 
 -- a node, where what it comes to has to be so, and what it began with
-pub record AptSteps (Q : Option Around) (spot : Spot) (n : ℕ) (g : Definitions) (a : Around) (s : Tables) (d : Item) : Type 0 where
+pub record AptSteps (Q : Want) (spot : Spot) (n : ℕ) (g : Definitions) (a : Around) (s : Tables) (d : Item) : Type 0 where
   pub entered : Entered g (defined s)
   pub good : GoodAround (defined s) a
   pub datum : Good n d
-  pub wanted : Some a ≡ Q
+  pub wanted : right_at a ≡ Q
   pub same_spot : a.spot ≡ spot
   pub start : Counted spot.sited g (defined s) 0
 
-pub record AptWhole (Q : Option Around) (spot : Spot) (n : ℕ) (g : Definitions) (o i : Around) (s : Tables) (xs : List Part) (m : Made) : Type 0 where
+pub record AptWhole (Q : Want) (spot : Spot) (n : ℕ) (g : Definitions) (o i : Around) (s : Tables) (xs : List Part) (m : Made) : Type 0 where
   pub entered : Entered g (defined s)
   pub outside : GoodAround (defined s) o
   pub inside : GoodAround (defined s) i
-  pub low : spot.top ≡ false → (o.spot.top ≡ false) × (i.spot.top ≡ false)
+  pub level : i.spot.top ≡ true → NothingAround o
   pub sited : (o.spot.sited ≡ spot.sited) × (i.spot.sited ≡ spot.sited)
   pub parts : AllApt n i xs
   pub right : (t : Tables) (rs : List Found) → AllCame o i (defined s) xs rs (defined t) → Wanted Q (defined (finished m rs t)) (made_form m rs)
-  pub ends : (t : Tables) (rs : List Found) → AllCame o i (defined s) xs rs (defined t) → Behind spot.top (defined t) (defined (finished m rs t))
-  pub counted : (t : Tables) (rs : List Found) → AllCame o i (defined s) xs rs (defined t) → Counted spot.sited (defined s) (defined t) (found_nodes rs)
+  pub leaves : (t : Tables) (rs : List Found) → AllCame o i (defined s) xs rs (defined t) → LeavesAs Q spot.top (defined s) (defined (finished m rs t))
+  pub counted : (t : Tables) (rs : List Found) → AllCame o i (defined s) xs rs (defined t) → Counted spot.sited (defined s) (defined t) (counted_nodes xs rs)
       → Counted spot.sited g (defined (finished m rs t)) (wanted_nodes Q (made_form m rs))
   pub numbered : (t : Tables) (rs : List Found) → AllCame o i (defined s) xs rs (defined t) → AllNumbered (defined s) (defined t) rs
       → Numbered g (defined (finished m rs t)) (made_form m rs)
 
-abbrev pub Apt : Option Around → Spot → ℕ → Definitions → Node → Type 0
+abbrev pub Apt : Want → Spot → ℕ → Definitions → Node → Type 0
 Apt Q spot n g (offends p r) = Unit {0}
+Apt Q spot n g unnamed = Unit {0}
 Apt Q spot n g (steps a s d) = AptSteps Q spot n g a s d
 Apt Q spot n g (whole o i s xs m) = AptWhole Q spot n g o i s xs m
 
+-- ordinary parts leave no definition below top level, and all procedures stand
+pub came_leaves : (top : Bool) (o i : Around) (g : Definitions) (xs : List Part) (rs : List Found) (h : Definitions) → (top ≡ false → (o.spot.top ≡ false) × (i.spot.top ≡ false))
+    → AllOrdinary xs → AllCame o i g xs rs h → Leaves top g h
+came_leaves top o i g xs rs h low plain c = record {
+  later = c.later;
+  whole = c.whole;
+  main = c.main;
+  inside = λ e. let l : (o.spot.top ≡ false) × (i.spot.top ≡ false) = low e in c.undefined plain (all_low o.spot.top i.spot.top xs l.0 l.1);
+  stand = c.stand plain;
+}
+
 -- the node of a datum at a place, beside these tables
 abbrev pub AptAt : ℕ → Around → Tables → Node → Type 0
-AptAt n a s x = Apt (Some a) a.spot n (defined s) x
+AptAt n a s x = Apt (right_at a) a.spot n (defined s) x
 
 -- a good place beside whole tables
 pub record Stage (a : Around) (s : Tables) : Type 0 where
   pub good : GoodAround (defined s) a
-  pub whole : WholeDefinitions (defined s)
+  pub whole : SoundDefinitions (defined s)
 
 -- tests
 
@@ -140,14 +229,14 @@ apt_unsited n a s p t x b e start num r = apt_within n a s 1 p _ (λ l. record {
   entered = e;
   outside = good_later (defined s) (defined t) a e.later b.good;
   inside = good_later (defined s) (defined t) a e.later b.good;
-  low = λ k. (k, k);
+  level = b.good.top;
   sited = (refl, refl);
   parts = tt;
   right = λ u rs c. r (defined u) c.later l;
-  ends = λ u rs c. behind_same a.spot.top (defined u) c.whole;
+  leaves = λ u rs c. came_leaves a.spot.top a a (defined t) [] rs (defined u) (λ k. (k, k)) tt c;
   counted = λ u rs c k.
-      counted_more a.spot.sited (defined s) (defined u) (0 + found_nodes rs) (all_nodes (leaf_form x)) (omega (arith, none_found (spots (defined u) a a rs) rs c.match))
-      (counted_then a.spot.sited (defined s) (defined t) (defined u) 0 (found_nodes rs) start k);
+      counted_more a.spot.sited (defined s) (defined u) (0 + 0) (all_nodes (leaf_form x)) (omega arith)
+      (counted_then a.spot.sited (defined s) (defined t) (defined u) 0 0 start k);
   numbered = λ u rs c k. num (defined s) (defined u);
 })
 
@@ -164,6 +253,7 @@ pub record MadeParts (n : ℕ) (a : Around) (s : Tables) (i : Around) (t : Table
   pub inside : GoodAround (defined t) i
   pub low : a.spot.top ≡ false → i.spot.top ≡ false
   pub sited : i.spot.sited ≡ a.spot.sited
+  pub ordinary : AllOrdinary xs
   pub start : Counted a.spot.sited (defined s) (defined t) 0
   pub parts : AllApt n i xs
   pub right : (u : Tables) (rs : List Found) → AllCame (deeper 1 a) i (defined t) xs rs (defined u) → RightAt (defined u) a (make k rs)
@@ -173,7 +263,7 @@ pub record MadeParts (n : ℕ) (a : Around) (s : Tables) (i : Around) (t : Table
       → OwnNumbers (defined s) (defined u) k rs
 
 -- with its site
-site_entered : (b : Bool) (p : Place) (t : Tables) → WholeDefinitions (defined t) → Entered (defined t) (defined (with_site_if b p t))
+site_entered : (b : Bool) (p : Place) (t : Tables) → SoundDefinitions (defined t) → Entered (defined t) (defined (with_site_if b p t))
 site_entered true p t w = entered_site (defined t) p w
 site_entered false p t w = entered_same (defined t) w
 
@@ -182,7 +272,10 @@ came_earlier o i g h xs rs k e c = record {
   whole = c.whole;
   later = later_then g h k e.later c.later;
   main = c.main ∙ e.main;
-  functions = λ x y. c.functions x y ∙ e.functions;
+  same = λ l. let s : Same h k = c.same l in record { classes = s.classes ∙ e.same.classes; generics = s.generics ∙ e.same.generics; functions = s.functions ∙ e.same.functions };
+  made = λ l. subst (λ (n : ℕ). MadeFrom n xs k.procedures) (ap length e.same.procedures) (c.made l);
+  undefined = λ p l. undefined_then g h k e.same (c.undefined p l);
+  stand = λ p s. c.stand p (each_stands_same g h e.same s);
   newer = each_more (λ v. h.variables ≤ v) (λ v. g.variables ≤ v) (λ v l. omega (arith, l, e.later.variables)) (new_variables rs) c.newer;
   match = c.match;
 }
@@ -205,6 +298,14 @@ made_counted : (b : Bool) (g h k u : Definitions) (m n : ℕ) → m + 1 ≤ n �
 made_counted b g h k u m n l c d e =
     counted_more b g u (0 + 1 + m) n (omega (arith, l)) (counted_then b g k u (0 + 1) m (counted_then b g h k 0 1 c d) e)
 
+-- where the parts stand at top level, the form does
+at_level : (g : Definitions) (a i : Around) → (a.spot.top ≡ false → i.spot.top ≡ false) → GoodAround g a → i.spot.top ≡ true → NothingAround (deeper 1 a)
+at_level g a i low good e = by_top a.spot.top refl
+  where
+    by_top : (b : Bool) → a.spot.top ≡ b → NothingAround (deeper 1 a)
+    by_top true k = let n : NothingAround a = good.top k in record { bound = n.bound; method = n.method }
+    by_top false k = let l : i.spot.top ≡ false = low k in absurd (cc (l, e))
+
 pub apt_made : (n : ℕ) (a : Around) (s : Tables) (i : Around) (p : Place) (t : Tables) (xs : List Part) (k : Making) → Stage a s → MadeParts n a s i t xs k
     → AptAt n a s (made_of a i p t xs k)
 apt_made n a s i p t xs k2 b m =
@@ -215,20 +316,22 @@ apt_made n a s i p t xs k2 b m =
       entered = all;
       outside = good_later (defined s) (defined t2) (deeper 1 a) all.later (good_deeper (defined s) 1 a b.good);
       inside = good_later (defined t) (defined t2) i e.later m.inside;
-      low = λ l. (refl, m.low l);
+      level = λ e. at_level (defined s) a i m.low b.good e;
       sited = (refl, m.sited);
       parts = m.parts;
       right = λ u rs c.
           subst (λ (h : Definitions). RightAt h a (at_site (site_if a.spot.sited (length t.sites)) (make k2 rs))) (sym (m.ends u rs))
           (at_its_site a.spot.sited p t (defined u) (scope_of a) a.spot.depth (make k2 rs) c.later
           (m.right u rs (came_earlier (deeper 1 a) i (defined t) (defined t2) xs rs (defined u) e c)));
-      ends = λ u rs c. subst (Behind a.spot.top (defined u)) (sym (m.ends u rs)) (behind_same a.spot.top (defined u) c.whole);
+      leaves = λ u rs c.
+          subst (Leaves a.spot.top (defined t2)) (sym (m.ends u rs))
+          (came_leaves a.spot.top (deeper 1 a) i (defined t2) xs rs (defined u) (λ l. (refl, m.low l)) m.ordinary c);
       counted = λ u rs c k.
           let here : found_nodes rs + 1 ≤ all_nodes (make k2 rs) =
           m.nodes u rs (came_earlier (deeper 1 a) i (defined t) (defined t2) xs rs (defined u) e c) in
           subst (λ (h : Definitions). Counted a.spot.sited (defined s) h (all_nodes (at_site (site_if a.spot.sited (length t.sites)) (make k2 rs)))) (sym (m.ends u rs))
-          (made_counted a.spot.sited (defined s) (defined t) (defined t2) (defined u) (found_nodes rs) _
-          (omega (arith, here, with_site_nodes a.spot.sited (length t.sites) (make k2 rs))) m.start (site_counted a.spot.sited p t) k);
+          (made_counted a.spot.sited (defined s) (defined t) (defined t2) (defined u) (counted_nodes xs rs) _
+          (omega (arith, here, counted_at_most xs rs, with_site_nodes a.spot.sited (length t.sites) (make k2 rs))) m.start (site_counted a.spot.sited p t) k);
       numbered = λ u rs c k.
           let found : AllNumbered (defined s) (defined u) rs =
           all_numbered_wider (defined t2) (defined s) (defined u) (defined u) rs all.later (later_same (defined u)) k in
@@ -250,6 +353,7 @@ plain_parts n a s xs k b x r e m own = record {
   inside = good_deeper (defined s) 1 a b.good;
   low = λ l. refl;
   sited = refl;
+  ordinary = all_ordinary n (deeper 1 a) xs refl x;
   start = counted_same a.spot.sited (defined s);
   parts = x;
   right = r;

@@ -1,5 +1,6 @@
 -- Each row begins with tables that stand behind those in front of it.
-use Rattle.std.proofs.Common.{◌+◌, ◌≤◌, ℕ, nat_le, Bool, true, false, ◌&&◌, List, [], ◌∷◌, length, Option, Some, None, if◌then◌else◌, arith}
+use Rattle.std.proofs.Common.{◌+◌, ◌≤◌, ℕ, nat_le, Bool, true, false, not, ◌&&◌, ◌||◌, List, [], ◌∷◌, length, slice_get, Option, Some, None, if◌then◌else◌, arith}
+use Rattle.std.specs.List.{list_any, list_all}
 use Rattle.isl_base.specs.declared.place.Place.{Place}
 use Rattle.isl_base.specs.declared.datum.Name.{Name}
 use Rattle.isl_base.specs.declared.datum.Symbol.{Symbol}
@@ -29,7 +30,7 @@ use Rattle.isl_profile.specs.declared.special.Special.{Special}
 use Rattle.isl_profile.specs.declared.special.Special.TheVariants as name
 use Rattle.isl_profile.specs.Words.{is_left_out}
 use Rattle.isl_profile.specs.Names.{variable_of, function_of, block_of, tag_of}
-use Rattle.isl_profile.specs.Nodes.{Around, Node, offends, steps, whole}
+use Rattle.isl_profile.specs.Nodes.{Around, Written, initform, accessor, method, Node, offends, unnamed, steps, whole}
 use Rattle.isl_profile.specs.Shapes.{Pair, ClauseParts, symbol_of, name_of, is_true, pairs_in, parameters_in, clauses_in, all_differ, tags_in}
 use Rattle.isl_profile.specs.RowWords.{with_site_if, within_depth, made_at_once, with_literal, literal_node, no_such}
 use Rattle.isl_profile.specs.ValueRows.{free_symbol, symbol_as, symbol_node, quote_row, is_constant, with_set, one_part, set_free, set_as, set_datum, setq_row, progn_row, own_depth, cond_as, two_row, body_row, dynamic_name, dynamic_as, dynamic_row, set_dynamic_as, set_dynamic_row, function_named, function_as, function_symbol, function_row, method_row, class_of, class_symbol, class_datum, class_row}
@@ -37,6 +38,13 @@ use Rattle.isl_profile.specs.ExitRows.{with_exit, block_as, block_row, return_to
 use Rattle.isl_profile.specs.CallRows.{all_parts, local_call}
 use Rattle.isl_profile.specs.BindingRows.{let_as, let_row, names_of, dynamics_as, dynamic_let_as, dynamic_let_row, lambda_as, lambda_row, functions_of, functions_as, with_functions_as, with_functions_row}
 use Rattle.isl_profile.specs.DefiningRows.{named, has_global, has_dynamic, is_set, is_taken, is_truth, is_reserved, defining_offence, unless_offending, global_as, global_row, defdynamic_as, defdynamic_row, with_name, defun_with, defun_as, defun_row}
+use Rattle.isl_profile.specs.GivenNames.{GivenName, no_name, unfit, lacking, given, given_name}
+use Rattle.isl_profile.specs.MethodShapes.{some_fresh_class, WrittenMethod, method_in}
+use Rattle.isl_profile.specs.GenericRows.{fits, name_datum, keeps, GenericOption, options_of, is_no_option, is_of_left_out, methods_among, all_fit, generic_row, generic_with, generic_named_as, defgeneric_row, is_closed, method_for, method_named_as, method_as, defmethod_row}
+use Rattle.isl_profile.specs.ClassShapes.{WrittenSlot, slots_in, WrittenSuper, supers_in, ClassOption, class_options, are_options, is_of_left_out as is_left_out_class}
+use Rattle.isl_profile.specs.ClassRows.{all_functions, uses, is_lacking, is_of_function, is_kept_name, fits_generic, names_differ, are_supers, few_inherited, is_taken_class, is_reserved_class, class_of as defined_class, class_shaped, defclass_row}
+use Rattle.isl_profile.specs.FunctionNodes.{variables_of as new_variables, with_accessor, function_node}
+use Rattle.isl_profile.specs.Makings.{generic_named}
 use Rattle.isl_profile.specs.Rows.{first_reserved, functions_kept, special_row, special_node, without_dot, call_symbol, call_as, special_of, headed_as, is_lambda, headed_by_form, headed_by, list_node, plain_node, class_in_front, unless_refused, derived_as, node}
 use Rattle.isl_profile.specs.Judged.{with_fresh}
 use Rattle.isl_profile.specs.Marks.{Grows}
@@ -67,6 +75,7 @@ grows_name false d s = grows_same s
 -- the tables that a node begins with
 abbrev pub Begins : Tables → Node → Type 0
 Begins s (offends p r) = Unit {0}
+Begins s unnamed = Unit {0}
 Begins s (steps a t d) = Grows s t
 Begins s (whole o i t xs m) = Grows s t
 
@@ -348,6 +357,81 @@ begins_defun s kept a p [] = tt
 begins_defun s kept a p (d ∷ []) = tt
 begins_defun s kept a p (d ∷ l ∷ fs) = begins_defun_as s kept a p d l fs (named (symbol_of d))
 
+-- classes and generic functions
+
+begins_generic_with : (s : Tables) (a : Around) (d : Item) (n : Name) (l : Item) (ms : List WrittenMethod) (ps : Option Parameters) → Begins s (generic_with a s d n l ms ps)
+begins_generic_with s a d n l ms None = tt
+begins_generic_with s a d n l ms (Some ps) = grows_name a.spot.sited (name_datum d n) s
+
+begins_generic_as : (names : List (List ℕ)) (s : Tables) (a : Around) (p : Place) (d l : Item) (os : List GenericOption) (n : GivenName) → Begins s (generic_named_as names a s p d l os n)
+begins_generic_as names s a p d l os no_name = tt
+begins_generic_as names s a p d l os unfit = tt
+begins_generic_as names s a p d l os lacking = tt
+begins_generic_as names s a p d l os (given n) =
+    begins_defining s p a.spot.top (is_taken a.spot.sited s n) (is_reserved (keeps names n) a s n) _
+    (begins_if s (list_any is_of_left_out os) _ _ tt
+    (begins_within s 1 a p _
+    (begins_if s (all_fit s (generic_row n (parameters_in s.words l)) (methods_among os)) _ _ (begins_generic_with s a d n l (methods_among os) (parameters_in s.words l)) tt)))
+
+begins_defgeneric : (names : List (List ℕ)) (s : Tables) (a : Around) (p : Place) (ds : List Item) → Begins s (defgeneric_row names a s p ds)
+begins_defgeneric names s a p [] = tt
+begins_defgeneric names s a p (d ∷ []) = tt
+begins_defgeneric names s a p (d ∷ l ∷ ds) =
+    begins_if s (list_any is_no_option (options_of names ds)) _ _ tt (begins_generic_as names s a p d l (options_of names ds) (given_name names d))
+
+begins_method_for : (s : Tables) (a : Around) (p : Place) (d : Item) (n : Name) (m : WrittenMethod) (g : Option ℕ) → Begins s (method_for a s p d n m g)
+begins_method_for s a p d n m None = tt
+begins_method_for s a p d n m (Some g) = begins_if s (fits s (slice_get s.generics g) m) _ _ (grows_name a.spot.sited (name_datum d n) s) tt
+
+begins_method_named : (names : List (List ℕ)) (s : Tables) (a : Around) (p : Place) (d : Item) (m : WrittenMethod) (n : GivenName) → Begins s (method_named_as names a s p d m n)
+begins_method_named names s a p d m no_name = tt
+begins_method_named names s a p d m unfit = tt
+begins_method_named names s a p d m lacking = tt
+begins_method_named names s a p d m (given n) =
+    begins_if s (not a.spot.top) _ _ tt
+    (begins_if s (is_closed names a s d n) _ _ tt (begins_within s 1 a p _ (begins_method_for s a p d n m (generic_named s.generics n))))
+
+begins_method_as : (names : List (List ℕ)) (s : Tables) (a : Around) (p : Place) (d : Item) (m : Option WrittenMethod) → Begins s (method_as names a s p d m)
+begins_method_as names s a p d None = tt
+begins_method_as names s a p d (Some m) = begins_if s (some_fresh_class (list_items m.list)) _ _ tt (begins_method_named names s a p d m (given_name names d))
+
+begins_defmethod : (names : List (List ℕ)) (s : Tables) (a : Around) (p : Place) (ds : List Item) → Begins s (defmethod_row names a s p ds)
+begins_defmethod names s a p [] = tt
+begins_defmethod names s a p (d ∷ ds) = begins_method_as names s a p d (method_in names ds)
+
+begins_new_class : (names : List (List ℕ)) (s : Tables) (a : Around) (p : Place) (d : Item) (n : Name) (cs : List WrittenSuper) (xs : List WrittenSlot) (os : List ClassOption)
+    → Begins s (defined_class names a s p d n cs xs os)
+begins_new_class names s a p d n cs xs os =
+    begins_if s (list_any is_lacking (all_functions xs)) _ _ tt
+    (begins_defining s p a.spot.top (is_taken_class a s n || list_any (is_of_function a s) (uses xs)) (is_reserved_class a s n || list_any (is_kept_name names a s) (uses xs)) _
+    (begins_if s (list_any is_left_out_class os) _ _ tt
+    (begins_within s 1 a p _
+    (begins_if s (not (are_supers s cs)) _ _ tt
+    (begins_if s (not (few_inherited s cs)) _ _ tt
+    (begins_if s (list_all (fits_generic s) (uses xs) && names_differ (uses xs)) _ _ (grows_name a.spot.sited d s) tt))))))
+
+begins_new_class_as : (names : List (List ℕ)) (s : Tables) (a : Around) (p : Place) (d : Item) (n : Option Name) (cs : Option (List WrittenSuper)) (xs : Option (List WrittenSlot)) (os : List ClassOption)
+    → Begins s (class_shaped names a s p d n cs xs os)
+begins_new_class_as names s a p d None cs xs os = tt
+begins_new_class_as names s a p d (Some n) None xs os = tt
+begins_new_class_as names s a p d (Some n) (Some cs) None os = tt
+begins_new_class_as names s a p d (Some n) (Some cs) (Some xs) os = begins_if s (are_options os) _ _ (begins_new_class names s a p d n cs xs os) tt
+
+begins_defclass : (names : List (List ℕ)) (s : Tables) (a : Around) (p : Place) (ds : List Item) → Begins s (defclass_row names a s p ds)
+begins_defclass names s a p [] = tt
+begins_defclass names s a p (d ∷ []) = tt
+begins_defclass names s a p (d ∷ cs ∷ []) = tt
+begins_defclass names s a p (d ∷ cs ∷ xs ∷ os) =
+    begins_new_class_as names s a p d (named (symbol_of d)) (supers_in (list_items cs)) (slots_in names (list_items xs)) (class_options names os)
+
+-- functions of definitions
+pub begins_function_node : (s : Tables) (o : Around) (w : Written) → Begins s (function_node o s w)
+begins_function_node s o (initform d) = grows_same s
+begins_function_node s o (accessor n k d) =
+    let numbers : Tables = record s { variables = s.variables + new_variables k } in
+    grows_then s numbers (with_accessor k d s) (grows_numbers s (s.variables + new_variables k) s.exits (omega arith) (omega arith)) (grows_literal numbers _)
+begins_function_node s o (method n has_next ps fs) = grows_same s
+
 -- all rows
 
 begins_special : (names : List (List ℕ)) (s : Tables) (x : Special) (a : Around) (p : Place) (ds : List Item) → Begins s (special_row names x a s p ds)
@@ -380,9 +464,9 @@ begins_special names s name.Defconstant a p ds = begins_global s true a p ds
 begins_special names s name.Defdynamic a p ds = begins_defdynamic s a p ds
 begins_special names s name.Defun a p ds = begins_defun s (first_reserved names ds) a p ds
 begins_special names s name.Defmacro a p ds = tt
-begins_special names s name.Defclass a p ds = tt
-begins_special names s name.Defgeneric a p ds = tt
-begins_special names s name.Defmethod a p ds = tt
+begins_special names s name.Defclass a p ds = begins_defclass names s a p ds
+begins_special names s name.Defgeneric a p ds = begins_defgeneric names s a p ds
+begins_special names s name.Defmethod a p ds = begins_defmethod names s a p ds
 
 begins_special_node : (names : List (List ℕ)) (s : Tables) (x : Special) (a : Around) (p : Place) (ds : List Item) (t : Tail) → Begins s (special_node names x a s p ds t)
 begins_special_node names s x a p ds no_tail = begins_special names s x a p ds

@@ -5,6 +5,7 @@ pub mod Places
 pub mod Good
 pub mod Captured
 pub mod Definitions
+pub mod Procedures
 pub mod Matches
 pub mod Made
 pub mod Apt
@@ -13,7 +14,11 @@ pub mod ValueRows
 pub mod ExitRows
 pub mod CallRows
 pub mod BinderRows
+pub mod Functions
 pub mod DefiningRows
+pub mod ClassRules
+pub mod GenericRows
+pub mod ClassRows
 pub mod AllRows
 pub mod Comes
 pub mod Programs

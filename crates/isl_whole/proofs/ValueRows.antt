@@ -43,6 +43,7 @@ use Rattle.isl_whole.proofs.Good.{good_at_top}
 use Rattle.isl_whole.proofs.Places.{variable_there, function_there}
 use Rattle.isl_whole.proofs.Made.{OneStands, made_local, made_clauses, made_body}
 use Rattle.isl_whole.proofs.Apt.{spots, AllApt, AptAt, Stage, apt_if, apt_within, apt_unsited, apt_literal, apt_made, plain_parts, apt_at_once, both_apt, below_apt, inner_apt}
+use Rattle.isl_whole.proofs.Procedures.{inner_ordinary}
 use Rattle.isl_whole.proofs.Found.{found_one, one_ends, found_two, found_with_body, found_inner, found_clauses}
 
 -- a symbol
@@ -115,6 +116,7 @@ apt_progn n a s p ds b g = apt_within n a s 1 p _ (λ l. apt_made n a s (deeper_
   inside = good_at_top (defined s) a b.good;
   low = λ k. k;
   sited = refl;
+  ordinary = inner_ordinary ds;
   start = counted_same a.spot.sited (defined s);
   parts = inner_apt n (deeper_at_top a) ds g;
   right = λ u rs c. made_body (defined u) (scope_of a) a.spot.depth _ l (found_inner (defined u) (deeper 1 a) (deeper_at_top a) ds rs c.match);

@@ -8,7 +8,7 @@ use Rattle.isl_meaning.specs.Counts.{depth, all_nodes}
 use Rattle.isl_profile.specs.Marks.{Grows}
 use Rattle.isl_profile.specs.Nodes.{Around, Standing}
 use Rattle.isl_profile.specs.declared.tables.Tables.{Tables}
-use Rattle.isl_whole.specs.Definitions.{Definitions, defined, rows_of, Later, procedure_count, WholeDefinitions}
+use Rattle.isl_whole.specs.Definitions.{Definitions, defined, rows_of, Later, Undefined, procedure_count, WholeDefinitions}
 use Rattle.isl_whole.specs.Numbers.{Numbered}
 use Rattle.isl_whole.specs.Places.{scope_of}
 
@@ -26,7 +26,7 @@ pub record Behind (top : Bool) (g h : Definitions) : Type 0 where
   pub later : Later g h
   pub whole : WholeDefinitions h
   pub main : h.main ≡ g.main
-  pub inside : top ≡ false → h.functions ≡ g.functions
+  pub inside : top ≡ false → Undefined g h
 
 -- the sites are more by no more than these nodes and those of new procedures, and where forms have no sites by no more
 -- than those of new procedures

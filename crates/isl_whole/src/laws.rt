@@ -7,6 +7,7 @@ ghost use Rattle.isl_meaning.specs.declared.scope.LexicalScope.{LexicalScope};
 ghost use Rattle.isl_meaning.specs.Form.{Form};
 ghost use Rattle.isl_meaning.specs.Standing.{stands};
 ghost use Rattle.isl_meaning.specs.ProgramCounts.{program_nodes};
+ghost use Rattle.isl_meaning.specs.Cells.{program_cells};
 ghost use Rattle.isl_meaning.specs.Facts.{is_whole};
 ghost use Rattle.isl_classes.specs.InheritedBuiltIn.{AreBuiltIn};
 ghost use Rattle.isl_profile.specs.declared.tables.Tables.{Tables};
@@ -19,6 +20,7 @@ ghost use Rattle.isl_whole.specs.Places.{NothingAround, GoodAround};
 ghost use Rattle.isl_whole.specs.Right.{Came, with_main};
 ghost use Rattle.isl_whole.specs.Between.{WholeBetween, HasNoForm};
 
+use isl_classes::laws::law_definitions;
 use isl_derived::laws::law_good_steps;
 
 /// A form that stands in a scope stands in each that binds as much.
@@ -34,6 +36,7 @@ pub fn law_forms()
         WholeTables s → Comes names (node names a s d) (comes_to m) → Came a s m }
 {
     law_good_steps();
+    law_definitions();
 }
 
 /// The first tables are whole, with the built-in classes and no more sites than nodes; so they are behind
@@ -47,9 +50,11 @@ pub fn law_top_forms()
         a.spot.sited ≡ false → WholeBetween s → Comes names (node names a s d) (comes_to m) → WholeBetween m.tables }
 {
     law_good_steps();
+    law_definitions();
 }
 
-/// Such tables are a whole program where its nodes are within their limit.
+/// Such tables are a whole program where its nodes, and the cells of its dispatch tables, are within their limits.
 pub fn law_programs()
-    ensures { (t : Tables) → WholeBetween t → program_nodes (rows_of (defined t)) ≤ 100000 → is_whole (rows_of (defined t)) ≡ true }
+    ensures { (t : Tables) → WholeBetween t → program_nodes (rows_of (defined t)) ≤ 100000 → program_cells (rows_of (defined t)) ≤ 262144 →
+        is_whole (rows_of (defined t)) ≡ true }
 {}
