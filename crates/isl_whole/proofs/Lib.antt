@@ -28,3 +28,4 @@ pub mod FoundNodes
 pub mod Numbers
 pub mod Growing
 pub mod Grown
+pub mod Below

@@ -11,7 +11,8 @@ ghost use Rattle.isl_meaning.specs.Cells.{program_cells};
 ghost use Rattle.isl_meaning.specs.Facts.{is_whole};
 ghost use Rattle.isl_classes.specs.InheritedBuiltIn.{AreBuiltIn};
 ghost use Rattle.isl_profile.specs.declared.tables.Tables.{Tables};
-ghost use Rattle.isl_profile.specs.Nodes.{Around, Standing, stands as comes_to};
+ghost use Rattle.isl_profile.specs.Nodes.{Around, Written, Standing, stands as comes_to};
+ghost use Rattle.isl_profile.specs.FunctionNodes.{function_node};
 ghost use Rattle.isl_profile.specs.Rows.{node};
 ghost use Rattle.isl_profile.specs.Judged.{Comes};
 ghost use Rattle.isl_whole.specs.Scopes.{Within};
@@ -19,6 +20,7 @@ ghost use Rattle.isl_whole.specs.Definitions.{defined, rows_of, WholeTables};
 ghost use Rattle.isl_whole.specs.Places.{NothingAround, GoodAround};
 ghost use Rattle.isl_whole.specs.Right.{Came, with_main};
 ghost use Rattle.isl_whole.specs.Between.{WholeBetween, HasNoForm};
+ghost use Rattle.isl_whole.specs.Below.{NothingDefined, OneProcedure};
 
 use isl_classes::laws::law_definitions;
 use isl_derived::laws::law_good_steps;
@@ -38,6 +40,15 @@ pub fn law_forms()
     law_good_steps();
     law_definitions();
 }
+
+/// Below top level nothing is defined: a form that stands there leaves classes, generic functions, functions, variables and
+/// procedures as they are. And a function of a definition leaves one procedure more and all the others so.
+pub fn law_below_top_level()
+    ensures forms { (names : List (List ℕ)) (a : Around) (s : Tables) (d : Item) (m : Standing) → a.spot.top ≡ false →
+        Comes names (node names a s d) (comes_to m) → NothingDefined s m.tables }
+    ensures functions { (names : List (List ℕ)) (a : Around) (s : Tables) (w : Written) (m : Standing) →
+        Comes names (function_node a s w) (comes_to m) → OneProcedure s m.tables }
+{}
 
 /// The first tables are whole, with the built-in classes and no more sites than nodes; so they are behind
 /// each top-level form, where that of a file is a main form then, and that of a prelude, in which forms
