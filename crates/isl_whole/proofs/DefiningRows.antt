@@ -8,7 +8,7 @@ use Rattle.std.proofs.lemmas.Bool.{and_parts, and_from, not-true, or_parts, or_r
 use Rattle.isl_base.specs.declared.place.Place.{Place}
 use Rattle.isl_base.specs.declared.datum.Name.{Name}
 use Rattle.isl_base.specs.Data.{Item}
-use Rattle.isl_base.specs.DataFormed.{formed_tells}
+use Rattle.isl_base.specs.DataFormed.{is_formed, formed_tells}
 use Rattle.isl_base.specs.DataParts.{AllOf}
 use Rattle.isl_base.specs.GoodData.{Good}
 use Rattle.isl_base.specs.Names.{slice_get-behind, slice_get-push}
@@ -109,7 +109,7 @@ none_more f y (x ∷ xs) h k = by_test (same_name f x) (list_any (same_name f) x
     by_test true o u g h = absurd (cc h)
     by_test false o u g h = g h
 
-one_name_more : (name : Name) (c : Callee) (fs : List FunctionRow) → all_differ same_name fs ≡ true → list_any (λ f. is_that name f.name) fs ≡ false
+pub one_name_more : (name : Name) (c : Callee) (fs : List FunctionRow) → all_differ same_name fs ≡ true → list_any (λ f. is_that name f.name) fs ≡ false
     → all_differ same_name (fs ++ (record { name = name; callee = c }) ∷ []) ≡ true
 one_name_more name c [] h k = refl
 one_name_more name c (f ∷ fs) h k =
@@ -137,7 +137,7 @@ later_row g f = record {
 }
 
 -- names of functions are names of more functions
-named_more : (fs : List FunctionRow) (f : FunctionRow) (gs : List GenericRow) → list_all (has_row fs) gs ≡ true → list_all (has_row (fs ++ f ∷ [])) gs ≡ true
+pub named_more : (fs : List FunctionRow) (f : FunctionRow) (gs : List GenericRow) → list_all (has_row fs) gs ≡ true → list_all (has_row (fs ++ f ∷ [])) gs ≡ true
 named_more fs f gs h = all_more (has_row fs) (has_row (fs ++ f ∷ [])) (λ g e. any_front (λ (k : FunctionRow). g.name.0 == k.name.0) fs (f ∷ []) e) gs h
 
 pub sound_row : (g : Definitions) (name : Name) (c : Callee) → SoundDefinitions g → callee_fits (rows_of g) c ≡ true → list_any (λ f. is_that name f.name) g.functions ≡ false
@@ -181,9 +181,9 @@ stands_with g name p a s = record {
 }
 
 -- the name of a file's function is a literal
-pub name_entered : (n : ℕ) (sited : Bool) (d : Item) (s : Tables) → SoundDefinitions (defined s) → Good n d → Entered (defined s) (defined (with_name sited d s))
-name_entered n true d s w g = entered_literal (defined s) (row.Datum d) w (formed_tells d g.formed)
-name_entered n false d s w g = entered_same (defined s) w
+pub name_entered : (sited : Bool) (d : Item) (s : Tables) → SoundDefinitions (defined s) → is_formed d ≡ true → Entered (defined s) (defined (with_name sited d s))
+name_entered true d s w g = entered_literal (defined s) (row.Datum d) w g
+name_entered false d s w g = entered_same (defined s) w
 
 pub name_right : (sited : Bool) (d : Item) (s : Tables) (h : Definitions) (t : LexicalScope) (k : ℕ) → k + 1 ≤ 1000 → Later (defined (with_name sited d s)) h
     → RightIn h t k (leaf_form (named_form sited s))
@@ -208,7 +208,7 @@ apt_defun_of n a s name d fs ps b h g top fresh l =
     let i : Around = alone false a in
     let t : Tables = with_name a.spot.sited d s in
     let xs : List Part = function_parts ps fs in
-    let e : Entered (defined s) (defined t) = name_entered n a.spot.sited d s b.whole h in
+    let e : Entered (defined s) (defined t) = name_entered a.spot.sited d s b.whole (formed_tells d h.formed) in
     record {
       entered = e;
       outside = good_later (defined s) (defined t) i e.later (good_alone (defined s) false a b.good);

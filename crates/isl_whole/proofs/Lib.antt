@@ -16,6 +16,9 @@ pub mod CallRows
 pub mod BinderRows
 pub mod Functions
 pub mod DefiningRows
+pub mod Adding
+pub mod Methods
+pub mod Joining
 pub mod ClassRules
 pub mod GenericRows
 pub mod ClassRows

@@ -235,7 +235,7 @@ apt_method n l a s p [] b o = apt_in_method n l a s p a.spot.in_method b refl o
 apt_method n l a s p (d ∷ ds) b o = tt
 
 -- a class that was found is there
-class_there : (rows : List ClassRow) (name : Name) (c : ℕ) → class_named rows name ≡ Some c → nat_lt c (length rows) ≡ true
+pub class_there : (rows : List ClassRow) (name : Name) (c : ℕ) → class_named rows name ≡ Some c → nat_lt c (length rows) ≡ true
 class_there [] name c h = absurd (cc h)
 class_there (r ∷ rs) name c h = by_test (same_name name r.name) (class_named rs name) (class_there rs name) h
   where
