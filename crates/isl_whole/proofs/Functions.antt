@@ -65,8 +65,11 @@ pub record FitsAlone (g : Definitions) (has_next : Bool) (p : Procedure) : Type 
   pub fits : body_fits (rows_of g) p.body ≡ true
   pub alone : is_alone has_next (Some p) ≡ true
 
+pub alone_more : (has_next : Bool) (p : Procedure) → is_alone has_next (Some p) ≡ true → is_alone true (Some p) ≡ true
+alone_more has_next p h = stands_within (alone_in (variables p) has_next) (alone_in (variables p) true) p.body (method_within (variables p) has_next) h
+
 pub fits_at_most : (g : Definitions) (has_next : Bool) (p : Procedure) → FitsAlone g has_next p → procedure_fits g p ≡ true
-fits_at_most g has_next p f = and_from _ _ f.fits (stands_within (alone_in (variables p) has_next) (alone_in (variables p) true) p.body (method_within (variables p) has_next) f.alone)
+fits_at_most g has_next p f = and_from _ _ f.fits (alone_more has_next p f.alone)
 
 -- with a procedure more
 

@@ -119,7 +119,6 @@ new_joined s n ps ms of_file u l fresh f c =
         later = later_generic (defined u) n (length ps.required) (is_some ps.rest);
         literals = refl;
         procedures = refl;
-        classes = refl;
         main = refl;
         sites = refl;
       }) rest.joined;

@@ -19,6 +19,8 @@ pub mod DefiningRows
 pub mod Adding
 pub mod Methods
 pub mod Joining
+pub mod Slots
+pub mod Accessors
 pub mod ClassRules
 pub mod GenericRows
 pub mod ClassRows

@@ -321,7 +321,6 @@ pub record Joined (g h : Definitions) : Type 0 where
   pub later : Later g h
   pub literals : h.literals ≡ g.literals
   pub procedures : h.procedures ≡ g.procedures
-  pub classes : h.classes ≡ g.classes
   pub main : h.main ≡ g.main
   pub sites : h.sites ≡ g.sites
 
@@ -331,13 +330,12 @@ joined_then g h k a b = record {
   later = later_then g h k a.later b.later;
   literals = b.literals ∙ a.literals;
   procedures = b.procedures ∙ a.procedures;
-  classes = b.classes ∙ a.classes;
   main = b.main ∙ a.main;
   sites = b.sites ∙ a.sites;
 }
 
 pub joined_same : (g : Definitions) → SoundDefinitions g → Joined g g
-joined_same g w = record { sound = w; later = later_same g; literals = refl; procedures = refl; classes = refl; main = refl; sites = refl }
+joined_same g w = record { sound = w; later = later_same g; literals = refl; procedures = refl; main = refl; sites = refl }
 
 -- the tables with a method are those definitions with it
 pub method_defined : (t : Tables) (i : ℕ) (h : Head) (p : ℕ) → method_then (defined t) i (method_of h p) ≡ defined (with_method_at i h p t)
@@ -351,7 +349,6 @@ joined_method t i h p w k =
       later = later_method (defined t) i (method_of h p);
       literals = refl;
       procedures = refl;
-      classes = refl;
       main = refl;
       sites = refl;
     })
