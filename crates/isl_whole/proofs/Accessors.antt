@@ -1,9 +1,8 @@
 -- Methods of slots' options: each is a method of the generic function of its name, which is a new one where none is there.
-use Rattle.std.proofs.Common.{◌+◌, ◌==◌, ◌≡◌, ◌≤◌, ◌<◌, ⊎_elim, ◌⊎◌, inl, inr, ℕ, zero, suc, nat_lt, Bool, true, false, not, ◌&&◌, ◌||◌, List, [], ◌∷◌, ◌++◌, length, flat_map, slice_get, is_some, option_map, Option, Some, None, if◌then◌else◌, refl, sym, ap, subst, ◌∙◌, add-one, arith}
+use Rattle.std.proofs.Common.{◌+◌, ◌==◌, ◌≡◌, ◌<◌, ⊎_elim, ◌⊎◌, inl, inr, ℕ, zero, suc, nat_lt, Bool, true, false, not, ◌&&◌, ◌||◌, List, [], ◌∷◌, ◌++◌, length, flat_map, slice_get, is_some, option_map, Option, Some, None, if◌then◌else◌, refl, sym, ap, subst, ◌∙◌, add-one, arith}
 use Rattle.std.specs.List.{list_all, list_any, filter_map}
 use Rattle.std.specs.Str.{bytes_eq}
 use Rattle.std.proofs.lemmas.Bool.{and_parts, and_from, or_parts, or_right, not-true, eqb-true, eqb-false, eq-eqb, ne_eqb, ltb-true, lt-ltb, cases_lt}
-use Rattle.std.proofs.lemmas.Option.{slice_get_within}
 use Rattle.isl_base.specs.declared.datum.Name.{Name}
 use Rattle.isl_base.specs.Names.{slice_get-behind}
 use Rattle.isl_meaning.specs.declared.program.Procedure.{Procedure}
@@ -25,12 +24,11 @@ use Rattle.isl_profile.specs.Makings.{arguments_of, classes_of, accessor_head, g
 use Rattle.isl_profile.specs.DefiningRows.{is_that}
 use Rattle.isl_profile.specs.GivenNames.{no_name, unfit, lacking, given}
 use Rattle.isl_profile.specs.ClassRows.{Function, for_initform, for_method, Use, use_of, names_differ, slot_function}
-use Rattle.isl_whole.specs.Definitions.{Definitions, defined, rows_of, SoundDefinitions, EachStands}
+use Rattle.isl_whole.specs.Definitions.{Definitions, defined, rows_of, SoundDefinitions}
 use Rattle.isl_whole.proofs.Definitions.{method_from}
 use Rattle.isl_whole.proofs.Functions.{alone_more}
-use Rattle.isl_whole.proofs.Procedures.{Takes}
 use Rattle.isl_whole.proofs.DefiningRows.{other_way}
-use Rattle.isl_whole.proofs.Adding.{none_more, new_row, plus_method, method_of, with_method, tables_with, generic_then, later_generic, sound_generic, method_then, TakesMethod, StandsBelow, stands_generic, stands_method, all_stand_below}
+use Rattle.isl_whole.proofs.Adding.{none_more, new_row, method_of, with_method, tables_with, later_generic, sound_generic, TakesMethod, StandsBelow, stands_generic, stands_method, all_stand_below}
 use Rattle.isl_whole.proofs.Methods.{Joined, joined_same, joined_then, method_defined, joined_method}
 use Rattle.isl_whole.proofs.Joining.{Joins}
 use Rattle.isl_whole.proofs.Slots.{AllGiven, TakenAt, FunctionsMade}
@@ -123,6 +121,7 @@ lower_line c (d ∷ ds) (e ∷ es) h k =
     none : (b : Bool) → (b && false) ≡ false
     none true = refl
     none false = refl
+
     by_test : (b : Bool) → (e == c) ≡ b → nat_lt d c ≡ true → (list_any (λ d. d == c) es ≡ true → bytes_eq ds es ≡ false) → (b || list_any (λ d. d == c) es) ≡ true
         → ((d == e) && bytes_eq ds es) ≡ false
     by_test true q l more k =

@@ -1,8 +1,7 @@
 -- Definitions with a generic function more, and with a method more.
-use Rattle.std.proofs.Common.{◌+◌, ◌==◌, ◌≡◌, ◌≤◌, ◌<◌, ⊎_elim, ◌⊎◌, inl, inr, ℕ, zero, suc, nat_lt, Bool, true, false, not, ◌&&◌, ◌||◌, List, [], ◌∷◌, ◌++◌, length, slice_get, Option, Some, None, refl, sym, ap, subst, ◌∙◌, length-append, arith}
+use Rattle.std.proofs.Common.{◌+◌, ◌==◌, ◌≡◌, ◌<◌, ⊎_elim, ◌⊎◌, inl, inr, ℕ, zero, suc, Bool, true, false, not, ◌||◌, List, [], ◌∷◌, ◌++◌, length, slice_get, Some, refl, sym, ap, subst, ◌∙◌, length-append, arith}
 use Rattle.std.specs.List.{list_all, list_any}
-use Rattle.std.specs.Str.{bytes_eq}
-use Rattle.std.proofs.lemmas.Bool.{and_parts, and_from, or_left, or_right, or_parts, not-true, eqb-true, eqb-false, eq-eqb, ne_eqb, lt-ltb, cases_lt}
+use Rattle.std.proofs.lemmas.Bool.{and_parts, and_from, or_left, or_right, or_parts, not-true, eqb-true, eq-eqb, lt-ltb, cases_lt}
 use Rattle.std.proofs.lemmas.Option.{slice_get_within}
 use Rattle.isl_base.specs.declared.datum.Name.{Name}
 use Rattle.isl_meaning.specs.declared.program.Procedure.{Procedure}
@@ -12,7 +11,7 @@ use Rattle.isl_meaning.specs.declared.program.FunctionRow.{FunctionRow}
 use Rattle.isl_meaning.specs.declared.program.Callee.TheVariants as callee
 use Rattle.isl_meaning.specs.Lookup.{all_differ}
 use Rattle.isl_meaning.specs.Standing.{is_alone}
-use Rattle.isl_meaning.specs.Facts.{callee_fits, method_fits, same_method, generic_fits, is_of_method, same_name}
+use Rattle.isl_meaning.specs.Facts.{callee_fits, method_fits, same_method, generic_fits, is_of_method}
 use Rattle.isl_profile.specs.declared.tables.Tables.{Tables}
 use Rattle.isl_profile.specs.declared.making.Head.{Head}
 use Rattle.isl_profile.specs.Makings.{with_method_at}
@@ -20,7 +19,7 @@ use Rattle.isl_profile.specs.DefiningRows.{is_that}
 use Rattle.isl_whole.specs.Definitions.{Definitions, rows_of, Later, has_function, same_generic, SoundDefinitions, EachStands}
 use Rattle.isl_whole.proofs.Definitions.{literals_later, procedures_later, own_later, generics_later, functions_later, mains_later, all_push}
 use Rattle.isl_whole.proofs.Places.{any_front, any_behind}
-use Rattle.isl_whole.proofs.DefiningRows.{named_more, one_name_more, other_way}
+use Rattle.isl_whole.proofs.DefiningRows.{named_more, one_name_more}
 
 -- lists in which no two are alike
 
@@ -253,6 +252,7 @@ stands_next n g k m l same s = record {
   where
     below_or : (i n : ℕ) → i < n + 1 → (i < n) ⊎ (i ≡ n)
     below_or i n b = ⊎_elim inl (λ k. inr (omega (arith, k, b))) (cases_lt i n)
+
     of_last : (i : ℕ) → i ≡ n → is_of_method (rows_of (method_then g k m)) i ≡ true
     of_last i e = subst (λ (j : ℕ). list_any (has_procedure j) (with_method g.generics k m) ≡ true) (same ∙ sym e) (of_new_method g.generics k m l)
 

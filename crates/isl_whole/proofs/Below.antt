@@ -1,5 +1,5 @@
 -- Below top level nothing is defined, and a function of a definition leaves one procedure.
-use Rattle.std.proofs.Common.{◌≡◌, ◌+◌, ℕ, Bool, true, false, List, [], ◌∷◌, ◌++◌, length, Option, Some, None, is_some, refl, ap, ◌∙◌, arith}
+use Rattle.std.proofs.Common.{◌≡◌, ◌+◌, ℕ, Bool, false, List, [], ◌∷◌, ◌++◌, length, Some, None, is_some, refl, ap, ◌∙◌, arith}
 use Rattle.isl_base.specs.Data.{Item}
 use Rattle.isl_profile.specs.declared.tables.Tables.{Tables}
 use Rattle.isl_profile.specs.declared.making.Found.{Found}
@@ -15,7 +15,7 @@ use Rattle.isl_profile.specs.FunctionNodes.{function_parts, variables_of, with_a
 use Rattle.isl_profile.specs.Rows.{node}
 use Rattle.isl_profile.specs.Judged.{with_fresh, with_variable, subject, Verdicts, all_stand, one_ended, in_front, made_verdict, Comes, offence, step, made, Goes, ends, goes, stops}
 use Rattle.isl_profile.specs.Marks.{Grows}
-use Rattle.isl_profile.specs.bridge.Growing.{grows_then, grows_same}
+use Rattle.isl_profile.specs.bridge.Growing.{grows_then}
 use Rattle.isl_whole.specs.Below.{SameNames, NothingDefined, OneProcedure}
 use Rattle.isl_whole.proofs.Places.{each_append}
 use Rattle.isl_whole.proofs.Procedures.{IsOrdinary, AllOrdinary, IsLow, AllLow, all_low, inner_ordinary}

@@ -1,47 +1,42 @@
 -- The row of the form that defines a class is apt.
-use Rattle.std.proofs.Common.{◌+◌, ◌==◌, ◌≡◌, ◌≤◌, ◌<◌, ℕ, nat_lt, nat_le, Bool, true, false, not, ◌&&◌, ◌||◌, List, [], ◌∷◌, ◌++◌, length, map, flat_map, slice_get, is_some, Option, Some, None, if◌then◌else◌, refl, sym, ap, subst, ◌∙◌, length-append, append-nil, arith}
+use Rattle.std.proofs.Common.{◌+◌, ◌==◌, ◌≡◌, ◌≤◌, ◌<◌, ℕ, nat_lt, Bool, true, false, not, ◌&&◌, ◌||◌, List, [], ◌∷◌, ◌++◌, length, flat_map, is_some, Option, Some, None, if◌then◌else◌, refl, sym, ap, subst, ◌∙◌, length-append, append-nil, arith}
 use Rattle.std.specs.Prelude.{All}
 use Rattle.std.specs.List.{list_all, list_any}
 use Rattle.std.specs.List.{cons_option}
-use Rattle.std.proofs.lemmas.Bool.{and_parts, and_from, or_parts, not-true, not-false, eqb-true, leb-true, ltb-true, leb-false, ltb-false}
+use Rattle.std.proofs.lemmas.Bool.{and_parts, or_parts, not-true, not-false, eqb-true, leb-true, ltb-true, leb-false, ltb-false}
 use Rattle.std.proofs.lemmas.List.Elements.{All-nil, All-cons}
 use Rattle.isl_base.specs.declared.place.Place.{Place}
 use Rattle.isl_base.specs.declared.datum.Name.{Name}
-use Rattle.isl_base.specs.declared.datum.Symbol.TheVariants.{Named}
-use Rattle.isl_base.specs.Data.{Item, item, symbol}
-use Rattle.isl_base.specs.DataFormed.{is_formed, formed_tells}
+use Rattle.isl_base.specs.Data.{Item}
+use Rattle.isl_base.specs.DataFormed.{formed_tells}
 use Rattle.isl_base.specs.DataParts.{AllOf}
 use Rattle.isl_base.specs.GoodData.{Good}
 use Rattle.isl_meaning.specs.declared.program.ClassRow.{ClassRow}
-use Rattle.isl_meaning.specs.declared.program.SlotRow.{SlotRow}
 use Rattle.isl_meaning.specs.declared.program.GenericRow.{GenericRow}
 use Rattle.isl_meaning.specs.declared.program.MethodRow.{MethodRow}
 use Rattle.isl_meaning.specs.declared.program.FunctionRow.{FunctionRow}
 use Rattle.isl_meaning.specs.Subforms.{Each}
 use Rattle.isl_meaning.specs.Facts.{method_fits, same_method, generic_fits}
 use Rattle.isl_meaning.specs.Lookup.{all_differ}
-use Rattle.isl_classes.specs.declared.slot_spec.SlotSpec.{SlotSpec}
 use Rattle.isl_classes.specs.Given.{given as given_slots, spec_names, is_wrong}
 use Rattle.isl_classes.specs.InheritedPrecedence.{supers_fit}
 use Rattle.isl_classes.specs.InheritedSlots.{same_name, each_first}
 use Rattle.isl_classes.specs.InheritedClasses.{Hierarchy, IsHierarchy, GivenSlot, slots_given, class_named, inherited_names, slot_limit, with_class}
 use Rattle.isl_derived.specs.Asked.{list_items}
 use Rattle.isl_profile.specs.declared.tables.Tables.{Tables}
-use Rattle.isl_profile.specs.declared.making.Found.{Found}
 use Rattle.isl_profile.specs.declared.making.NewClass.{NewClass}
-use Rattle.isl_profile.specs.declared.making.Making.TheVariants.{OfClass}
-use Rattle.isl_profile.specs.Nodes.{Around, Part, Node}
+use Rattle.isl_profile.specs.Nodes.{Around, Part}
 use Rattle.isl_profile.specs.Shapes.{symbol_of}
 use Rattle.isl_profile.specs.Makings.{generic_named, with_new_class, with_slot_functions, finish_class}
-use Rattle.isl_profile.specs.DefiningRows.{named, is_that, has_function, is_of_prelude, is_truth, named_form}
+use Rattle.isl_profile.specs.DefiningRows.{named, has_function, is_of_prelude, is_truth}
 use Rattle.isl_profile.specs.GivenNames.{no_name, unfit, lacking, given}
 use Rattle.isl_profile.specs.ClassShapes.{WrittenSlot, slots_in, WrittenSuper, supers_in, ClassOption, class_options, are_options, is_of_left_out, is_abstract}
 use Rattle.isl_profile.specs.GenericRows.{keeps, unless_unknown}
-use Rattle.isl_profile.specs.ClassRows.{Function, for_initform, for_method, functions_of, all_functions, Use, use_of, uses, is_lacking, is_of_function, is_kept_name, takes_it, row_named, fits_generic, names_differ, known_supers, unknown_names, some_twice, first_unknown_super, are_supers, few_inherited, has_wrong_options, part_of, slot_parts, class_parts, slot_specs, slot_function, slot_functions, class_made, class_in_text, class_of_prelude, is_taken_class, is_reserved_class, class_of, class_shaped, defclass_row}
+use Rattle.isl_profile.specs.ClassRows.{Function, for_initform, for_method, functions_of, all_functions, Use, uses, is_lacking, is_of_function, is_kept_name, takes_it, row_named, fits_generic, names_differ, known_supers, first_unknown_super, are_supers, few_inherited, has_wrong_options, part_of, slot_parts, class_parts, slot_specs, slot_functions, class_made, class_in_text, class_of_prelude, is_taken_class, is_reserved_class, class_of, class_shaped, defclass_row}
 use Rattle.isl_profile.specs.bridge.SoundClasses.{sound_defclass}
 use Rattle.isl_whole.specs.Definitions.{Definitions, defined, rows_of, Later, slot_fits, SoundDefinitions}
 use Rattle.isl_whole.proofs.Tests.{all_more}
-use Rattle.isl_whole.proofs.Definitions.{MethodParts, method_parts, literals_later, procedures_later, own_later, generics_later, functions_later, mains_later, all_push}
+use Rattle.isl_whole.proofs.Definitions.{method_parts, literals_later, procedures_later, own_later, generics_later, functions_later, mains_later, all_push}
 use Rattle.isl_whole.proofs.Places.{each_append}
 use Rattle.isl_whole.proofs.Procedures.{MadeFrom}
 use Rattle.isl_whole.proofs.Apt.{AptAt, Stage}
@@ -49,9 +44,8 @@ use Rattle.isl_whole.proofs.ValueRows.{class_there}
 use Rattle.isl_whole.proofs.Methods.{AllRight, Joined, joined_then}
 use Rattle.isl_whole.proofs.GenericRows.{unless_functions}
 use Rattle.isl_whole.proofs.Joining.{IsFunction, AllFunctions, Joins, FunctionsCame, WhereSound, where_test, where_within, where_defining, apt_joining}
-use Rattle.isl_whole.proofs.Adding.{StandsBelow}
-use Rattle.isl_whole.proofs.Slots.{MaybeSlots, named_slots, AllGiven, all_given, all_slot_parts, RightSlots, right_slots, names_of_specs, FunctionsMade, functions_made, slots_fit}
-use Rattle.isl_whole.proofs.Accessors.{found, found_named, found_none, found_some, RowReady, MaybeReady, IsReady, functions_joined}
+use Rattle.isl_whole.proofs.Slots.{MaybeSlots, named_slots, AllGiven, all_given, RightSlots, right_slots, names_of_specs, FunctionsMade, functions_made, slots_fit}
+use Rattle.isl_whole.proofs.Accessors.{found, found_named, found_none, found_some, MaybeReady, IsReady, functions_joined}
 use Rattle.isl_whole.proofs.ClassRules.{ClassRules}
 
 -- the parts of a class are functions
@@ -232,9 +226,11 @@ record Judged (s : Tables) (n : Name) (cs : List WrittenSuper) (xs : List Writte
 -- what is ready stays so where the same is defined
 ready_same : (c : ℕ) (s t : Tables) (us : List Use) → t.generics ≡ s.generics → t.functions ≡ s.functions → Each (IsReady c s) us → Each (IsReady c t) us
 ready_same c s t [] e f r = tt
-ready_same c s t (u ∷ us) e f r =
-    (subst (λ (fs : List FunctionRow). MaybeReady c u fs (found u.name t.generics)) (sym f)
-    (subst (λ (gs : List GenericRow). MaybeReady c u s.functions (found u.name gs)) (sym e) r.0), ready_same c s t us e f r.1)
+ready_same c s t (u ∷ us) e f r = (
+  subst (λ (fs : List FunctionRow). MaybeReady c u fs (found u.name t.generics)) (sym f)
+      (subst (λ (gs : List GenericRow). MaybeReady c u s.functions (found u.name gs)) (sym e) r.0),
+  ready_same c s t us e f r.1,
+)
 
 class_finished : (rules : ClassRules) (s : Tables) (n : Name) (cs : List WrittenSuper) (xs : List WrittenSlot) (b of_file : Bool) (u : Tables) → SoundDefinitions (defined s)
     → Judged s n cs xs → FunctionsCame s (class_parts s cs xs) u

@@ -19,7 +19,6 @@ use Rattle.isl_classes.specs.InheritedClasses.{Hierarchy, IsRow, IsBuiltIn}
 use Rattle.isl_classes.specs.InheritedBuiltIn.{own_initarg, SaysSlots, AreBuiltIn, built_in_own}
 use Rattle.isl_meaning.specs.declared.program.ProgramRows.{ProgramRows}
 use Rattle.isl_meaning.specs.Facts.{initform_fits, class_fits}
-use Rattle.isl_classes.specs.InheritedClasses.{IsHierarchy}
 use Rattle.isl_profile.specs.Marks.{StandsFirst}
 use Rattle.isl_whole.specs.Definitions.{Definitions, rows_of, slot_fits, initform_takes_nothing, WholeClasses}
 use Rattle.isl_whole.specs.Classes.{BeginsBuiltIn}

@@ -1,5 +1,5 @@
 -- What a good datum comes to at a good place beside whole tables is right, and the tables behind it are whole.
-use Rattle.std.proofs.Common.{◌≡◌, ◌+◌, ◌==◌, ◌≤◌, ⊎_elim, ℕ, Bool, true, false, ◌||◌, List, [], ◌∷◌, ◌++◌, length, Option, Some, None, refl, sym, ap, subst, ◌∙◌, slice_get, length-append, arith}
+use Rattle.std.proofs.Common.{◌≡◌, ◌+◌, ◌==◌, ◌≤◌, ⊎_elim, ℕ, Bool, true, false, ◌||◌, List, [], ◌∷◌, ◌++◌, length, refl, sym, ap, subst, ◌∙◌, slice_get, length-append, arith}
 use Rattle.std.specs.List.{list_any}
 use Rattle.std.proofs.lemmas.Bool.{or_left, or_right, and_from}
 use Rattle.isl_base.specs.declared.datum.Symbol.{Symbol}
@@ -24,11 +24,9 @@ use Rattle.isl_whole.specs.Definitions.{Definitions, defined, Later, Undefined, 
 use Rattle.isl_whole.specs.Places.{variables_around, scope_of, NothingAround, GoodAround}
 use Rattle.isl_whole.specs.Right.{Counted}
 use Rattle.isl_whole.proofs.Forms.{each_more, right_later, right_within}
-use Rattle.isl_whole.proofs.Definitions.{later_same, later_then, undefined_same, undefined_then, each_stands_same, Entered, entered_same, entered_numbers, Leaves, leaves_entered, counted_same, counted_then, counted_more}
-use Rattle.isl_whole.proofs.Nodes.{nodes_of, found_nodes}
+use Rattle.isl_whole.proofs.Definitions.{later_same, later_then, undefined_same, undefined_then, each_stands_same, Entered, entered_same, entered_numbers, leaves_entered, counted_same, counted_then, counted_more}
 use Rattle.isl_whole.specs.Numbers.{Numbered}
 use Rattle.isl_whole.proofs.Numbers.{AllNumbered, numbered_wider, all_numbered_wider, next_number}
-use Rattle.isl_whole.proofs.FoundNodes.{none_found}
 use Rattle.isl_whole.proofs.Good.{good_later, good_deeper, good_variable}
 use Rattle.isl_whole.proofs.Places.{any_front, any_behind, variables_append, exits_append}
 use Rattle.isl_whole.proofs.Captured.{any_cases}
@@ -36,7 +34,7 @@ use Rattle.isl_whole.proofs.Matches.{AllMatch, new_variables, all_match_within}
 use Rattle.isl_whole.proofs.Apt.{spots, AllCame, AptPart, AllApt, part_nodes, counted_nodes, Want, nothing, never, right_at, one_procedure, Wanted, wanted_nodes, LeavesAs, AptWhole, Apt, Stage, came_leaves}
 use Rattle.isl_base.specs.Names.{slice_get-behind}
 use Rattle.isl_profile.specs.Nodes.{Written}
-use Rattle.isl_whole.proofs.Procedures.{MadeFrom, Same, IsAt, OneMore, AllOrdinary, AllLow}
+use Rattle.isl_whole.proofs.Procedures.{MadeFrom, Same, IsAt, OneMore}
 use Rattle.isl_whole.proofs.Functions.{apt_function_node}
 use Rattle.isl_whole.proofs.ClassRules.{ClassRules}
 use Rattle.isl_whole.proofs.AllRows.{apt_node}

@@ -1,8 +1,7 @@
 -- The rows of forms that define are apt: a function is there under a name of its own, with a procedure that stands alone.
-use Rattle.std.proofs.Common.{◌≡◌, ◌+◌, ◌==◌, ◌≤◌, ⊎_elim, ℕ, Bool, true, false, not, ◌&&◌, ◌||◌, List, [], ◌∷◌, ◌++◌, take, drop, length, Option, Some, None, is_some, refl, sym, ap, subst, ◌∙◌, arith, append-nil}
+use Rattle.std.proofs.Common.{◌≡◌, ◌+◌, ◌==◌, ◌≤◌, ⊎_elim, ℕ, Bool, true, false, not, ◌&&◌, ◌||◌, List, [], ◌∷◌, ◌++◌, length, Option, Some, None, is_some, refl, sym, ap, subst, ◌∙◌, arith}
 use Rattle.std.specs.List.{list_any, list_all}
-use Rattle.std.proofs.lemmas.List.Sums.{sum_by_push}
-use Rattle.std.proofs.lemmas.Bool.{eqb-false, ne_eqb, le-leb}
+use Rattle.std.proofs.lemmas.Bool.{eqb-false, ne_eqb}
 use Rattle.std.proofs.lemmas.List.{length-append}
 use Rattle.std.proofs.lemmas.Bool.{and_parts, and_from, not-true, or_parts, or_right}
 use Rattle.isl_base.specs.declared.place.Place.{Place}
@@ -19,24 +18,21 @@ use Rattle.isl_meaning.specs.declared.program.Callee.TheVariants as callee
 use Rattle.isl_meaning.specs.declared.program.LiteralRow.TheVariants as row
 use Rattle.isl_meaning.specs.declared.program.Procedure.{Procedure}
 use Rattle.isl_meaning.specs.declared.scope.LexicalScope.{LexicalScope}
-use Rattle.isl_meaning.specs.Form.{parameters}
-use Rattle.isl_meaning.specs.Counts.{depth}
 use Rattle.isl_meaning.specs.Lookup.{all_differ}
 use Rattle.isl_meaning.specs.Standing.{is_alone}
 use Rattle.isl_meaning.specs.Facts.{same_name, callee_fits}
 use Rattle.isl_meaning.specs.ProgramCounts.{procedure_nodes}
 use Rattle.isl_profile.specs.declared.tables.Tables.{Tables}
 use Rattle.isl_profile.specs.declared.parameters.Parameters.{Parameters}
-use Rattle.isl_profile.specs.declared.making.Found.{Found}
 use Rattle.isl_profile.specs.declared.making.One.TheVariants.{DefineGlobal, DefineDynamic}
 use Rattle.isl_profile.specs.Nodes.{Around, Part, Node}
-use Rattle.isl_profile.specs.Makings.{leaf_form, forms_found, variables_found, body_of, rest_found, procedure_found}
+use Rattle.isl_profile.specs.Makings.{leaf_form, forms_found, procedure_found}
 use Rattle.isl_profile.specs.Shapes.{symbol_of, parameters_in, all_symbols}
 use Rattle.isl_profile.specs.RowWords.{each_parameter, each_inner, alone}
 use Rattle.isl_profile.specs.FunctionNodes.{function_parts}
 use Rattle.isl_profile.specs.DefiningRows.{named, is_that, has_global, has_dynamic, is_set, is_of_prelude, has_function, is_taken, is_truth, is_reserved, defining_offence, unless_offending, global_as, global_row, defdynamic_as, defdynamic_row, with_name, named_form, defun_of, defun_with, defun_as, defun_row}
 use Rattle.isl_whole.specs.Definitions.{Definitions, defined, rows_of, Later, Undefined, has_function as has_row, SoundDefinitions, EachStands}
-use Rattle.isl_whole.specs.Places.{variables_around, exits_around, scope_of, NothingAround}
+use Rattle.isl_whole.specs.Places.{scope_of}
 use Rattle.isl_whole.specs.Right.{RightIn, Counted}
 use Rattle.isl_whole.proofs.Tests.{all_more}
 use Rattle.isl_whole.proofs.Definitions.{Entered, entered_same, entered_literal, later_then, literals_later, procedures_later, own_later, generics_later, functions_later, callee_fits_later, mains_later, each_stands_same, all_push, counted_same, counted_then}

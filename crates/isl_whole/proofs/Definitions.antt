@@ -1,10 +1,8 @@
 -- Tables that stay sound: with a literal, a site, an exit or a variable more.
-use Rattle.std.proofs.Common.{◌+◌, ◌==◌, ◌≡◌, ◌≤◌, ◌<◌, ⊎_elim, ℕ, nat_le, nat_lt, Bool, true, false, ◌&&◌, ◌||◌, List, [], ◌∷◌, ◌++◌, length, slice_get, Option, Some, None, refl, sym, ap, subst, ◌∙◌, arith}
+use Rattle.std.proofs.Common.{◌+◌, ◌==◌, ◌≡◌, ◌≤◌, ◌<◌, ℕ, nat_le, nat_lt, Bool, true, false, ◌&&◌, ◌||◌, List, [], ◌∷◌, ◌++◌, length, slice_get, Option, Some, None, refl, sym, ap, subst, ◌∙◌, arith}
 use Rattle.std.specs.List.{list_all, list_any}
 use Rattle.std.proofs.lemmas.List.{length-append}
 use Rattle.std.proofs.lemmas.Bool.{and_parts, and_from, ltb-true, lt-ltb}
-use Rattle.std.proofs.lemmas.Bool.{or_left, or_right}
-use Rattle.std.proofs.lemmas.Option.{slice_get_within}
 use Rattle.isl_base.specs.declared.place.Place.{Place}
 use Rattle.isl_meaning.specs.declared.program.LiteralRow.{LiteralRow}
 use Rattle.isl_meaning.specs.declared.program.LiteralRow.TheVariants as row
@@ -21,7 +19,7 @@ use Rattle.isl_meaning.specs.Counts.{depth}
 use Rattle.isl_meaning.specs.Fits.{fits}
 use Rattle.isl_meaning.specs.Lookup.{all_differ}
 use Rattle.isl_meaning.specs.Standing.{stands_alone, is_alone}
-use Rattle.isl_meaning.specs.Facts.{body_fits, literal_fits, initform_fits, is_congruent, knows_next, method_fits, same_method, generic_fits, callee_fits, is_of_method, same_name}
+use Rattle.isl_meaning.specs.Facts.{body_fits, literal_fits, initform_fits, is_congruent, knows_next, method_fits, same_method, generic_fits, callee_fits, same_name}
 use Rattle.isl_classes.specs.InheritedClasses.{Hierarchy, IsHierarchy}
 use Rattle.isl_whole.specs.Definitions.{Definitions, rows_of, Later, Undefined, procedure_fits, takes_nothing, initform_takes_nothing, slot_fits, has_function, same_generic, main_fits, WholeClasses, WholeGenerics, SoundDefinitions, EachStands}
 use Rattle.isl_whole.specs.Right.{Counted}

@@ -1,6 +1,6 @@
 -- Nodes of functions of definitions: each leaves the procedure that it is of.
-use Rattle.std.proofs.Common.{◌≡◌, ◌+◌, ◌==◌, ◌≤◌, ◌<◌, if◌then◌else◌, ℕ, Bool, true, false, List, [], ◌∷◌, ◌++◌, take, drop, length, Option, Some, None, is_some, slice_get, refl, sym, ap, subst, ◌∙◌, arith, append-nil, length-append}
-use Rattle.std.specs.List.{list_all, list_any, sum_by}
+use Rattle.std.proofs.Common.{◌≡◌, ◌+◌, ◌==◌, ◌≤◌, ◌<◌, if◌then◌else◌, ℕ, Bool, true, false, List, [], ◌∷◌, ◌++◌, take, drop, length, Option, Some, None, is_some, refl, sym, ap, subst, ◌∙◌, arith, append-nil, length-append}
+use Rattle.std.specs.List.{sum_by}
 use Rattle.std.proofs.lemmas.List.Sums.{sum_by_push}
 use Rattle.std.proofs.lemmas.List.{length-take, length-drop}
 use Rattle.std.proofs.lemmas.Bool.{le-leb, eq-eqb, and_from, or_left, or_right}
@@ -9,15 +9,13 @@ use Rattle.isl_base.specs.Data.{Item}
 use Rattle.isl_base.specs.DataFormed.{is_formed}
 use Rattle.isl_base.specs.DataParts.{AllOf}
 use Rattle.isl_base.specs.GoodData.{Good}
-use Rattle.isl_base.specs.Names.{slice_get-front, slice_get-behind, slice_get-push}
+use Rattle.isl_base.specs.Names.{slice_get-front}
 use Rattle.isl_meaning.specs.declared.program.LiteralRow.TheVariants as row
 use Rattle.isl_meaning.specs.declared.program.Procedure.{Procedure}
-use Rattle.isl_meaning.specs.declared.primitive.Primitive.TheVariants.{SlotPlace, SlotRef, SlotSet, SlotBound}
 use Rattle.isl_meaning.specs.declared.scope.LexicalScope.{LexicalScope}
 use Rattle.isl_meaning.specs.declared.part.Part.{Part as Captured}
 use Rattle.isl_meaning.specs.declared.part.Part.TheVariants as part
-use Rattle.isl_meaning.specs.Form.{Form, form_and, no_form, local, literal, prim, sequence, parameters}
-use Rattle.isl_meaning.specs.Subforms.{Each}
+use Rattle.isl_meaning.specs.Form.{Form, form_and, no_form, sequence, parameters}
 use Rattle.isl_meaning.specs.Counts.{depth}
 use Rattle.isl_meaning.specs.ProgramCounts.{procedure_nodes}
 use Rattle.isl_meaning.specs.Facts.{body_fits}
@@ -30,7 +28,7 @@ use Rattle.isl_profile.specs.declared.making.Accessor.TheVariants.{Reads, Writes
 use Rattle.isl_profile.specs.declared.making.Found.{Found}
 use Rattle.isl_profile.specs.declared.making.Making.TheVariants.{OfProcedure}
 use Rattle.isl_profile.specs.Nodes.{Around, Part, Written, initform, accessor, method}
-use Rattle.isl_profile.specs.Makings.{forms_found, variables_found, body_of, rest_found, procedure_found, accessor_procedure, accessor_form, accessor_variables, place_form, two_forms, arguments_of}
+use Rattle.isl_profile.specs.Makings.{forms_found, variables_found, body_of, rest_found, procedure_found, accessor_procedure, accessor_form, accessor_variables, place_form, arguments_of}
 use Rattle.isl_profile.specs.Shapes.{all_symbols}
 use Rattle.isl_profile.specs.RowWords.{each_parameter, each_inner, alone}
 use Rattle.isl_profile.specs.FunctionNodes.{function_parts, variables_of, with_accessor, function_node, body_alone}
@@ -40,16 +38,16 @@ use Rattle.isl_whole.specs.Places.{variables_around, exits_around, scope_of, Not
 use Rattle.isl_whole.specs.Right.{RightIn, Counted}
 use Rattle.isl_whole.proofs.Enough.{stands_within}
 use Rattle.isl_whole.proofs.Forms.{right_whole}
-use Rattle.isl_whole.proofs.Definitions.{later_same, later_then, sound_later, all_push, Entered, entered_same, entered_then, entered_literal, entered_numbers, counted_same, counted_then, counted_more}
+use Rattle.isl_whole.proofs.Definitions.{later_then, sound_later, all_push, Entered, entered_same, entered_then, entered_literal, entered_numbers, counted_same, counted_then}
 use Rattle.isl_whole.proofs.Nodes.{nodes_in, found_nodes, body_nodes}
 use Rattle.isl_whole.proofs.FoundNodes.{both_plain, inner_plain, parameters_plain, forms_counted}
 use Rattle.isl_whole.proofs.Found.{symbols_counted}
 use Rattle.isl_whole.proofs.Good.{good_later, good_alone, scope_with}
 use Rattle.isl_whole.proofs.Matches.{new_variables, ParametersMatch, parameters_match}
-use Rattle.isl_whole.proofs.Made.{made_body, made_literal, made_local, made_prim}
+use Rattle.isl_whole.proofs.Made.{made_body, made_literal, made_local}
 use Rattle.isl_whole.proofs.Apt.{spots, AptFunction, AllApt, all_ordinary, counted_nodes, counted_at_most, one_procedure, Apt}
 use Rattle.isl_whole.proofs.BinderRows.{found_parameters, function_apt}
-use Rattle.isl_whole.proofs.Procedures.{Takes, IsFor, Same, OneMore, all_low}
+use Rattle.isl_whole.proofs.Procedures.{Takes, IsFor, all_low}
 
 -- a form that stands alone in no method stands in a method
 method_within : (vs : List ℕ) (b : Bool) → Within (alone_in vs b) (alone_in vs true)

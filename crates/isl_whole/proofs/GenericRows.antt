@@ -1,5 +1,5 @@
 -- The rows of forms that define generic functions and methods are apt.
-use Rattle.std.proofs.Common.{◌+◌, ◌≡◌, ◌≤◌, ◌<◌, ℕ, Bool, true, false, not, ◌&&◌, ◌||◌, List, [], ◌∷◌, ◌++◌, length, slice_get, is_some, Option, Some, None, if◌then◌else◌, refl, sym, ap, subst, ◌∙◌, append-nil, add-one, option_map, arith}
+use Rattle.std.proofs.Common.{◌+◌, ◌≡◌, ◌≤◌, ◌<◌, ℕ, Bool, true, false, not, ◌&&◌, List, [], ◌∷◌, ◌++◌, length, slice_get, is_some, Option, Some, None, if◌then◌else◌, refl, sym, ap, subst, ◌∙◌, append-nil, add-one, option_map, arith}
 use Rattle.std.specs.List.{list_any}
 use Rattle.std.proofs.lemmas.Bool.{and_parts, and_from}
 use Rattle.std.proofs.lemmas.Option.{slice_get_within}
@@ -16,18 +16,16 @@ use Rattle.isl_meaning.specs.declared.program.Qualifier.{Qualifier}
 use Rattle.isl_derived.specs.Asked.{list_items}
 use Rattle.isl_profile.specs.declared.tables.Tables.{Tables}
 use Rattle.isl_profile.specs.declared.parameters.Parameters.{Parameters}
-use Rattle.isl_profile.specs.declared.making.Found.{Found}
 use Rattle.isl_profile.specs.declared.making.Head.{Head}
 use Rattle.isl_profile.specs.declared.making.Taker.TheVariants.{New, There}
 use Rattle.isl_profile.specs.declared.making.Making.TheVariants.{OfMethods}
-use Rattle.isl_profile.specs.Nodes.{Around, Part, function, method, Node, offends}
+use Rattle.isl_profile.specs.Nodes.{Around, Part, method, Node, offends}
 use Rattle.isl_profile.specs.Shapes.{parameters_in}
 use Rattle.isl_profile.specs.Makings.{with_generic, with_method_at, with_methods, generic_named}
 use Rattle.isl_profile.specs.DefiningRows.{is_that, has_function, is_taken, is_of_prelude, is_truth, is_reserved, named_form}
 use Rattle.isl_profile.specs.GivenNames.{GivenName, no_name, unfit, lacking, given, given_name}
 use Rattle.isl_profile.specs.MethodShapes.{Specialised, specialised_in, some_fresh_class, first_unknown, WrittenMethod, method_in, may_have_next}
-use Rattle.isl_profile.specs.GenericRows.{fits_by_number, is_there, fits, method_function, unless_unknown, specialised_parts, method_parts, heads_of, written_head, written_heads, name_datum, methods_of, keeps, GenericOption, options_of, is_no_option, is_of_left_out, methods_among, with_head, all_fit, generic_row, each_method, all_heads, generic_with, generic_named_as, defgeneric_row, is_closed, method_for, method_named_as, method_as, defmethod_row}
-use Rattle.isl_profile.specs.Sound.{weight, SoundNode}
+use Rattle.isl_profile.specs.GenericRows.{fits_by_number, is_there, fits, method_function, unless_unknown, specialised_parts, method_parts, heads_of, written_head, written_heads, name_datum, keeps, GenericOption, options_of, is_no_option, is_of_left_out, methods_among, with_head, all_fit, generic_row, each_method, all_heads, generic_with, generic_named_as, defgeneric_row, is_closed, method_for, method_named_as, method_as, defmethod_row}
 use Rattle.isl_profile.specs.bridge.SoundDefinitions.{sound_defgeneric, sound_defmethod}
 use Rattle.isl_meaning.specs.Facts.{method_fits, same_method}
 use Rattle.isl_classes.specs.InheritedClasses.{Hierarchy}
@@ -37,7 +35,7 @@ use Rattle.isl_whole.proofs.Places.{each_append}
 use Rattle.isl_whole.proofs.Procedures.{IsAt, MadeFrom}
 use Rattle.isl_whole.proofs.Apt.{AptAt, Stage}
 use Rattle.isl_whole.proofs.DefiningRows.{fresh_name}
-use Rattle.isl_whole.proofs.Adding.{new_row, plus_method, method_of, tables_with, get_with, generic_then, later_generic, sound_generic, with_method, TakesMethod, StandsBelow, stands_generic, stands_next, all_stand_below, method_then}
+use Rattle.isl_whole.proofs.Adding.{new_row, plus_method, method_of, tables_with, get_with, later_generic, sound_generic, TakesMethod, StandsBelow, stands_generic, stands_next, all_stand_below}
 use Rattle.isl_whole.proofs.Methods.{AllRight, each_front, each_behind, MethodView, method_view, none_alike, Alike, alike_same, alike_more, FitsRow, fits_row, method_fits_there, Joined, joined_same, joined_then, method_defined, joined_method}
 use Rattle.isl_whole.proofs.Joining.{IsFunction, AllFunctions, Joins, FunctionsCame, WhereSound, where_test, where_within, where_defining, apt_joining}
 
@@ -78,9 +76,10 @@ methods_joined s n i (m ∷ ms) x y t p l w c g a f r made =
     let takes : TakesMethod (defined t) i (method_of h p) = record {
       takes = λ z q.
           let same : y ≡ z = cc (g, q) in
-          subst (λ (z : GenericRow). (method_fits (rows_of (defined t)) z (method_of h p) ≡ true) × (list_any (λ j. same_method j (method_of h p)) z.methods ≡ false)) same
-          (method_fits_there (rows_of (defined t)) s n m x y p v k a (ap (λ (k : Hierarchy). length k.rows) c) here.0,
-          none_alike (method_of h p) y.methods (a.same (method_of h p) ∙ k.other));
+          subst (λ (z : GenericRow). (method_fits (rows_of (defined t)) z (method_of h p) ≡ true) × (list_any (λ j. same_method j (method_of h p)) z.methods ≡ false)) same (
+            method_fits_there (rows_of (defined t)) s n m x y p v k a (ap (λ (k : Hierarchy). length k.rows) c) here.0,
+            none_alike (method_of h p) y.methods (a.same (method_of h p) ∙ k.other),
+          );
     } in
     let u : Tables = with_method_at i h p t in
     let one : Joined (defined t) (defined u) = joined_method t i h p w takes in

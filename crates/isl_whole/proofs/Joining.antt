@@ -1,39 +1,34 @@
 -- Definitions whose parts are functions alone: what their rows need, where generic functions, methods and classes are added at the end.
-use Rattle.std.proofs.Common.{◌+◌, ◌==◌, ◌≡◌, ◌≤◌, ◌<◌, ℕ, Bool, true, false, not, ◌||◌, List, [], ◌∷◌, ◌++◌, length, slice_get, Option, Some, None, if◌then◌else◌, nat_le, refl, sym, ap, subst, ◌∙◌, arith}
+use Rattle.std.proofs.Common.{◌+◌, ◌==◌, ◌≡◌, ◌≤◌, ℕ, Bool, true, false, ◌||◌, List, [], ◌∷◌, length, slice_get, Some, None, if◌then◌else◌, nat_le, refl, sym, ap, subst, ◌∙◌, arith}
 use Rattle.std.specs.List.{list_any, sum_by}
 use Rattle.std.proofs.lemmas.Bool.{leb-true}
-use Rattle.std.proofs.lemmas.Option.{slice_get_within, slice_get-get_or}
+use Rattle.std.proofs.lemmas.Option.{slice_get-get_or}
 use Rattle.std.proofs.Common.{get_or}
 use Rattle.isl_base.specs.declared.place.Place.{Place}
 use Rattle.isl_base.specs.Data.{Item}
 use Rattle.isl_base.specs.DataFormed.{is_formed}
-use Rattle.isl_base.specs.GoodData.{Good}
-use Rattle.isl_meaning.specs.declared.program.Procedure.{Procedure}
 use Rattle.isl_meaning.specs.declared.program.GenericRow.{GenericRow}
 use Rattle.isl_meaning.specs.Form.{Form}
 use Rattle.isl_meaning.specs.ProgramCounts.{procedure_nodes}
 use Rattle.isl_meaning.specs.Subforms.{Each}
 use Rattle.isl_meaning.specs.Standing.{is_alone}
-use Rattle.isl_meaning.specs.Facts.{is_of_method}
 use Rattle.isl_profile.specs.declared.tables.Tables.{Tables}
 use Rattle.isl_profile.specs.declared.making.Found.{Found}
-use Rattle.isl_profile.specs.declared.making.Leaf.{Leaf}
-use Rattle.isl_profile.specs.declared.making.Made.{Made}
 use Rattle.isl_profile.specs.declared.making.Making.{Making}
-use Rattle.isl_profile.specs.Nodes.{Around, Part, form, below, inner, bind, parameter, wrong, function, Written, initform, accessor, method, Node, whole}
+use Rattle.isl_profile.specs.Nodes.{Around, Part, form, below, inner, bind, parameter, wrong, function, initform, accessor, method, Node, whole}
 use Rattle.isl_profile.specs.Makings.{leaf_form, made_form, finish}
 use Rattle.isl_profile.specs.RowWords.{within_depth}
 use Rattle.isl_profile.specs.DefiningRows.{defining_offence, unless_offending, with_name, named_form}
 use Rattle.isl_profile.specs.Sound.{weight, SoundPart, AllSound, SoundNode}
-use Rattle.isl_whole.specs.Definitions.{Definitions, defined, rows_of, Later, SoundDefinitions, EachStands, procedure_count}
+use Rattle.isl_whole.specs.Definitions.{Definitions, defined, Later, SoundDefinitions, EachStands, procedure_count}
 use Rattle.isl_whole.specs.Places.{scope_of}
 use Rattle.isl_whole.specs.Numbers.{Numbered}
 use Rattle.isl_whole.specs.Right.{RightIn, Counted}
 use Rattle.isl_whole.proofs.Definitions.{later_then, Entered, counted_then, counted_more}
 use Rattle.isl_whole.proofs.Good.{good_later}
 use Rattle.isl_whole.proofs.Procedures.{MadeFrom, Same, IsLow, AllLow}
-use Rattle.isl_whole.proofs.Apt.{spots, AllCame, AllApt, AptPart, counted_nodes, right_at, AptAt, Stage, apt_within}
-use Rattle.isl_whole.proofs.DefiningRows.{where_no_offence, name_entered, name_right, name_counted, name_numbered}
+use Rattle.isl_whole.proofs.Apt.{spots, AllCame, AllApt, AptPart, counted_nodes, AptAt, Stage}
+use Rattle.isl_whole.proofs.DefiningRows.{name_entered, name_right, name_counted, name_numbered}
 use Rattle.isl_whole.proofs.Adding.{StandsBelow}
 use Rattle.isl_whole.proofs.Methods.{AllRight, all_right, Joined}
 

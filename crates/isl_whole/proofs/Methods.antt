@@ -1,15 +1,14 @@
 -- Methods that a definition has: what was found of them, and that their generic function takes them.
-use Rattle.std.proofs.Common.{◌+◌, ◌==◌, ◌≡◌, ◌≤◌, ◌<◌, ℕ, suc, nat_lt, Bool, true, false, not, ◌&&◌, ◌||◌, List, [], ◌∷◌, ◌++◌, length, slice_get, is_some, Option, Some, None, if◌then◌else◌, refl, sym, ap, subst, ◌∙◌, arith}
+use Rattle.std.proofs.Common.{◌==◌, ◌≡◌, ◌<◌, ℕ, suc, nat_lt, Bool, true, false, not, ◌&&◌, ◌||◌, List, [], ◌∷◌, ◌++◌, length, is_some, Option, Some, None, if◌then◌else◌, refl, sym, ap, subst, ◌∙◌}
 use Rattle.std.specs.List.{list_all, list_any}
 use Rattle.std.specs.Str.{bytes_eq}
-use Rattle.std.proofs.lemmas.Bool.{and_parts, and_from, or_parts, not-true, eqb-true, eq-eqb, ne_eqb, eqb-false, lt-ltb}
+use Rattle.std.proofs.lemmas.Bool.{and_parts, and_from, not-true, eqb-true, eq-eqb, ne_eqb, eqb-false, lt-ltb}
 use Rattle.std.proofs.lemmas.List.Folds.{list_any-append}
 use Rattle.isl_base.specs.declared.place.Place.{Place}
 use Rattle.isl_base.specs.declared.datum.Name.{Name}
 use Rattle.isl_base.specs.declared.datum.Symbol.{Symbol}
 use Rattle.isl_base.specs.Data.{Item}
 use Rattle.isl_meaning.specs.declared.program.ClassRow.{ClassRow}
-use Rattle.isl_meaning.specs.declared.program.Procedure.{Procedure}
 use Rattle.isl_meaning.specs.declared.program.GenericRow.{GenericRow}
 use Rattle.isl_meaning.specs.declared.program.MethodRow.{MethodRow}
 use Rattle.isl_meaning.specs.declared.program.ProgramRows.{ProgramRows}
@@ -28,15 +27,15 @@ use Rattle.isl_profile.specs.declared.making.Head.{Head}
 use Rattle.isl_profile.specs.declared.making.Found.{Found}
 use Rattle.isl_profile.specs.Nodes.{Part, form, below, inner, bind, parameter, wrong, function, method}
 use Rattle.isl_profile.specs.Shapes.{parameter_in, symbol_of, is_rest_word, behind_rest, rest_alone, all_symbols, all_differ, only_if}
-use Rattle.isl_profile.specs.Makings.{with_method_at, with_methods}
+use Rattle.isl_profile.specs.Makings.{with_method_at}
 use Rattle.isl_profile.specs.MethodShapes.{Asked, any_object, of_class, Specialised, Taken, taken_by, without_classes, with_taken, specialised_of, where_they_differ, specialised_in, specialised_of_items, number_and, class_asked, classes_asked, unless_known, first_unknown, WrittenMethod, may_have_next}
-use Rattle.isl_profile.specs.GenericRows.{head_with, head_of, has_rest, as_many, fits_by_number, is_there, fits, method_function, unless_unknown, specialised_parts, method_parts, heads_of, written_head, written_heads, with_head, all_fit, each_method, all_heads}
-use Rattle.isl_whole.specs.Definitions.{Definitions, defined, rows_of, Later, SoundDefinitions, EachStands}
-use Rattle.isl_whole.proofs.Definitions.{MethodParts, method_from, later_same, later_then}
+use Rattle.isl_profile.specs.GenericRows.{head_with, head_of, as_many, fits_by_number, is_there, fits, method_function, unless_unknown, specialised_parts, method_parts, written_head}
+use Rattle.isl_whole.specs.Definitions.{Definitions, defined, Later, SoundDefinitions}
+use Rattle.isl_whole.proofs.Definitions.{method_from, later_same, later_then}
 use Rattle.isl_whole.proofs.Matches.{Spots, AllMatch}
-use Rattle.isl_whole.proofs.Procedures.{Takes, IsAt, MadeFrom}
+use Rattle.isl_whole.proofs.Procedures.{Takes, IsAt}
 use Rattle.isl_whole.proofs.ValueRows.{class_there}
-use Rattle.isl_whole.proofs.Adding.{none_of_less, with_method, method_of, method_then, plus_method, tables_with, length_with, get_with, later_method, TakesMethod, sound_method, StandsBelow, stands_next, all_stand_below}
+use Rattle.isl_whole.proofs.Adding.{none_of_less, method_of, method_then, plus_method, tables_with, later_method, TakesMethod, sound_method}
 
 -- parts none of which is wrong
 

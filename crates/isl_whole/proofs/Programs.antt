@@ -1,5 +1,5 @@
 -- Whole tables between top-level forms, and the program that they are.
-use Rattle.std.proofs.Common.{◌≡◌, ◌+◌, ◌≤◌, ◌<◌, ℕ, zero, suc, Bool, true, false, ◌||◌, List, [], ◌∷◌, ◌++◌, length, slice_get, is_some, Option, Some, None, refl, sym, ap, subst, ◌∙◌, arith}
+use Rattle.std.proofs.Common.{◌≡◌, ◌+◌, ◌≤◌, ℕ, suc, Bool, true, false, ◌||◌, List, [], ◌∷◌, ◌++◌, length, slice_get, Some, None, refl, sym, ap, subst, ◌∙◌, arith}
 use Rattle.std.specs.List.{list_all, sum_by}
 use Rattle.std.proofs.lemmas.List.Sums.{sum_by_push}
 use Rattle.std.proofs.lemmas.Bool.{le-leb}
@@ -9,11 +9,7 @@ use Rattle.isl_base.specs.GoodData.{Good}
 use Rattle.isl_meaning.specs.declared.program.Procedure.{Procedure}
 use Rattle.isl_meaning.specs.declared.program.ProgramRows.{ProgramRows}
 use Rattle.isl_meaning.specs.Cells.{program_cells}
-use Rattle.isl_meaning.specs.declared.program.ClassRow.{ClassRow}
-use Rattle.isl_meaning.specs.declared.program.SlotRow.{SlotRow}
 use Rattle.isl_meaning.specs.declared.program.FunctionRow.{FunctionRow}
-use Rattle.isl_meaning.specs.declared.program.Callee.{Callee}
-use Rattle.isl_meaning.specs.declared.program.Callee.TheVariants as callee
 use Rattle.isl_meaning.specs.declared.scope.LexicalScope.{LexicalScope}
 use Rattle.isl_meaning.specs.Form.{Form}
 use Rattle.isl_meaning.specs.Subforms.{Each}
@@ -29,7 +25,7 @@ use Rattle.isl_profile.specs.Nodes.{Around, Standing, stands as comes_to}
 use Rattle.isl_profile.specs.Rows.{node}
 use Rattle.isl_derived.specs.GoodSteps.{StepsAreGood}
 use Rattle.isl_profile.specs.Judged.{Comes}
-use Rattle.isl_whole.specs.Definitions.{Definitions, defined, rows_of, Later, Undefined, procedure_fits, slot_fits, has_function, same_generic, main_fits, SoundDefinitions, EachStands, WholeDefinitions, WholeTables, FewSites}
+use Rattle.isl_whole.specs.Definitions.{Definitions, defined, rows_of, Later, procedure_fits, has_function, same_generic, main_fits, EachStands, WholeDefinitions, WholeTables, FewSites}
 use Rattle.isl_whole.specs.Between.{WholeBetween, HasNoForm}
 use Rattle.isl_whole.specs.Places.{variables_around, exit_numbers, exits_around, scope_of, Rises, FunctionThere, NothingAround, GoodAround}
 use Rattle.isl_whole.specs.Right.{RightAt, Came, with_main, Counted}

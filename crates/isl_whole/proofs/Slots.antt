@@ -1,7 +1,7 @@
 -- Slots of a class definition: their functions have names, their number is within the limit, and their procedures are there.
-use Rattle.std.proofs.Common.{◌+◌, ◌==◌, ◌≡◌, ◌≤◌, ◌<◌, ℕ, nat_lt, Bool, true, false, not, ◌&&◌, ◌||◌, List, [], ◌∷◌, ◌++◌, length, map, flat_map, slice_get, is_some, Option, Some, None, if◌then◌else◌, refl, sym, ap, subst, ◌∙◌, append_assoc, append-nil, codes, arith}
+use Rattle.std.proofs.Common.{◌+◌, ◌≡◌, ◌≤◌, ℕ, nat_lt, Bool, true, false, not, ◌&&◌, ◌||◌, List, [], ◌∷◌, ◌++◌, length, map, flat_map, slice_get, is_some, Option, Some, None, if◌then◌else◌, refl, sym, ap, subst, ◌∙◌, append_assoc, append-nil, codes, arith}
 use Rattle.std.specs.List.{list_all, list_any}
-use Rattle.std.proofs.lemmas.Bool.{and_parts, and_from, or_parts, eq-eqb, ltb-false}
+use Rattle.std.proofs.lemmas.Bool.{and_from, or_parts, eq-eqb, ltb-false}
 use Rattle.isl_base.specs.declared.place.Place.{Place}
 use Rattle.isl_base.specs.declared.datum.Name.{Name}
 use Rattle.isl_base.specs.declared.datum.Symbol.{Symbol}
@@ -10,11 +10,9 @@ use Rattle.isl_base.specs.declared.reason.Reason.TheVariants.{BadSlot}
 use Rattle.isl_base.specs.Data.{Item, place_of}
 use Rattle.isl_base.specs.DataNames.{symbol_text}
 use Rattle.isl_meaning.specs.declared.program.Procedure.{Procedure}
-use Rattle.isl_meaning.specs.declared.program.SlotRow.{SlotRow}
 use Rattle.isl_meaning.specs.Subforms.{Each}
 use Rattle.isl_meaning.specs.Standing.{is_alone}
 use Rattle.isl_meaning.specs.Facts.{initform_fits}
-use Rattle.isl_classes.specs.declared.slot_spec.SlotSpec.{SlotSpec}
 use Rattle.isl_classes.specs.Given.{given as given_slots, spec_names, is_wrong}
 use Rattle.isl_classes.specs.InheritedClasses.{slots_given, slot_limit}
 use Rattle.isl_classes.specs.InheritedSlots.{has_name, each_first, with_name}
@@ -22,17 +20,16 @@ use Rattle.isl_classes.specs.Keeping.{KeepsNames}
 use Rattle.isl_derived.specs.Asked.{list_items, is_word}
 use Rattle.isl_profile.specs.declared.making.Accessor.{Accessor}
 use Rattle.isl_profile.specs.declared.making.Accessor.TheVariants.{Reads, Writes, Asks}
-use Rattle.isl_profile.specs.Nodes.{Part, wrong, function, initform, accessor}
+use Rattle.isl_profile.specs.Nodes.{Part, wrong}
 use Rattle.isl_profile.specs.Makings.{arguments_of}
 use Rattle.isl_profile.specs.Shapes.{symbol_of, name_of}
 use Rattle.isl_profile.specs.GivenNames.{GivenName, no_name, unfit, lacking, given, given_name, setter_of_text}
-use Rattle.isl_profile.specs.ClassShapes.{SlotOption, wrong_option, initform_of, initarg_of, method_of, accessor_of, initarg_by, method_by, accessor_with, accessor_by, slot_option, option_and, slot_options, WrittenSlot, slot_with, name_in, slot_in_list, slot_by, slot_and, each_slot, slots_in}
-use Rattle.isl_profile.specs.ClassRows.{Function, for_initform, for_method, functions_of_option, functions_of, all_functions, is_lacking, has_wrong_options, part_of, slot_parts, initform_from, slot_spec, slot_specs}
+use Rattle.isl_profile.specs.ClassShapes.{SlotOption, wrong_option, initform_of, initarg_by, method_by, accessor_with, accessor_by, slot_option, option_and, slot_options, WrittenSlot, slot_with, name_in, slot_in_list, slot_by, slot_and, each_slot, slots_in}
+use Rattle.isl_profile.specs.ClassRows.{Function, for_initform, for_method, functions_of_option, functions_of, all_functions, is_lacking, has_wrong_options, part_of, slot_parts, initform_from, slot_specs}
 use Rattle.isl_whole.specs.Definitions.{Definitions, rows_of, takes_nothing, initform_takes_nothing, slot_fits}
 use Rattle.isl_whole.proofs.Places.{each_append}
-use Rattle.isl_whole.proofs.Procedures.{Takes, IsAt, MadeFrom}
+use Rattle.isl_whole.proofs.Procedures.{Takes, MadeFrom}
 use Rattle.isl_whole.proofs.Methods.{IsRight, AllRight, each_front, each_behind}
-use Rattle.isl_whole.proofs.Joining.{IsFunction, AllFunctions}
 
 -- functions of methods whose names are names, or lack
 

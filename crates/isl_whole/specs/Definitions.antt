@@ -1,7 +1,7 @@
 -- What of the tables a program is made of, and when that is whole: literals in form, procedures whose bodies stand by
 -- themselves or in methods, classes whose initforms take no argument, generic functions whose methods are congruent,
 -- functions that are there under names of their own, and main forms that stand alone.
-use Rattle.std.specs.Prelude.{◌≡◌, ℕ, ◌+◌, ◌==◌, ◌≤◌, Bool, true, false, not, ◌&&◌, ◌||◌, List, [], Option, Some, None, length, is_some, slice_get}
+use Rattle.std.specs.Prelude.{◌≡◌, ℕ, ◌+◌, ◌==◌, ◌≤◌, Bool, true, false, not, ◌&&◌, ◌||◌, List, Option, Some, None, length, is_some, slice_get}
 use Rattle.std.specs.List.{list_all, list_any, sum_by}
 use Rattle.isl_base.specs.declared.place.Place.{Place}
 use Rattle.isl_meaning.specs.declared.program.LiteralRow.{LiteralRow}
