@@ -30,7 +30,8 @@ use Rattle.isl_whole.specs.Definitions.{defined}
 use Rattle.isl_whole.specs.Places.{scope_of}
 use Rattle.isl_whole.proofs.Places.{function_there}
 use Rattle.isl_whole.proofs.Definitions.{entered_same, counted_same}
-use Rattle.isl_whole.proofs.Apt.{AptAt, Stage, apt_if, apt_literal}
+use Rattle.isl_whole.proofs.Wanted.{AptAt, Stage}
+use Rattle.isl_whole.proofs.Apt.{apt_if, apt_literal}
 use Rattle.isl_whole.proofs.ValueRows.{apt_symbol, apt_quote, apt_setq, apt_progn, apt_cond, apt_two, apt_body, apt_dynamic, apt_set_dynamic, apt_function, apt_method, next_of_methods, has_of_methods, apt_class}
 use Rattle.isl_whole.proofs.ExitRows.{apt_block, apt_return_from, apt_tagbody, apt_go}
 use Rattle.isl_whole.proofs.CallRows.{of_value, apt_all_parts, apt_named_call, apt_local_call}

@@ -19,7 +19,8 @@ use Rattle.isl_profile.specs.bridge.Growing.{grows_then}
 use Rattle.isl_whole.specs.Below.{SameNames, NothingDefined, OneProcedure}
 use Rattle.isl_whole.proofs.Places.{each_append}
 use Rattle.isl_whole.proofs.Procedures.{IsOrdinary, AllOrdinary, IsLow, AllLow, all_low, inner_ordinary}
-use Rattle.isl_whole.proofs.Growing.{grows_numbers, names_then, none_defined, none_then, none_literal, none_numbers, none_fresh, LowWhole, Starts, starts_node}
+use Rattle.isl_whole.proofs.Starting.{grows_numbers, names_then, none_defined, none_then, none_literal, none_numbers, none_fresh, LowWhole, Starts}
+use Rattle.isl_whole.proofs.Growing.{starts_node}
 
 abbrev DefinesNothing : Tables → Verdict → Type 0
 DefinesNothing s (comes_to m) = NothingDefined s m.tables

@@ -35,7 +35,8 @@ use Rattle.isl_whole.proofs.Good.{good_deeper, good_functions, MaybeFunctions, a
 use Rattle.isl_whole.proofs.Captured.{IsCaptured, is_captured}
 use Rattle.isl_whole.proofs.Matches.{new_variables, AllMatch, BoundMatch, bound_match, ParametersMatch, parameters_match, DynamicsMatch, dynamics_match}
 use Rattle.isl_whole.proofs.Made.{made_let, made_dynamic_let, made_lambda, made_body}
-use Rattle.isl_whole.proofs.Apt.{spots, AllCame, AllApt, AptAt, Stage, all_ordinary, apt_within, apt_made, plain_parts, both_apt, below_apt, inner_apt, bound_apt, parameters_apt}
+use Rattle.isl_whole.proofs.Wanted.{spots, AllCame, AllApt, AptAt, Stage, all_ordinary}
+use Rattle.isl_whole.proofs.Apt.{apt_within, apt_made, plain_parts, both_apt, below_apt, inner_apt, bound_apt, parameters_apt}
 use Rattle.isl_whole.proofs.Procedures.{inner_ordinary}
 use Rattle.isl_whole.proofs.Found.{found_inner, parameters_are, symbols_counted}
 use Rattle.isl_whole.proofs.ExitRows.{two_deeper}

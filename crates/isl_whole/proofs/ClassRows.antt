@@ -39,9 +39,10 @@ use Rattle.isl_whole.proofs.Tests.{all_more}
 use Rattle.isl_whole.proofs.Definitions.{method_parts, literals_later, procedures_later, own_later, generics_later, functions_later, mains_later, all_push}
 use Rattle.isl_whole.proofs.Places.{each_append}
 use Rattle.isl_whole.proofs.Procedures.{MadeFrom}
-use Rattle.isl_whole.proofs.Apt.{AptAt, Stage}
+use Rattle.isl_whole.proofs.Wanted.{AptAt, Stage}
 use Rattle.isl_whole.proofs.ValueRows.{class_there}
-use Rattle.isl_whole.proofs.Methods.{AllRight, Joined, joined_then}
+use Rattle.isl_whole.proofs.MethodViews.{AllRight}
+use Rattle.isl_whole.proofs.Methods.{Joined, joined_then}
 use Rattle.isl_whole.proofs.GenericRows.{unless_functions}
 use Rattle.isl_whole.proofs.Joining.{IsFunction, AllFunctions, Joins, FunctionsCame, WhereSound, where_test, where_within, where_defining, apt_joining}
 use Rattle.isl_whole.proofs.Slots.{MaybeSlots, named_slots, AllGiven, all_given, RightSlots, right_slots, names_of_specs, FunctionsMade, functions_made, slots_fit}

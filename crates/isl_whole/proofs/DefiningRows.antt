@@ -45,7 +45,8 @@ use Rattle.isl_whole.proofs.Good.{good_later, good_alone}
 use Rattle.isl_whole.proofs.Places.{any_front}
 use Rattle.isl_whole.proofs.Matches.{parameters_match}
 use Rattle.isl_whole.proofs.Made.{made_body, made_literal}
-use Rattle.isl_whole.proofs.Apt.{spots, AptAt, Stage, all_ordinary, counted_nodes, counted_at_most, apt_if, apt_within}
+use Rattle.isl_whole.proofs.Wanted.{spots, AptAt, Stage, all_ordinary, counted_nodes, counted_at_most}
+use Rattle.isl_whole.proofs.Apt.{apt_if, apt_within}
 use Rattle.isl_whole.proofs.ValueRows.{apt_one}
 use Rattle.isl_whole.proofs.BinderRows.{found_parameters, function_apt}
 

@@ -35,7 +35,8 @@ use Rattle.isl_whole.proofs.FoundNodes.{inner_plain, forms_counted, inner_as_man
 use Rattle.isl_whole.proofs.Good.{good_deeper, good_block, good_tags, block_scope, tags_scope}
 use Rattle.isl_whole.proofs.Places.{block_there, tag_there}
 use Rattle.isl_whole.proofs.Made.{made_block, made_tagbody, made_go}
-use Rattle.isl_whole.proofs.Apt.{spots, AptAt, Stage, apt_if, apt_within, apt_made, apt_at_once, inner_apt}
+use Rattle.isl_whole.proofs.Wanted.{spots, AptAt, Stage}
+use Rattle.isl_whole.proofs.Apt.{apt_if, apt_within, apt_made, apt_at_once, inner_apt}
 use Rattle.isl_whole.proofs.Procedures.{inner_ordinary}
 use Rattle.isl_whole.proofs.Found.{found_inner}
 use Rattle.isl_whole.proofs.ValueRows.{apt_one}

@@ -45,7 +45,7 @@ use Rattle.isl_whole.proofs.Found.{symbols_counted}
 use Rattle.isl_whole.proofs.Good.{good_later, good_alone, scope_with}
 use Rattle.isl_whole.proofs.Matches.{new_variables, ParametersMatch, parameters_match}
 use Rattle.isl_whole.proofs.Made.{made_body, made_literal, made_local}
-use Rattle.isl_whole.proofs.Apt.{spots, AptFunction, AllApt, all_ordinary, counted_nodes, counted_at_most, one_procedure, Apt}
+use Rattle.isl_whole.proofs.Wanted.{spots, AptFunction, AllApt, all_ordinary, counted_nodes, counted_at_most, one_procedure, Apt}
 use Rattle.isl_whole.proofs.BinderRows.{found_parameters, function_apt}
 use Rattle.isl_whole.proofs.Procedures.{Takes, IsFor, all_low}
 

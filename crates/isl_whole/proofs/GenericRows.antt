@@ -33,10 +33,11 @@ use Rattle.isl_classes.specs.InheritedSlots.{same_name}
 use Rattle.isl_whole.specs.Definitions.{Definitions, defined, rows_of, SoundDefinitions}
 use Rattle.isl_whole.proofs.Places.{each_append}
 use Rattle.isl_whole.proofs.Procedures.{IsAt, MadeFrom}
-use Rattle.isl_whole.proofs.Apt.{AptAt, Stage}
+use Rattle.isl_whole.proofs.Wanted.{AptAt, Stage}
 use Rattle.isl_whole.proofs.DefiningRows.{fresh_name}
 use Rattle.isl_whole.proofs.Adding.{new_row, plus_method, method_of, tables_with, get_with, later_generic, sound_generic, TakesMethod, StandsBelow, stands_generic, stands_next, all_stand_below}
-use Rattle.isl_whole.proofs.Methods.{AllRight, each_front, each_behind, MethodView, method_view, none_alike, Alike, alike_same, alike_more, FitsRow, fits_row, method_fits_there, Joined, joined_same, joined_then, method_defined, joined_method}
+use Rattle.isl_whole.proofs.MethodViews.{AllRight, each_front, each_behind, MethodView, method_view}
+use Rattle.isl_whole.proofs.Methods.{none_alike, Alike, alike_same, alike_more, FitsRow, fits_row, method_fits_there, Joined, joined_same, joined_then, method_defined, joined_method}
 use Rattle.isl_whole.proofs.Joining.{IsFunction, AllFunctions, Joins, FunctionsCame, WhereSound, where_test, where_within, where_defining, apt_joining}
 
 -- methods have functions alone

@@ -8,7 +8,9 @@ use Rattle.isl_profile.specs.Rows.{node}
 use Rattle.isl_profile.specs.Judged.{with_fresh, with_variable, subject, Verdicts, all_stand, one_ended, in_front, made_verdict, Comes, offence, step, made, Goes, ends, goes, stops}
 use Rattle.isl_profile.specs.Marks.{Grows}
 use Rattle.isl_profile.specs.bridge.Growing.{grows_then, grows_same, finish_grows}
-use Rattle.isl_whole.proofs.Growing.{grows_fresh, grows_numbers, Begins, begins_function_node, begins_node}
+use Rattle.isl_whole.proofs.Starting.{grows_fresh, grows_numbers, Begins}
+use Rattle.isl_whole.proofs.StartingDefinitions.{begins_function_node}
+use Rattle.isl_whole.proofs.Growing.{begins_node}
 
 abbrev pub GrowsTo : Tables → Verdict → Type 0
 GrowsTo s (comes_to m) = Grows s m.tables

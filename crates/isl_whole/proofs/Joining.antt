@@ -27,10 +27,11 @@ use Rattle.isl_whole.specs.Right.{RightIn, Counted}
 use Rattle.isl_whole.proofs.Definitions.{later_then, Entered, counted_then, counted_more}
 use Rattle.isl_whole.proofs.Good.{good_later}
 use Rattle.isl_whole.proofs.Procedures.{MadeFrom, Same, IsLow, AllLow}
-use Rattle.isl_whole.proofs.Apt.{spots, AllCame, AllApt, AptPart, counted_nodes, AptAt, Stage}
+use Rattle.isl_whole.proofs.Wanted.{spots, AllCame, AllApt, AptPart, counted_nodes, AptAt, Stage}
 use Rattle.isl_whole.proofs.DefiningRows.{name_entered, name_right, name_counted, name_numbered}
 use Rattle.isl_whole.proofs.Adding.{StandsBelow}
-use Rattle.isl_whole.proofs.Methods.{AllRight, all_right, Joined}
+use Rattle.isl_whole.proofs.MethodViews.{AllRight, all_right}
+use Rattle.isl_whole.proofs.Methods.{Joined}
 
 -- parts that are functions, or are wrong
 

@@ -8,6 +8,7 @@ pub mod Definitions
 pub mod Procedures
 pub mod Matches
 pub mod Made
+pub mod Wanted
 pub mod Apt
 pub mod Found
 pub mod ValueRows
@@ -17,6 +18,7 @@ pub mod BinderRows
 pub mod Functions
 pub mod DefiningRows
 pub mod Adding
+pub mod MethodViews
 pub mod Methods
 pub mod Joining
 pub mod Slots
@@ -25,12 +27,17 @@ pub mod ClassRules
 pub mod GenericRows
 pub mod ClassRows
 pub mod AllRows
+pub mod Parts
+pub mod PartsBehind
 pub mod Comes
 pub mod Programs
 pub mod Classes
 pub mod Nodes
 pub mod FoundNodes
 pub mod Numbers
+pub mod Starting
+pub mod StartingForms
+pub mod StartingDefinitions
 pub mod Growing
 pub mod Grown
 pub mod Below

@@ -33,13 +33,14 @@ use Rattle.isl_whole.specs.Classes.{BeginsBuiltIn}
 use Rattle.isl_whole.proofs.Classes.{built_in_begin, begins_later, built_in_slots_fit, classes_fit}
 use Rattle.isl_whole.proofs.Tests.{all_more}
 use Rattle.isl_whole.proofs.Definitions.{literals_later, procedures_later, own_later, generics_later, functions_later, each_stands_same, mains_later, main_fits_later, all_push}
-use Rattle.isl_whole.proofs.Apt.{right_at}
+use Rattle.isl_whole.proofs.Wanted.{right_at}
 use Rattle.isl_whole.proofs.Good.{scope_with}
 use Rattle.isl_whole.proofs.ClassRules.{ClassRules}
 use Rattle.isl_whole.proofs.AllRows.{apt_node}
 use Rattle.isl_whole.proofs.Growing.{begins_node}
 use Rattle.isl_whole.proofs.Grown.{node_grows}
-use Rattle.isl_whole.proofs.Comes.{CameAs, node_came}
+use Rattle.isl_whole.proofs.Parts.{CameAs}
+use Rattle.isl_whole.proofs.Comes.{node_came}
 
 -- a datum at a good place beside whole tables
 pub form_came : StepsAreGood → ClassRules → (names : List (List ℕ)) (a : Around) (s : Tables) (d : Item) (m : Standing) → Good (length names) d → GoodAround (defined s) a → WholeTables s

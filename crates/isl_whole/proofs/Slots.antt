@@ -29,7 +29,7 @@ use Rattle.isl_profile.specs.ClassRows.{Function, for_initform, for_method, func
 use Rattle.isl_whole.specs.Definitions.{Definitions, rows_of, takes_nothing, initform_takes_nothing, slot_fits}
 use Rattle.isl_whole.proofs.Places.{each_append}
 use Rattle.isl_whole.proofs.Procedures.{Takes, MadeFrom}
-use Rattle.isl_whole.proofs.Methods.{IsRight, AllRight, each_front, each_behind}
+use Rattle.isl_whole.proofs.MethodViews.{IsRight, AllRight, each_front, each_behind}
 
 -- functions of methods whose names are names, or lack
 

@@ -42,7 +42,8 @@ use Rattle.isl_whole.proofs.FoundNodes.{inner_plain, clauses_plain, forms_counte
 use Rattle.isl_whole.proofs.Good.{good_at_top}
 use Rattle.isl_whole.proofs.Places.{variable_there, function_there}
 use Rattle.isl_whole.proofs.Made.{OneStands, made_local, made_clauses, made_body}
-use Rattle.isl_whole.proofs.Apt.{spots, AllApt, AptAt, Stage, apt_if, apt_within, apt_unsited, apt_literal, apt_made, plain_parts, apt_at_once, both_apt, below_apt, inner_apt}
+use Rattle.isl_whole.proofs.Wanted.{spots, AllApt, AptAt, Stage}
+use Rattle.isl_whole.proofs.Apt.{apt_if, apt_within, apt_unsited, apt_literal, apt_made, plain_parts, apt_at_once, both_apt, below_apt, inner_apt}
 use Rattle.isl_whole.proofs.Procedures.{inner_ordinary}
 use Rattle.isl_whole.proofs.Found.{found_one, one_ends, found_two, found_with_body, found_inner, found_clauses}
 
