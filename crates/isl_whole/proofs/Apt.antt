@@ -28,9 +28,9 @@ use Rattle.isl_profile.specs.bridge.GoodParts.{GoodPairs}
 use Rattle.isl_whole.specs.Definitions.{Definitions, defined, rows_of, Later, SoundDefinitions}
 use Rattle.isl_whole.specs.Numbers.{Numbered}
 use Rattle.isl_whole.specs.Places.{scope_of, NothingAround, GoodAround}
-use Rattle.isl_whole.specs.Right.{RightIn, RightAt, Counted}
+use Rattle.isl_whole.specs.Right.{RightIn, RightAt, Behind, Counted}
 use Rattle.isl_whole.proofs.Forms.{each_more, right_sited}
-use Rattle.isl_whole.proofs.Definitions.{undefined_then, each_stands_same, Entered, later_same, later_then, entered_same, entered_then, entered_site, entered_literal, Leaves, counted_same, counted_then, counted_more}
+use Rattle.isl_whole.proofs.Definitions.{undefined_then, each_stands_same, Entered, later_same, later_then, entered_same, entered_then, entered_site, entered_literal, counted_same, counted_then, counted_more}
 use Rattle.isl_whole.proofs.Procedures.{MadeFrom, Same, AllOrdinary}
 use Rattle.isl_whole.proofs.Nodes.{found_nodes, site_nodes}
 use Rattle.isl_whole.proofs.Numbers.{AllNumbered, OwnNumbers, make_numbered, site_numbered, all_numbered_wider}
@@ -156,7 +156,7 @@ apt_made n a s i p t xs k2 b m =
           (at_its_site a.spot.sited p t (defined u) (scope_of a) a.spot.depth (make k2 rs) c.later
           (m.right u rs (came_earlier (deeper 1 a) i (defined t) (defined t2) xs rs (defined u) e c)));
       leaves = λ u rs c.
-          subst (Leaves a.spot.top (defined t2)) (sym (m.ends u rs))
+          subst (Behind a.spot.top (defined t2)) (sym (m.ends u rs))
           (came_leaves a.spot.top (deeper 1 a) i (defined t2) xs rs (defined u) (λ l. (refl, m.low l)) m.ordinary c);
       counted = λ u rs c k.
           let here : found_nodes rs + 1 ≤ all_nodes (make k2 rs) =

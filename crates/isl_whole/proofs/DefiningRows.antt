@@ -223,7 +223,7 @@ apt_defun_of n a s name d fs ps b h g top fresh l =
           let same : u.functions ≡ s.functions = parts.functions ∙ e.same.functions in
           record {
             later = later_then (defined t) (defined u) (with_both (defined u) name p) c.later (later_function (defined u) name p);
-            whole = whole_function (defined u) name p c.whole fits
+            sound = whole_function (defined u) name p c.whole fits
                 (subst (λ (fs : List FunctionRow). list_any (λ f. is_that name f.name) fs ≡ false) (sym same) fresh);
             main = c.main;
             inside = λ k. absurd (cc (top, k));

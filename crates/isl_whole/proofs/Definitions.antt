@@ -22,7 +22,7 @@ use Rattle.isl_meaning.specs.Standing.{stands_alone, is_alone}
 use Rattle.isl_meaning.specs.Facts.{body_fits, literal_fits, initform_fits, is_congruent, knows_next, method_fits, same_method, generic_fits, callee_fits, same_name}
 use Rattle.isl_classes.specs.InheritedClasses.{Hierarchy, IsHierarchy}
 use Rattle.isl_whole.specs.Definitions.{Definitions, rows_of, Later, Undefined, procedure_fits, takes_nothing, initform_takes_nothing, slot_fits, has_function, same_generic, main_fits, WholeClasses, WholeGenerics, SoundDefinitions, EachStands}
-use Rattle.isl_whole.specs.Right.{Counted}
+use Rattle.isl_whole.specs.Right.{Behind, Counted}
 use Rattle.isl_whole.proofs.Tests.{all_more}
 use Rattle.isl_whole.proofs.Forms.{fits_later}
 
@@ -289,34 +289,14 @@ entered_numbers g v e l m w = record {
   same = record { procedures = refl; classes = refl; generics = refl; functions = refl };
 }
 
--- what stands behind a form: below top level nothing is defined, and each procedure still stands
-
-pub record Leaves (top : Bool) (g h : Definitions) : Type 0 where
-  pub later : Later g h
-  pub whole : SoundDefinitions h
-  pub main : h.main ≡ g.main
-  pub inside : top ≡ false → Undefined g h
-  pub stand : EachStands g → EachStands h
-
-pub leaves_same : (top : Bool) (g : Definitions) → SoundDefinitions g → Leaves top g g
-leaves_same top g w = record { later = later_same g; whole = w; main = refl; inside = λ e. undefined_same g; stand = λ s. s }
-
-pub leaves_entered : (top : Bool) (g h k : Definitions) → Entered g h → Leaves top h k → Leaves top g k
-leaves_entered top g h k e b = record {
+-- what stands behind a form
+pub behind_entered : (top : Bool) (g h k : Definitions) → Entered g h → Behind top h k → Behind top g k
+behind_entered top g h k e b = record {
   later = later_then g h k e.later b.later;
-  whole = b.whole;
+  sound = b.sound;
+  stand = λ s. b.stand (each_stands_same g h e.same s);
   main = b.main ∙ e.main;
   inside = λ low. undefined_then g h k e.same (b.inside low);
-  stand = λ s. b.stand (each_stands_same g h e.same s);
-}
-
-pub leaves_then : (top : Bool) (g h k : Definitions) → Leaves top g h → Leaves top h k → Leaves top g k
-leaves_then top g h k a b = record {
-  later = later_then g h k a.later b.later;
-  whole = b.whole;
-  main = b.main ∙ a.main;
-  inside = λ low. undefined_then g h k (a.inside low) (b.inside low);
-  stand = λ s. b.stand (a.stand s);
 }
 
 -- sites and nodes

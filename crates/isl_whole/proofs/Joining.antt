@@ -175,7 +175,7 @@ apt_joining n a s d xs k b formed top l f is join sound =
           let j : Joins (length s.procedures) (defined u) (defined (finish k rs u)) = joins u rs c in
           record {
             later = later_then (defined t) (defined u) (defined (finish k rs u)) c.later j.joined.later;
-            whole = j.joined.sound;
+            sound = j.joined.sound;
             main = j.joined.main ∙ c.main;
             inside = λ k. absurd (cc (top, k));
             stand = λ k.

@@ -10,7 +10,7 @@ use Rattle.isl_profile.specs.Judged.{with_variable, subject, Verdicts, all_stand
 use Rattle.isl_whole.specs.Definitions.{Definitions, defined, SoundDefinitions}
 use Rattle.isl_whole.specs.Places.{NothingAround, GoodAround}
 use Rattle.isl_whole.specs.Right.{Counted}
-use Rattle.isl_whole.proofs.Definitions.{later_same, later_then, Entered, entered_same, entered_numbers, leaves_entered, counted_then, counted_more}
+use Rattle.isl_whole.proofs.Definitions.{later_same, later_then, Entered, entered_same, entered_numbers, behind_entered, counted_then, counted_more}
 use Rattle.isl_whole.specs.Numbers.{Numbered}
 use Rattle.isl_whole.proofs.Numbers.{AllNumbered, numbered_wider}
 use Rattle.isl_whole.proofs.Good.{good_later, good_deeper}
@@ -71,7 +71,7 @@ part_tables s (function w) = s
 pub moved : (b : Around) (g h : Definitions) (v : Verdict) → Entered g h → Counted b.spot.sited g h 0 → CameTo (right_at b) b.spot h v → CameTo (right_at b) b.spot g v
 moved b g h (comes_to m) e n c = record {
   right = c.right;
-  leaves = leaves_entered b.spot.top g h (defined m.tables) e c.leaves;
+  leaves = behind_entered b.spot.top g h (defined m.tables) e c.leaves;
   counted = counted_more b.spot.sited g (defined m.tables) (0 + all_nodes m.form) (all_nodes m.form) (omega arith)
       (counted_then b.spot.sited g h (defined m.tables) 0 (all_nodes m.form) n c.counted);
   numbered = numbered_wider h g (defined m.tables) (defined m.tables) m.form e.later (later_same (defined m.tables)) c.numbered;
@@ -101,9 +101,9 @@ one_more_entered w g h k e o = record {
 }
 
 as_entered : (Q : Want) (top : Bool) (g h k : Definitions) → Entered g h → LeavesAs Q top h k → LeavesAs Q top g k
-as_entered nothing top g h k e l = leaves_entered top g h k e l
-as_entered never top g h k e l = leaves_entered top g h k e l
-as_entered (right_at a) top g h k e l = leaves_entered top g h k e l
+as_entered nothing top g h k e l = behind_entered top g h k e l
+as_entered never top g h k e l = behind_entered top g h k e l
+as_entered (right_at a) top g h k e l = behind_entered top g h k e l
 as_entered (one_procedure w) top g h k e l = one_more_entered w g h k e l
 
 pub whole_came : (Q : Want) (spot : Spot) (n : ℕ) (g : Definitions) (o i : Around) (s : Tables) (xs : List Part) (m : Made) (w : Verdicts)

@@ -230,9 +230,9 @@ leaves_later (right_at a) top g h l = l.later
 leaves_later (one_procedure w) top g h l = l.later
 
 pub leaves_sound : (Q : Want) (top : Bool) (g h : Definitions) → LeavesAs Q top g h → SoundDefinitions h
-leaves_sound nothing top g h l = l.whole
-leaves_sound never top g h l = l.whole
-leaves_sound (right_at a) top g h l = l.whole
+leaves_sound nothing top g h l = l.sound
+leaves_sound never top g h l = l.sound
+leaves_sound (right_at a) top g h l = l.sound
 leaves_sound (one_procedure w) top g h l = l.whole
 
 -- the numbers of a part, and of those behind it

@@ -25,10 +25,10 @@ use Rattle.isl_profile.specs.Nodes.{Around, Standing, stands as comes_to}
 use Rattle.isl_profile.specs.Rows.{node}
 use Rattle.isl_derived.specs.GoodSteps.{StepsAreGood}
 use Rattle.isl_profile.specs.Judged.{Comes}
-use Rattle.isl_whole.specs.Definitions.{Definitions, defined, rows_of, Later, procedure_fits, has_function, same_generic, main_fits, EachStands, WholeDefinitions, WholeTables, FewSites}
+use Rattle.isl_whole.specs.Definitions.{Definitions, defined, rows_of, Later, procedure_fits, has_function, same_generic, main_fits, EachStands, WholeDefinitions, SoundTables, WholeTables, FewSites}
 use Rattle.isl_whole.specs.Between.{WholeBetween, HasNoForm}
 use Rattle.isl_whole.specs.Places.{variables_around, exit_numbers, exits_around, scope_of, Rises, FunctionThere, NothingAround, GoodAround}
-use Rattle.isl_whole.specs.Right.{RightAt, Came, with_main, Counted}
+use Rattle.isl_whole.specs.Right.{RightAt, Behind, Came, with_main, Counted}
 use Rattle.isl_whole.specs.Classes.{BeginsBuiltIn}
 use Rattle.isl_whole.proofs.Classes.{built_in_begin, begins_later, built_in_slots_fit, classes_fit}
 use Rattle.isl_whole.proofs.Tests.{all_more}
@@ -42,24 +42,23 @@ use Rattle.isl_whole.proofs.Grown.{node_grows}
 use Rattle.isl_whole.proofs.Parts.{CameAs}
 use Rattle.isl_whole.proofs.Comes.{node_came}
 
--- a datum at a good place beside whole tables
-pub form_came : StepsAreGood → ClassRules → (names : List (List ℕ)) (a : Around) (s : Tables) (d : Item) (m : Standing) → Good (length names) d → GoodAround (defined s) a → WholeTables s
-    → Comes names (node names a s d) (comes_to m) → Came a s m
+-- a datum at a good place beside sound tables
+pub form_came : StepsAreGood → ClassRules → (names : List (List ℕ)) (a : Around) (s : Tables) (d : Item) (m : Standing) → Good (length names) d → GoodAround (defined s) a
+    → SoundTables s → Comes names (node names a s d) (comes_to m) → Came a s m
 form_came keep rules names a s d m g o w c =
     let r : CameAs (right_at a) a.spot (defined s) m =
-    node_came keep rules names (node names a s d) (comes_to m) c (right_at a) a.spot (defined s) (apt_node rules names (length names) a s d (record { good = o; whole = w.sound }) g) in
+    node_came keep rules names (node names a s d) (comes_to m) c (right_at a) a.spot (defined s) (apt_node rules names (length names) a s d (record { good = o; whole = w }) g) in
     record {
       right = r.right;
-      behind = record {
-        later = r.leaves.later;
-        whole = record { sound = r.leaves.whole; procedures = r.leaves.stand w.procedures };
-        main = r.leaves.main;
-        inside = r.leaves.inside;
-      };
+      behind = r.leaves;
       counted = r.counted;
       numbered = r.numbered;
       grown = node_grows names (node names a s d) (comes_to m) c s (begins_node names s a d);
     }
+
+-- tables stay whole
+whole_behind : (top : Bool) (s t : Tables) → Behind top (defined s) (defined t) → WholeTables s → WholeTables t
+whole_behind top s t b w = record { sound = b.sound; procedures = b.stand w.procedures }
 
 -- where nothing is bound, all is good
 pub nothing_good : (g : Definitions) (a : Around) → NothingAround a → GoodAround g a
@@ -163,14 +162,14 @@ same_classes a s m r c = begins_later s.classes.rows m.tables.classes.rows r.gro
 
 pub file_between : (a : Around) (s : Tables) (m : Standing) → NothingAround a → Came a s m → WholeBetween s → WholeBetween (with_main m.form m.tables)
 file_between a s m n r b = record {
-  whole = main_whole a m.tables m.form n r.right r.behind.whole;
+  whole = main_whole a m.tables m.form n r.right (whole_behind a.spot.top s m.tables r.behind b.whole);
   classes = same_classes a s m r b.classes;
   sites = sites_of_file a.spot.sited (defined s) (defined m.tables) m.form r.behind.main r.counted b.sites;
 }
 
 pub prelude_between : (a : Around) (s : Tables) (m : Standing) → a.spot.sited ≡ false → Came a s m → WholeBetween s → WholeBetween m.tables
 prelude_between a s m u r b = record {
-  whole = r.behind.whole;
+  whole = whole_behind a.spot.top s m.tables r.behind b.whole;
   classes = same_classes a s m r b.classes;
   sites = sites_of_prelude a.spot.sited (defined s) (defined m.tables) m.form u r.behind.main r.counted b.sites;
 }

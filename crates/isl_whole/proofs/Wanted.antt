@@ -19,8 +19,8 @@ use Rattle.isl_profile.specs.Makings.{made_form, finished}
 use Rattle.isl_whole.specs.Definitions.{Definitions, defined, Later, Undefined, SoundDefinitions, EachStands}
 use Rattle.isl_whole.specs.Numbers.{Numbered}
 use Rattle.isl_whole.specs.Places.{scope_of, NothingAround, GoodAround}
-use Rattle.isl_whole.specs.Right.{RightAt, Counted}
-use Rattle.isl_whole.proofs.Definitions.{Entered, Leaves}
+use Rattle.isl_whole.specs.Right.{RightAt, Behind, Counted}
+use Rattle.isl_whole.proofs.Definitions.{Entered}
 use Rattle.isl_whole.proofs.Procedures.{MadeFrom, Same, OneMore, IsOrdinary, AllOrdinary, AllLow, all_low}
 use Rattle.isl_whole.proofs.Nodes.{nodes_of, found_nodes}
 use Rattle.isl_whole.proofs.Numbers.{AllNumbered}
@@ -136,9 +136,9 @@ wanted_nodes (one_procedure w) f = 0
 
 -- what it leaves
 abbrev pub LeavesAs : Want → Bool → Definitions → Definitions → Type 0
-LeavesAs nothing top g h = Leaves top g h
-LeavesAs never top g h = Leaves top g h
-LeavesAs (right_at a) top g h = Leaves top g h
+LeavesAs nothing top g h = Behind top g h
+LeavesAs never top g h = Behind top g h
+LeavesAs (right_at a) top g h = Behind top g h
 LeavesAs (one_procedure w) top g h = OneMore w g h
 
 -- a node, where what it comes to has to be so, and what it began with
@@ -172,10 +172,10 @@ Apt Q spot n g (whole o i s xs m) = AptWhole Q spot n g o i s xs m
 
 -- ordinary parts leave no definition below top level, and all procedures stand
 pub came_leaves : (top : Bool) (o i : Around) (g : Definitions) (xs : List Part) (rs : List Found) (h : Definitions) → (top ≡ false → (o.spot.top ≡ false) × (i.spot.top ≡ false))
-    → AllOrdinary xs → AllCame o i g xs rs h → Leaves top g h
+    → AllOrdinary xs → AllCame o i g xs rs h → Behind top g h
 came_leaves top o i g xs rs h low plain c = record {
   later = c.later;
-  whole = c.whole;
+  sound = c.whole;
   main = c.main;
   inside = λ e. let l : (o.spot.top ≡ false) × (i.spot.top ≡ false) = low e in c.undefined plain (all_low o.spot.top i.spot.top xs l.0 l.1);
   stand = c.stand plain;

@@ -140,6 +140,10 @@ pub record WholeDefinitions (g : Definitions) : Type 0 where
   pub sound : SoundDefinitions g
   pub procedures : EachStands g
 
--- tables that are whole
+-- tables that are sound, and tables that are whole
+
+abbrev pub SoundTables : Tables → Type 0
+SoundTables s = SoundDefinitions (defined s)
+
 abbrev pub WholeTables : Tables → Type 0
 WholeTables s = WholeDefinitions (defined s)

@@ -16,7 +16,7 @@ ghost use Rattle.isl_profile.specs.FunctionNodes.{function_node};
 ghost use Rattle.isl_profile.specs.Rows.{node};
 ghost use Rattle.isl_profile.specs.Judged.{Comes};
 ghost use Rattle.isl_whole.specs.Scopes.{Within};
-ghost use Rattle.isl_whole.specs.Definitions.{defined, rows_of, WholeTables};
+ghost use Rattle.isl_whole.specs.Definitions.{defined, rows_of, SoundTables};
 ghost use Rattle.isl_whole.specs.Places.{NothingAround, GoodAround};
 ghost use Rattle.isl_whole.specs.Right.{Came, with_main};
 ghost use Rattle.isl_whole.specs.Between.{WholeBetween, HasNoForm};
@@ -30,12 +30,12 @@ pub fn law_scopes()
     ensures { (s t : LexicalScope) (f : Form) → Within s t → stands s f ≡ true → stands t f ≡ true }
 {}
 
-/// A datum in form, at a good place beside whole tables, comes to a form that stands there, fits, is not too
+/// A datum in form, at a good place beside sound tables, comes to a form that stands there, fits, is not too
 /// deep, and binds numbers between those of the tables in front and behind; and the tables behind it have
-/// grown and are whole.
+/// grown, are sound, and are whole where those in front are.
 pub fn law_forms()
     ensures { (names : List (List ℕ)) (a : Around) (s : Tables) (d : Item) (m : Standing) → Good (length names) d → GoodAround (defined s) a →
-        WholeTables s → Comes names (node names a s d) (comes_to m) → Came a s m }
+        SoundTables s → Comes names (node names a s d) (comes_to m) → Came a s m }
 {
     law_good_steps();
     law_definitions();
