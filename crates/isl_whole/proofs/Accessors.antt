@@ -21,14 +21,14 @@ use Rattle.isl_profile.specs.declared.making.Accessor.{Accessor}
 use Rattle.isl_profile.specs.declared.making.Accessor.TheVariants.{Reads, Writes, Asks}
 use Rattle.isl_profile.specs.declared.making.Head.{Head}
 use Rattle.isl_profile.specs.Makings.{arguments_of, classes_of, accessor_head, generic_named, with_generic, with_method_at, with_accessor_in, with_slot_functions}
-use Rattle.isl_profile.specs.DefiningRows.{is_that}
+use Rattle.isl_profile.specs.DefiningRows.{is_that, has_function}
 use Rattle.isl_profile.specs.GivenNames.{no_name, unfit, lacking, given}
 use Rattle.isl_profile.specs.ClassRows.{Function, for_initform, for_method, Use, use_of, names_differ, slot_function}
-use Rattle.isl_whole.specs.Definitions.{Definitions, defined, rows_of, SoundDefinitions}
+use Rattle.isl_whole.specs.Definitions.{Definitions, defined, rows_of, SoundTables, SoundDefinitions}
 use Rattle.isl_whole.proofs.Definitions.{method_from}
 use Rattle.isl_whole.proofs.Functions.{alone_more}
 use Rattle.isl_whole.proofs.DefiningRows.{other_way}
-use Rattle.isl_whole.proofs.Adding.{none_more, new_row, method_of, with_method, tables_with, later_generic, sound_generic, TakesMethod, StandsBelow, stands_generic, stands_method, all_stand_below}
+use Rattle.isl_whole.proofs.Adding.{none_more, no_generic, new_row, method_of, with_method, tables_with, later_generic, sound_generic, TakesMethod, StandsBelow, stands_generic, stands_method, all_stand_below}
 use Rattle.isl_whole.proofs.Methods.{Joined, joined_same, joined_then, method_defined, joined_method}
 use Rattle.isl_whole.proofs.Joining.{Joins}
 use Rattle.isl_whole.proofs.Slots.{AllGiven, TakenAt, FunctionsMade}
@@ -78,6 +78,18 @@ found_name n (g ∷ gs) x e = by_test (same_name n g.name) refl (found_name n gs
     by_test : (b : Bool) → same_name n g.name ≡ b → (found n gs ≡ Some x → same_name n x.name ≡ true) → (if b then Some g else found n gs) ≡ Some x → same_name n x.name ≡ true
     by_test true k more h = let same : g ≡ x = cc h in ap (λ (y : GenericRow). same_name n y.name) (sym same) ∙ k
     by_test false k more h = more h
+
+-- a name that is none of theirs
+none_named : (n : Name) (gs : List GenericRow) → list_any (λ (x : GenericRow). x.name.0 == n.0) gs ≡ false → generic_named gs n ≡ None
+none_named n [] h = refl
+none_named n (g ∷ gs) h =
+    let o : ((g.name.0 == n.0) ≡ false) × (list_any (λ (x : GenericRow). x.name.0 == n.0) gs ≡ false) =
+    or_parts (g.name.0 == n.0) (list_any (λ (x : GenericRow). x.name.0 == n.0) gs) h in
+    let other : same_name n g.name ≡ false = other_way g.name.0 n.0 o.0 in
+    rw other (ap (option_map (λ k. k + 1)) (none_named n gs o.1))
+
+pub no_generic_named : (t : Tables) (n : Name) → SoundTables t → has_function t n ≡ false → generic_named t.generics n ≡ None
+no_generic_named t n w h = none_named n t.generics (no_generic n t.functions t.generics h w.generics.named)
 
 -- that of another name stays
 

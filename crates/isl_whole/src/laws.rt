@@ -1,6 +1,7 @@
 // Laws of what forms stand for: a form is whole where it stands, and so is a program of such forms.
 
-ghost use Rattle.std.specs.Prelude.{◌≡◌, ℕ, ◌≤◌, true, false, List, length};
+ghost use Rattle.std.specs.Prelude.{◌≡◌, ℕ, ◌≤◌, true, false, List, None, length};
+ghost use Rattle.isl_base.specs.declared.datum.Name.{Name};
 ghost use Rattle.isl_base.specs.Data.{Item};
 ghost use Rattle.isl_base.specs.GoodData.{Good};
 ghost use Rattle.isl_meaning.specs.declared.scope.LexicalScope.{LexicalScope};
@@ -14,6 +15,8 @@ ghost use Rattle.isl_profile.specs.declared.tables.Tables.{Tables};
 ghost use Rattle.isl_profile.specs.Nodes.{Around, Written, Standing, stands as comes_to};
 ghost use Rattle.isl_profile.specs.FunctionNodes.{function_node};
 ghost use Rattle.isl_profile.specs.Rows.{node};
+ghost use Rattle.isl_profile.specs.DefiningRows.{has_function};
+ghost use Rattle.isl_profile.specs.Makings.{generic_named};
 ghost use Rattle.isl_profile.specs.Judged.{Comes};
 ghost use Rattle.isl_whole.specs.Scopes.{Within};
 ghost use Rattle.isl_whole.specs.Definitions.{defined, rows_of, SoundTables};
@@ -48,6 +51,11 @@ pub fn law_below_top_level()
         Comes names (node names a s d) (comes_to m) → NothingDefined s m.tables }
     ensures functions { (names : List (List ℕ)) (a : Around) (s : Tables) (w : Written) (m : Standing) →
         Comes names (function_node a s w) (comes_to m) → OneProcedure s m.tables }
+{}
+
+/// A name that no function has is that of no generic function.
+pub fn law_generic_names()
+    ensures { (t : Tables) (n : Name) → SoundTables t → has_function t n ≡ false → generic_named t.generics n ≡ None }
 {}
 
 /// The first tables are whole, with the built-in classes and no more sites than nodes; so they are behind
