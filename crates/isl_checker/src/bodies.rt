@@ -15,10 +15,12 @@ use std::alloc::Global;
 pub fn bodies_fit(rows: &ProgramRows) -> bool
     ensures { result ≡ list_all (λ p. body_fits rows.now p.body) rows.now.procedures }
 {
-    rows.procedures
-        .as_slice()
-        .iter()
-        .all(|procedure| body_fits(rows, &procedure.body))
+    for procedure in rows.procedures.as_slice() {
+        if !body_fits(rows, &procedure.body) {
+            return false;
+        }
+    }
+    true
 }
 
 pub fn main_fits(alloc: Global, rows: &ProgramRows) -> Result<bool, NoMemory>

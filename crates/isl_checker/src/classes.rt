@@ -27,7 +27,12 @@ pub fn are_classes(rows: &ProgramRows, ids: &[usize]) -> bool
     ensures { result ≡ list_all (λ c. nat_lt c (length rows.now.classes)) ids.now }
 {
     let count = rows.classes.len();
-    ids.iter().all(|id| *id < count)
+    for id in ids {
+        if *id >= count {
+            return false;
+        }
+    }
+    true
 }
 
 fn class_fits(alloc: Global, rows: &ProgramRows, class: &ClassRow) -> Result<bool, NoMemory>
@@ -110,7 +115,12 @@ pub fn same_numbers(a: &[usize], b: &[usize]) -> bool
 fn are_plain(slots: &[SlotRow]) -> bool
     ensures { result ≡ list_all is_plain_slot slots.now }
 {
-    slots.iter().all(|slot| is_plain_slot(slot))
+    for slot in slots {
+        if !is_plain_slot(slot) {
+            return false;
+        }
+    }
+    true
 }
 
 // Whether a slot is its own initarg, and nothing gives it another value.

@@ -118,7 +118,12 @@ fn same_qualifier(a: Qualifier, b: Qualifier) -> bool
 fn has_method(method: &MethodRow, methods: &[MethodRow]) -> bool
     ensures { result ≡ list_any (same_method method.now) methods.now }
 {
-    methods.iter().any(|m| same_method(method, m))
+    for other in methods {
+        if same_method(method, other) {
+            return true;
+        }
+    }
+    false
 }
 
 fn methods_differ(methods: &[MethodRow]) -> bool

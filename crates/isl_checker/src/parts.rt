@@ -24,5 +24,10 @@ pub fn comes_before(part: Part, other: Part) -> bool
 pub fn has_part(part: Part, parts: &[Part]) -> bool
     ensures { result ≡ list_any (same_part part) parts.now }
 {
-    parts.iter().any(|p| same_part(part, *p))
+    for p in parts {
+        if same_part(part, *p) {
+            return true;
+        }
+    }
+    false
 }

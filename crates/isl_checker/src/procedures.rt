@@ -15,10 +15,7 @@ use std::alloc::Global;
 pub fn procedures_stand(alloc: Global, rows: &ProgramRows) -> Result<bool, NoMemory>
     ensures { IfOk result (λ yes. yes ≡ procedures_stand rows.now 0 rows.now.procedures) }
 {
-    for id in 0..rows.procedures.len() {
-        let Some(procedure) = rows.procedures.get(id) else {
-            unreachable!()
-        };
+    for (id, procedure) in rows.procedures.as_slice().iter().enumerate() {
         if !procedure_stands(alloc, rows, id, procedure)? {
             return Ok(false);
         }
@@ -45,18 +42,21 @@ fn procedure_stands(
 fn is_of_method(rows: &ProgramRows, id: ProcedureId) -> bool
     ensures { result ≡ is_of_method rows.now id }
 {
-    rows.generics
-        .as_slice()
-        .iter()
-        .any(|generic| has_method(generic, id))
+    for generic in rows.generics.as_slice() {
+        if has_method(generic, id) {
+            return true;
+        }
+    }
+    false
 }
 
 fn has_method(generic: &GenericRow, id: ProcedureId) -> bool
     ensures { result ≡ list_any (λ m. id == m.procedure) generic.now.methods }
 {
-    generic
-        .methods
-        .as_slice()
-        .iter()
-        .any(|method| id == method.procedure)
+    for method in generic.methods.as_slice() {
+        if id == method.procedure {
+            return true;
+        }
+    }
+    false
 }

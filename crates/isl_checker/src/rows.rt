@@ -13,10 +13,12 @@ use std::alloc::Global;
 pub fn literals_fit(rows: &ProgramRows) -> bool
     ensures { result ≡ list_all (literal_fits rows.now) rows.now.literals }
 {
-    rows.literals
-        .as_slice()
-        .iter()
-        .all(|row| literal_fits(rows, row))
+    for row in rows.literals.as_slice() {
+        if !literal_fits(rows, row) {
+            return false;
+        }
+    }
+    true
 }
 
 fn literal_fits(rows: &ProgramRows, row: &LiteralRow) -> bool
@@ -52,7 +54,12 @@ fn callee_fits(alloc: Global, rows: &ProgramRows, callee: Callee) -> Result<bool
 fn has_name(function: &FunctionRow, functions: &[FunctionRow]) -> bool
     ensures { result ≡ list_any (same_name function.now) functions.now }
 {
-    functions.iter().any(|f| function.name.0 == f.name.0)
+    for other in functions {
+        if function.name.0 == other.name.0 {
+            return true;
+        }
+    }
+    false
 }
 
 /// Whether no two functions have one name.

@@ -80,7 +80,12 @@ pub fn seen(alloc: Global, scope: &LexicalScope, parts: &[Part]) -> Result<Lexic
 pub fn has_variable(scope: &LexicalScope, var: Var) -> bool
     ensures { result ≡ is_variable scope.now var }
 {
-    scope.variables.as_slice().iter().any(|v| var == *v)
+    for v in scope.variables.as_slice() {
+        if var == *v {
+            return true;
+        }
+    }
+    false
 }
 
 // Whether the innermost exit of that name is a block's.
@@ -106,7 +111,12 @@ pub fn has_segment(scope: &LexicalScope, exit: ExitVar, segment: u32) -> bool
 fn has_exit(scope: &LexicalScope, exit: ExitVar) -> bool
     ensures { result ≡ list_any (λ e. exit == e.exit) scope.now.exits }
 {
-    scope.exits.as_slice().iter().any(|e| exit == e.exit)
+    for e in scope.exits.as_slice() {
+        if exit == e.exit {
+            return true;
+        }
+    }
+    false
 }
 
 // Whether the part is bound.

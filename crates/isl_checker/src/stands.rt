@@ -99,13 +99,23 @@ fn are_captured(scope: &LexicalScope, own: &[Var], body: &Core, parts: &[Part]) 
 fn are_bound(scope: &LexicalScope, parts: &[Part]) -> bool
     ensures { result ≡ list_all (is_bound scope.now) parts.now }
 {
-    parts.iter().all(|part| binds(scope, *part))
+    for part in parts {
+        if !binds(scope, *part) {
+            return false;
+        }
+    }
+    true
 }
 
 fn are_free(own: &[Var], body: &Core, parts: &[Part]) -> bool
     ensures { result ≡ list_all (is_free own.now body.now) parts.now }
 {
-    parts.iter().all(|part| is_free(own, body, *part))
+    for part in parts {
+        if !is_free(own, body, *part) {
+            return false;
+        }
+    }
+    true
 }
 
 fn is_free(own: &[Var], body: &Core, part: Part) -> bool

@@ -1,6 +1,6 @@
 // What stands above a class: the superclasses that go together, and their precedence lists joined.
 
-ghost use Rattle.std.specs.Prelude.{◌≡◌, ◌+◌, ◌<◌, ◌++◌, OnOk, OnErr, IfOk, drop, get_or, length, slice_get};
+ghost use Rattle.std.specs.Prelude.{◌≡◌, ◌++◌, OnOk, IfOk, slice_get};
 ghost use Rattle.std.specs.List.{list_all, list_any};
 ghost use Rattle.isl_meaning.specs.Classes.{precedence_of};
 ghost use Rattle.isl_meaning.specs.Lookup.{all_differ};
@@ -110,8 +110,8 @@ fn clashes(rows: &ClassRows, one: ClassId, others: &[ClassId]) -> bool
 fn all_go_together(rows: &ClassRows, supers: &[ClassId]) -> bool
     ensures { result ≡ all_differ (inherited.clash rows.now) supers.now }
 {
-    for at in 0..supers.len() {
-        if clashes(rows, supers[at], &supers[at + 1..]) {
+    for (at, class) in supers.iter().enumerate() {
+        if clashes(rows, *class, &supers[at + 1..]) {
             return false;
         }
     }
@@ -163,18 +163,10 @@ fn each_last(alloc: Global, classes: &[ClassId]) -> Result<ClassIds, NoMemory>
     ensures { IfOk result (λ kept. kept ≡ inherited.each_last classes.now) }
 {
     let mut kept = ClassIds::new(alloc);
-    for at in 0..classes.len() {
-        if !comes_again(classes, at) {
-            kept.push(classes[at])?;
+    for (at, class) in classes.iter().enumerate() {
+        if !is_among(*class, &classes[at + 1..]) {
+            kept.push(*class)?;
         }
     }
     Ok(kept)
-}
-
-// Whether the class at that place stands once more behind it.
-fn comes_again(classes: &[ClassId], at: usize) -> bool
-    requires { at < length classes.now }
-    ensures { result ≡ is_in (get_or classes.now at 0) (drop (at + 1) classes.now) }
-{
-    is_among(classes[at], &classes[at + 1..])
 }

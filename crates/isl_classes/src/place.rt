@@ -11,8 +11,8 @@ pub fn place_of_slot(slots: &[SlotRow], name: Name) -> Option<usize>
     ensures place { result ≡ place_of_slot slots.now name }
     ensures below { IfSome result (λ place. place < length slots.now) }
 {
-    for at in 0..slots.len() {
-        if name.0 == slots[at].name.0 {
+    for (at, slot) in slots.iter().enumerate() {
+        if name.0 == slot.name.0 {
             return Some(at);
         }
     }

@@ -1,6 +1,6 @@
 -- A run of a program beside a run of it made flat: what is alike in the two states, in the two environments and in the
--- two stores.
-use Rattle.std.proofs.Common.{◌≡◌, ℕ, ◌+◌, Bool, true, false, List, ◌⊎◌, Option, Some, None, length}
+-- two stores. A variable of the program stays a variable of its state; made flat it is in a slot of a frame or in a cell.
+use Rattle.std.proofs.Common.{◌≡◌, ℕ, ◌+◌, ◌≤◌, Bool, true, false, List, [], ◌∷◌, ◌⊎◌, Option, Some, None, length}
 use Rattle.std.specs.Prelude.{⊤, slice_get}
 use Rattle.isl_meaning.specs.declared.part.Part.{Part}
 use Rattle.isl_meaning.specs.declared.part.Part.TheVariants.{Variable, Exit, Method}
@@ -18,34 +18,72 @@ use Rattle.isl_closure.specs.declared.place.VariablePlace.TheVariants.{Slot, Slo
 use Rattle.isl_closure.specs.declared.place.ExitPlace.{ExitPlace}
 use Rattle.isl_closure.specs.declared.place.MethodPlace.{MethodPlace}
 use Rattle.isl_closure.specs.declared.program.FlatProcedure.{FlatProcedure}
-use Rattle.isl_closure.specs.FlatState.{Captured, of_value, of_cell, FlatEnvironment, FlatState, FlatEvaluated, FlatAct, under, exit_of, method_of}
+use Rattle.isl_closure.specs.FlatState.{FrameSlot, holds, holds_cell, Captured, of_value, of_cell, FlatEnvironment, FlatState, FlatEvaluated, FlatAct, under, exit_of, method_of}
 use Rattle.isl_closure.specs.FlatState as flat
 use Rattle.isl_closure.specs.declared.place.Known.{Known}
 use Rattle.isl_closure.specs.Scope.{Scope, with_bound, with_around, kinds_of, seen}
 use Rattle.isl_closure.specs.Flatten.{functions, functions_of_values, functions_of_body, functions_of_dynamics, flat_procedure, body_scope}
 
--- what is known of each variable of the state: the value that it keeps, or nothing
-abbrev pub World : Type 0
-World = List (Option Value)
+-- what is known of a variable of the program in the run of it made flat: it keeps its first value, since nothing sets it; or it
+-- has the cell of that number; or it has the slot of that number, in the frame of the activation that made it, and in no other
+pub data Kind : Type 0 where
+  constant : Value → Kind
+  cell : ℕ → Kind
+  slot : ℕ → Kind
 
+-- the kinds of the variables; which variable has each cell; which one has each slot of the frame; and the values of all variables when
+-- the activation began
+pub record World : Type 0 where
+  pub kinds : List Kind
+  pub holders : List ℕ
+  pub own : List ℕ
+  pub start : List Value
+
+-- a world in which there is no frame
+abbrev pub alone : List Kind → World
+alone ks = record { kinds = ks; holders = []; own = []; start = [] }
+
+-- what stands in a list stands in another one, at the same place
+pub record Kept {X : Type 0} (xs ys : List X) : Type 0 where
+  pub kept : (i : ℕ) (x : X) → slice_get xs i ≡ Some x → slice_get ys i ≡ Some x
+
+-- a later world of the same activation, with the same slots
 pub record Later (w u : World) : Type 0 where
-  pub kept : (i : ℕ) (x : Option Value) → slice_get w i ≡ Some x → slice_get u i ≡ Some x
+  pub kinds : Kept w.kinds u.kinds
+  pub own : u.own ≡ w.own
+  pub start : u.start ≡ w.start
 
-abbrev pub Holds : World → Bool → ℕ → Type 0
-Holds w true i = (v : Value) × slice_get w i ≡ Some (Some v)
-Holds w false i = slice_get w i ≡ Some None
+-- dynamic bindings on both sides: of the same names, each with the cell of its variable
+abbrev pub SameBindings : List Kind → List (List ℕ × ℕ) → List (List ℕ × ℕ) → Type 0
+SameBindings ks [] [] = ⊤
+SameBindings ks [] (c ∷ cs) = ⊥
+SameBindings ks (b ∷ bs) [] = ⊥
+SameBindings ks (b ∷ bs) (c ∷ cs) = c.0 ≡ b.0 × slice_get ks b.1 ≡ Some (cell c.1) × SameBindings ks bs cs
 
--- the dynamic bindings of surroundings are of variables of which nothing is known
-abbrev pub AreFree : World → Surroundings → Type 0
-AreFree w around = Each (λ (b : List ℕ × ℕ). slice_get w b.1 ≡ Some None) around.bindings
+pub record BindingsAlike (ks : List Kind) (around : List (List ℕ × ℕ)) : Type 0 where
+  pub bindings : List (List ℕ × ℕ)
+  pub same : SameBindings ks around bindings
 
--- a place holds the variable of that number; a captured value is the one that the variable keeps
+-- what the bindings of surroundings are when the program is made flat, and the surroundings with those
+abbrev pub Bound : World → Surroundings → Type 0
+Bound w around = BindingsAlike w.kinds around.bindings
+
+abbrev pub flat_around : {ks : List Kind} (around : Surroundings) → BindingsAlike ks around.bindings → Surroundings
+flat_around around bound = record around { bindings = bound.bindings }
+
+-- a variable in a slot: it keeps its value where nothing sets it
+abbrev pub InSlot : World → ℕ → Bool → ℕ → Type 0
+InSlot w n true i = (v : Value) × slice_get w.kinds i ≡ Some (constant v)
+InSlot w n false i = slice_get w.kinds i ≡ Some (slot n)
+
+-- a place is that of the variable of that number; a captured value is the one that the variable keeps
 abbrev pub PlaceAt : World → FlatEnvironment → VariablePlace → Bool → ℕ → Type 0
-PlaceAt w e (Slot n) fixed i = slice_get e.slots n ≡ Some i × Holds w fixed i
-PlaceAt w e (SlotCell n) fixed i = slice_get e.slots n ≡ Some i × Holds w fixed i
+PlaceAt w e (Slot n) fixed i = slice_get w.own n ≡ Some i × InSlot w n fixed i
+PlaceAt w e (SlotCell n) fixed i = slice_get w.own n ≡ Some i × ((j : ℕ) × slice_get w.kinds i ≡ Some (cell j))
 PlaceAt w e (CapturedValue n) fixed i =
-    (v : Value) × (slice_get e.captured n ≡ Some (of_value v) × slice_get w i ≡ Some (Some v) × fixed ≡ true)
-PlaceAt w e (CapturedCell n) fixed i = slice_get e.captured n ≡ Some (of_cell (Some i)) × Holds w fixed i
+    (v : Value) × (slice_get e.captured n ≡ Some (of_value v) × slice_get w.kinds i ≡ Some (constant v) × fixed ≡ true)
+PlaceAt w e (CapturedCell n) fixed i =
+    (j : ℕ) × (slice_get e.captured n ≡ Some (of_cell (Some j)) × slice_get w.kinds i ≡ Some (cell j))
 
 abbrev pub VariableAt : World → FlatEnvironment → Known → Option ℕ → Type 0
 VariableAt w e k None = ⊥
@@ -61,8 +99,50 @@ pub record Matches (w : World) (s : Scope) (env : Environment) (e : FlatEnvironm
   pub variables : (v : ℕ) (k : Known) → under v s.variables ≡ Some k → VariableAt w e k (under_number v env.variables)
   pub exits : (x : ℕ) (p : ExitPlace) → under x s.exits ≡ Some p → ExitAt e p (under_number x env.exits)
   pub method : (p : MethodPlace) → s.method ≡ Some p → method_of p e ≡ env.method
-  pub slots : length e.slots ≡ s.slots
+  pub slots : length w.own ≡ s.slots
   pub own : length e.exits ≡ s.own_exits
+
+-- the value of a variable with a cell is that of the cell; and that of a variable of another activation is as it was when this one
+-- began, where it has a slot
+abbrev pub ValueAlike : (holders : List ℕ) (start cells : List Value) → ℕ → Kind → Value → Type 0
+ValueAlike holders start cells i (constant u) v = u ≡ v
+ValueAlike holders start cells i (cell j) v = slice_get holders j ≡ Some i × slice_get cells j ≡ Some v
+ValueAlike holders start cells i (slot n) v = (u : Value) → slice_get start i ≡ Some u → u ≡ v
+
+pub record VariableAlike (holders : List ℕ) (start variables cells : List Value) (i : ℕ) (k : Kind) : Type 0 where
+  pub now : Value
+  pub there : slice_get variables i ≡ Some now
+  pub alike : ValueAlike holders start cells i k now
+
+-- what the slot of a variable holds, and which slot that is
+abbrev pub slot_for : Kind → Value → FrameSlot
+slot_for (constant u) v = holds v
+slot_for (cell j) v = holds_cell j
+slot_for (slot n) v = holds v
+
+abbrev pub IsInSlot : ℕ → Kind → Type 0
+IsInSlot n (constant u) = ⊤
+IsInSlot n (cell j) = ⊤
+IsInSlot n (slot m) = m ≡ n
+
+-- a slot of the frame has its variable, which is newer than the start of the activation
+pub record SlotAlike (kinds : List Kind) (start variables : List Value) (frame : List FrameSlot) (n i : ℕ) : Type 0 where
+  pub kind : Kind
+  pub known : slice_get kinds i ≡ Some kind
+  pub now : Value
+  pub there : slice_get variables i ≡ Some now
+  pub here : slice_get frame n ≡ Some (slot_for kind now)
+  pub in_slot : IsInSlot n kind
+  pub newer : length start ≤ i
+
+-- the variables of the program beside the cells and the frame
+pub record VariablesAlike (w : World) (variables cells : List Value) (frame : List FrameSlot) : Type 0 where
+  pub count : length w.kinds ≡ length variables
+  pub cell_count : length w.holders ≡ length cells
+  pub slot_count : length frame ≡ length w.own
+  pub since : length w.start ≤ length variables
+  pub known : (i : ℕ) (k : Kind) → slice_get w.kinds i ≡ Some k → VariableAlike w.holders w.start variables cells i k
+  pub slots : (n i : ℕ) → slice_get w.own n ≡ Some i → SlotAlike w.kinds w.start variables frame n i
 
 -- what a form needs of its scope: what it names is bound there
 pub record IsKnown (s : Scope) (v : ℕ) : Type 0 where
@@ -163,13 +243,13 @@ module _ (lambdas : List FlatProcedure) where
     SoundDynamics s n (core.dynamic_and name f ds) = Sound s n f × SoundDynamics s (n + functions f) ds
 
   -- a function that was made, and what its flat procedure captured
-  pub record ClosureAlike (w : World) (required : List ℕ) (rest : Option ℕ) (body : Form) (env : Environment) (p : ℕ) (cs : List Captured) : Type 0 where
+  pub record ClosureAlike (ks : List Kind) (required : List ℕ) (rest : Option ℕ) (body : Form) (env : Environment) (p : ℕ) (cs : List Captured) : Type 0 where
     pub scope : Scope
     pub first : ℕ
     pub kinds : List CapturedKind
     pub there : slice_get lambdas p ≡ Some (flat_procedure scope first kinds required rest body)
     pub sound : Sound (body_scope required rest body scope) first body
-    pub environment : Matches w scope env (record flat.no_environment { captured = cs })
+    pub environment : Matches (alone ks) scope env (record flat.no_environment { captured = cs })
 
   -- an object that is the same in both stores, and no function that a form made
   pub record SameObject (o o' : Option Object) (t : Option (List Captured)) : Type 0 where
@@ -177,7 +257,7 @@ module _ (lambdas : List FlatProcedure) where
     pub plain : (required : List ℕ) (rest : Option ℕ) (body : Form) (env : Environment) → o ≡ Some (closure required rest body env) → ⊥
     pub bare : (p : ℕ) → o ≡ Some (function p) → t ≡ None
 
-  pub record SameFunction (w : World) (o o' : Option Object) (t : Option (List Captured)) : Type 0 where
+  pub record SameFunction (ks : List Kind) (o o' : Option Object) (t : Option (List Captured)) : Type 0 where
     pub required : List ℕ
     pub rest : Option ℕ
     pub body : Form
@@ -187,28 +267,30 @@ module _ (lambdas : List FlatProcedure) where
     pub one : o ≡ Some (closure required rest body env)
     pub other : o' ≡ Some (function procedure)
     pub under : t ≡ Some captured
-    pub alike : ClosureAlike w required rest body env procedure captured
+    pub alike : ClosureAlike ks required rest body env procedure captured
 
-  abbrev pub ObjectsAlike : World → Option Object → Option Object → Option (List Captured) → Type 0
-  ObjectsAlike w o o' t = SameObject o o' t ⊎ SameFunction w o o' t
+  abbrev pub ObjectsAlike : List Kind → Option Object → Option Object → Option (List Captured) → Type 0
+  ObjectsAlike ks o o' t = SameObject o o' t ⊎ SameFunction ks o o' t
 
-  pub record Related (w : World) (variables : List Value) (store flat_store : List Object) (captured : List (ℕ × List Captured)) : Type 0 where
-    pub count : length w ≡ length variables
-    pub fixed : (i : ℕ) (v : Value) → slice_get w i ≡ Some (Some v) → slice_get variables i ≡ Some v
+  -- variables, cells and slots; and the stores
+  pub record Related (w : World) (variables cells : List Value) (frame : List FrameSlot) (store flat_store : List Object) (captured : List (ℕ × List Captured)) : Type 0 where
+    pub values : VariablesAlike w variables cells frame
     pub lengths : length flat_store ≡ length store
-    pub objects : (i : ℕ) → ObjectsAlike w (slice_get store i) (slice_get flat_store i) (under i captured)
+    pub objects : (i : ℕ) → ObjectsAlike w.kinds (slice_get store i) (slice_get flat_store i) (under i captured)
 
   -- a flat state beside a state, in a world that is later than another
-  abbrev pub twin : State → List Object → List (ℕ × List Captured) → FlatState
-  twin z store captured = record { state = record z { store = store }; captured = captured }
+  abbrev pub twin : State → List Object → List Value → List FrameSlot → List (ℕ × List Captured) → FlatState
+  twin z store cells frame captured = record { state = record z { store = store; variables = cells }; frame = frame; captured = captured }
 
   pub record Beside (w : World) (z : State) (y : FlatState) : Type 0 where
     pub world : World
     pub later : Later w world
     pub store : List Object
+    pub cells : List Value
+    pub frame : List FrameSlot
     pub captured : List (ℕ × List Captured)
-    pub related : Related world z.variables z.store store captured
-    pub is : y ≡ twin z store captured
+    pub related : Related world z.variables cells frame z.store store captured
+    pub is : y ≡ twin z store cells frame captured
 
   -- two evaluations that end alike, in states beside one another
   pub record Sim (w : World) (r : Evaluated) (q : FlatEvaluated) : Type 0 where
@@ -223,7 +305,8 @@ module _ (lambdas : List FlatProcedure) where
   Follows w next next' = (z : State) (y : FlatState) → Beside w z y → Sim w (next z) (next' y)
 
   abbrev pub Acts : World → Act → FlatAct → Type 0
-  Acts w act act' = (around : Surroundings) → AreFree w around → (z : State) (y : FlatState) → Beside w z y → Sim w (act around z) (act' around y)
+  Acts w act act' =
+      (around : Surroundings) (bound : Bound w around) (z : State) (y : FlatState) → Beside w z y → Sim w (act around z) (act' (flat_around around bound) y)
 
   abbrev pub Lands : World → (Value → Landing → State → Evaluated) → (Value → Landing → FlatState → FlatEvaluated) → Type 0
   Lands w land land' =

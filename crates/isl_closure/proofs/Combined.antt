@@ -1,61 +1,89 @@
 -- Two evaluations that end alike: one lemma for each combinator.
-use Rattle.std.proofs.Common.{◌≡◌, ℕ, ◌+◌, ◌==◌, Bool, true, false, List, [], ◌∷◌, ◌++◌, refl, sym, ap, subst, ◌∙◌, inl, inr, ⊎_elim, Option, Some, None, length, length-append}
+use Rattle.std.proofs.Common.{◌≡◌, ℕ, ◌+◌, ◌==◌, Bool, true, false, List, [], ◌∷◌, ◌++◌, refl, sym, ap, subst, ◌∙◌, inl, inr, ⊎_elim, Option, Some, None, length, take, length-append}
+use Rattle.std.specs.List.{range_with_len}
 use Rattle.std.specs.Prelude.{slice_get, slice_set, if◌then◌else◌}
 use Rattle.isl_meaning.specs.Form.{Form}
-use Rattle.isl_meaning.specs.Subforms.{Each}
 use Rattle.isl_meaning.specs.Values.{Value, object}
 use Rattle.isl_meaning.specs.Objects.{Object, Environment, function, closure}
 use Rattle.isl_meaning.specs.State.{State, Surroundings, Landing, Outcome, value, exit, full, more, Evaluated, gives, Act, go_on, go_on_from, landed, landed_from, caught, cleaned, cleaned_from, exits_from, Limit, exit_made, has_room, room_left, request, with_words, charged, make, stored, changed, with_stack, in_frame}
 use Rattle.isl_meaning.specs.Lookup.{under_number, with_values}
 use Rattle.isl_meaning.specs.Signals.{with_some, search}
+use Rattle.isl_closure.specs.declared.place.Home.{Home}
 use Rattle.isl_closure.specs.declared.place.VariablePlace.{VariablePlace}
 use Rattle.isl_closure.specs.declared.place.VariablePlace.TheVariants.{Slot, SlotCell, CapturedValue, CapturedCell}
 use Rattle.isl_closure.specs.declared.program.FlatProcedure.{FlatProcedure}
-use Rattle.isl_closure.specs.FlatState.{Captured, FlatEnvironment, FlatState, FlatEvaluated, FlatAct, under}
+use Rattle.isl_closure.specs.FlatState.{FrameSlot, Captured, FlatEnvironment, FlatState, FlatEvaluated, FlatAct, under}
 use Rattle.isl_closure.specs.FlatState as flat
 use Rattle.isl_closure.specs.FlatSignals as flat_signals
 use Rattle.isl_closure.specs.declared.place.Known.{Known}
 use Rattle.isl_closure.specs.Scope.{Scope}
-use Rattle.isl_closure.proofs.Alike.{World, Later, AreFree, Holds, PlaceAt, VariableAt, Matches, SameObject, ObjectsAlike, Related, Beside, twin, Sim, Continues, Follows, Acts, Lands}
-use Rattle.isl_closure.proofs.Lists.{pushed, changed_both, length-changed, in_front, behind, IsBehind, of_either}
+use Rattle.isl_closure.proofs.Alike.{Kind, constant, cell, slot, World, Kept, Later, SameBindings, BindingsAlike, Bound, flat_around, InSlot, PlaceAt, VariableAt, Matches, SameObject, ObjectsAlike, Related, Beside, twin, Sim, Continues, Follows, Acts, Lands}
+use Rattle.isl_closure.proofs.Lists.{pushed, changed_both, length-changed, in_front}
+use Rattle.isl_closure.proofs.Frames.{fewer_slots, begun, ended}
+use Rattle.isl_closure.proofs.NewSlots.{kinds_at, with_new_slots, new_variables, cells_from, with_new_dynamics, new_dynamics}
 
--- later worlds
+-- what stands in a list stands in itself
+pub kept_itself : {X : Type 0} (xs : List X) → Kept xs xs
+kept_itself xs = record { kept = λ i x h. h }
 
+-- and in a list after another one
+pub kept_after : {X : Type 0} {xs ys zs : List X} → Kept xs ys → Kept ys zs → Kept xs zs
+kept_after a b = record { kept = λ i x h. b.kept i x (a.kept i x h) }
+
+-- and in front of more
+pub kept_more : {X : Type 0} (xs ys : List X) → Kept xs (xs ++ ys)
+kept_more xs ys = record { kept = λ i x h. in_front xs ys i x h }
+
+-- and in a list that is the same
+pub same_kept : {X : Type 0} {xs ys : List X} → ys ≡ xs → Kept xs ys
+same_kept e = record { kept = λ i x h. ap (λ zs. slice_get zs i) e ∙ h }
+
+-- a world is later than itself
 pub itself : (w : World) → Later w w
-itself w = record { kept = λ i x h. h }
+itself w = record { kinds = kept_itself w.kinds; own = refl; start = refl }
 
+-- a world after a later one
 pub after_that : {w u x : World} → Later w u → Later u x → Later w x
-after_that a b = record { kept = λ i x h. b.kept i x (a.kept i x h) }
+after_that a b = record { kinds = kept_after a.kinds b.kinds; own = b.own ∙ a.own; start = b.start ∙ a.start }
 
-pub free_later : {w u : World} → Later w u → (bs : List (List ℕ × ℕ)) → Each (λ (b : List ℕ × ℕ). slice_get w b.1 ≡ Some None) bs → Each (λ (b : List ℕ × ℕ). slice_get u b.1 ≡ Some None) bs
-free_later l [] e = tt
-free_later l (b ∷ bs) e = (l.kept b.1 None e.0, free_later l bs e.1)
+-- dynamic bindings in a later world
+pub same_later : {ks ls : List Kind} → Kept ks ls → (bs cs : List (List ℕ × ℕ)) → SameBindings ks bs cs → SameBindings ls bs cs
+same_later l [] [] e = e
+same_later l [] (c ∷ cs) e = e
+same_later l (b ∷ bs) [] e = e
+same_later l (b ∷ bs) (c ∷ cs) e = (e.0, l.kept b.1 (cell c.1) e.1, same_later l bs cs e.2)
 
-pub with_more : (w ks : World) → Later w (w ++ ks)
-with_more w ks = record { kept = λ i x h. in_front w ks i x h }
+abbrev pub bound_later : {ks ls : List Kind} (bs : List (List ℕ × ℕ)) → Kept ks ls → BindingsAlike ks bs → BindingsAlike ls bs
+bound_later bs l b = record { bindings = b.bindings; same = same_later l bs b.bindings b.same }
 
-holds_later : {w u : World} → Later w u → (fixed : Bool) (i : ℕ) → Holds w fixed i → Holds u fixed i
-holds_later l true i h = (h.0, l.kept i _ h.1)
-holds_later l false i h = l.kept i _ h
+-- a place stays that of its variable where more is known
+in_slot_kept : (w u : World) → Kept w.kinds u.kinds → (n : ℕ) (fixed : Bool) (i : ℕ) → InSlot w n fixed i → InSlot u n fixed i
+in_slot_kept w u l n true i h = (h.0, l.kept i (constant h.0) h.1)
+in_slot_kept w u l n false i h = l.kept i (slot n) h
 
-place_later : {w u : World} (e : FlatEnvironment) → Later w u → (p : VariablePlace) (fixed : Bool) (i : ℕ) → PlaceAt w e p fixed i → PlaceAt u e p fixed i
-place_later e l (Slot n) fixed i h = (h.0, holds_later l fixed i h.1)
-place_later e l (SlotCell n) fixed i h = (h.0, holds_later l fixed i h.1)
-place_later e l (CapturedValue n) fixed i h = (h.0, (h.1.0, l.kept i _ h.1.1, h.1.2))
-place_later e l (CapturedCell n) fixed i h = (h.0, holds_later l fixed i h.1)
+pub place_kept : (w u : World) (e : FlatEnvironment) → Kept w.kinds u.kinds → Kept w.own u.own → (p : VariablePlace) (fixed : Bool) (i : ℕ) → PlaceAt w e p fixed i → PlaceAt u e p fixed i
+place_kept w u e l o (Slot n) fixed i h = (o.kept n i h.0, in_slot_kept w u l n fixed i h.1)
+place_kept w u e l o (SlotCell n) fixed i h = (o.kept n i h.0, (h.1.0, l.kept i (cell h.1.0) h.1.1))
+place_kept w u e l o (CapturedValue n) fixed i h = (h.0, (h.1.0, l.kept i (constant h.0) h.1.1, h.1.2))
+place_kept w u e l o (CapturedCell n) fixed i h = (h.0, (h.1.0, l.kept i (cell h.0) h.1.1))
 
-variable_later : {w u : World} (e : FlatEnvironment) → Later w u → (k : Known) (o : Option ℕ) → VariableAt w e k o → VariableAt u e k o
-variable_later e l k None h = h
-variable_later e l k (Some i) h = place_later e l k.place k.fixed i h
+-- so does that of a name
+pub variable_kept : (w u : World) (e : FlatEnvironment) → Kept w.kinds u.kinds → Kept w.own u.own → (k : Known) (o : Option ℕ) → VariableAt w e k o → VariableAt u e k o
+variable_kept w u e l o k None h = h
+variable_kept w u e l o k (Some i) h = place_kept w u e l o k.place k.fixed i h
 
-pub matches_later : {w u : World} {s : Scope} {env : Environment} {e : FlatEnvironment} → Later w u → Matches w s env e → Matches u s env e
-matches_later {w} {u} {s} {env} {e} l m = record {
-  variables = λ v k h. variable_later e l k (under_number v env.variables) (m.variables v k h);
+-- environments match where more is known, and in a later world
+pub matches_kept : {w u : World} {s : Scope} {env : Environment} {e : FlatEnvironment} → Kept w.kinds u.kinds → u.own ≡ w.own → Matches w s env e → Matches u s env e
+matches_kept {w} {u} {s} {env} {e} l same m = record {
+  variables = λ v k h. variable_kept w u e l (same_kept same) k (under_number v env.variables) (m.variables v k h);
   exits = m.exits;
   method = m.method;
-  slots = m.slots;
+  slots = ap length same ∙ m.slots;
   own = m.own;
 }
+
+pub matches_later : {w u : World} {s : Scope} {env : Environment} {e : FlatEnvironment} → Later w u → Matches w s env e → Matches u s env e
+matches_later l m = matches_kept l.kinds l.own m
 
 -- an object that no form made a function of
 pub record IsDatum (o : Object) : Type 0 where
@@ -63,7 +91,7 @@ pub record IsDatum (o : Object) : Type 0 where
   pub no_function : (p : ℕ) → o ≡ function p → ⊥
 
 module _ {ps : List FlatProcedure} where
-  pub objects_later : {w u : World} {o o' : Option Object} {t : Option (List Captured)} → Later w u → ObjectsAlike ps w o o' t → ObjectsAlike ps u o o' t
+  pub objects_later : {ks ls : List Kind} {o o' : Option Object} {t : Option (List Captured)} → Kept ks ls → ObjectsAlike ps ks o o' t → ObjectsAlike ps ls o o' t
   objects_later l x = ⊎_elim (λ s. inl s) (λ f. inr (record {
     required = f.required;
     rest = f.rest;
@@ -80,17 +108,19 @@ module _ {ps : List FlatProcedure} where
       kinds = f.alike.kinds;
       there = f.alike.there;
       sound = f.alike.sound;
-      environment = matches_later l f.alike.environment;
+      environment = matches_kept l refl f.alike.environment;
     };
   })) x
 
   -- it is enough to look at the twin of a state
   pub at_twin : {w : World} {z : State} {y : FlatState} (P : FlatState → Type 0) (b : Beside ps w z y)
-      → (Beside ps w z (twin ps z b.store b.captured) → P (twin ps z b.store b.captured)) → P y
+      → (Beside ps w z (twin ps z b.store b.cells b.frame b.captured) → P (twin ps z b.store b.cells b.frame b.captured)) → P y
   at_twin P b h = subst P (sym b.is) (h (record {
     world = b.world;
     later = b.later;
     store = b.store;
+    cells = b.cells;
+    frame = b.frame;
     captured = b.captured;
     related = b.related;
     is = refl;
@@ -99,23 +129,25 @@ module _ {ps : List FlatProcedure} where
   -- a step that changes neither variables nor store
   pub step : {w : World} {z : State} {y : FlatState} (g : State → State) → Beside ps w z y
       → ((x : State) → (g x).variables ≡ x.variables) → ((x : State) → (g x).store ≡ x.store)
-      → ((x : State) (os : List Object) → g (record x { store = os }) ≡ record (g x) { store = os })
+      → ((x : State) (os : List Object) (vs : List Value) → g (record x { store = os; variables = vs }) ≡ record (g x) { store = os; variables = vs })
       → Beside ps w (g z) (flat.on_state g y)
   step {w} {z} {y} g b v s h = record {
     world = b.world;
     later = b.later;
     store = b.store;
+    cells = b.cells;
+    frame = b.frame;
     captured = b.captured;
-    related = subst (λ vs. Related ps b.world vs (g z).store b.store b.captured) (sym (v z))
-        (subst (λ os. Related ps b.world z.variables os b.store b.captured) (sym (s z)) b.related);
-    is = ap (λ (x : FlatState). flat.on_state g x) b.is ∙ ap (λ (x : State). record { state = x; captured = b.captured }) (h z b.store);
+    related = subst (λ vs. Related ps b.world vs b.cells b.frame (g z).store b.store b.captured) (sym (v z))
+        (subst (λ os. Related ps b.world z.variables b.cells b.frame os b.store b.captured) (sym (s z)) b.related);
+    is = ap (λ (x : FlatState). flat.on_state g x) b.is ∙ ap (λ (x : State). record { state = x; frame = b.frame; captured = b.captured }) (h z b.store b.cells);
   }
 
   pub charges : {w : World} {z : State} {y : FlatState} (n : ℕ) → Beside ps w z y → Beside ps w (charged n z) (flat.charged n y)
-  charges n b = step (λ z. charged n z) b (λ x. refl) (λ x. refl) (λ x os. refl)
+  charges n b = step (λ z. charged n z) b (λ x. refl) (λ x. refl) (λ x os vs. refl)
 
   pub exits_made : {w : World} {z : State} {y : FlatState} → Beside ps w z y → Beside ps w (exit_made z) (flat.exit_made y)
-  exits_made b = step (λ z. exit_made z) b (λ x. refl) (λ x. refl) (λ x os. refl)
+  exits_made b = step (λ z. exit_made z) b (λ x. refl) (λ x. refl) (λ x os vs. refl)
 
   -- from an earlier world, and at the world of now
   pub sooner : {w u : World} {r : Evaluated} {q : FlatEvaluated} → Later w u → Sim ps u r q → Sim ps w r q
@@ -124,6 +156,8 @@ module _ {ps : List FlatProcedure} where
       world = x.beside.world;
       later = after_that l x.beside.later;
       store = x.beside.store;
+      cells = x.beside.cells;
+      frame = x.beside.frame;
       captured = x.beside.captured;
       related = x.beside.related;
       is = x.beside.is;
@@ -132,7 +166,7 @@ module _ {ps : List FlatProcedure} where
   }
 
   pub now : {w : World} {z : State} {y : FlatState} (b : Beside ps w z y) → Beside ps b.world z y
-  now b = record { world = b.world; later = itself b.world; store = b.store; captured = b.captured; related = b.related; is = b.is }
+  now b = record { world = b.world; later = itself b.world; store = b.store; cells = b.cells; frame = b.frame; captured = b.captured; related = b.related; is = b.is }
 
   -- ends
   pub ends : {w : World} {z : State} {y : FlatState} (o : Outcome) → Beside ps w z y
@@ -183,22 +217,22 @@ module _ {ps : List FlatProcedure} where
   pub catches : {w : World} {r : Evaluated} {q : FlatEvaluated} (e : ℕ) → Sim ps w r q → Sim ps w (caught e r) (flat.caught e q)
   catches e x = lands_on e (λ v landing z y b. given v b) x
 
-  pub cleans : {w : World} {r : Evaluated} {q : FlatEvaluated} (around : Surroundings) → AreFree w around → {cleanup : Act} {cleanup' : FlatAct} → Acts ps w cleanup cleanup'
-      → Sim ps w r q → Sim ps w (cleaned cleanup around r) (flat.cleaned cleanup' around q)
-  cleans {w} {r} {q} around free {cleanup} {cleanup'} c x = used (cleaned_from cleanup around) (flat.cleaned_from cleanup' around) at x
+  pub cleans : {w : World} {r : Evaluated} {q : FlatEvaluated} (around : Surroundings) (bound : Bound w around) {cleanup : Act} (cleanup' : FlatAct) → Acts ps w cleanup cleanup'
+      → Sim ps w r q → Sim ps w (cleaned cleanup around r) (flat.cleaned cleanup' (flat_around around bound) q)
+  cleans {w} {r} {q} around bound {cleanup} cleanup' c x = used (cleaned_from cleanup around) (flat.cleaned_from cleanup' (flat_around around bound)) at x
     where
-      at : (o : Outcome) (z : State) (y : FlatState) → Beside ps w z y → Sim ps w (cleaned_from cleanup around o z) (flat.cleaned_from cleanup' around o y)
-      at (value v) z y b = on (c around free z y b) (λ ignored after later a. given v a)
+      at : (o : Outcome) (z : State) (y : FlatState) → Beside ps w z y → Sim ps w (cleaned_from cleanup around o z) (flat.cleaned_from cleanup' (flat_around around bound) o y)
+      at (value v) z y b = on (c around bound z y b) (λ ignored after later a. given v a)
       at (exit e v landing) z y b =
-          on (c (record around { exits = exits_from e around.exits }) free z y b) (λ ignored after later a. ends (exit e v landing) a)
+          on (c (record around { exits = exits_from e around.exits }) bound z y b) (λ ignored after later a. ends (exit e v landing) a)
       at (full asked left) z y b = ends (full asked left) b
       at more z y b = ends more b
 
-  pub some : {w : World} {X : Type 0} (o : Option X) {otherwise : Act} {otherwise' : FlatAct} {next : X → Act} {next' : X → FlatAct}
+  pub some : {w : World} {X : Type 0} (o : Option X) {otherwise : Act} (otherwise' : FlatAct) {next : X → Act} (next' : X → FlatAct)
       → Acts ps w otherwise otherwise' → ((x : X) → Acts ps w (next x) (next' x))
       → Acts ps w (with_some o otherwise next) (flat_signals.with_some o otherwise' next')
-  some None n s = n
-  some (Some x) n s = s x
+  some None otherwise' next' n s = n
+  some (Some x) otherwise' next' n s = s x
 
   -- requests, objects and applications
   pub requests : {w : World} (limit : Limit) (heap stack : ℕ) (z : State) (y : FlatState) → Beside ps w z y → {next : State → Evaluated} {next' : FlatState → FlatEvaluated}
@@ -206,7 +240,7 @@ module _ {ps : List FlatProcedure} where
   requests {w} limit heap stack z y b {next} {next'} c =
       at_twin (λ y'. Sim ps w (request limit heap stack z next) (flat.request limit heap stack y' next')) b (λ a.
       tests (has_room limit (z.heap + z.stack + heap + stack))
-      (c (with_words heap stack z) _ (step (λ x. with_words heap stack x) a (λ x. refl) (λ x. refl) (λ x os. refl)))
+      (c (with_words heap stack z) _ (step (λ x. with_words heap stack x) a (λ x. refl) (λ x. refl) (λ x os vs. refl)))
       (ends (full (heap + stack) (room_left limit (z.heap + z.stack))) a))
 
   same_datum : (o : Object) → IsDatum o → (t : Option (List Captured)) → SameObject ps (Some o) (Some o) t
@@ -216,14 +250,13 @@ module _ {ps : List FlatProcedure} where
     bare = λ p h. absurd (d.no_function p (cc h));
   }
 
-  pub stored_related : {w : World} {vs : List Value} {store flat_store : List Object} {cs : List (ℕ × List Captured)} (o : Object) → IsDatum o
-      → Related ps w vs store flat_store cs → Related ps w vs (store ++ o ∷ []) (flat_store ++ o ∷ []) cs
-  stored_related {w} {vs} {store} {flat_store} {cs} o d r = record {
-    count = r.count;
-    fixed = r.fixed;
+  pub stored_related : {w : World} {vs us : List Value} {frame : List FrameSlot} {store flat_store : List Object} {cs : List (ℕ × List Captured)} (o : Object) → IsDatum o
+      → Related ps w vs us frame store flat_store cs → Related ps w vs us frame (store ++ o ∷ []) (flat_store ++ o ∷ []) cs
+  stored_related {w} {vs} {us} {frame} {store} {flat_store} {cs} o d r = record {
+    values = r.values;
     lengths = length-append flat_store (o ∷ []) ∙ ap (λ n. n + 1) r.lengths ∙ sym (length-append store (o ∷ []));
     objects = λ i.
-        pushed (λ x y. ObjectsAlike ps w x y (under i cs)) store flat_store o o i r.lengths
+        pushed (λ x y. ObjectsAlike ps w.kinds x y (under i cs)) store flat_store o o i r.lengths
         (λ e. inl (same_datum o d (under i cs))) (λ e. r.objects i);
   }
 
@@ -233,19 +266,20 @@ module _ {ps : List FlatProcedure} where
     world = b.world;
     later = b.later;
     store = b.store ++ o ∷ [];
+    cells = b.cells;
+    frame = b.frame;
     captured = b.captured;
     related = stored_related o d b.related;
     is = ap (λ (x : FlatState). flat.on_state (λ x. stored o x) x) b.is;
   }
 
-  pub changed_related : {w : World} {vs : List Value} {store flat_store : List Object} {cs : List (ℕ × List Captured)} (i : ℕ) (o : Object) → IsDatum o
-      → Related ps w vs store flat_store cs → Related ps w vs (slice_set store i o) (slice_set flat_store i o) cs
-  changed_related {w} {vs} {store} {flat_store} {cs} i o d r = record {
-    count = r.count;
-    fixed = r.fixed;
+  pub changed_related : {w : World} {vs us : List Value} {frame : List FrameSlot} {store flat_store : List Object} {cs : List (ℕ × List Captured)} (i : ℕ) (o : Object) → IsDatum o
+      → Related ps w vs us frame store flat_store cs → Related ps w vs us frame (slice_set store i o) (slice_set flat_store i o) cs
+  changed_related {w} {vs} {us} {frame} {store} {flat_store} {cs} i o d r = record {
+    values = r.values;
     lengths = length-changed flat_store i o ∙ r.lengths ∙ sym (length-changed store i o);
     objects = λ j.
-        changed_both (λ x y. ObjectsAlike ps w x y (under j cs)) store flat_store i j o r.lengths
+        changed_both (λ x y. ObjectsAlike ps w.kinds x y (under j cs)) store flat_store i j o r.lengths
         (inl (same_datum o d (under j cs))) (r.objects j);
   }
 
@@ -255,6 +289,8 @@ module _ {ps : List FlatProcedure} where
     world = b.world;
     later = b.later;
     store = slice_set b.store i o;
+    cells = b.cells;
+    frame = b.frame;
     captured = b.captured;
     related = changed_related i o d b.related;
     is = ap (λ (x : FlatState). flat.on_state (λ x. changed i o x) x) b.is;
@@ -274,7 +310,7 @@ module _ {ps : List FlatProcedure} where
 
   pub stacked : {w : World} {r : Evaluated} {q : FlatEvaluated} (n : ℕ) → Sim ps w r q → Sim ps w (with_stack n r) (flat.with_stack n q)
   stacked {w} {r} {q} n x = record {
-    beside = step (λ z. record z { stack = n }) x.beside (λ x. refl) (λ x. refl) (λ x os. refl);
+    beside = step (λ z. record z { stack = n }) x.beside (λ x. refl) (λ x. refl) (λ x os vs. refl);
     same = x.same;
   }
 
@@ -296,25 +332,102 @@ module _ {ps : List FlatProcedure} where
       (f x (charged 1 z) (flat.charged 1 y) (charges 1 b))
       (searches p f o xs (charged 1 z) (flat.charged 1 y) (charges 1 b))
 
-  -- new variables, of which as much is known as these say
-  pub more_values : {w : World} {z : State} {y : FlatState} (vs : List Value) (ks : World) → length ks ≡ length vs
-      → ((i : ℕ) (v : Value) → slice_get ks i ≡ Some (Some v) → slice_get vs i ≡ Some v)
-      → (b : Beside ps w z y) → Beside ps (b.world ++ ks) (with_values vs z) (flat.with_values vs y)
-  more_values {w} {z} {y} vs ks e f b = record {
-    world = b.world ++ ks;
-    later = itself (b.world ++ ks);
+  -- new variables, with new slots
+  pub slots_made : {w : World} {z : State} {y : FlatState} (hs : List Home) (ss : List Bool) (vs : List Value) → length hs ≡ length vs → length ss ≡ length vs
+      → (b : Beside ps w z y) → Beside ps (with_new_slots b.world hs ss vs (length z.variables) (length b.cells)) (with_values vs z) (flat.with_slots hs vs y)
+  slots_made {w} {z} {y} hs ss vs e f b = record {
+    world = with_new_slots b.world hs ss vs (length z.variables) (length b.cells);
+    later = itself (with_new_slots b.world hs ss vs (length z.variables) (length b.cells));
     store = b.store;
+    cells = b.cells ++ flat.new_cells hs vs;
+    frame = b.frame ++ flat.new_slots hs vs (length b.cells);
     captured = b.captured;
     related = record {
-      count = length-append b.world ks ∙ ap (λ n. n + length ks) b.related.count ∙ ap (λ n. length z.variables + n) e ∙ sym (length-append z.variables vs);
-      fixed = λ i v h. ⊎_elim
-          (λ g. in_front z.variables vs i v (b.related.fixed i v g))
-          (λ (g : IsBehind b.world ks i (Some v)).
-          subst (λ n. slice_get (z.variables ++ vs) n ≡ Some v) (sym (g.place ∙ ap (λ n. n + g.at) b.related.count))
-          (behind z.variables vs g.at ∙ f g.at v g.item))
-          (of_either b.world ks i (Some v) h);
+      values = new_variables b.related.values hs ss vs e f;
       lengths = b.related.lengths;
-      objects = λ i. objects_later (with_more b.world ks) (b.related.objects i);
+      objects = λ i. objects_later (kept_more b.world.kinds (kinds_at hs ss vs (length b.world.own) (length b.cells))) (b.related.objects i);
+    };
+    is = ap (λ (x : FlatState). flat.with_slots hs vs x) b.is;
+  }
+
+  -- and when they are gone
+  pub slots_gone : {w : World} {z : State} {y : FlatState} (hs : List Home) (ss : List Bool) (vs : List Value)
+      → (b : Beside ps w z y) → {r : Evaluated} {q : FlatEvaluated} → Sim ps (with_new_slots b.world hs ss vs (length z.variables) (length b.cells)) r q
+      → Sim ps w r (flat.without_slots_from (length y.frame) q)
+  slots_gone {w} {z} {y} hs ss vs b {r} {q} x =
+      let many : length b.world.own ≡ length y.frame = sym (ap (λ (s : FlatState). length s.frame) b.is ∙ b.related.values.slot_count) in
+      subst (λ n. Sim ps w r (flat.without_slots_from n q)) many (record {
+        beside = record {
+          world = record x.beside.world { own = b.world.own };
+          later = record {
+            kinds = kept_after b.later.kinds (kept_after (kept_more b.world.kinds (kinds_at hs ss vs (length b.world.own) (length b.cells))) x.beside.later.kinds);
+            own = b.later.own;
+            start = x.beside.later.start ∙ b.later.start;
+          };
+          store = x.beside.store;
+          cells = x.beside.cells;
+          frame = take (length b.world.own) x.beside.frame;
+          captured = x.beside.captured;
+          related = record {
+            values = fewer_slots x.beside.related.values b.world.own (range_with_len (length z.variables) (length vs)) x.beside.later.own;
+            lengths = x.beside.related.lengths;
+            objects = x.beside.related.objects;
+          };
+          is = ap (λ (s : FlatState). record s { frame = take (length b.world.own) s.frame }) x.beside.is;
+        };
+        same = x.same;
+      })
+
+  -- a frame of its own
+  pub frame_made : {w : World} {z : State} {y : FlatState} → (b : Beside ps w z y)
+      → Beside ps (record b.world { own = []; start = z.variables }) z (record y { frame = [] })
+  frame_made {w} {z} {y} b = record {
+    world = record b.world { own = []; start = z.variables };
+    later = itself (record b.world { own = []; start = z.variables });
+    store = b.store;
+    cells = b.cells;
+    frame = [];
+    captured = b.captured;
+    related = record { values = begun b.related.values; lengths = b.related.lengths; objects = b.related.objects };
+    is = ap (λ (s : FlatState). record s { frame = [] }) b.is;
+  }
+
+  -- and when it is left
+  pub frame_left : {w u : World} {z : State} {y : FlatState} (b : Beside ps w z y) → Kept b.world.kinds u.kinds → u.start ≡ z.variables
+      → {r : Evaluated} {q : FlatEvaluated} → Sim ps u r q → Sim ps w r (flat.with_frame y.frame q)
+  frame_left {w} {u} {z} {y} b l began {r} {q} x =
+      subst (λ frame. Sim ps w r (flat.with_frame frame q)) (sym (ap (λ (s : FlatState). s.frame) b.is)) (record {
+        beside = record {
+          world = record x.beside.world { own = b.world.own; start = b.world.start };
+          later = record { kinds = kept_after b.later.kinds (kept_after l x.beside.later.kinds); own = b.later.own; start = b.later.start };
+          store = x.beside.store;
+          cells = x.beside.cells;
+          frame = b.frame;
+          captured = x.beside.captured;
+          related = record {
+            values = ended b.related.values (kept_after l x.beside.later.kinds) (x.beside.later.start ∙ began) x.beside.related.values;
+            lengths = x.beside.related.lengths;
+            objects = x.beside.related.objects;
+          };
+          is = ap (λ (s : FlatState). record s { frame = b.frame }) x.beside.is;
+        };
+        same = x.same;
+      })
+
+  -- new dynamic bindings
+  pub dynamics_made : {w : World} {z : State} {y : FlatState} (vs : List Value)
+      → (b : Beside ps w z y) → Beside ps (with_new_dynamics b.world vs (length z.variables) (length b.cells)) (with_values vs z) (flat.with_values vs y)
+  dynamics_made {w} {z} {y} vs b = record {
+    world = with_new_dynamics b.world vs (length z.variables) (length b.cells);
+    later = itself (with_new_dynamics b.world vs (length z.variables) (length b.cells));
+    store = b.store;
+    cells = b.cells ++ vs;
+    frame = b.frame;
+    captured = b.captured;
+    related = record {
+      values = new_dynamics b.related.values vs;
+      lengths = b.related.lengths;
+      objects = λ i. objects_later (kept_more b.world.kinds (cells_from (length b.cells) vs)) (b.related.objects i);
     };
     is = ap (λ (x : FlatState). flat.with_values vs x) b.is;
   }

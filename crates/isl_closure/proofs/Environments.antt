@@ -1,9 +1,8 @@
 -- Environments that match: with new variables, with a new exit, and those of functions.
-use Rattle.std.proofs.Common.{◌≡◌, ℕ, zero, suc, ◌+◌, ◌==◌, Bool, true, false, List, [], ◌∷◌, ◌++◌, refl, sym, ap, subst, ◌∙◌, Option, Some, None, length, map, arith, length-append}
+use Rattle.std.proofs.Common.{◌≡◌, ℕ, suc, ◌+◌, ◌==◌, Bool, true, false, List, [], ◌∷◌, ◌++◌, refl, sym, ap, subst, ◌∙◌, Option, Some, None, length, map, arith, length-append}
 use Rattle.std.specs.List.{range_with_len}
-use Rattle.std.proofs.lemmas.Bool.{eqb-true}
 use Rattle.std.proofs.lemmas.Option.{get_or_from_slice_get}
-use Rattle.std.specs.Prelude.{not, slice_get, slice_index_or, if◌then◌else◌}
+use Rattle.std.specs.Prelude.{not, slice_get, slice_set, if◌then◌else◌}
 use Rattle.isl_meaning.specs.declared.part.Part.{Part}
 use Rattle.isl_meaning.specs.declared.part.Part.TheVariants.{Variable, Exit, Method}
 use Rattle.isl_meaning.specs.Form.{Form}
@@ -23,62 +22,37 @@ use Rattle.isl_closure.specs.declared.place.ExitPlace.TheVariants as exit_place
 use Rattle.isl_closure.specs.declared.place.MethodPlace.{MethodPlace}
 use Rattle.isl_closure.specs.declared.place.MethodPlace.TheVariants as method_place
 use Rattle.isl_closure.specs.declared.program.FlatProcedure.{FlatProcedure}
-use Rattle.isl_closure.specs.FlatState.{Captured, of_value, of_cell, of_exit, of_method, FlatEnvironment, FlatState, FlatEvaluated, FlatAct, under, exit_of, method_of, value_in, cell_in, exit_in, method_in, captured_part, captured_variable}
+use Rattle.isl_closure.specs.FlatState.{FrameSlot, holds, holds_cell, Captured, of_value, of_cell, of_exit, of_method, FlatEnvironment, FlatState, FlatEvaluated, FlatAct, under, exit_of, method_of, value_held, cell_held, value_in, cell_in, exit_in, method_in, captured_part, captured_variable}
 use Rattle.isl_closure.specs.FlatState as flat_state
 use Rattle.isl_closure.specs.FlatSignals as flat_signals
 use Rattle.isl_closure.specs.FlatMeaning as flat_meaning
 use Rattle.isl_closure.specs.declared.place.Known.{Known}
 use Rattle.isl_closure.specs.Scope.{Scope, home_of, homes_of, slot_at, in_slots, with_bound, with_around, known_or, known_of, exit_or, method_or, flat_part, flat_parts, captured_place, captured_known, captured_variables, captured_exits, captured_method, seen}
-use Rattle.isl_closure.proofs.Alike.{World, Later, AreFree, Holds, PlaceAt, VariableAt, ExitAt, Matches, KeepsValue, PartIsThere, Beside, twin, Sim, Follows, Acts}
-use Rattle.isl_closure.proofs.Lists.{in_front, behind, length-changed, other_place}
-use Rattle.isl_closure.proofs.Combined.{with_more, after_that, free_later, matches_later, at_twin, charges, sooner, requests, more_values}
+use Rattle.isl_closure.proofs.Alike.{Kind, constant, cell, slot, World, alone, Kept, Bound, flat_around, PlaceAt, VariableAt, VariableAlike, VariablesAlike, ExitAt, Matches, KeepsValue, PartIsThere, Beside, twin, Sim, Follows, Acts}
+use Rattle.isl_closure.proofs.Lists.{in_front, behind, length-range}
+use Rattle.isl_closure.proofs.Frames.{slot_known, set_in_cell, set_in_slot}
+use Rattle.isl_closure.proofs.NewSlots.{kind_at, after_it, kinds_at, with_new_slots}
+use Rattle.isl_closure.proofs.Combined.{kept_after, kept_more, same_kept, place_kept, variable_kept, matches_kept, matches_later, bound_later, charges, requests, slots_made, slots_gone, frame_made, frame_left}
+pub use Rattle.isl_closure.proofs.Lists.{some_same, equal_or_not}
 
--- what is known of new variables with these values: those that nothing sets keep theirs
-abbrev pub kept : List ℕ → Form → List Value → World
-kept [] body ws = []
-kept (v ∷ vs) body [] = []
-kept (v ∷ vs) body (x ∷ ws) = (if not (sets v body) then Some x else None) ∷ kept vs body ws
+-- which variables the body sets
+abbrev pub sets_of : List ℕ → Form → List Bool
+sets_of [] body = []
+sets_of (v ∷ vs) body = sets v body ∷ sets_of vs body
 
-length-kept : (vs : List ℕ) (body : Form) (ws : List Value) → length ws ≡ length vs → length (kept vs body ws) ≡ length ws
-length-kept [] body [] e = refl
-length-kept [] body (x ∷ ws) e = absurd (cc e)
-length-kept (v ∷ vs) body [] e = refl
-length-kept (v ∷ vs) body (x ∷ ws) e = ap suc (length-kept vs body ws (omega (arith, e)))
+-- as many as there are variables
+length-sets : (vs : List ℕ) (body : Form) → length (sets_of vs body) ≡ length vs
+length-sets [] body = refl
+length-sets (v ∷ vs) body = ap suc (length-sets vs body)
 
-kept_value : (fixed : Bool) (x v : Value) → let o : Option Value = (if fixed then Some x else None) in o ≡ Some v → x ≡ v
-kept_value true x v h = cc h
-kept_value false x v h = absurd (cc h)
+-- a new variable is at its place
+place_new : (w : World) (e : FlatEnvironment) (h : Home) (is_set : Bool) (x : Value) (n j i : ℕ) → slice_get w.own n ≡ Some i
+    → slice_get w.kinds i ≡ Some (kind_at h is_set x n j) → PlaceAt w e (slot_at h n) (not is_set) i
+place_new w e home.Slot true x n j i p q = (p, q)
+place_new w e home.Slot false x n j i p q = (p, (x, q))
+place_new w e home.Cell is_set x n j i p q = (p, (j, q))
 
-pub some_same : {X : Type 0} {x y : X} → Some x ≡ Some y → x ≡ y
-some_same {X} {x} {y} h = cc h
-
-are_kept : (vs : List ℕ) (body : Form) (ws : List Value) (i : ℕ) (v : Value) → slice_get (kept vs body ws) i ≡ Some (Some v) → slice_get ws i ≡ Some v
-are_kept [] body ws i v h = absurd (cc h)
-are_kept (u ∷ vs) body [] i v h = absurd (cc h)
-are_kept (u ∷ vs) body (x ∷ ws) zero v h = ap Some (kept_value (not (sets u body)) x v (some_same h))
-are_kept (u ∷ vs) body (x ∷ ws) (suc i) v h = are_kept vs body ws i v h
-
-holds_kept : (w : World) (fixed : Bool) (i : ℕ) (x : Value) → slice_get w i ≡ Some (if fixed then Some x else None) → Holds w fixed i
-holds_kept w true i x h = (x, h)
-holds_kept w false i x h = h
-
-place_at_slot : (w : World) (e : FlatEnvironment) (h : Home) (n : ℕ) (fixed : Bool) (i : ℕ) → slice_get e.slots n ≡ Some i → Holds w fixed i → PlaceAt w e (slot_at h n) fixed i
-place_at_slot w e home.Slot n fixed i p q = (p, q)
-place_at_slot w e home.Cell n fixed i p q = (p, q)
-
--- a place where there are more slots, and more exits
-place_more : (w : World) (e : FlatEnvironment) (more : List ℕ) (p : VariablePlace) (fixed : Bool) (i : ℕ) → PlaceAt w e p fixed i
-    → PlaceAt w (record e { slots = e.slots ++ more }) p fixed i
-place_more w e more (Slot n) fixed i h = (in_front e.slots more n i h.0, h.1)
-place_more w e more (SlotCell n) fixed i h = (in_front e.slots more n i h.0, h.1)
-place_more w e more (CapturedValue n) fixed i h = h
-place_more w e more (CapturedCell n) fixed i h = h
-
-variable_more : (w : World) (e : FlatEnvironment) (more : List ℕ) (k : Known) (o : Option ℕ) → VariableAt w e k o
-    → VariableAt w (record e { slots = e.slots ++ more }) k o
-variable_more w e more k None h = h
-variable_more w e more k (Some i) h = place_more w e more k.place k.fixed i h
-
+-- a place where there are more exits
 place_exits : (w : World) (e : FlatEnvironment) (now : List ℕ) (p : VariablePlace) (fixed : Bool) (i : ℕ) → PlaceAt w e p fixed i
     → PlaceAt w (record e { exits = now }) p fixed i
 place_exits w e now (Slot n) fixed i h = h
@@ -91,29 +65,13 @@ variable_exits : (w : World) (e : FlatEnvironment) (now : List ℕ) (k : Known) 
 variable_exits w e now k None h = h
 variable_exits w e now k (Some i) h = place_exits w e now k.place k.fixed i h
 
-exit_slots : (e : FlatEnvironment) (now : List ℕ) (p : ExitPlace) → exit_of p (record e { slots = now }) ≡ exit_of p e
-exit_slots e now (exit_place.Own n) = refl
-exit_slots e now (exit_place.Captured n) = refl
-
 exit_more : (e : FlatEnvironment) (more : List ℕ) (p : ExitPlace) (i : ℕ) → exit_of p e ≡ Some i → exit_of p (record e { exits = e.exits ++ more }) ≡ Some i
 exit_more e more (exit_place.Own n) i h = in_front e.exits more n i h
 exit_more e more (exit_place.Captured n) i h = h
 
-method_slots : (e : FlatEnvironment) (now : List ℕ) (p : MethodPlace) → method_of p (record e { slots = now }) ≡ method_of p e
-method_slots e now method_place.Own = refl
-method_slots e now (method_place.Captured n) = refl
-
 method_exits : (e : FlatEnvironment) (now : List ℕ) (p : MethodPlace) → method_of p (record e { exits = now }) ≡ method_of p e
 method_exits e now method_place.Own = refl
 method_exits e now (method_place.Captured n) = refl
-
--- a test on two numbers, with what it says
-pub equal_or_not : {C : Type 0} (m n : ℕ) → (m ≡ n → (m == n) ≡ true → C) → ((m == n) ≡ false → C) → C
-equal_or_not {C} m n alike apart = by (m == n) refl
-  where
-    by : (b : Bool) → (m == n) ≡ b → C
-    by true h = alike (eqb-true m n h) h
-    by false h = apart h
 
 -- the first of a list under a number, and those after it
 pub under_first : {X : Type 0} (n m : ℕ) (x : X) (xs : List (ℕ × X)) → (n == m) ≡ true → under n ((m, x) ∷ xs) ≡ Some x
@@ -131,62 +89,55 @@ number_after n m x xs h = ap (λ b. if b then Some x else under_number n xs) h
 -- new variables in new slots
 found : (w : World) (e : FlatEnvironment) (known : List (ℕ × Known)) (around : List (ℕ × ℕ))
     → ((v : ℕ) (k : Known) → under v known ≡ Some k → VariableAt w e k (under_number v around))
-    → (vs : List ℕ) (body : Form) (ws : List Value) → length ws ≡ length vs → (n i : ℕ)
-    → ((j l : ℕ) → slice_get (range_with_len i (length vs)) j ≡ Some l → slice_get e.slots (n + j) ≡ Some l)
-    → ((j : ℕ) (x : Option Value) → slice_get (kept vs body ws) j ≡ Some x → slice_get w (i + j) ≡ Some x)
+    → (vs : List ℕ) (body : Form) (ws : List Value) → length ws ≡ length vs → (n i j : ℕ)
+    → ((m l : ℕ) → slice_get (range_with_len i (length ws)) m ≡ Some l → slice_get w.own (n + m) ≡ Some l)
+    → ((m : ℕ) (k : Kind) → slice_get (kinds_at (homes_of vs body) (sets_of vs body) ws n j) m ≡ Some k → slice_get w.kinds (i + m) ≡ Some k)
     → (v : ℕ) (k : Known) → under v (in_slots vs body n ++ known) ≡ Some k
     → VariableAt w e k (under_number v (numbered vs i ++ around))
-found w e known around rest [] body ws len n i slots values v k h = rest v k h
-found w e known around rest (u ∷ vs) body [] len n i slots values v k h = absurd (cc len)
-found w e known around rest (u ∷ vs) body (x ∷ ws) len n i slots values v k h =
+found w e known around rest [] body ws len n i j own kinds v k h = rest v k h
+found w e known around rest (u ∷ vs) body [] len n i j own kinds v k h = absurd (cc len)
+found w e known around rest (u ∷ vs) body (x ∷ ws) len n i j own kinds v k h =
     equal_or_not v u
     (λ same t.
     let at : PlaceAt w e (slot_at (home_of u body) n) (not (sets u body)) i =
-    place_at_slot w e (home_of u body) n (not (sets u body)) i
-    (let q : n + 0 ≡ n = omega arith in subst (λ m. slice_get e.slots m ≡ Some i) q (slots 0 i refl))
-    (holds_kept w (not (sets u body)) i x
-    (let q : i + 0 ≡ i = omega arith in subst (λ m. slice_get w m ≡ Some (if not (sets u body) then Some x else None)) q (values 0 _ refl))) in
+    place_new w e (home_of u body) (sets u body) x n j i
+    (let q : n + 0 ≡ n = omega arith in subst (λ m. slice_get w.own m ≡ Some i) q (own 0 i refl))
+    (let q : i + 0 ≡ i = omega arith in subst (λ m. slice_get w.kinds m ≡ Some (kind_at (home_of u body) (sets u body) x n j)) q (kinds 0 _ refl)) in
     subst (λ o. VariableAt w e k o) (sym (number_first v u i (numbered vs (i + 1) ++ around) t))
     (subst (λ (q : Known). VariableAt w e q (Some i))
     (some_same (sym (under_first v u _ (in_slots vs body (n + 1) ++ known) t) ∙ h)) at))
     (λ f.
     subst (λ o. VariableAt w e k o) (sym (number_after v u i (numbered vs (i + 1) ++ around) f))
-    (found w e known around rest vs body ws (omega (arith, len)) (n + 1) (i + 1)
-    (λ j l g. let q : n + suc j ≡ (n + 1) + j = omega arith in subst (λ m. slice_get e.slots m ≡ Some l) q (slots (suc j) l g))
-    (λ j y g. let q : i + suc j ≡ (i + 1) + j = omega arith in subst (λ m. slice_get w m ≡ Some y) q (values (suc j) y g))
+    (found w e known around rest vs body ws (omega (arith, len)) (n + 1) (i + 1) (after_it (home_of u body) j)
+    (λ m l g. let q : n + suc m ≡ (n + 1) + m = omega arith in subst (λ a. slice_get w.own a ≡ Some l) q (own (suc m) l g))
+    (λ m l g. let q : i + suc m ≡ (i + 1) + m = omega arith in subst (λ a. slice_get w.kinds a ≡ Some l) q (kinds (suc m) l g))
     v k (sym (under_after v u _ (in_slots vs body (n + 1) ++ known) f) ∙ h)))
 
-pub length-count : (i n : ℕ) → length (range_with_len i n) ≡ n
-length-count i zero = refl
-length-count i (suc n) = ap suc (length-count (i + 1) n)
-
+-- as many homes as variables
 pub length-homes : (vs : List ℕ) (body : Form) → length (homes_of vs body) ≡ length vs
 length-homes [] body = refl
 length-homes (v ∷ vs) body = ap suc (length-homes vs body)
 
+-- environments match with them
 bound_matches : {w : World} {s : Scope} {env : Environment} {e : FlatEnvironment} → Matches w s env e
-    → (vs : List ℕ) (body : Form) (ws : List Value) → length ws ≡ length vs → (u : World) (i : ℕ) → length u ≡ i → Later w u
-    → (variables : List (ℕ × ℕ)) → variables ≡ numbered vs i ++ env.variables
-    → Matches (u ++ kept vs body ws) (with_bound vs body s) (record env { variables = variables })
-    (record e { slots = e.slots ++ range_with_len i (length vs) })
-bound_matches {w} {s} {env} {e} m vs body ws len u i count later variables is =
-    let l : Later w (u ++ kept vs body ws) = after_that later (with_more u (kept vs body ws)) in
-    let more : FlatEnvironment = record e { slots = e.slots ++ range_with_len i (length vs) } in record {
+    → (vs : List ℕ) (body : Form) (ws : List Value) → length ws ≡ length vs → (i j : ℕ) → length w.kinds ≡ i
+    → Matches (with_new_slots w (homes_of vs body) (sets_of vs body) ws i j) (with_bound vs body s) (record env { variables = numbered vs i ++ env.variables }) e
+bound_matches {w} {s} {env} {e} m vs body ws len i j count =
+    let kinds : List Kind = kinds_at (homes_of vs body) (sets_of vs body) ws (length w.own) j in
+    let own : List ℕ = range_with_len i (length ws) in
+    let u : World = with_new_slots w (homes_of vs body) (sets_of vs body) ws i j in record {
       variables = λ v k h.
-          subst (λ vars. VariableAt (u ++ kept vs body ws) more k (under_number v vars)) (sym is)
-          (found (u ++ kept vs body ws) more s.variables env.variables
-          (λ x q g. variable_more (u ++ kept vs body ws) e (range_with_len i (length vs)) q (under_number x env.variables) ((matches_later l m).variables x q g))
-          vs body ws len s.slots i
-          (λ j y g. subst (λ n. slice_get (e.slots ++ range_with_len i (length vs)) (n + j) ≡ Some y) m.slots (behind e.slots (range_with_len i (length vs)) j ∙ g))
-          (λ j y g. subst (λ n. slice_get (u ++ kept vs body ws) (n + j) ≡ Some y) count (behind u (kept vs body ws) j ∙ g))
-          v k h);
-      exits = λ x p h. record {
-        number = (m.exits x p h).number;
-        one = (m.exits x p h).one;
-        other = exit_slots e (e.slots ++ range_with_len i (length vs)) p ∙ (m.exits x p h).other;
-      };
-      method = λ p h. method_slots e (e.slots ++ range_with_len i (length vs)) p ∙ m.method p h;
-      slots = length-append e.slots (range_with_len i (length vs)) ∙ ap (λ n. n + length (range_with_len i (length vs))) m.slots ∙ ap (λ n. s.slots + n) (length-count i (length vs));
+          found u e s.variables env.variables
+          (λ x q g. variable_kept w u e (kept_more w.kinds kinds) (kept_more w.own own) q (under_number x env.variables) (m.variables x q g))
+          vs body ws len s.slots i j
+          (λ p l g. subst (λ n. slice_get (w.own ++ own) (n + p) ≡ Some l) m.slots (behind w.own own p ∙ g))
+          (λ p l g.
+          subst (λ n. slice_get (w.kinds ++ kinds) (n + p) ≡ Some l) count
+          (behind w.kinds kinds p ∙ ap (λ n. slice_get (kinds_at (homes_of vs body) (sets_of vs body) ws n j) p) m.slots ∙ g))
+          v k h;
+      exits = m.exits;
+      method = m.method;
+      slots = length-append w.own own ∙ ap (λ n. n + length own) m.slots ∙ ap (λ n. s.slots + n) (length-range i (length ws) ∙ len);
       own = m.own;
     }
 
@@ -216,24 +167,28 @@ around_matches {w} {s} {env} {e} m x z y same = record {
 }
 
 -- what a function captured is what it names where it was made
-module _ {w : World} {s : Scope} {env : Environment} {e : FlatEnvironment} (m : Matches w s env e) (variables : List Value)
-    (fixed : (i : ℕ) (v : Value) → slice_get w i ≡ Some (Some v) → slice_get variables i ≡ Some v) (y : FlatState) (same : y.state.variables ≡ variables) where
-  value_there : (i : ℕ) (v : Value) → slice_get w i ≡ Some (Some v) → value_at (Some i) y.state ≡ v
-  value_there i v h =
-      ap (λ vs. slice_index_or vs i nil) same ∙ get_or_from_slice_get variables i v nil (fixed i v h)
-
-  place_captured : (inside : FlatEnvironment) (n : ℕ) (p : VariablePlace) (known : Bool) (i : ℕ) → PlaceAt w e p known i → KeepsValue p known
-      → slice_get inside.captured n ≡ Some (captured_variable p e y) → PlaceAt w inside (captured_place p n) known i
+module _ {w : World} {s : Scope} {env : Environment} {e : FlatEnvironment} (m : Matches w s env e)
+    {variables cells : List Value} {frame : List FrameSlot} (r : VariablesAlike w variables cells frame) (y : FlatState) (same : y.frame ≡ frame) where
+  -- what a function captured of a place is there inside
+  place_captured : (inside : FlatEnvironment) (n : ℕ) (p : VariablePlace) (fixed : Bool) (i : ℕ) → PlaceAt w e p fixed i → KeepsValue p fixed
+      → slice_get inside.captured n ≡ Some (captured_variable p e y) → PlaceAt (alone w.kinds) inside (captured_place p n) fixed i
   place_captured inside n (Slot l) true i h k c =
-      (h.1.0, (c ∙ ap (λ o. Some (of_value (value_at o y.state))) h.0 ∙ ap (λ v. Some (of_value v)) (value_there i h.1.0 h.1.1), h.1.1, refl))
+      let now : VariableAlike w.holders w.start variables cells i (constant h.1.0) = r.known i (constant h.1.0) h.1.1 in
+      let here : slice_get y.frame l ≡ Some (holds h.1.0) =
+      ap (λ f. slice_get f l) same ∙ slot_known r l i h.0 (constant h.1.0) h.1.1 now.now now.there ∙ ap (λ v. Some (holds v)) (sym now.alike) in
+      (h.1.0, (c ∙ ap (λ o. Some (of_value (value_held o))) here, h.1.1, refl))
   place_captured inside n (Slot l) false i h k c = absurd (cc k)
-  place_captured inside n (SlotCell l) known i h k c = (c ∙ ap (λ o. Some (of_cell o)) h.0, h.1)
-  place_captured inside n (CapturedValue l) known i h k c =
+  place_captured inside n (SlotCell l) fixed i h k c =
+      let now : VariableAlike w.holders w.start variables cells i (cell h.1.0) = r.known i (cell h.1.0) h.1.1 in
+      let here : slice_get y.frame l ≡ Some (holds_cell h.1.0) =
+      ap (λ f. slice_get f l) same ∙ slot_known r l i h.0 (cell h.1.0) h.1.1 now.now now.there in
+      (h.1.0, (c ∙ ap (λ o. Some (of_cell (cell_held o))) here, h.1.1))
+  place_captured inside n (CapturedValue l) fixed i h k c =
       (h.0, (c ∙ ap (λ o. Some (of_value (value_in o))) h.1.0, h.1.1, h.1.2))
-  place_captured inside n (CapturedCell l) known i h k c = (c ∙ ap (λ o. Some (of_cell (cell_in o))) h.0, h.1)
+  place_captured inside n (CapturedCell l) fixed i h k c = (h.0, (c ∙ ap (λ o. Some (of_cell (cell_in o))) h.1.0, h.1.1))
 
   variable_captured : (inside : FlatEnvironment) (n : ℕ) (k : Known) (o : Option ℕ) → VariableAt w e k o → KeepsValue k.place k.fixed
-      → slice_get inside.captured n ≡ Some (captured_variable k.place e y) → VariableAt w inside (captured_known k n) o
+      → slice_get inside.captured n ≡ Some (captured_variable k.place e y) → VariableAt (alone w.kinds) inside (captured_known k n) o
   variable_captured inside n k None h g c = h
   variable_captured inside n k (Some i) h g c = place_captured inside n k.place k.fixed i h g c
 
@@ -255,7 +210,7 @@ module _ {w : World} {s : Scope} {env : Environment} {e : FlatEnvironment} (m : 
       let q : n + suc j ≡ (n + 1) + j = omega arith in subst (λ l. slice_get inside.captured l ≡ Some c) q (f (suc j) c h)
 
   variables_captured : (inside : FlatEnvironment) (parts : List Part) → Each (PartIsThere s) parts → (n : ℕ) → From inside n parts
-      → (v : ℕ) (k : Known) → under v (captured_variables s parts n) ≡ Some k → VariableAt w inside k (under_number v env.variables)
+      → (v : ℕ) (k : Known) → under v (captured_variables s parts n) ≡ Some k → VariableAt (alone w.kinds) inside k (under_number v env.variables)
   variables_captured inside [] t n f v k h = absurd (cc h)
   variables_captured inside (Exit x ∷ ps) t n f v k h = variables_captured inside ps t.1 (n + 1) (after_first inside n (Exit x) ps f) v k h
   variables_captured inside (Method ∷ ps) t n f v k h = variables_captured inside ps t.1 (n + 1) (after_first inside n Method ps f) v k h
@@ -264,9 +219,9 @@ module _ {w : World} {s : Scope} {env : Environment} {e : FlatEnvironment} (m : 
       (λ is b.
       let there : under u s.variables ≡ Some t.0.known = t.0.there in
       let known : known_of s u ≡ t.0.known = ap known_or there in
-      subst (λ (q : Known). VariableAt w inside q (under_number v env.variables))
+      subst (λ (q : Known). VariableAt (alone w.kinds) inside q (under_number v env.variables))
       (ap (λ (q : Known). captured_known q n) (sym known) ∙ some_same (sym (under_first v u _ (captured_variables s ps (n + 1)) b) ∙ h))
-      (subst (λ x. VariableAt w inside (captured_known t.0.known n) (under_number x env.variables)) (sym is)
+      (subst (λ x. VariableAt (alone w.kinds) inside (captured_known t.0.known n) (under_number x env.variables)) (sym is)
       (variable_captured inside n t.0.known (under_number u env.variables) (m.variables u t.0.known there) t.0.keeps
       (first_of inside n (Variable u) ps f ∙ ap (λ (q : Known). Some (captured_variable q.place e y)) known))))
       (λ b.
@@ -304,7 +259,7 @@ module _ {w : World} {s : Scope} {env : Environment} {e : FlatEnvironment} (m : 
       (ap method_in (first_of inside n Method ps f) ∙ ap (λ o. method_of (method_or o) e) t.0.there ∙ m.method t.0.place t.0.there)
 
   pub seen_matches : (parts : List Part) → Each (PartIsThere s) parts
-      → Matches w (seen s parts) env (record flat_state.no_environment { captured = map (captured_part e y) (flat_parts s parts) })
+      → Matches (alone w.kinds) (seen s parts) env (record flat_state.no_environment { captured = map (captured_part e y) (flat_parts s parts) })
   seen_matches parts t =
       let inside : FlatEnvironment = record flat_state.no_environment { captured = map (captured_part e y) (flat_parts s parts) } in
       let all : From inside 0 parts = λ j c h. let q : 0 + j ≡ j = omega arith in ap (λ l. slice_get inside.captured l) q ∙ h in
@@ -338,80 +293,163 @@ module _ {ps : List FlatProcedure} where
       by false one other = other
 
   -- a body in the scope of new variables
+  run_bound : {u : World} {s : Scope} {env : Environment} {e : FlatEnvironment} {z : State} {y : FlatState} (b : Beside ps u z y) → Matches b.world s env e
+      → (vs : List ℕ) (body : Form) (ws : List Value) → length ws ≡ length vs
+      → {run : Environment → Act} (run' : FlatAct)
+      → ((v : World) (inner : Environment) → Matches v (with_bound vs body s) inner e → Acts ps v (run inner) run')
+      → (around : Surroundings) (bound : Bound b.world around)
+      → Sim ps (with_new_slots b.world (homes_of vs body) (sets_of vs body) ws (length z.variables) (length b.cells))
+      (run (with_variables vs z env) around (with_values ws z)) (run' (flat_around around bound) (flat_state.with_slots (homes_of vs body) ws y))
+  run_bound {u} {s} {env} {e} {z} {y} b m vs body ws len run' r around bound =
+      let hs : List Home = homes_of vs body in
+      let ss : List Bool = sets_of vs body in
+      let now : World = with_new_slots b.world hs ss ws (length z.variables) (length b.cells) in
+      let kinds : Kept b.world.kinds now.kinds = kept_more b.world.kinds (kinds_at hs ss ws (length b.world.own) (length b.cells)) in
+      r now (with_variables vs z env) (bound_matches m vs body ws len (length z.variables) (length b.cells) b.related.values.count)
+      around (bound_later around.bindings kinds bound) _ _
+      (slots_made hs ss ws (length-homes vs body ∙ sym len) (length-sets vs body ∙ sym len) b)
+
+  -- in slots behind those that are there
   pub binds : {w : World} (limit : Limit) {s : Scope} {env : Environment} {e : FlatEnvironment} → Matches w s env e
       → (vs : List ℕ) (body : Form) (hs : List Home) → hs ≡ homes_of vs body
       → (ws : List Value) → length ws ≡ length vs
-      → {run : Environment → Act} {run' : FlatEnvironment → FlatAct}
-      → ((u : World) (inner : Environment) (inner' : FlatEnvironment) → Matches u (with_bound vs body s) inner inner' → Acts ps u (run inner) (run' inner'))
-      → (around : Surroundings) → AreFree w around → (z : State) (y : FlatState) → Beside ps w z y
+      → {run : Environment → Act} (run' : FlatAct)
+      → ((u : World) (inner : Environment) → Matches u (with_bound vs body s) inner e → Acts ps u (run inner) run')
+      → (around : Surroundings) (bound : Bound w around) (z : State) (y : FlatState) → Beside ps w z y
       → Sim ps w (with_cells limit vs body z (λ ready. run (with_variables vs ready env) around (with_values ws ready)))
-      (flat_signals.with_cells limit hs y (λ ready. run' (flat_signals.with_slots hs ready e) around (flat_state.with_values ws ready)))
-  binds {w} limit {s} {env} {e} m vs body hs same ws len {run} {run'} r around free z y b =
+      (flat_signals.with_cells limit hs y (λ ready. flat_state.in_new_slots hs ws (λ inner. run' (flat_around around bound) inner) ready))
+  binds {w} limit {s} {env} {e} m vs body hs same ws len {run} run' r around bound z y b =
       subst (λ gs. Sim ps w (with_cells limit vs body z (λ ready. run (with_variables vs ready env) around (with_values ws ready)))
-      (flat_signals.with_cells limit gs y (λ ready. run' (flat_signals.with_slots gs ready e) around (flat_state.with_values ws ready))))
+      (flat_signals.with_cells limit gs y (λ ready. flat_state.in_new_slots gs ws (λ inner. run' (flat_around around bound) inner) ready)))
       (sym same)
       (cells limit vs body z y b (λ ready after a.
-      at_twin (λ now. Sim ps w (run (with_variables vs ready env) around (with_values ws ready))
-      (run' (flat_signals.with_slots (homes_of vs body) now e) around (flat_state.with_values ws now))) a (λ t.
-      subst (λ n. Sim ps w (run (with_variables vs ready env) around (with_values ws ready))
-      (run' (record e { slots = e.slots ++ range_with_len (length ready.variables) n }) around (flat_state.with_values ws (twin ps ready a.store a.captured))))
-      (sym (length-homes vs body))
-      (sooner (after_that t.later (with_more t.world (kept vs body ws)))
-      (r (t.world ++ kept vs body ws) _ _
-      (bound_matches m vs body ws len t.world (length ready.variables) t.related.count t.later _ refl)
-      around (free_later (after_that t.later (with_more t.world (kept vs body ws))) around.bindings free) _ _ (more_values ws (kept vs body ws) (length-kept vs body ws len) (λ i v h. are_kept vs body ws i v h) t))))))
+      slots_gone (homes_of vs body) (sets_of vs body) ws a
+      (run_bound a (matches_later a.later m) vs body ws len {run = run} run' r around (bound_later around.bindings a.later.kinds bound))))
+
+  -- and in a frame of its own
+  pub binds_alone : {w : World} (limit : Limit) {ks : List Kind} {s : Scope} {env : Environment} {e : FlatEnvironment} → Matches (alone ks) s env e → Kept ks w.kinds
+      → (vs : List ℕ) (body : Form) (hs : List Home) → hs ≡ homes_of vs body
+      → (ws : List Value) → length ws ≡ length vs
+      → {run : Environment → Act} (run' : FlatAct)
+      → ((u : World) (inner : Environment) → Matches u (with_bound vs body s) inner e → Acts ps u (run inner) run')
+      → (around : Surroundings) (bound : Bound w around) (z : State) (y : FlatState) → Beside ps w z y
+      → Sim ps w (with_cells limit vs body z (λ ready. run (with_variables vs ready env) around (with_values ws ready)))
+      (flat_signals.with_cells limit hs y (λ ready. flat_state.in_own_frame (λ inner. run' (flat_around around bound) (flat_state.with_slots hs ws inner)) ready))
+  binds_alone {w} limit {ks} {s} {env} {e} m l vs body hs same ws len {run} run' r around bound z y b =
+      subst (λ gs. Sim ps w (with_cells limit vs body z (λ ready. run (with_variables vs ready env) around (with_values ws ready)))
+      (flat_signals.with_cells limit gs y (λ ready. flat_state.in_own_frame (λ inner. run' (flat_around around bound) (flat_state.with_slots gs ws inner)) ready)))
+      (sym same)
+      (cells limit vs body z y b (λ ready after a.
+      let f : Beside ps (record a.world { own = []; start = ready.variables }) ready (record after { frame = [] }) = frame_made a in
+      let kept : Kept w.kinds f.world.kinds = kept_after a.later.kinds f.later.kinds in
+      frame_left a
+      (kept_after f.later.kinds (kept_more f.world.kinds (kinds_at (homes_of vs body) (sets_of vs body) ws (length f.world.own) (length f.cells)))) f.later.start
+      (run_bound f (matches_kept (kept_after l kept) f.later.own m) vs body ws len {run = run} run' r around (bound_later around.bindings kept bound))))
+
+  -- the value of a variable that has a cell is that of the cell
+  pub cell_value : {w : World} {z : State} {y : FlatState} (i j : ℕ) → slice_get w.kinds i ≡ Some (cell j) → Beside ps w z y
+      → value_at (Some j) y.state ≡ value_at (Some i) z
+  cell_value {w} {z} {y} i j h b =
+      let now : VariableAlike b.world.holders b.world.start z.variables b.cells i (cell j) = b.related.values.known i (cell j) (b.later.kinds.kept i (cell j) h) in
+      ap (λ (x : FlatState). value_at (Some j) x.state) b.is
+      ∙ get_or_from_slice_get b.cells j now.now nil now.alike.1 ∙ sym (get_or_from_slice_get z.variables i now.now nil now.there)
 
   -- the value of a variable is that of its place
   pub value_same : {w : World} {z : State} {y : FlatState} (e : FlatEnvironment) (k : Known) (o : Option ℕ) → Beside ps w z y
       → VariableAt w e k o → flat_state.value_of k.place e y ≡ value_at o z
   value_same e k None b h = absurd h
   value_same {w} {z} {y} e k (Some i) b h =
-      at_twin (λ now. flat_state.value_of k.place e now ≡ value_at (Some i) z) b (λ t. by t k.place k.fixed h)
+      subst (λ now. flat_state.value_of k.place e now ≡ value_at (Some i) z) (sym b.is)
+      (by k.place k.fixed (place_kept w b.world e b.later.kinds (same_kept b.later.own) k.place k.fixed i h))
     where
-      by : Beside ps w z (twin ps z b.store b.captured) → (p : VariablePlace) (fixed : Bool) → PlaceAt w e p fixed i
-          → flat_state.value_of p e (twin ps z b.store b.captured) ≡ value_at (Some i) z
-      by t (Slot n) fixed g = ap (λ o. value_at o (record z { store = b.store })) g.0
-      by t (SlotCell n) fixed g = ap (λ o. value_at o (record z { store = b.store })) g.0
-      by t (CapturedValue n) fixed g =
-          ap value_in g.1.0 ∙ sym (get_or_from_slice_get z.variables i g.0 nil (t.related.fixed i g.0 (t.later.kept i _ g.1.1)))
-      by t (CapturedCell n) fixed g = ap (λ c. value_at (cell_in c) (record z { store = b.store })) g.0
+      r : VariablesAlike b.world z.variables b.cells b.frame
+      r = b.related.values
 
-  -- a variable that may be set is set by its place
-  pub variable_set : {w : World} {z : State} {y : FlatState} (i : ℕ) (v : Value) → slice_get w i ≡ Some None → Beside ps w z y
-      → Beside ps w (set_at (Some i) v z) (flat_state.on_state (λ x. set_at (Some i) v x) y)
-  variable_set {w} {z} {y} i v h b = record {
+      known : (l : Kind) → slice_get b.world.kinds i ≡ Some l → VariableAlike b.world.holders b.world.start z.variables b.cells i l
+      known l g = r.known i l g
+
+      at : (v : Value) → slice_get z.variables i ≡ Some v → v ≡ value_at (Some i) z
+      at v g = sym (get_or_from_slice_get z.variables i v nil g)
+
+      in_cell : (j : ℕ) → slice_get b.world.kinds i ≡ Some (cell j) → value_at (Some j) (record z { store = b.store; variables = b.cells }) ≡ value_at (Some i) z
+      in_cell j g = get_or_from_slice_get b.cells j (known (cell j) g).now nil (known (cell j) g).alike.1 ∙ at (known (cell j) g).now (known (cell j) g).there
+
+      by : (p : VariablePlace) (fixed : Bool) → PlaceAt b.world e p fixed i
+          → flat_state.value_of p e (twin ps z b.store b.cells b.frame b.captured) ≡ value_at (Some i) z
+      by (Slot n) true g =
+          let l : Kind = constant g.1.0 in
+          ap value_held (slot_known r n i g.0 l g.1.1 (known l g.1.1).now (known l g.1.1).there) ∙ at (known l g.1.1).now (known l g.1.1).there
+      by (Slot n) false g =
+          ap value_held (slot_known r n i g.0 (slot n) g.1 (known (slot n) g.1).now (known (slot n) g.1).there) ∙ at (known (slot n) g.1).now (known (slot n) g.1).there
+      by (SlotCell n) fixed g =
+          let l : Kind = cell g.1.0 in
+          ap (λ s. value_at (cell_held s) (record z { store = b.store; variables = b.cells }))
+          (slot_known r n i g.0 l g.1.1 (known l g.1.1).now (known l g.1.1).there)
+          ∙ in_cell g.1.0 g.1.1
+      by (CapturedValue n) fixed g =
+          let l : Kind = constant g.0 in
+          ap value_in g.1.0 ∙ (known l g.1.1).alike ∙ at (known l g.1.1).now (known l g.1.1).there
+      by (CapturedCell n) fixed g =
+          ap (λ c. value_at (cell_in c) (record z { store = b.store; variables = b.cells })) g.1.0 ∙ in_cell g.0 g.1.1
+
+  -- a variable that has a cell is set there
+  pub variable_set : {w : World} {z : State} {y : FlatState} (i j : ℕ) (v : Value) → slice_get w.kinds i ≡ Some (cell j) → Beside ps w z y
+      → Beside ps w (set_at (Some i) v z) (flat_state.on_state (λ x. set_at (Some j) v x) y)
+  variable_set {w} {z} {y} i j v h b = record {
     world = b.world;
     later = b.later;
     store = b.store;
+    cells = slice_set b.cells j v;
+    frame = b.frame;
     captured = b.captured;
     related = record {
-      count = b.related.count ∙ sym (length-changed z.variables i v);
-      fixed = λ j u g. other_place z.variables i j v
-          (λ e. absurd (let q : Some (Some u) ≡ Some None = sym g ∙ ap (λ n. slice_get b.world n) e ∙ b.later.kept i None h in cc q))
-          ∙ b.related.fixed j u g;
+      values = set_in_cell b.related.values i v j (b.later.kinds.kept i (cell j) h);
       lengths = b.related.lengths;
       objects = b.related.objects;
     };
-    is = ap (λ (x : FlatState). flat_state.on_state (λ x. set_at (Some i) v x) x) b.is;
+    is = ap (λ (x : FlatState). flat_state.on_state (λ x. set_at (Some j) v x) x) b.is;
   }
 
+  -- and one that has a slot is set in the frame
+  slot_set : {w : World} {z : State} {y : FlatState} (i n : ℕ) (v : Value) → slice_get w.own n ≡ Some i → slice_get w.kinds i ≡ Some (slot n) → Beside ps w z y
+      → Beside ps w (set_at (Some i) v z) (record y { frame = slice_set y.frame n (holds v) })
+  slot_set {w} {z} {y} i n v mine h b = record {
+    world = b.world;
+    later = b.later;
+    store = b.store;
+    cells = b.cells;
+    frame = slice_set b.frame n (holds v);
+    captured = b.captured;
+    related = record {
+      values = set_in_slot b.related.values i v n ((same_kept b.later.own).kept n i mine) (b.later.kinds.kept i (slot n) h);
+      lengths = b.related.lengths;
+      objects = b.related.objects;
+    };
+    is = ap (λ (x : FlatState). record x { frame = slice_set x.frame n (holds v) }) b.is;
+  }
+
+  -- the slot of a variable with a cell has the number of the cell
+  cell_of_slot : {w : World} {z : State} {y : FlatState} (i n j : ℕ) → slice_get w.own n ≡ Some i → slice_get w.kinds i ≡ Some (cell j) → Beside ps w z y
+      → cell_held (slice_get y.frame n) ≡ Some j
+  cell_of_slot {w} {z} {y} i n j mine h b =
+      let known : slice_get b.world.kinds i ≡ Some (cell j) = b.later.kinds.kept i (cell j) h in
+      let now : VariableAlike b.world.holders b.world.start z.variables b.cells i (cell j) = b.related.values.known i (cell j) known in
+      ap (λ (x : FlatState). cell_held (slice_get x.frame n)) b.is
+      ∙ ap cell_held (slot_known b.related.values n i ((same_kept b.later.own).kept n i mine) (cell j) known now.now now.there)
+
+  -- a variable that may be set is set by its place
   pub place_set : {w : World} {z : State} {y : FlatState} (e : FlatEnvironment) (k : Known) (o : Option ℕ) → k.fixed ≡ false → Beside ps w z y
       → VariableAt w e k o → (v : Value) → Beside ps w (set_at o v z) (flat_state.set_to k.place v e y)
   place_set e k None f b h v = absurd h
   place_set {w} {z} {y} e k (Some i) f b h v = by k.place k.fixed f h
     where
-      free : (fixed : Bool) → fixed ≡ false → Holds w fixed i → slice_get w i ≡ Some None
-      free true f h = absurd (cc f)
-      free false f h = h
-
       by : (p : VariablePlace) (fixed : Bool) → fixed ≡ false → PlaceAt w e p fixed i → Beside ps w (set_at (Some i) v z) (flat_state.set_to p v e y)
-      by (Slot n) fixed f h =
-          subst (λ o. Beside ps w (set_at (Some i) v z) (flat_state.on_state (λ x. set_at o v x) y)) (sym h.0)
-          (variable_set i v (free fixed f h.1) b)
+      by (Slot n) true f h = absurd (cc f)
+      by (Slot n) false f h = slot_set i n v h.0 h.1 b
       by (SlotCell n) fixed f h =
-          subst (λ o. Beside ps w (set_at (Some i) v z) (flat_state.on_state (λ x. set_at o v x) y)) (sym h.0)
-          (variable_set i v (free fixed f h.1) b)
+          subst (λ o. Beside ps w (set_at (Some i) v z) (flat_state.on_state (λ x. set_at o v x) y)) (sym (cell_of_slot i n h.1.0 h.0 h.1.1 b))
+          (variable_set i h.1.0 v h.1.1 b)
       by (CapturedValue n) fixed f h = absurd (let q : true ≡ false = sym h.1.2 ∙ f in cc q)
       by (CapturedCell n) fixed f h =
-          subst (λ o. Beside ps w (set_at (Some i) v z) (flat_state.on_state (λ x. set_at (cell_in o) v x) y)) (sym h.0)
-          (variable_set i v (free fixed f h.1) b)
+          subst (λ o. Beside ps w (set_at (Some i) v z) (flat_state.on_state (λ x. set_at (cell_in o) v x) y)) (sym h.1.0)
+          (variable_set i h.0 v h.1.1 b)

@@ -29,8 +29,8 @@ use Rattle.isl_closure.specs.FlatState.{under}
 use Rattle.isl_closure.specs.declared.place.Known.{Known}
 use Rattle.isl_closure.specs.Scope.{Scope, no_scope, slot_at, in_slots, with_bound, with_around, known_or, captured_place, captured_known, captured_variables, captured_exits, captured_method, seen}
 use Rattle.isl_closure.proofs.Alike.{KeepsValue, IsKnown, IsAround, IsInMethod, PartIsThere}
-use Rattle.isl_closure.proofs.Environments.{equal_or_not, under_first, under_after, some_same}
-use Rattle.isl_closure.proofs.Forms.{other_number}
+use Rattle.isl_closure.proofs.Environments.{under_first, under_after}
+use Rattle.isl_closure.proofs.Lists.{equal_or_not, unequal, some_same}
 
 pub second_true : (a b : Bool) → (a && b) ≡ true → b ≡ true
 second_true true b h = h
@@ -255,7 +255,7 @@ captured_holds (CapturedCell m) n fixed = tt
 -- the parts of a function stand where it is made
 
 same_number : (n : ℕ) → (n == n) ≡ true
-same_number n = equal_or_not n n (λ is t. t) (λ f. absurd (other_number n n f refl))
+same_number n = equal_or_not n n (λ is t. t) (λ f. absurd (unequal n n f refl))
 
 parts_there : (l : LexicalScope) (s : Scope) → ScopesFit l s → (parts : List Part) → list_all (is_bound l) parts ≡ true
     → ((v : ℕ) (k : Known) → under v s.variables ≡ Some k → list_any (same_part (Variable v)) parts ≡ true → KeepsValue k.place k.fixed)

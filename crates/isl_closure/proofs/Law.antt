@@ -20,7 +20,7 @@ use Rattle.isl_closure.specs.Flatten.{functions, functions_of_procedures, flat_p
 use Rattle.isl_closure.specs.Law.{SameRun, LawOfClosures, LawOfFlatPrograms}
 use Rattle.isl_closure.specs.FlatStanding.{FlatScope, with_homes, ProgramStands, ProcedureStands, MainStands, LambdasStand}
 use Rattle.isl_closure.specs.Scope.{no_scope, homes_of}
-use Rattle.isl_closure.proofs.Alike.{World, Sound, Sim}
+use Rattle.isl_closure.proofs.Alike.{World, alone, Sound, Sim}
 use Rattle.isl_closure.proofs.Applied.{ProceduresMatch}
 use Rattle.isl_closure.proofs.Combined.{itself}
 use Rattle.isl_closure.proofs.Fine.{fit_alone, own_fine}
@@ -142,12 +142,14 @@ law_of_closures law names program whole input k limit =
     same_run (mains_alike names program (flat_procedures 0 program.procedures) lambdas (flat_mains (functions_of_procedures program.procedures) program.main) limit
     (procedures_match lambdas 0 program.procedures can.procedures)
     k (functions_of_procedures program.procedures) program.main can.main
-    nil [] (first_state (objects_at_start names program) input)
-    (record { state = first_state (objects_at_start names program) input; captured = [] })
+    nil (alone []) (first_state (objects_at_start names program) input)
+    (record { state = first_state (objects_at_start names program) input; frame = []; captured = [] })
     (record {
-      world = [];
-      later = itself [];
+      world = alone [];
+      later = itself (alone []);
       store = objects_at_start names program;
+      cells = [];
+      frame = [];
       captured = [];
       related = first_related lambdas names program;
       is = refl;

@@ -22,7 +22,7 @@ use Rattle.isl_closure.specs.FlatMeaning.{flat_meaning_at}
 use Rattle.isl_closure.specs.Scope.{no_scope}
 use Rattle.isl_closure.specs.Flatten.{flat, functions, flat_mains}
 use Rattle.isl_closure.proofs.Alike.{World, Sound, Beside, Sim}
-use Rattle.isl_closure.proofs.Combined.{step, ends, given, on, requests}
+use Rattle.isl_closure.proofs.Combined.{kept_itself, matches_kept, step, ends, given, on, requests, frame_made, frame_left}
 use Rattle.isl_closure.proofs.Nodes.{nodes_same}
 use Rattle.isl_closure.proofs.Applied.{Both, BelowAlike, ProceduresMatch, no_scope_matches}
 use Rattle.isl_closure.proofs.Forms.{tasks_alike}
@@ -34,10 +34,10 @@ SoundMains lambdas n (f ∷ fs) = Sound lambdas no_scope n f × SoundMains lambd
 
 none_alike : (lambdas : List FlatProcedure) → BelowAlike lambdas none_below flat_meaning.none_below
 none_alike lambdas = record {
-  nothing_alike = λ w around free z y x. ends more x;
-  forms_alike = λ s n f t w env e m around free z y x. ends more x;
-  turns_alike = λ s m n i rest all t u w env e q around free z y x. ends more x;
-  methods_alike = λ c vs w around free z y x. ends more x;
+  nothing_alike = λ w around bound z y x. ends more x;
+  forms_alike = λ s n f t w env e m around bound z y x. ends more x;
+  turns_alike = λ s m n i rest all t u w env e q around bound z y x. ends more x;
+  methods_alike = λ c vs w around bound z y x. ends more x;
 }
 
 module _ (names : List (List ℕ)) (program : ProgramRows) (procedures lambdas : List FlatProcedure) (mains : List FlatForm) (limit : Limit)
@@ -78,14 +78,19 @@ module _ (names : List (List ℕ)) (program : ProgramRows) (procedures lambdas :
   main_alike k n f t w z y x =
       subst (λ c. Sim lambdas w (mean_main names program limit k f z)
       (flat_state.request limit 0 (application_words c) y (λ entered.
-      flat_state.go_on (flat_meaning_at names rows_of limit k (flat_signals.form (flat no_scope n f)) flat_state.no_environment main_surroundings entered) (λ v after.
+      flat_state.go_on (flat_state.in_own_frame (λ inner.
+      flat_meaning_at names rows_of limit k (flat_signals.form (flat no_scope n f)) flat_state.no_environment main_surroundings inner) entered) (λ v after.
       flat_state.gives v (flat_state.on_state (λ (q : State). record q { stack = y.state.stack }) after)))))
       (sym (nodes_same no_scope n f))
       (requests limit 0 (application_words (core_counts.nodes f)) z y x (λ entered later a.
-      on ((levels_alike k).forms_alike no_scope n f t w no_environment flat_state.no_environment (no_scope_matches w None) main_surroundings tt entered later a) (λ v after after' b.
+      let alone_now : World = record a.world { own = []; start = entered.variables } in
+      on (frame_left a (kept_itself a.world.kinds) refl
+      ((levels_alike k).forms_alike no_scope n f t alone_now no_environment flat_state.no_environment
+      (matches_kept (kept_itself a.world.kinds) refl (no_scope_matches a.world.kinds None)) main_surroundings (record { bindings = []; same = tt })
+      entered _ (frame_made a))) (λ v after after' b.
       subst (λ c. Sim lambdas w (record { outcome = Rattle.isl_meaning.specs.State.value v; state = record after { stack = z.stack } }) (flat_state.gives v (flat_state.on_state (λ (q : State). record q { stack = c }) after')))
       (sym (ap (λ (q : FlatState). q.state.stack) x.is))
-      (given v (step (λ (q : State). record q { stack = z.stack }) b (λ q. refl) (λ q. refl) (λ q os. refl))))))
+      (given v (step (λ (q : State). record q { stack = z.stack }) b (λ q. refl) (λ q. refl) (λ q os vs. refl))))))
 
   pub mains_alike : (k n : ℕ) (fs : List Form) → SoundMains lambdas n fs → (last : Value) (w : World) (z : State) (y : FlatState) → Beside lambdas w z y
       → Sim lambdas w (mean_mains names program limit k fs last z) (flat_meaning.mean_mains names rows_of limit k (flat_mains n fs) last y)

@@ -1,5 +1,7 @@
 pub mod Alike
 pub mod Lists
+pub mod Frames
+pub mod NewSlots
 pub mod Combined
 pub mod Nodes
 pub mod Answers

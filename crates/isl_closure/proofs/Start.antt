@@ -1,5 +1,5 @@
 -- Before the first form there is no function that a form made.
-use Rattle.std.proofs.Common.{◌≡◌, ℕ, zero, suc, ◌+◌, ◌-◌, List, [], ◌∷◌, ◌++◌, refl, subst, inl, Option, Some, None, length, map}
+use Rattle.std.proofs.Common.{◌≡◌, ℕ, zero, suc, ◌+◌, ◌-◌, List, [], ◌∷◌, ◌++◌, refl, subst, inl, Option, Some, None, length, map, arith}
 use Rattle.std.specs.List.{range_with_len}
 use Rattle.std.specs.Prelude.{slice_get, flat_map}
 use Rattle.isl_base.specs.Data as datum
@@ -18,7 +18,7 @@ use Rattle.isl_meaning.specs.Layout.{Key, class, function_of, literal, input, ou
 use Rattle.isl_meaning.specs.Objects.{Object, Environment, closure, class_object, input_stream, output_stream, built_in_classes}
 use Rattle.isl_meaning.specs.Subforms.{Each}
 use Rattle.isl_closure.specs.declared.program.FlatProcedure.{FlatProcedure}
-use Rattle.isl_closure.proofs.Alike.{Related}
+use Rattle.isl_closure.proofs.Alike.{alone, Related}
 
 record NoClosure (o : Object) : Type 0 where
   never : (required : List ℕ) (rest : Option ℕ) (body : Form) (env : Environment) → o ≡ closure required rest body env → ⊥
@@ -138,10 +138,16 @@ objects_plain (k ∷ ks) e (suc i) o h = objects_plain ks e.1 i o h
 
 -- the first state beside itself
 pub first_related : (lambdas : List FlatProcedure) (names : List (List ℕ)) (program : ProgramRows)
-    → Related lambdas [] [] (objects_at_start names program) (objects_at_start names program) []
+    → Related lambdas (alone []) [] [] [] (objects_at_start names program) (objects_at_start names program) []
 first_related lambdas names program = record {
-  count = refl;
-  fixed = λ i v h. absurd (cc h);
+  values = record {
+    count = refl;
+    cell_count = refl;
+    slot_count = refl;
+    since = omega arith;
+    known = λ i k h. absurd (cc h);
+    slots = λ n i h. absurd (cc h);
+  };
   lengths = refl;
   objects = λ i. inl (record {
     same = refl;

@@ -20,8 +20,8 @@ use Rattle.isl_closure.specs.FlatForm.{FlatForms, no_form, form_and, FlatClauses
 use Rattle.isl_closure.specs.FlatForm.{FlatBindings, no_binding, binding_and, FlatDynamics, no_dynamic, dynamic_and}
 use Rattle.isl_closure.specs.declared.program.FlatProgram.{FlatProgram}
 use Rattle.isl_closure.specs.FlatNodes.{tables, own_nodes, nodes}
-use Rattle.isl_closure.specs.FlatState.{FlatEnvironment, no_environment, FlatState, FlatEvaluated, FlatAct, on_state, value_of, set_to, exit_of, method_of, captured_part, gives, go_on, landed, caught, cleaned, charged, exit_made, with_values, request, make_closure}
-use Rattle.isl_closure.specs.FlatSignals.{FlatContext, FlatTask, nothing, form, turn, methods, FlatEvaluation, with_some, with_slots, inside, run_chain, apply_value, apply_row, undefined_function, unbound_variable, signal_domain_error, signal_under, signal, answered, search, transfer, throw_to, continue_with, with_cells}
+use Rattle.isl_closure.specs.FlatState.{FlatEnvironment, no_environment, FlatState, FlatEvaluated, FlatAct, on_state, value_of, set_to, exit_of, method_of, captured_part, gives, go_on, landed, caught, cleaned, charged, exit_made, with_values, request, make_closure, in_new_slots, in_own_frame}
+use Rattle.isl_closure.specs.FlatSignals.{FlatContext, FlatTask, nothing, form, turn, methods, FlatEvaluation, with_some, inside, run_chain, apply_value, apply_row, undefined_function, unbound_variable, signal_domain_error, signal_under, signal, answered, search, transfer, throw_to, continue_with, with_cells}
 
 -- a form is charged what it counts by itself when its evaluation begins
 abbrev pub charged_for : FlatForm → FlatState → FlatState
@@ -146,7 +146,7 @@ module _ (context : FlatContext) where
     mean (let_form bs body) env around z =
         mean_bindings bs [] env around (charged_for (let_form bs body) z) (λ vs after.
         with_cells context.limit (binding_homes bs) after (λ ready.
-        mean body (with_slots (binding_homes bs) ready env) around (with_values vs ready)))
+        in_new_slots (binding_homes bs) vs (λ inner. mean body env around inner) ready))
     mean (make_function p parts) env around z =
         make_closure context.limit p (map (captured_part env z) parts) (charged_for (make_function p parts) z) (λ v after. gives v after)
     mean (call n fs) env around z =
@@ -263,11 +263,11 @@ unfoldable pub flat_meaning_at : List (List ℕ) → FlatProgram → Limit → �
 flat_meaning_at names program limit zero = mean_task (context_of names program limit none_below)
 flat_meaning_at names program limit (suc k) = mean_task (context_of names program limit (flat_meaning_at names program limit k))
 
--- a main form is charged as the body of an application without arguments, and takes no level
+-- a main form is charged as the body of an application without arguments, and takes no level; it has a frame of its own
 abbrev pub mean_main : List (List ℕ) → FlatProgram → Limit → ℕ → FlatForm → FlatState → FlatEvaluated
 mean_main names program limit k f z =
     request limit 0 (application_words (nodes f)) z (λ entered.
-    go_on (flat_meaning_at names program limit k (form f) no_environment main_surroundings entered) (λ v after.
+    go_on (in_own_frame (λ inner. flat_meaning_at names program limit k (form f) no_environment main_surroundings inner) entered) (λ v after.
     gives v (on_state (λ (y : State). record y { stack = z.state.stack }) after)))
 
 -- the main forms in order, after a last value
@@ -290,4 +290,4 @@ meant r = record {
 unfoldable pub flat_meaning : List (List ℕ) → FlatProgram → List ℕ → ℕ → Limit → Meant
 flat_meaning names program input k limit =
     meant (mean_mains names program limit k program.main nil
-    (record { state = first_state (objects_at_start names (tables program)) input; captured = [] }))
+    (record { state = first_state (objects_at_start names (tables program)) input; frame = []; captured = [] }))

@@ -1,7 +1,6 @@
 -- Applications, signals and transfers of flat programs: those of the meaning, but that a function is applied by the number
 -- of its procedure with what it captured.
 use Rattle.std.specs.Prelude.{ℕ, ◌+◌, ◌==◌, Bool, true, false, List, [], ◌∷◌, ◌++◌, length, map, take, drop, Option, Some, None, slice_get, is_some, if◌then◌else◌}
-use Rattle.std.specs.List.{range_with_len}
 use Rattle.isl_meaning.specs.declared.program.GenericRow.{GenericRow}
 use Rattle.isl_meaning.specs.declared.program.FunctionRow.{FunctionRow}
 use Rattle.isl_meaning.specs.declared.program.Callee.{Callee}
@@ -23,7 +22,7 @@ use Rattle.isl_closure.specs.FlatForm.{FlatForm, FlatForms}
 use Rattle.isl_closure.specs.declared.program.FlatProcedure.{FlatProcedure}
 use Rattle.isl_closure.specs.declared.program.FlatProgram.{FlatProgram}
 use Rattle.isl_closure.specs.FlatNodes.{tables, homes, nodes}
-use Rattle.isl_closure.specs.FlatState.{Captured, FlatEnvironment, no_environment, FlatState, FlatEvaluated, FlatAct, on_state, captured_by, gives, leaves, go_on, caught, charged, exit_made, with_values, request, make, in_frame}
+use Rattle.isl_closure.specs.FlatState.{Captured, FlatEnvironment, no_environment, FlatState, FlatEvaluated, FlatAct, on_state, captured_by, gives, leaves, go_on, caught, charged, exit_made, request, make, in_frame, with_slots, in_own_frame}
 
 -- what is evaluated one level below: nothing, to see that there is a level; a form; the segments of
 -- a tagbody from one of them on, with its exit and all its segments; the methods of a chain
@@ -83,10 +82,6 @@ with_record limit (Some called) keeps z next =
     request limit (2 + length called.arguments) 0 z (λ entered. next (charged (2 + length called.arguments) entered))
     else next z
 
--- new slots, with these homes, of consecutive variables
-abbrev pub with_slots : {X : Type 0} → List X → FlatState → FlatEnvironment → FlatEnvironment
-with_slots hs z env = record env { slots = env.slots ++ range_with_len (length z.state.variables) (length hs) }
-
 -- a fresh exit, innermost
 abbrev pub inside : ExitKind → Surroundings → FlatState → Surroundings
 inside kind around z = base.inside kind around z.state
@@ -116,8 +111,8 @@ module _ (context : FlatContext) where
       wrong domain_error_class (v ∷ class_value context.names (tables context.program) expected ∷ [])
 
   -- the application of a procedure with what its function captured and what its method is called with; the number of
-  -- arguments is judged first, and then each request comes one by one. `wrong` signals what goes wrong in the
-  -- application itself: inside a handler, under the handlers outside.
+  -- arguments is judged first, and then each request comes one by one. The body runs in a frame of its own, which has the slots
+  -- of the arguments. `wrong` signals what goes wrong in the application itself: inside a handler, under the handlers outside.
   abbrev pub enter : FlatSignals → FlatProcedure → List Captured → Option Called → List Value → FlatAct
   enter wrong p captured called vs around z =
       if takes (length p.required) (is_some p.rest) (length vs) then
@@ -125,7 +120,9 @@ module _ (context : FlatContext) where
       (λ entered. gathered context.limit (length p.required) (is_some p.rest) vs (charged (length vs) entered) (λ ws gone.
       with_record context.limit called p.keeps_method gone (λ recorded.
       with_cells context.limit (homes p) recorded (λ ready.
-      context.below (form p.body) (with_slots (homes p) ready (record no_environment { captured = captured; method = called })) around (with_values ws ready)))))
+      in_own_frame (λ inner.
+      context.below (form p.body) (record no_environment { captured = captured; method = called }) around (with_slots (homes p) ws inner))
+      ready))))
       z
       else wrong program_error_class [] around z
 

@@ -1,6 +1,7 @@
--- What an evaluation of flat forms changes and comes to: the state of the meaning, where a function is a number, and beside
--- it what each function that a form made has captured: so it is known which functions those are. The combinators are those of the meaning.
-use Rattle.std.specs.Prelude.{ℕ, ◌+◌, ◌==◌, List, [], ◌∷◌, Option, Some, None, length, slice_get, if◌then◌else◌}
+-- What an evaluation of flat forms changes and comes to. An activation has a frame of slots of its own, which is gone when it ends;
+-- a cell is a variable of the state, which functions share. A function is a number in the store, and what it captured stands
+-- beside the state: so it is known which functions a form made. The combinators are those of the meaning.
+use Rattle.std.specs.Prelude.{ℕ, ◌+◌, ◌==◌, List, [], ◌∷◌, ◌++◌, Option, Some, None, length, slice_get, slice_set, take, if◌then◌else◌}
 use Rattle.isl_meaning.specs.Values.{Value, nil, object}
 use Rattle.isl_meaning.specs.Objects.{Called, Object, function}
 use Rattle.isl_meaning.specs.State.{State, Surroundings, Exit, ExitKind, Landing, Outcome, value, exit, full, more, Limit, exits_from, has_room, room_left, with_words, stored}
@@ -9,6 +10,8 @@ use Rattle.isl_meaning.specs.Lookup.{value_at, set_at}
 use Rattle.isl_meaning.specs.Lookup as lookup
 use Rattle.isl_closure.specs.declared.place.CapturedKind.{CapturedKind}
 use Rattle.isl_closure.specs.declared.place.CapturedKind.TheVariants as kind
+use Rattle.isl_closure.specs.declared.place.Home.{Home}
+use Rattle.isl_closure.specs.declared.place.Home.TheVariants as home
 use Rattle.isl_closure.specs.declared.place.VariablePlace.{VariablePlace}
 use Rattle.isl_closure.specs.declared.place.VariablePlace.TheVariants.{Slot, SlotCell, CapturedValue, CapturedCell}
 use Rattle.isl_closure.specs.declared.place.ExitPlace.{ExitPlace}
@@ -18,28 +21,33 @@ use Rattle.isl_closure.specs.declared.place.MethodPlace.TheVariants as method_pl
 use Rattle.isl_closure.specs.declared.place.FlatPart.{FlatPart}
 use Rattle.isl_closure.specs.declared.place.FlatPart.TheVariants as part
 
--- what a function captured: a value; a cell, which is a variable of the state; an exit; or the arguments and the chain of
--- a method
+-- a slot of a frame has the value of its variable, or the number of its variable's cell
+pub data FrameSlot : Type 0 where
+  holds : Value → FrameSlot
+  holds_cell : ℕ → FrameSlot
+
+-- what a function captured: a value; a cell, by its number; an exit; or the arguments and the chain of a method
 pub data Captured : Type 0 where
   of_value : Value → Captured
   of_cell : Option ℕ → Captured
   of_exit : Option ℕ → Captured
   of_method : Option Called → Captured
 
--- the environment of the code of a procedure: its slots, the outermost first, each a variable of the state; what its
--- function captured; the exits of the blocks and tagbodies around, the outermost first; and what its method was called with
+-- the environment of the code of a procedure: what its function captured; the exits of the blocks and tagbodies around, the
+-- outermost first; and what its method was called with
 pub record FlatEnvironment : Type 0 where
-  pub slots : List ℕ
   pub captured : List Captured
   pub exits : List ℕ
   pub method : Option Called
 
 abbrev pub no_environment : FlatEnvironment
-no_environment = record { slots = []; captured = []; exits = []; method = None }
+no_environment = record { captured = []; exits = []; method = None }
 
--- the state, and what functions captured, by the numbers of their objects
+-- the state, whose variables are the cells and the variables of dynamic bindings; the frame of the activation that runs, its
+-- outermost slot first; and what functions captured, by the numbers of their objects
 pub record FlatState : Type 0 where
   pub state : State
+  pub frame : List FrameSlot
   pub captured : List (ℕ × List Captured)
 
 pub record FlatEvaluated : Type 0 where
@@ -68,7 +76,37 @@ abbrev pub captured_by : Value → FlatState → Option (List Captured)
 captured_by (object i) z = under i z.captured
 captured_by v z = None
 
+-- frames
+
+-- the slots of new variables with these homes and values, where the next cell has that number
+abbrev pub new_slots : List Home → List Value → ℕ → List FrameSlot
+new_slots [] vs n = []
+new_slots (h ∷ hs) [] n = []
+new_slots (home.Slot ∷ hs) (v ∷ vs) n = holds v ∷ new_slots hs vs n
+new_slots (home.Cell ∷ hs) (v ∷ vs) n = holds_cell n ∷ new_slots hs vs (n + 1)
+
+-- the values of those among them that have cells
+abbrev pub new_cells : List Home → List Value → List Value
+new_cells [] vs = []
+new_cells (h ∷ hs) [] = []
+new_cells (home.Slot ∷ hs) (v ∷ vs) = new_cells hs vs
+new_cells (home.Cell ∷ hs) (v ∷ vs) = v ∷ new_cells hs vs
+
+-- new variables: their slots stand behind those of the frame, and each that has a cell has a new one
+abbrev pub with_slots : List Home → List Value → FlatState → FlatState
+with_slots hs vs z =
+    record (with_values (new_cells hs vs) z) { frame = z.frame ++ new_slots hs vs (length z.state.variables) }
+
 -- places
+
+-- what a slot holds, and what was captured
+abbrev pub value_held : Option FrameSlot → Value
+value_held (Some (holds v)) = v
+value_held s = nil
+
+abbrev pub cell_held : Option FrameSlot → Option ℕ
+cell_held (Some (holds_cell i)) = Some i
+cell_held s = None
 
 abbrev pub value_in : Option Captured → Value
 value_in (Some (of_value v)) = v
@@ -88,15 +126,15 @@ method_in c = None
 
 -- the value of a variable
 abbrev pub value_of : VariablePlace → FlatEnvironment → FlatState → Value
-value_of (Slot n) env z = value_at (slice_get env.slots n) z.state
-value_of (SlotCell n) env z = value_at (slice_get env.slots n) z.state
+value_of (Slot n) env z = value_held (slice_get z.frame n)
+value_of (SlotCell n) env z = value_at (cell_held (slice_get z.frame n)) z.state
 value_of (CapturedValue n) env z = value_in (slice_get env.captured n)
 value_of (CapturedCell n) env z = value_at (cell_in (slice_get env.captured n)) z.state
 
--- a variable is set; a captured value is never set
+-- a variable is set, in the frame or in its cell; a captured value is never set
 abbrev pub set_to : VariablePlace → Value → FlatEnvironment → FlatState → FlatState
-set_to (Slot n) v env z = on_state (λ y. set_at (slice_get env.slots n) v y) z
-set_to (SlotCell n) v env z = on_state (λ y. set_at (slice_get env.slots n) v y) z
+set_to (Slot n) v env z = record z { frame = slice_set z.frame n (holds v) }
+set_to (SlotCell n) v env z = on_state (λ y. set_at (cell_held (slice_get z.frame n)) v y) z
 set_to (CapturedValue n) v env z = z
 set_to (CapturedCell n) v env z = on_state (λ y. set_at (cell_in (slice_get env.captured n)) v y) z
 
@@ -110,8 +148,8 @@ method_of (method_place.Captured n) env = method_in (slice_get env.captured n)
 
 -- what is captured of a variable: its cell where it has one, else its value
 abbrev pub captured_variable : VariablePlace → FlatEnvironment → FlatState → Captured
-captured_variable (Slot n) env z = of_value (value_at (slice_get env.slots n) z.state)
-captured_variable (SlotCell n) env z = of_cell (slice_get env.slots n)
+captured_variable (Slot n) env z = of_value (value_held (slice_get z.frame n))
+captured_variable (SlotCell n) env z = of_cell (cell_held (slice_get z.frame n))
 captured_variable (CapturedValue n) env z = of_value (value_in (slice_get env.captured n))
 captured_variable (CapturedCell n) env z = of_cell (cell_in (slice_get env.captured n))
 
@@ -185,7 +223,7 @@ make limit size besides made z next =
 abbrev pub make_closure : Limit → (procedure : ℕ) → List Captured → FlatState → (Value → FlatState → FlatEvaluated) → FlatEvaluated
 make_closure limit p cs z next =
     request limit (2 + length cs) 0 z (λ entered.
-    next (object (length entered.state.store)) (record {
+    next (object (length entered.state.store)) (record entered {
       state = stored (function p) (base.charged (2 + length cs + 0) entered.state);
       captured = (length entered.state.store, cs) ∷ entered.captured;
     }))
@@ -193,5 +231,20 @@ make_closure limit p cs z next =
 abbrev pub with_stack : ℕ → FlatEvaluated → FlatEvaluated
 with_stack stack r = record { outcome = r.outcome; state = on_state (λ y. record y { stack = stack }) r.state }
 
+-- the words of an application, which are given back when it is left
 abbrev pub in_frame : Limit → ℕ → (FlatState → FlatEvaluated) → FlatState → FlatEvaluated
 in_frame limit size body z = request limit 0 size z (λ entered. with_stack z.state.stack (body entered))
+
+abbrev pub without_slots_from : ℕ → FlatEvaluated → FlatEvaluated
+without_slots_from n r = record { outcome = r.outcome; state = record r.state { frame = take n r.state.frame } }
+
+-- a body with new slots: when it is left, by whatever outcome, they are gone, and the slots before them are as it left them
+abbrev pub in_new_slots : List Home → List Value → (FlatState → FlatEvaluated) → FlatState → FlatEvaluated
+in_new_slots hs vs body z = without_slots_from (length z.frame) (body (with_slots hs vs z))
+
+abbrev pub with_frame : List FrameSlot → FlatEvaluated → FlatEvaluated
+with_frame frame r = record { outcome = r.outcome; state = record r.state { frame = frame } }
+
+-- a body in a frame of its own, which has no slots yet: when it is left, by whatever outcome, the frame is the one of before
+abbrev pub in_own_frame : (FlatState → FlatEvaluated) → FlatState → FlatEvaluated
+in_own_frame body z = with_frame z.frame (body (record z { frame = [] }))

@@ -1,6 +1,8 @@
 -- Building data from the parts of right sides.
 use Rattle.std.specs.Prelude.{◌≡◌, ℕ, zero, suc, ◌+◌, ◌-◌, ◌<◌, ◌≤◌, List, [], ◌∷◌, ◌++◌, length, Some, slice_get, take, Result, Ok, Err, IfOk, refl}
 use Rattle.std.proofs.Common.{arith, ap, ◌∙◌, subst, sym, append_assoc, append-nil, length-append}
+use Rattle.std.proofs.Common.{get_or}
+use Rattle.std.proofs.lemmas.Option.{slice_get_read}
 use Rattle.isl_base.specs.declared.place.Place.{Place}
 use Rattle.isl_base.specs.declared.datum.Symbol.{Symbol}
 use Rattle.isl_base.specs.declared.datum.Symbol.TheVariants.{Named, Fresh}
@@ -54,6 +56,10 @@ pub built_turn : (old new : List (List ℕ)) (p : Place) (xs : List Piece) (i : 
     → BuildsAll new p (pieces_of (take (i + 1) xs)) (items_of es)
 built_turn old new p xs i x ds es d at e h b same =
     rw (take_at xs i x at, same) (built_more new p (take i xs) x ds d (all_later old new p (pieces_of (take i xs)) (items_of ds) e h) b)
+
+-- the item that a loop over a list has come to
+pub read_at : {X : Type 0} (xs ys : List X) (i : ℕ) (x : X) → ys ≡ xs → i < length ys → x ≡ get_or ys i x → slice_get xs i ≡ Some x
+read_at xs ys i x e h is = rw (← e) (slice_get_read ys (length ys) i x refl h is)
 
 pieces_size_above : (xs : List Piece) → 0 < pieces_size (pieces_of xs)
 pieces_size_above [] = omega arith

@@ -75,10 +75,7 @@ fn build_all(
     ensures names { Extends names.old names.new }
 {
     let mut items = DatumList::new(alloc);
-    for at in 0..pieces.len() {
-        let Some(piece) = pieces.get(at) else {
-            unreachable!()
-        };
+    for piece in pieces.as_slice() {
         items.push(build(alloc, names, place, piece)?)?;
     }
     Ok(items)

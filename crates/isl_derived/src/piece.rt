@@ -201,13 +201,12 @@ pub(crate) fn form_two<'a>(
     form_front(alloc, name, first, rest)
 }
 
-/// Parts of the form, in their order.
-pub(crate) fn all_taken<'a>(alloc: Global, items: &'a [Datum]) -> Result<PieceList<'a>, NoMemory>
-    ensures { IfOk result (λ list. list ≡ all_taken items.now) }
+/// Appends parts of the form, in their order.
+pub(crate) fn push_taken<'a>(list: &mut PieceList<'a>, items: &'a [Datum]) -> Result<(), NoMemory>
+    ensures { OnOk result (list.new ≡ list.old ++ all_taken items.now) }
 {
-    let mut list = PieceList::new(alloc);
     for item in items {
         list.push(taken(item))?;
     }
-    Ok(list)
+    Ok(())
 }

@@ -10,7 +10,7 @@ ghost use Rattle.isl_derived.specs.Pieces.{taken};
 
 use crate::pattern::{Parts, Pattern, fit_all};
 use crate::piece::{
-    Piece, PieceList, all_taken, made, made_later, nil, parens, push_made, short_word, taken, word,
+    Piece, PieceList, made, made_later, nil, parens, push_made, push_taken, short_word, taken, word,
 };
 use crate::quotation::template;
 use crate::right::later;
@@ -99,7 +99,7 @@ fn write<'a>(
 {
     match template {
         Template::One(at) => list.push(first_taken(start.alloc, part_of(parts, *at))),
-        Template::All(at) => list.append_list(all_taken(start.alloc, part_of(parts, *at))?),
+        Template::All(at) => push_taken(list, part_of(parts, *at)),
         Template::Setter(at) => {
             push_made(
                 list,

@@ -134,9 +134,9 @@ pub reverse_turn : (done : List ℕ) (xs : List ℕ) (k x : ℕ) → slice_get x
 reverse_turn done xs k x h =
     rw (take_at xs k x h, reverse-append (take k xs) (x ∷ [])) (append_assoc done (x ∷ []) (reverse (take k xs)))
 
--- a number that was read from the order
-pub number_at : (xs ys : List ℕ) (i n : ℕ) → xs ≡ ys → i < length xs → n ≡ get_or xs i n → slice_get ys i ≡ Some n
-number_at xs ys i n e h k = rw (← e) (slice_get-get_or xs i n h ∙ ap Some (sym k))
+-- an item that was read from a list
+pub item_at : {X : Type 0} (xs ys : List X) (i : ℕ) (x : X) → xs ≡ ys → i < length xs → x ≡ get_or xs i x → slice_get ys i ≡ Some x
+item_at xs ys i x e h k = rw (← e) (slice_get-get_or xs i x h ∙ ap Some (sym k))
 
 -- a method that applies goes to its place, and one that does not is passed
 pub applicable_turn : (before : MethodRow → MethodRow → Bool) (p : MethodRow → Bool) (ms : List MethodRow) (ns next : List ℕ) (k at place : ℕ) (m : MethodRow)

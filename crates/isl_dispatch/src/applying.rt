@@ -46,10 +46,7 @@ pub fn chain_length(generic: &GenericRow, classes: &ClassRows, tuple: &ClassIds)
 {
     let mut found: usize = 0;
     let mut primary: usize = 0;
-    for at in 0..generic.methods.len() {
-        let Some(method) = generic.methods.get(at) else {
-            unreachable!()
-        };
+    for method in generic.methods.as_slice() {
         if applies(classes, tuple, &method.classes) {
             found += 1;
             primary += primary_count(method.qualifier);

@@ -24,10 +24,7 @@ pub fn tables(
         (λ found. AreTablesOf (with_classes classes.now) generics.now found) }
 {
     let mut found = ItemList::new(alloc);
-    for at in 0..generics.len() {
-        let Some(generic) = generics.get(at) else {
-            unreachable!()
-        };
+    for generic in generics.as_slice() {
         let table = table_of(alloc, generic, classes)?;
         found.push(table)?;
     }

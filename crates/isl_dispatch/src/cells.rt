@@ -24,10 +24,7 @@ pub fn cells(alloc: Global, generics: &GenericRows, classes: &ClassRows) -> Resu
         (λ n. n ≡ min (sum_by (generic_cells (with_classes classes.now)) generics.now) 262145) }
 {
     let mut sum: u64 = 0;
-    for at in 0..generics.len() {
-        let Some(generic) = generics.get(at) else {
-            unreachable!()
-        };
+    for generic in generics.as_slice() {
         sum = capped_sum(sum, generic_cells(alloc, generic, classes)?);
         if sum == CELLS_LIMIT {
             return Ok(sum);

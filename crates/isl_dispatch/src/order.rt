@@ -138,10 +138,7 @@ fn place_above(classes: &ClassRows, class: ClassId, above: ClassId) -> usize
 fn place_of(list: &ClassIds, wanted: ClassId) -> usize
     ensures { result ≡ position_or_len (λ d. d == wanted) list.now }
 {
-    for at in 0..list.len() {
-        let Some(class) = list.get(at) else {
-            unreachable!()
-        };
+    for (at, class) in list.as_slice().iter().enumerate() {
         if *class == wanted {
             return at;
         }

@@ -63,10 +63,7 @@ pub(crate) fn ended_count(methods: &MethodRows, argument: usize) -> usize
 {
     let mut found: usize = 0;
     let mut primary: usize = 0;
-    for at in 0..methods.len() {
-        let Some(method) = methods.get(at) else {
-            unreachable!()
-        };
+    for method in methods.as_slice() {
         if method.classes.len() <= argument {
             found += 1;
             primary += primary_count(method.qualifier);

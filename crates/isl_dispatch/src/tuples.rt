@@ -13,10 +13,7 @@ pub fn tuple_count(lists: &ItemList<ClassIds>) -> usize
     ensures { result ≡ min (length (tuples lists.now)) 18446744073709551615 }
 {
     let mut count: usize = 1;
-    for at in 0..lists.len() {
-        let Some(list) = lists.get(at) else {
-            unreachable!()
-        };
+    for list in lists.as_slice() {
         count = count.saturating_mul(list.len());
     }
     count
@@ -37,10 +34,7 @@ pub fn tuple_at(
     let mut tuple = ClassIds::new(alloc);
     let mut left = count;
     let mut place = index;
-    for at in 0..lists.len() {
-        let Some(list) = lists.get(at) else {
-            unreachable!()
-        };
+    for list in lists.as_slice() {
         left /= list.len();
         let Some(class) = list.get(place / left) else {
             unreachable!()

@@ -3,6 +3,7 @@ use Rattle.std.proofs.Common.{refl}
 use Rattle.isl_closure.specs.FlatMeaning.{flat_meaning, mean, flat_meaning_at}
 use Rattle.isl_closure.specs.Flatten.{flat}
 use Rattle.isl_flat_worked.specs.Flat.{EarlierTurn, ManyCleanups, WithoutItself, Continued, MethodsInOrder, SeenThroughACall, RestList, Counting, CountingWords, CountingFlat}
+use Rattle.isl_flat_worked.specs.Frames.{OwnSlots, SlotsLeft}
 
 pub earlier_turn : EarlierTurn
 unfolding flat_meaning mean flat_meaning_at flat
@@ -43,3 +44,11 @@ counting_words = refl
 pub counting_flat : CountingFlat
 unfolding flat
 counting_flat = refl
+
+pub own_slots : OwnSlots
+unfolding flat_meaning mean flat_meaning_at flat
+own_slots = record { ends = refl; prints = refl }
+
+pub slots_left : SlotsLeft
+unfolding flat_meaning mean flat_meaning_at flat
+slots_left = record { ends = refl; prints = refl }

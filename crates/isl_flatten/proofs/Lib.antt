@@ -1,7 +1,9 @@
 pub mod CellWalks
 pub mod Turns
 pub mod Captured
+pub mod Made
 pub mod Going
 pub mod Bodies
 pub mod Whole
-pub mod FoundWalks
+pub mod Marking
+pub mod Listing

@@ -8,6 +8,11 @@ use Rattle.isl_meaning.specs.declared.program.ProgramRows.{ProgramRows}
 use Rattle.isl_closure.specs.declared.program.FlatProcedure.{FlatProcedure}
 use Rattle.isl_closure.specs.declared.program.FlatProgram.{FlatProgram}
 use Rattle.isl_closure.specs.Flatten.{flat_program, flat_procedures, flat_mains, inner_of_procedures, inner_of_mains, functions_of_procedures}
+use Rattle.isl_closure.specs.FlatForm.{FlatForm}
+use Rattle.isl_flatten.specs.declared.progress.Progress.{Progress}
+use Rattle.isl_flatten.specs.declared.variables.Binder.{Binder}
+use Rattle.isl_flatten.specs.Binders.{binders_of_procedures, binders_of_mains}
+use Rattle.isl_flatten.specs.Bodies.{AreBodies, MakesProcedures, MakesMains}
 use Rattle.isl_flatten.proofs.Going.{inner_counted}
 
 -- the functions of procedures, where nothing was there before
@@ -46,3 +51,17 @@ so_holds P q h (Err x) e = tt
 
 pub of_rows : (r : Result FlatProgram NoMemory) (rows other : ProgramRows) → rows ≡ other → IfOk r (λ p. p ≡ flat_program rows) → IfOk r (λ p. p ≡ flat_program other)
 of_rows r rows other e h = subst (λ x. IfOk r (λ p. p ≡ flat_program x)) e h
+
+-- all bodies: the procedures take the first binders, and the main forms those behind
+pub bodies_made : (rows : ProgramRows) (table : List Binder) (none : List FlatProcedure) (between after : Progress) (procedures : List FlatProcedure) (main : List FlatForm)
+    → none ≡ [] → table ≡ binders_of_procedures rows.procedures (binders_of_mains rows.main [])
+    → MakesProcedures rows.procedures table (record { lambdas = none; binders = 0 }) between procedures → MakesMains rows.main table between after main
+    → AreBodies rows (record { procedures = procedures; lambdas = after.lambdas; main = main })
+bodies_made rows table none between after procedures main e first made more =
+    let a = made (binders_of_mains rows.main []) first in
+    let b = more [] a.left_so in
+    record {
+      procedures = a.made_so ∙ ap (λ (l : List FlatProcedure). flat_procedures (length l) rows.procedures) e;
+      lambdas = all_functions rows.procedures rows.main none between.lambdas after.lambdas e a.inside_so b.inside_so;
+      main = b.made_so ∙ ap (λ n. flat_mains n rows.main) (first_count rows.procedures none between.lambdas e a.inside_so);
+    }

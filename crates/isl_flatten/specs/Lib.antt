@@ -1,3 +1,9 @@
 pub mod NewVariables
 pub mod Places
 pub mod Found
+pub mod Binders
+pub mod Progress
+pub mod Makes
+pub mod Bodies
+pub mod Marks
+pub mod Listing

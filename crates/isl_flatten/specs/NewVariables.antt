@@ -1,8 +1,9 @@
 -- The variables that a body binds, as the translation to flat forms has them.
-use Rattle.std.specs.Prelude.{ℕ, ◌+◌, not, List, [], ◌∷◌, ◌++◌, length}
+use Rattle.std.specs.Prelude.{ℕ, ◌+◌, not, List, [], ◌∷◌, ◌++◌, Option, Some, None, length}
 use Rattle.isl_meaning.specs.Form.{Form}
 use Rattle.isl_meaning.specs.Captured.{sets}
 use Rattle.isl_closure.specs.declared.place.Home.{Home}
+use Rattle.isl_closure.specs.declared.place.Home.TheVariants as home
 use Rattle.isl_closure.specs.declared.place.Known.{Known}
 use Rattle.isl_closure.specs.Scope.{Scope, home_of, slot_at}
 use Rattle.isl_flatten.specs.declared.variables.NewVariable.{NewVariable}
@@ -18,6 +19,11 @@ new_variables (v ∷ vs) body = new_variable body v ∷ new_variables vs body
 abbrev pub homes_of_new : List NewVariable → List Home
 homes_of_new [] = []
 homes_of_new (x ∷ xs) = x.home ∷ homes_of_new xs
+
+-- where a variable lives, in a slot where there is none
+abbrev pub home_or_slot : Option Home → Home
+home_or_slot None = home.Slot
+home_or_slot (Some h) = h
 
 abbrev pub known_in_slot : NewVariable → ℕ → Known
 known_in_slot x n = record { place = slot_at x.home n; fixed = x.fixed }

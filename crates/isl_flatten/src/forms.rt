@@ -1,17 +1,13 @@
 // Forms made flat, with the functions inside.
 
-ghost use Rattle.std.specs.Prelude.{◌≡◌, ◌+◌, ◌++◌, ◌∷◌, [], length, option_map, OnOk, IfOk};
-ghost use Rattle.isl_meaning.specs.model.View.{view_form, forms, clauses_of, maybe_form, bindings_of, dynamics_of};
+ghost use Rattle.std.specs.Prelude.{◌≡◌, take, IfOk};
+ghost use Rattle.isl_meaning.specs.model.View.{view_form, forms, clauses_of, bindings_of, dynamics_of};
 ghost use Rattle.isl_closure.specs.model.View as flat_view;
-ghost use Rattle.isl_closure.specs.Flatten.{functions, functions_of_values, functions_of_dynamics, flat, flat_forms, flat_clauses, flat_body, flat_bindings, flat_dynamics, flat_procedure, body_scope, inner_procedures, procedures_of_forms, procedures_of_clauses, procedures_of_body, procedures_of_values, procedures_of_dynamics};
-ghost use Rattle.isl_closure.specs.Scope.{with_bound, with_around, flat_parts, kinds_of, seen};
-ghost use Rattle.isl_meaning.specs.Meaning.{bound_variables};
-ghost use Rattle.isl_flatten.specs.NewVariables.{with_new};
-ghost use Rattle.isl_flatten.specs.Places.{scope_of};
+ghost use Rattle.isl_flatten.specs.Makes.{MakesForm, MakesTwo, MakesForms, MakesClauses, MakesBody, MakesLet, MakesValues, MakesInside, MakesDynamicLet, MakesDynamics, MakesFunction, MakesProcedure};
 
-use crate::cells::captures;
 use crate::places::Places;
-use crate::variables::{NewVariables, bound, first_homes, home_at, new_variables, parameters};
+use crate::progress::Progress;
+use crate::variables::{BinderList, NewVariables, first_homes, home_at, home_of_binding};
 use isl_base::NoMemory;
 use isl_closure::{
     CapturedKinds, FlatBinding, FlatBindingList, FlatClause, FlatClauseList, FlatCore,
@@ -27,52 +23,49 @@ use std::alloc::Global;
 #[cycle(flat)]
 pub(crate) fn flat(
     alloc: Global,
+    binders: &BinderList,
     places: &mut Places,
-    lambdas: &mut FlatProcedureList,
+    progress: &mut Progress,
     form: &Core,
 ) -> Result<FlatCore, NoMemory>
-    ensures made { IfOk result (λ made. made ≡ flat (scope_of places.old) (length lambdas.old) form.now) }
-    ensures inside { OnOk result (lambdas.new ≡ lambdas.old ++ inner_procedures (scope_of places.old) (length lambdas.old) form.now) }
-    ensures same { OnOk result (places.new ≡ places.old) }
+    ensures { IfOk result (λ made. MakesForm form.now binders.now places.old places.new progress.old progress.new made) }
 {
-    let form = flat_kind(alloc, places, lambdas, &form.form)?;
+    let form = flat_kind(alloc, binders, places, progress, &form.form)?;
     Ok(FlatCore { form })
 }
 
 #[cycle(flat)]
-#[tactic(auto, unfolding(isl_closure::specs::Flatten::flat))]
 fn flat_kind(
     alloc: Global,
+    binders: &BinderList,
     places: &mut Places,
-    lambdas: &mut FlatProcedureList,
+    progress: &mut Progress,
     form: &CoreForm,
 ) -> Result<FlatCoreForm, NoMemory>
-    ensures made { IfOk result (λ made. flat_view.view_form made ≡ flat (scope_of places.old) (length lambdas.old) (view_form form.now)) }
-    ensures inside { OnOk result (lambdas.new ≡ lambdas.old ++ inner_procedures (scope_of places.old) (length lambdas.old) (view_form form.now)) }
-    ensures same { OnOk result (places.new ≡ places.old) }
+    ensures { IfOk result (λ made. MakesForm (view_form form.now) binders.now places.old places.new progress.old progress.new (flat_view.view_form made)) }
 {
     match form {
         CoreForm::Literal(id) => Ok(FlatCoreForm::Literal(*id)),
         CoreForm::Local(var) => Ok(FlatCoreForm::Local(places.variable(*var))),
         CoreForm::SetLocal(var, value) => {
             let place = places.variable(*var);
-            Ok(FlatCoreForm::SetLocal(place, boxed(alloc, places, lambdas, value)?))
+            Ok(FlatCoreForm::SetLocal(place, boxed(alloc, binders, places, progress, value)?))
         }
         CoreForm::Global(name) => Ok(FlatCoreForm::Global(*name)),
         CoreForm::SetGlobal(name, value) => {
-            Ok(FlatCoreForm::SetGlobal(*name, boxed(alloc, places, lambdas, value)?))
+            Ok(FlatCoreForm::SetGlobal(*name, boxed(alloc, binders, places, progress, value)?))
         }
         CoreForm::DefGlobal(name, value) => {
-            Ok(FlatCoreForm::DefGlobal(*name, boxed(alloc, places, lambdas, value)?))
+            Ok(FlatCoreForm::DefGlobal(*name, boxed(alloc, binders, places, progress, value)?))
         }
         CoreForm::Clauses(list) => {
-            Ok(FlatCoreForm::Clauses(flat_clauses(alloc, places, lambdas, list)?))
+            Ok(FlatCoreForm::Clauses(flat_clauses(alloc, binders, places, progress, list)?))
         }
         CoreForm::Sequence(list) => {
-            Ok(FlatCoreForm::Sequence(flat_forms(alloc, places, lambdas, list)?))
+            Ok(FlatCoreForm::Sequence(flat_forms(alloc, binders, places, progress, list)?))
         }
         CoreForm::Let(list, body) => {
-            let (list, body) = flat_let(alloc, places, lambdas, list, body)?;
+            let (list, body) = flat_let(alloc, binders, places, progress, list, body)?;
             match Box::new(alloc, body) {
                 Ok(body) => Ok(FlatCoreForm::Let(list, body)),
                 Err(refused) => {
@@ -84,84 +77,86 @@ fn flat_kind(
         }
         CoreForm::Lambda(required, rest, body, parts) => {
             let captured = places.parts(alloc, parts)?;
-            let number = function(alloc, places, lambdas, required, *rest, body, parts)?;
+            let number = function(
+                alloc, binders, places, progress, required, *rest, body, parts,
+            )?;
             Ok(FlatCoreForm::MakeFunction(number, captured))
         }
         CoreForm::Call(name, list) => {
-            Ok(FlatCoreForm::Call(*name, flat_forms(alloc, places, lambdas, list)?))
+            Ok(FlatCoreForm::Call(*name, flat_forms(alloc, binders, places, progress, list)?))
         }
         CoreForm::CallValue(list) => {
-            Ok(FlatCoreForm::CallValue(flat_forms(alloc, places, lambdas, list)?))
+            Ok(FlatCoreForm::CallValue(flat_forms(alloc, binders, places, progress, list)?))
         }
         CoreForm::Apply(first, second) => {
-            let (first, second) = both(alloc, places, lambdas, first, second)?;
+            let (first, second) = both(alloc, binders, places, progress, first, second)?;
             Ok(FlatCoreForm::Apply(first, second))
         }
         CoreForm::Prim(which, list) => {
-            Ok(FlatCoreForm::Prim(*which, flat_forms(alloc, places, lambdas, list)?))
+            Ok(FlatCoreForm::Prim(*which, flat_forms(alloc, binders, places, progress, list)?))
         }
         CoreForm::While(test, body) => {
-            let (test, body) = both(alloc, places, lambdas, test, body)?;
+            let (test, body) = both(alloc, binders, places, progress, test, body)?;
             Ok(FlatCoreForm::While(test, body))
         }
         CoreForm::Block(exit, body) => {
             let own_exits = places.own_exits;
             places.enter(*exit)?;
-            let body = boxed(alloc, places, lambdas, body)?;
+            let body = boxed(alloc, binders, places, progress, body)?;
             places.leave(own_exits);
             Ok(FlatCoreForm::Block(body))
         }
         CoreForm::Return(exit, value) => {
             let place = places.exit(*exit);
-            Ok(FlatCoreForm::Return(place, boxed(alloc, places, lambdas, value)?))
+            Ok(FlatCoreForm::Return(place, boxed(alloc, binders, places, progress, value)?))
         }
         CoreForm::Tagbody(exit, list) => {
             let own_exits = places.own_exits;
             places.enter(*exit)?;
-            let list = flat_forms(alloc, places, lambdas, list)?;
+            let list = flat_forms(alloc, binders, places, progress, list)?;
             places.leave(own_exits);
             Ok(FlatCoreForm::Tagbody(list))
         }
         CoreForm::Go(exit, segment) => Ok(FlatCoreForm::Go(places.exit(*exit), *segment)),
         CoreForm::Catch(tag, body) => {
-            let (tag, body) = both(alloc, places, lambdas, tag, body)?;
+            let (tag, body) = both(alloc, binders, places, progress, tag, body)?;
             Ok(FlatCoreForm::Catch(tag, body))
         }
         CoreForm::Throw(tag, value) => {
-            let (tag, value) = both(alloc, places, lambdas, tag, value)?;
+            let (tag, value) = both(alloc, binders, places, progress, tag, value)?;
             Ok(FlatCoreForm::Throw(tag, value))
         }
         CoreForm::Unwind(form, cleanup) => {
-            let (form, cleanup) = both(alloc, places, lambdas, form, cleanup)?;
+            let (form, cleanup) = both(alloc, binders, places, progress, form, cleanup)?;
             Ok(FlatCoreForm::Unwind(form, cleanup))
         }
         CoreForm::DynamicLet(list, body) => {
-            let (list, body) = flat_dynamic_let(alloc, places, lambdas, list, body)?;
+            let (list, body) = flat_dynamic_let(alloc, binders, places, progress, list, body)?;
             Ok(FlatCoreForm::DynamicLet(list, body))
         }
         CoreForm::Dynamic(name) => Ok(FlatCoreForm::Dynamic(*name)),
         CoreForm::SetDynamic(name, value) => {
-            Ok(FlatCoreForm::SetDynamic(*name, boxed(alloc, places, lambdas, value)?))
+            Ok(FlatCoreForm::SetDynamic(*name, boxed(alloc, binders, places, progress, value)?))
         }
         CoreForm::DefDynamic(name, value) => {
-            Ok(FlatCoreForm::DefDynamic(*name, boxed(alloc, places, lambdas, value)?))
+            Ok(FlatCoreForm::DefDynamic(*name, boxed(alloc, binders, places, progress, value)?))
         }
         CoreForm::WithHandler(handler, body) => {
-            let (handler, body) = both(alloc, places, lambdas, handler, body)?;
+            let (handler, body) = both(alloc, binders, places, progress, handler, body)?;
             Ok(FlatCoreForm::WithHandler(handler, body))
         }
         CoreForm::Signal(condition, mark) => {
-            let (condition, mark) = both(alloc, places, lambdas, condition, mark)?;
+            let (condition, mark) = both(alloc, binders, places, progress, condition, mark)?;
             Ok(FlatCoreForm::Signal(condition, mark))
         }
         CoreForm::Continue(condition, value) => {
-            let (condition, value) = both(alloc, places, lambdas, condition, value)?;
+            let (condition, value) = both(alloc, binders, places, progress, condition, value)?;
             Ok(FlatCoreForm::Continue(condition, value))
         }
         CoreForm::NextMethod => Ok(FlatCoreForm::NextMethod(places.method())),
         CoreForm::HasNext => Ok(FlatCoreForm::HasNext(places.method())),
         CoreForm::Sited(site, inner) => {
-            Ok(FlatCoreForm::Sited(*site, boxed(alloc, places, lambdas, inner)?))
+            Ok(FlatCoreForm::Sited(*site, boxed(alloc, binders, places, progress, inner)?))
         }
     }
 }
@@ -169,15 +164,14 @@ fn flat_kind(
 #[cycle(flat)]
 fn boxed(
     alloc: Global,
+    binders: &BinderList,
     places: &mut Places,
-    lambdas: &mut FlatProcedureList,
+    progress: &mut Progress,
     form: &Core,
 ) -> Result<Box<FlatCore>, NoMemory>
-    ensures made { IfOk result (λ made. made.value ≡ flat (scope_of places.old) (length lambdas.old) form.now) }
-    ensures inside { OnOk result (lambdas.new ≡ lambdas.old ++ inner_procedures (scope_of places.old) (length lambdas.old) form.now) }
-    ensures same { OnOk result (places.new ≡ places.old) }
+    ensures { IfOk result (λ made. MakesForm form.now binders.now places.old places.new progress.old progress.new made.value) }
 {
-    match Box::new(alloc, flat(alloc, places, lambdas, form)?) {
+    match Box::new(alloc, flat(alloc, binders, places, progress, form)?) {
         Ok(made) => Ok(made),
         Err(refused) => {
             drop(refused);
@@ -189,38 +183,35 @@ fn boxed(
 #[cycle(flat)]
 fn both(
     alloc: Global,
+    binders: &BinderList,
     places: &mut Places,
-    lambdas: &mut FlatProcedureList,
+    progress: &mut Progress,
     first: &Core,
     second: &Core,
 ) -> Result<(Box<FlatCore>, Box<FlatCore>), NoMemory>
-    ensures first { IfOk result (λ made. made.0.value ≡ flat (scope_of places.old) (length lambdas.old) first.now) }
-    ensures second { IfOk result (λ made. made.1.value ≡ flat (scope_of places.old) (length lambdas.old + functions first.now) second.now) }
-    ensures inside { OnOk result (lambdas.new ≡ lambdas.old ++ (inner_procedures (scope_of places.old) (length lambdas.old) first.now ++ inner_procedures (scope_of places.old) (length lambdas.old + functions first.now) second.now)) }
-    ensures same { OnOk result (places.new ≡ places.old) }
+    ensures { IfOk result (λ made. MakesTwo first.now second.now binders.now places.old places.new progress.old progress.new (made.0.value, made.1.value)) }
 {
-    let first = boxed(alloc, places, lambdas, first)?;
-    Ok((first, boxed(alloc, places, lambdas, second)?))
+    let first = boxed(alloc, binders, places, progress, first)?;
+    Ok((first, boxed(alloc, binders, places, progress, second)?))
 }
 
 #[cycle(flat)]
 #[tactic(auto, using(isl_meaning::specs::model::Sizes::form_in_smaller))]
 fn flat_forms(
     alloc: Global,
+    binders: &BinderList,
     places: &mut Places,
-    lambdas: &mut FlatProcedureList,
+    progress: &mut Progress,
     list: &CoreList,
 ) -> Result<FlatCoreList, NoMemory>
-    ensures made { IfOk result (λ made. flat_view.forms made ≡ flat_forms (scope_of places.old) (length lambdas.old) (forms list.now)) }
-    ensures inside { OnOk result (lambdas.new ≡ lambdas.old ++ procedures_of_forms (scope_of places.old) (length lambdas.old) (forms list.now)) }
-    ensures same { OnOk result (places.new ≡ places.old) }
+    ensures { IfOk result (λ made. MakesForms (forms list.now) binders.now places.old places.new progress.old progress.new (flat_view.forms made)) }
 {
     let mut made = FlatCoreList::new(alloc);
     for at in 0..list.len() {
         let Some(form) = list.get(at) else {
             unreachable!()
         };
-        made.push(flat(alloc, places, lambdas, form)?)?;
+        made.push(flat(alloc, binders, places, progress, form)?)?;
     }
     Ok(made)
 }
@@ -229,21 +220,20 @@ fn flat_forms(
 #[tactic(auto, using(isl_meaning::specs::model::Sizes::test_in_smaller, isl_meaning::specs::model::Sizes::body_in_smaller))]
 fn flat_clauses(
     alloc: Global,
+    binders: &BinderList,
     places: &mut Places,
-    lambdas: &mut FlatProcedureList,
+    progress: &mut Progress,
     list: &ClauseList,
 ) -> Result<FlatClauseList, NoMemory>
-    ensures made { IfOk result (λ made. flat_view.clauses_of made ≡ flat_clauses (scope_of places.old) (length lambdas.old) (clauses_of list.now)) }
-    ensures inside { OnOk result (lambdas.new ≡ lambdas.old ++ procedures_of_clauses (scope_of places.old) (length lambdas.old) (clauses_of list.now)) }
-    ensures same { OnOk result (places.new ≡ places.old) }
+    ensures { IfOk result (λ made. MakesClauses (clauses_of list.now) binders.now places.old places.new progress.old progress.new (flat_view.clauses_of made)) }
 {
     let mut made = FlatClauseList::new(alloc);
     for at in 0..list.len() {
         let Some(clause) = list.get(at) else {
             unreachable!()
         };
-        let test = flat(alloc, places, lambdas, &clause.test)?;
-        let Ok(body) = flat_body(alloc, places, lambdas, &clause.body) else {
+        let test = flat(alloc, binders, places, progress, &clause.test)?;
+        let Ok(body) = flat_body(alloc, binders, places, progress, &clause.body) else {
             drop(test);
             return Err(NoMemory);
         };
@@ -255,51 +245,34 @@ fn flat_clauses(
 #[cycle(flat)]
 fn flat_body(
     alloc: Global,
+    binders: &BinderList,
     places: &mut Places,
-    lambdas: &mut FlatProcedureList,
+    progress: &mut Progress,
     body: &Option<Core>,
 ) -> Result<Option<FlatCore>, NoMemory>
-    ensures made { IfOk result (λ made. made ≡ option_map (flat (scope_of places.old) (length lambdas.old)) body.now) }
-    ensures inside { OnOk result (lambdas.new ≡ lambdas.old ++ procedures_of_body (scope_of places.old) (length lambdas.old) (maybe_form body.now)) }
-    ensures same { OnOk result (places.new ≡ places.old) }
+    ensures { IfOk result (λ made. MakesBody body.now binders.now places.old places.new progress.old progress.new made) }
 {
     match body {
         None => Ok(None),
-        Some(form) => Ok(Some(flat(alloc, places, lambdas, form)?)),
+        Some(form) => Ok(Some(flat(alloc, binders, places, progress, form)?)),
     }
 }
 
 // Bindings and the body in which their variables are bound.
 #[cycle(flat)]
-#[tactic(auto, using(isl_meaning::specs::model::Sizes::binding_in_smaller))]
 fn flat_let(
     alloc: Global,
+    binders: &BinderList,
     places: &mut Places,
-    lambdas: &mut FlatProcedureList,
+    progress: &mut Progress,
     list: &BindingList,
     body: &Core,
 ) -> Result<(FlatBindingList, FlatCore), NoMemory>
-    ensures bindings { IfOk result (λ made. flat_view.bindings_of made.0 ≡ flat_bindings (scope_of places.old) (length lambdas.old) body.now (bindings_of list.now)) }
-    ensures body { IfOk result (λ made. made.1 ≡ flat (with_bound (bound_variables (bindings_of list.now)) body.now (scope_of places.old)) (length lambdas.old + functions_of_values (bindings_of list.now)) body.now) }
-    ensures inside { OnOk result (lambdas.new ≡ lambdas.old ++ (procedures_of_values (scope_of places.old) (length lambdas.old) (bindings_of list.now) ++ inner_procedures (with_bound (bound_variables (bindings_of list.now)) body.now (scope_of places.old)) (length lambdas.old + functions_of_values (bindings_of list.now)) body.now)) }
-    ensures same { OnOk result (places.new ≡ places.old) }
+    ensures { IfOk result (λ made. MakesLet (bindings_of list.now) body.now binders.now places.old places.new progress.old progress.new (flat_view.bindings_of made.0, made.1)) }
 {
-    let news = new_variables(alloc, &bound(alloc, list)?, body)?;
-    let mut made = FlatBindingList::new(alloc);
-    for at in 0..list.len() {
-        let Some(binding) = list.get(at) else {
-            unreachable!()
-        };
-        let Some(new) = news.get(at) else {
-            unreachable!()
-        };
-        let value = flat(alloc, places, lambdas, &binding.value)?;
-        made.push(FlatBinding {
-            home: new.home,
-            value,
-        })?;
-    }
-    match flat_inside(alloc, places, lambdas, &news, body) {
+    let news = &progress.next(binders)?.variables;
+    let made = flat_values(alloc, binders, places, progress, news, list)?;
+    match flat_inside(alloc, binders, places, progress, news, body) {
         Ok(body) => Ok((made, body)),
         Err(_) => {
             drop(made);
@@ -308,22 +281,48 @@ fn flat_let(
     }
 }
 
+// The bindings of those variables.
+#[cycle(flat)]
+#[tactic(auto, using(isl_meaning::specs::model::Sizes::binding_in_smaller))]
+fn flat_values(
+    alloc: Global,
+    binders: &BinderList,
+    places: &mut Places,
+    progress: &mut Progress,
+    news: &NewVariables,
+    list: &BindingList,
+) -> Result<FlatBindingList, NoMemory>
+    ensures { IfOk result (λ made. MakesValues news.now (bindings_of list.now) binders.now places.old places.new progress.old progress.new (flat_view.bindings_of made)) }
+{
+    let mut made = FlatBindingList::new(alloc);
+    for at in 0..list.len() {
+        let Some(binding) = list.get(at) else {
+            unreachable!()
+        };
+        let value = flat(alloc, binders, places, progress, &binding.value)?;
+        made.push(FlatBinding {
+            home: home_of_binding(news, at),
+            value,
+        })?;
+    }
+    Ok(made)
+}
+
 // A body in which new variables are bound.
 #[cycle(flat)]
 fn flat_inside(
     alloc: Global,
+    binders: &BinderList,
     places: &mut Places,
-    lambdas: &mut FlatProcedureList,
+    progress: &mut Progress,
     news: &NewVariables,
     body: &Core,
 ) -> Result<FlatCore, NoMemory>
-    ensures made { IfOk result (λ made. made ≡ flat (with_new news.now (scope_of places.old)) (length lambdas.old) body.now) }
-    ensures inside { OnOk result (lambdas.new ≡ lambdas.old ++ inner_procedures (with_new news.now (scope_of places.old)) (length lambdas.old) body.now) }
-    ensures same { OnOk result (places.new ≡ places.old) }
+    ensures { IfOk result (λ made. MakesInside news.now body.now binders.now places.old places.new progress.old progress.new made) }
 {
     let slots = places.slots;
     places.bind(news)?;
-    let made = flat(alloc, places, lambdas, body)?;
+    let made = flat(alloc, binders, places, progress, body)?;
     places.release(news.len(), slots);
     Ok(made)
 }
@@ -332,18 +331,16 @@ fn flat_inside(
 #[cycle(flat)]
 fn flat_dynamic_let(
     alloc: Global,
+    binders: &BinderList,
     places: &mut Places,
-    lambdas: &mut FlatProcedureList,
+    progress: &mut Progress,
     list: &DynBindings,
     body: &Core,
 ) -> Result<(FlatDynBindings, Box<FlatCore>), NoMemory>
-    ensures bindings { IfOk result (λ made. flat_view.dynamics_of made.0 ≡ flat_dynamics (scope_of places.old) (length lambdas.old) (dynamics_of list.now)) }
-    ensures body { IfOk result (λ made. made.1.value ≡ flat (scope_of places.old) (length lambdas.old + functions_of_dynamics (dynamics_of list.now)) body.now) }
-    ensures inside { OnOk result (lambdas.new ≡ lambdas.old ++ (procedures_of_dynamics (scope_of places.old) (length lambdas.old) (dynamics_of list.now) ++ inner_procedures (scope_of places.old) (length lambdas.old + functions_of_dynamics (dynamics_of list.now)) body.now)) }
-    ensures same { OnOk result (places.new ≡ places.old) }
+    ensures { IfOk result (λ made. MakesDynamicLet (dynamics_of list.now) body.now binders.now places.old places.new progress.old progress.new (flat_view.dynamics_of made.0, made.1.value)) }
 {
-    let made = flat_dynamics(alloc, places, lambdas, list)?;
-    match boxed(alloc, places, lambdas, body) {
+    let made = flat_dynamics(alloc, binders, places, progress, list)?;
+    match boxed(alloc, binders, places, progress, body) {
         Ok(body) => Ok((made, body)),
         Err(_) => {
             drop(made);
@@ -356,20 +353,19 @@ fn flat_dynamic_let(
 #[tactic(auto, using(isl_meaning::specs::model::Sizes::dynamic_in_smaller))]
 fn flat_dynamics(
     alloc: Global,
+    binders: &BinderList,
     places: &mut Places,
-    lambdas: &mut FlatProcedureList,
+    progress: &mut Progress,
     list: &DynBindings,
 ) -> Result<FlatDynBindings, NoMemory>
-    ensures made { IfOk result (λ made. flat_view.dynamics_of made ≡ flat_dynamics (scope_of places.old) (length lambdas.old) (dynamics_of list.now)) }
-    ensures inside { OnOk result (lambdas.new ≡ lambdas.old ++ procedures_of_dynamics (scope_of places.old) (length lambdas.old) (dynamics_of list.now)) }
-    ensures same { OnOk result (places.new ≡ places.old) }
+    ensures { IfOk result (λ made. MakesDynamics (dynamics_of list.now) binders.now places.old places.new progress.old progress.new (flat_view.dynamics_of made)) }
 {
     let mut made = FlatDynBindings::new(alloc);
     for at in 0..list.len() {
         let Some(binding) = list.get(at) else {
             unreachable!()
         };
-        let value = flat(alloc, places, lambdas, &binding.value)?;
+        let value = flat(alloc, binders, places, progress, &binding.value)?;
         made.push(FlatDynBinding {
             name: binding.name,
             value,
@@ -382,22 +378,31 @@ fn flat_dynamics(
 #[cycle(flat)]
 fn function(
     alloc: Global,
+    binders: &BinderList,
     places: &Places,
-    lambdas: &mut FlatProcedureList,
+    progress: &mut Progress,
     required: &VarList,
     rest: Option<Var>,
     body: &Core,
     parts: &PartList,
 ) -> Result<usize, NoMemory>
-    ensures made { IfOk result (λ number. number ≡ length lambdas.old) }
-    ensures inside { OnOk result (lambdas.new ≡ lambdas.old ++ (flat_procedure (seen (scope_of places.now) parts.now) (length lambdas.old + 1) (kinds_of (scope_of places.now) parts.now) required.now rest body.now ∷ inner_procedures (body_scope required.now rest body.now (seen (scope_of places.now) parts.now)) (length lambdas.old + 1) body.now)) }
+    ensures { IfOk result (λ number. MakesFunction required.now rest body.now parts.now binders.now places.now places.now progress.old progress.new number) }
 {
-    let number = lambdas.len();
-    lambdas.push(reserved(alloc))?;
+    let number = progress.lambdas.len();
+    progress.lambdas.push(reserved(alloc))?;
     let kinds = places.kinds(alloc, parts)?;
     let mut inside = places.seen(alloc, parts)?;
-    let procedure = procedure(alloc, &mut inside, lambdas, kinds, required, rest, body)?;
-    drop(lambdas.replace(number, procedure));
+    let procedure = procedure(
+        alloc,
+        binders,
+        &mut inside,
+        progress,
+        kinds,
+        required,
+        rest,
+        body,
+    )?;
+    drop(progress.lambdas.replace(number, procedure));
     Ok(number)
 }
 
@@ -405,24 +410,24 @@ fn function(
 #[cycle(flat)]
 pub(crate) fn procedure(
     alloc: Global,
+    binders: &BinderList,
     places: &mut Places,
-    lambdas: &mut FlatProcedureList,
+    progress: &mut Progress,
     captured: CapturedKinds,
     required: &VarList,
     rest: Option<Var>,
     body: &Core,
 ) -> Result<FlatProcedure, NoMemory>
-    ensures made { IfOk result (λ made. made ≡ flat_procedure (scope_of places.old) (length lambdas.old) captured required.now rest body.now) }
-    ensures inside { OnOk result (lambdas.new ≡ lambdas.old ++ inner_procedures (body_scope required.now rest body.now (scope_of places.old)) (length lambdas.old) body.now) }
+    ensures { IfOk result (λ made. MakesProcedure captured required.now rest body.now binders.now places.old places.new progress.old progress.new made) }
 {
-    let news = new_variables(alloc, &parameters(alloc, required, rest)?, body)?;
-    let homes = first_homes(alloc, &news, required.len())?;
-    let made = flat_inside(alloc, places, lambdas, &news, body)?;
+    let own = progress.next(binders)?;
+    let homes = first_homes(alloc, &own.variables, required.len())?;
+    let made = flat_inside(alloc, binders, places, progress, &own.variables, body)?;
     Ok(FlatProcedure {
         captured,
         required: homes,
-        rest: home_at(&news, required.len()),
-        keeps_method: captures(body, Part::Method),
+        rest: home_at(&own.variables, required.len()),
+        keeps_method: own.keeps_method,
         body: made,
     })
 }

@@ -1,11 +1,13 @@
 // Programs made flat: the code of closure conversion, which gives just what its definition says.
 #![tactic(auto)]
 
+mod binders;
 mod bindings;
-mod cells;
 mod forms;
+mod marks;
 mod places;
 pub mod program;
+mod progress;
 mod tables;
 mod variables;
 

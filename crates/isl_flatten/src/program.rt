@@ -1,17 +1,22 @@
 // Whole programs made flat.
 
-ghost use Rattle.std.specs.Prelude.{◌≡◌, ◌++◌, ℕ, List, length, IfOk, OnOk};
+ghost use Rattle.std.specs.Prelude.{◌≡◌, ℕ, List, [], IfOk};
 ghost use Rattle.isl_meaning.specs.Meaning.{meaning};
 ghost use Rattle.isl_meaning.specs.State.{Limit};
 ghost use Rattle.isl_closure.specs.FlatMeaning.{flat_meaning};
 ghost use Rattle.isl_closure.specs.FlatFits.{ProgramFits};
 ghost use Rattle.isl_closure.specs.FlatStanding.{ProgramStands};
-ghost use Rattle.isl_closure.specs.Flatten.{flat_program, flat_procedures, inner_of_procedures, flat_mains, inner_of_mains};
+ghost use Rattle.isl_closure.specs.Flatten.{flat_program};
 ghost use Rattle.isl_closure.specs.Law.{SameRun};
+ghost use Rattle.isl_flatten.specs.Binders.{binders_of_procedures, binders_of_mains};
+ghost use Rattle.isl_flatten.specs.Bodies.{AreBodies, MakesProcedures, MakesMains};
 
+use crate::binders::binders_of_program;
 use crate::forms::{flat, procedure};
 use crate::places::Places;
+use crate::progress::Progress;
 use crate::tables;
+use crate::variables::BinderList;
 use isl_base::NoMemory;
 use isl_closure::laws::{law_closures, law_flat_programs};
 use isl_closure::{CapturedKinds, FlatCoreList, FlatProcedureList, FlatProgram};
@@ -38,9 +43,14 @@ pub fn flatten(alloc: Global, program: &Program) -> Result<FlatProgram, NoMemory
 pub fn flat_rows(alloc: Global, rows: &ProgramRows) -> Result<FlatProgram, NoMemory>
     ensures { IfOk result (λ flat. flat ≡ flat_program rows.now) }
 {
-    let mut lambdas = FlatProcedureList::new(alloc);
-    let procedures = flat_procedures(alloc, &mut lambdas, &rows.procedures)?;
-    let main = flat_mains(alloc, &mut lambdas, &rows.main)?;
+    let binders = binders_of_program(alloc, rows)?;
+    let bodies = flat_bodies(alloc, &binders, rows);
+    drop(binders);
+    let Bodies {
+        procedures,
+        lambdas,
+        main,
+    } = bodies?;
     let literals = tables::literals(alloc, &rows.literals)?;
     let classes = tables::classes(alloc, &rows.classes)?;
     let generics = tables::generics(alloc, &rows.generics)?;
@@ -58,26 +68,55 @@ pub fn flat_rows(alloc: Global, rows: &ProgramRows) -> Result<FlatProgram, NoMem
     })
 }
 
+// What is made of all bodies of a program.
+#[derive(Drop)]
+struct Bodies {
+    procedures: FlatProcedureList,
+    lambdas: FlatProcedureList,
+    main: FlatCoreList,
+}
+
+fn flat_bodies(alloc: Global, binders: &BinderList, rows: &ProgramRows) -> Result<Bodies, NoMemory>
+    requires { binders.now ≡ binders_of_procedures rows.now.procedures (binders_of_mains rows.now.main []) }
+    ensures { IfOk result (λ made. AreBodies rows.now made) }
+{
+    let mut progress = Progress {
+        lambdas: FlatProcedureList::new(alloc),
+        binders: 0,
+    };
+    let procedures = flat_procedures(alloc, binders, &mut progress, &rows.procedures)?;
+    let Ok(main) = flat_mains(alloc, binders, &mut progress, &rows.main) else {
+        drop(procedures);
+        return Err(NoMemory);
+    };
+    Ok(Bodies {
+        procedures,
+        lambdas: progress.lambdas,
+        main,
+    })
+}
+
 // Procedures made flat. The procedures of the functions inside are put behind those that are there.
 fn flat_procedures(
     alloc: Global,
-    lambdas: &mut FlatProcedureList,
+    binders: &BinderList,
+    progress: &mut Progress,
     list: &ProcedureList,
 ) -> Result<FlatProcedureList, NoMemory>
-    ensures made { IfOk result (λ made. made ≡ flat_procedures (length lambdas.old) list.now) }
-    ensures inside { OnOk result (lambdas.new ≡ lambdas.old ++ inner_of_procedures (length lambdas.old) list.now) }
+    ensures { IfOk result (λ made. MakesProcedures list.now binders.now progress.old progress.new made) }
 {
     let mut made = FlatProcedureList::new(alloc);
+    let mut places = Places::outermost(alloc);
     for at in 0..list.len() {
         let Some(row) = list.get(at) else {
             unreachable!()
         };
-        let mut places = Places::outermost(alloc);
         let captured = CapturedKinds::new(alloc);
         made.push(procedure(
             alloc,
+            binders,
             &mut places,
-            lambdas,
+            progress,
             captured,
             &row.required,
             row.rest,
@@ -90,19 +129,19 @@ fn flat_procedures(
 // Main forms made flat. The procedures of the functions inside are put behind those that are there.
 fn flat_mains(
     alloc: Global,
-    lambdas: &mut FlatProcedureList,
+    binders: &BinderList,
+    progress: &mut Progress,
     list: &CoreList,
 ) -> Result<FlatCoreList, NoMemory>
-    ensures made { IfOk result (λ made. made ≡ flat_mains (length lambdas.old) list.now) }
-    ensures inside { OnOk result (lambdas.new ≡ lambdas.old ++ inner_of_mains (length lambdas.old) list.now) }
+    ensures { IfOk result (λ made. MakesMains list.now binders.now progress.old progress.new made) }
 {
     let mut made = FlatCoreList::new(alloc);
+    let mut places = Places::outermost(alloc);
     for at in 0..list.len() {
         let Some(form) = list.get(at) else {
             unreachable!()
         };
-        let mut places = Places::outermost(alloc);
-        made.push(flat(alloc, &mut places, lambdas, form)?)?;
+        made.push(flat(alloc, binders, &mut places, progress, form)?)?;
     }
     Ok(made)
 }

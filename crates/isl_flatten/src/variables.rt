@@ -5,14 +5,11 @@ ghost use Rattle.isl_meaning.specs.Form.{parameters};
 ghost use Rattle.isl_meaning.specs.Meaning.{bound_variables};
 ghost use Rattle.isl_meaning.specs.model.View.{bindings_of};
 ghost use Rattle.isl_closure.specs.Scope.{homes_of};
-ghost use Rattle.isl_meaning.specs.Captured.{sets};
-ghost use Rattle.isl_flatten.specs.Found.{has_variable};
-ghost use Rattle.isl_flatten.specs.NewVariables.{new_variable, new_variables, homes_of_new};
+ghost use Rattle.isl_flatten.specs.NewVariables.{homes_of_new, home_or_slot};
 
-use crate::cells::{captures, is_set, set_inside};
 use isl_base::{ItemList, NoMemory};
 use isl_closure::{Home, HomeList};
-use isl_meaning::{BindingList, Core, Part, Var, VarList};
+use isl_meaning::{BindingList, Var, VarList};
 use std::alloc::Global;
 
 /// A variable where it is bound: where it lives, and whether it keeps its first value, since nothing sets it.
@@ -26,42 +23,15 @@ pub(crate) struct NewVariable {
 /// Variables that a body binds, in their order.
 pub(crate) type NewVariables = ItemList<NewVariable>;
 
-// The variables of that body.
-pub(crate) fn new_variables(
-    alloc: Global,
-    variables: &VarList,
-    body: &Core,
-) -> Result<NewVariables, NoMemory>
-    ensures { IfOk result (λ news. news ≡ new_variables variables.now body.now) }
-{
-    let mut found = VarList::new(alloc);
-    set_inside(&mut found, body)?;
-    let mut news = NewVariables::new(alloc);
-    for at in 0..variables.len() {
-        let Some(var) = variables.get(at) else {
-            unreachable!()
-        };
-        news.push(new_variable(*var, body, &found))?;
-    }
-    Ok(news)
+/// A body in which variables are bound: these variables, and whether a function made in it captures the method.
+#[derive(Drop)]
+pub(crate) struct Binder {
+    pub(crate) variables: NewVariables,
+    pub(crate) keeps_method: bool,
 }
 
-fn new_variable(var: Var, body: &Core, found: &VarList) -> NewVariable
-    requires { sets var body.now ≡ true → has_variable var found.now ≡ true }
-    ensures { result ≡ new_variable body.now var }
-{
-    let is_set = is_set(found, body, var);
-    let home = if is_set && captures(body, Part::Variable(var)) {
-        Home::Cell
-    } else {
-        Home::Slot
-    };
-    NewVariable {
-        var,
-        home,
-        fixed: !is_set,
-    }
-}
+/// The binders of a form, in the order in which a walk meets them.
+pub(crate) type BinderList = ItemList<Binder>;
 
 // The variables of a function: the required ones, and the rest variable.
 pub(crate) fn parameters(
@@ -95,17 +65,16 @@ pub(crate) fn bound(alloc: Global, list: &BindingList) -> Result<VarList, NoMemo
     Ok(variables)
 }
 
-// Where the first of these live, as many as are asked.
+// Where the first of these live, as many as are asked if there are as many.
 pub(crate) fn first_homes(
     alloc: Global,
     news: &NewVariables,
     count: usize,
 ) -> Result<HomeList, NoMemory>
-    requires { count ≤ length news.now }
     ensures { IfOk result (λ homes. homes ≡ take count (homes_of_new news.now)) }
 {
     let mut homes = HomeList::new(alloc);
-    for at in 0..count {
+    for at in 0..count.min(news.len()) {
         let Some(new) = news.get(at) else {
             unreachable!()
         };
@@ -121,5 +90,15 @@ pub(crate) fn home_at(news: &NewVariables, at: usize) -> Option<Home>
     match news.get(at) {
         None => None,
         Some(new) => Some(new.home),
+    }
+}
+
+// Where the variable of that binding lives; in a slot where there is none.
+pub(crate) fn home_of_binding(news: &NewVariables, at: usize) -> Home
+    ensures { result ≡ home_or_slot (slice_get (homes_of_new news.now) at) }
+{
+    match home_at(news, at) {
+        None => Home::Slot,
+        Some(home) => home,
     }
 }

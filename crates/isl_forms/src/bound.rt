@@ -59,12 +59,11 @@ fn as_block(symbol: Symbol, bound: &Bound) -> Option<ExitVar>
 fn target_among(symbol: Symbol, exit: ExitVar, tags: &[Symbol]) -> Option<Target>
     ensures { result ≡ named.target_among symbol exit 1 tags.now }
 {
-    for at in 0..tags.len() {
-        if same_symbol(symbol, tags[at]) {
-            return Some(Target {
-                exit,
-                segment: at + 1,
-            });
+    let mut segment = 0;
+    for tag in tags {
+        segment += 1;
+        if same_symbol(symbol, *tag) {
+            return Some(Target { exit, segment });
         }
     }
     None

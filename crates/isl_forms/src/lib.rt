@@ -2,12 +2,14 @@
 #![tactic(auto)]
 
 mod bound;
+mod draft;
 pub mod here;
 pub mod plan;
 mod primitives;
 mod rows;
 mod shapes;
 pub mod steps;
+mod take;
 
 pub use here::{Here, deeper};
 pub use plan::{Inner, Part, Parts, Plan, Work};

@@ -13,6 +13,14 @@ pub fn items(datum: &Datum) -> Option<&[Datum]> {
     }
 }
 
+/// The two items of a list of two.
+pub fn pair(datum: &Datum) -> Option<(&Datum, &Datum)> {
+    match items(datum)? {
+        [first, second] => Some((first, second)),
+        _ => None,
+    }
+}
+
 /// The word that a proper list begins with, and the items behind it.
 pub fn command<'a>(names: &'a Names, datum: &'a Datum) -> Option<(&'a str, &'a [Datum])> {
     match items(datum)? {

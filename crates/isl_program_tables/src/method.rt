@@ -17,9 +17,11 @@ pub fn method(got: &mut Answer, names: &Names, parts: &[Datum]) -> Option<Method
     let [kind, classes, procedure] = parts else {
         return None;
     };
+    let qualifier = found(QUALIFIERS, word(names, kind)?)?;
+    let procedure = id(procedure)?;
     Some(MethodRow {
-        qualifier: found(QUALIFIERS, word(names, kind)?)?,
+        qualifier,
         classes: ids(got, items(classes)?)?,
-        procedure: id(procedure)?,
+        procedure,
     })
 }

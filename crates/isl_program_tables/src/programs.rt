@@ -3,9 +3,11 @@
 mod built_in;
 mod forms;
 mod lambda;
+mod make;
 mod primitives;
 mod questions;
 mod rows;
+mod words;
 
 use crate::inputs::command;
 use built_in::no_rows;

@@ -35,15 +35,38 @@ fn with_options(
         initargs: NameList::new(got.alloc),
         initform: None,
     };
-    for option in options.chunks(2) {
-        let [key, value] = option else {
-            return None;
-        };
-        match word(names, key)? {
-            ":initarg" => got.add(&mut slot.initargs, name(value)?),
-            ":initform" => slot.initform = Some(id(value)?),
-            _ => return None,
-        }
+    if take_options(got, names, &mut slot, options).is_none() {
+        drop(slot);
+        return None;
     }
     Some(slot)
+}
+
+fn take_options(
+    got: &mut Answer,
+    names: &Names,
+    slot: &mut SlotRow,
+    options: &[Datum],
+) -> Option<()> {
+    for option in options.chunks(2) {
+        take_option(got, names, slot, option)?;
+    }
+    Some(())
+}
+
+fn take_option(
+    got: &mut Answer,
+    names: &Names,
+    slot: &mut SlotRow,
+    option: &[Datum],
+) -> Option<()> {
+    let [key, value] = option else {
+        return None;
+    };
+    match word(names, key)? {
+        ":initarg" => got.add(&mut slot.initargs, name(value)?),
+        ":initform" => slot.initform = Some(id(value)?),
+        _ => return None,
+    }
+    Some(())
 }

@@ -1,7 +1,7 @@
 // The tables, and the calls that their inputs are put to.
 
 use crate::{classes, methods, programs};
-use isl_base::Names;
+use isl_base::{Datum, Names};
 use isl_rows::{Answer, Table, read_data};
 
 /// A table, whose inputs are data.
@@ -14,12 +14,25 @@ pub enum Data {
 impl Table for Data {
     fn put(&self, got: &mut Answer, input: &[u8]) -> Option<()> {
         let mut names = Names::new(got.alloc);
-        let read = read_data(got, &mut names, input)?;
-        let data = read.as_slice();
+        let answered = self.put_text(got, &mut names, input);
+        drop(names);
+        answered
+    }
+}
+
+impl Data {
+    fn put_text(&self, got: &mut Answer, names: &mut Names, text: &[u8]) -> Option<()> {
+        let read = read_data(got, names, text)?;
+        let answered = self.put_data(got, names, read.as_slice());
+        drop(read);
+        answered
+    }
+
+    fn put_data(&self, got: &mut Answer, names: &mut Names, data: &[Datum]) -> Option<()> {
         match self {
-            Data::Classes => classes::put(got, &mut names, data),
-            Data::Methods => methods::put(got, &names, data),
-            Data::Programs => programs::put(got, &mut names, data),
+            Data::Classes => classes::put(got, names, data),
+            Data::Methods => methods::put(got, names, data),
+            Data::Programs => programs::put(got, names, data),
         }
     }
 }

@@ -124,15 +124,14 @@ fn joined_list(
     let Datum { place: at, kind } = datum;
     let mut items = items;
     match kind {
-        Kind::Int(n) => with_tail(alloc, place, items, Datum::new(at, Kind::Int(n))),
-        Kind::Char(c) => with_tail(alloc, place, items, Datum::new(at, Kind::Char(c))),
-        Kind::Sym(s) => with_tail(alloc, place, items, Datum::new(at, Kind::Sym(s))),
-        Kind::Str(bytes) => with_tail(alloc, place, items, Datum::new(at, Kind::Str(bytes))),
-        Kind::Vector(more) => with_tail(alloc, place, items, Datum::new(at, Kind::Vector(more))),
         Kind::Nil => Ok(Datum::new(place, Kind::List { items, tail: None })),
         Kind::List { items: more, tail } => {
-            items.append_list(more)?;
+            let Ok(()) = items.append_list(more) else {
+                drop(tail);
+                return Err(NoMemory);
+            };
             Ok(Datum::new(place, Kind::List { items, tail }))
         }
+        other => with_tail(alloc, place, items, Datum::new(at, other)),
     }
 }

@@ -173,7 +173,12 @@ fn begins_token(name: &[u8]) -> bool
 fn all_stay(name: &[u8]) -> bool
     ensures { result ≡ list_all stays name.now }
 {
-    name.iter().all(|byte| stays(*byte))
+    for byte in name {
+        if !stays(*byte) {
+            return false;
+        }
+    }
+    true
 }
 
 fn stays(byte: u8) -> bool

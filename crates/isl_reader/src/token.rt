@@ -62,7 +62,12 @@ fn are_digits(base: u32, word: &[u8]) -> bool
 fn all_digits(base: u32, word: &[u8]) -> bool
     ensures { result ≡ list_all (λ b. nat_lt (characters.digit_value b) base) word.now }
 {
-    word.iter().all(|b| digit_value(*b) < base)
+    for byte in word {
+        if digit_value(*byte) >= base {
+            return false;
+        }
+    }
+    true
 }
 
 /// Whether a word is a sign or none and digits of the base.

@@ -39,13 +39,27 @@ fn push(pending: &mut Vec<Pending>, datum: Pending) -> Result<(), NoMemory>
 }
 
 // The list of a prefix's symbol and a datum.
-fn prefixed(alloc: Global, place: Place, name: Name, datum: Datum) -> Result<Datum, NoMemory>
+fn prefixed(alloc: Global, place: Place, name: Name, datum: Chain) -> Result<Chain, NoMemory>
     ensures { IfOk result (λ d. d ≡ prefix_item place name.0 datum) }
 {
+    let datum = datum.datum(alloc)?;
     let mut items = DatumList::new(alloc);
-    items.push(Datum::new(place, Kind::Sym(Symbol::Named(name))))?;
+    let Ok(()) = items.push(Datum::new(place, Kind::Sym(Symbol::Named(name)))) else {
+        drop(datum);
+        return Err(NoMemory);
+    };
     items.push(datum)?;
-    Ok(Datum::new(place, Kind::List { items, tail: None }))
+    let list = Datum::new(place, Kind::List { items, tail: None });
+    Ok(Chain::new(alloc, list))
+}
+
+// The data of an open list or vector, with one more.
+fn with_item(alloc: Global, items: DatumList, datum: Chain) -> Result<DatumList, NoMemory>
+    ensures { IfOk result (λ more. more ≡ items ++ datum ∷ []) }
+{
+    let mut items = items;
+    items.push(datum.datum(alloc)?)?;
+    Ok(items)
 }
 
 /// A whole datum joins the innermost open one; a prefix makes a datum of it, which joins the next.
@@ -59,31 +73,25 @@ pub(crate) fn put_datum(
 {
     let mut datum = datum;
     while let Some(open) = pending.pop() {
-        match open {
+        let still_open = match open {
             Pending::AtPrefix(place, name) => {
-                let made = prefixed(alloc, place, name, datum.datum(alloc)?)?;
-                datum = Chain::new(alloc, made);
+                datum = prefixed(alloc, place, name, datum)?;
+                continue;
             }
-            Pending::InList(place, mut items) => {
-                items.push(datum.datum(alloc)?)?;
-                push(pending, Pending::InList(place, items))?;
-                return Ok(None);
+            Pending::InList(place, items) => {
+                Pending::InList(place, with_item(alloc, items, datum)?)
             }
-            Pending::InVector(place, mut items) => {
-                items.push(datum.datum(alloc)?)?;
-                push(pending, Pending::InVector(place, items))?;
-                return Ok(None);
+            Pending::InVector(place, items) => {
+                Pending::InVector(place, with_item(alloc, items, datum)?)
             }
-            Pending::AtDot(place, items, dot) => {
-                push(pending, Pending::AtTail(place, items, dot, datum))?;
-                return Ok(None);
-            }
+            Pending::AtDot(place, items, dot) => Pending::AtTail(place, items, dot, datum),
             Pending::AtTail(place, items, dot, tail) => {
                 drop(datum);
-                push(pending, Pending::AtTail(place, items, dot, tail))?;
-                return Ok(None);
+                Pending::AtTail(place, items, dot, tail)
             }
-        }
+        };
+        push(pending, still_open)?;
+        return Ok(None);
     }
     Ok(Some(datum.datum(alloc)?))
 }
@@ -128,7 +136,10 @@ fn dot(pending: &mut Vec<Pending>, place: Place) -> Result<Option<Datum>, Stop>
             push(pending, Pending::AtDot(at, items, place))?;
             Ok(None)
         }
-        _ => Err(refused(place, Reason::BadDot)),
+        other => {
+            drop(other);
+            Err(refused(place, Reason::BadDot))
+        }
     }
 }
 

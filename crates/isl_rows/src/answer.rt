@@ -82,14 +82,18 @@ impl Answer {
     /// Appends one byte: one that is neither a blank nor a letter, digit or mark of ASCII is written
     /// by its escape.
     pub fn put_byte(&mut self, byte: u8) {
-        let is_written = match byte {
-            b'\n' => self.text.push_str("\\n").is_ok(),
-            b'\t' => self.text.push_str("\\t").is_ok(),
-            b'\\' => self.text.push_str("\\\\").is_ok(),
-            b' '..=b'~' => self.text.push(char::from(byte)).is_ok(),
-            _ => write!(self.text, "\\x{byte:02x}").is_ok(),
-        };
-        if !is_written {
+        match byte {
+            b'\n' => self.put("\\n"),
+            b'\t' => self.put("\\t"),
+            b'\\' => self.put("\\\\"),
+            b' '..=b'~' => self.put(char::from(byte)),
+            _ => self.put_escaped(byte),
+        }
+    }
+
+    // Appends a byte by its number in hexadecimal.
+    fn put_escaped(&mut self, byte: u8) {
+        if write!(self.text, "\\x{byte:02x}").is_err() {
             self.lacks_memory = true;
         }
     }
@@ -122,13 +126,14 @@ impl Answer {
 
     /// Appends a list of numbers, as `(2 1 0)`.
     pub fn put_list(&mut self, numbers: &[usize]) {
-        let mut before = "(";
+        self.put("(");
+        let mut is_first = true;
         for number in numbers {
-            self.put(before);
+            self.put(if is_first { "" } else { " " });
             self.put(*number);
-            before = " ";
+            is_first = false;
         }
-        self.put(if numbers.is_empty() { "()" } else { ")" });
+        self.put(")");
     }
 
     /// Appends a blank where something stands already.

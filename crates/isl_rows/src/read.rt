@@ -1,5 +1,7 @@
 // The data of an input, read by the reader.
 
+ghost use Rattle.std.specs.Prelude.{◌≤◌, length};
+
 use crate::answer::Answer;
 use isl_base::{DatumList, Names, Origin};
 use isl_reader::Reader;
@@ -12,13 +14,24 @@ pub fn read_data(got: &mut Answer, names: &mut Names, text: &[u8]) -> Option<Dat
     if text.len() > LONGEST {
         return None;
     }
-    let mut reader = Reader::new(text, Origin::File);
     let mut data = DatumList::new(got.alloc);
+    if add_data(got, names, &mut data, text).is_none() {
+        drop(data);
+        return None;
+    }
+    Some(data)
+}
+
+// Appends the data of a text.
+fn add_data(got: &mut Answer, names: &mut Names, data: &mut DatumList, text: &[u8]) -> Option<()>
+    requires { length text.now ≤ 1048576 }
+{
+    let mut reader = Reader::new(text, Origin::File);
     for _ in 0..text.len() {
         match reader.next(got.alloc, names).ok()? {
-            Some(datum) => got.add(&mut data, datum),
+            Some(datum) => got.add(data, datum),
             None => break,
         }
     }
-    Some(data)
+    Some(())
 }

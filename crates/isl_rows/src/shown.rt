@@ -15,6 +15,16 @@ pub enum Style {
     Besides(Place),
 }
 
+impl Style {
+    // The mark in front of a datum: one where places are written, and another one elsewhere.
+    fn mark(self, placed: &'static str, plain: &'static str) -> &'static str {
+        match self {
+            Style::Placed => placed,
+            _ => plain,
+        }
+    }
+}
+
 /// Appends a datum whose parts are inside one another at most so deep; none of a deeper one.
 #[cycle(shown)]
 pub fn show(
@@ -27,43 +37,38 @@ pub fn show(
     if depth == 0 {
         return None;
     }
-    let is_placed = begin(got, datum.place, style);
-    match &datum.kind {
-        Kind::Int(number) => {
-            got.put(if is_placed { "i" } else { "" });
-            got.put(*number);
-        }
-        Kind::Char(byte) => {
-            got.put("c");
-            got.put(*byte);
-        }
-        Kind::Sym(symbol) => {
-            got.put(if is_placed { "s" } else { "" });
-            show_symbol(got, names, *symbol)?;
-        }
-        Kind::Str(bytes) => {
-            got.put("t<");
-            got.put_bytes(bytes.as_slice());
-            got.put(">");
-        }
-        Kind::Nil => got.put(if is_placed { "n" } else { "nil" }),
-        Kind::Vector(items) => {
-            got.put(if is_placed { "v(" } else { "#(" });
-            show_all(got, names, items.as_slice(), style, depth - 1)?;
-            got.put(")");
-        }
-        Kind::List { items, tail } => {
-            got.put(if is_placed { "l(" } else { "(" });
-            show_all(got, names, items.as_slice(), style, depth - 1)?;
-            if let Some(datum) = tail {
-                got.put(" . ");
-                show(got, names, datum, style, depth - 1)?;
-            }
-            got.put(")");
-        }
-    }
+    begin(got, datum.place, style);
+    show_kind(got, names, &datum.kind, style, depth - 1)?;
     end(got, datum.place, style);
     Some(())
+}
+
+// Appends what stands at a place.
+#[cycle(shown)]
+fn show_kind(got: &mut Answer, names: &Names, kind: &Kind, style: Style, depth: u32) -> Option<()> {
+    match kind {
+        Kind::Sym(symbol) => {
+            got.put(style.mark("s", ""));
+            show_symbol(got, names, *symbol)
+        }
+        Kind::Vector(items) => {
+            got.put(style.mark("v(", "#("));
+            show_all(got, names, items.as_slice(), style, depth)?;
+            got.put(")");
+            Some(())
+        }
+        Kind::List { items, tail } => {
+            got.put(style.mark("l(", "("));
+            show_all(got, names, items.as_slice(), style, depth)?;
+            show_tail(got, names, tail, style, depth)?;
+            got.put(")");
+            Some(())
+        }
+        _ => {
+            put_single(got, kind, style);
+            Some(())
+        }
+    }
 }
 
 // Appends data with a blank between them.
@@ -75,28 +80,57 @@ fn show_all(
     style: Style,
     depth: u32,
 ) -> Option<()> {
-    if depth == 0 {
-        return None;
-    }
     let mut is_first = true;
     for item in items {
-        if !is_first {
-            got.put(" ");
-        }
-        show(got, names, item, style, depth - 1)?;
+        got.put(if is_first { "" } else { " " });
+        show(got, names, item, style, depth)?;
         is_first = false;
     }
     Some(())
 }
 
-// Appends a place that stands in front, and says whether it does.
-fn begin(got: &mut Answer, place: Place, style: Style) -> bool {
-    match style {
-        Style::Placed => {
-            got.put_place(place);
-            true
+// Appends the tail of a list.
+#[cycle(shown)]
+fn show_tail(
+    got: &mut Answer,
+    names: &Names,
+    tail: &Option<Box<Datum>>,
+    style: Style,
+    depth: u32,
+) -> Option<()> {
+    match tail {
+        None => Some(()),
+        Some(datum) => {
+            got.put(" . ");
+            show(got, names, datum, style, depth)
         }
-        _ => false,
+    }
+}
+
+// Appends what has no datum and no symbol inside.
+fn put_single(got: &mut Answer, kind: &Kind, style: Style) {
+    match kind {
+        Kind::Int(number) => {
+            got.put(style.mark("i", ""));
+            got.put(*number);
+        }
+        Kind::Char(byte) => {
+            got.put("c");
+            got.put(*byte);
+        }
+        Kind::Str(bytes) => {
+            got.put("t<");
+            got.put_bytes(bytes.as_slice());
+            got.put(">");
+        }
+        _ => got.put(style.mark("n", "nil")),
+    }
+}
+
+// Appends a place that stands in front.
+fn begin(got: &mut Answer, place: Place, style: Style) {
+    if let Style::Placed = style {
+        got.put_place(place);
     }
 }
 

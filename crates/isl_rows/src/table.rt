@@ -1,7 +1,8 @@
 // The one way in which a table is gone through: row after row.
 
 use crate::answer::Answer;
-use crate::escape::unescaped;
+use crate::escape::unescape;
+use isl_base::Bytes;
 use std::rt::Files;
 use std::{fs, io};
 
@@ -21,8 +22,20 @@ pub fn put_table<R: Files + Print + AllocGlobal, T: Table>(
     table: &T,
 ) -> io::Result<()> {
     let text = fs::read_to_string(rt, name)?;
+    let printed = put_rows(rt, name, table, text.as_str());
+    drop(text);
+    printed
+}
+
+// Prints the name of a table, and each row of its text.
+fn put_rows<R: Print + AllocGlobal, T: Table>(
+    rt: &R,
+    name: &str,
+    table: &T,
+    text: &str,
+) -> io::Result<()> {
     println!(rt; "== {name}")?;
-    for line in text.as_str().lines() {
+    for line in text.lines() {
         if !line.is_empty() && !line.starts_with('#') {
             put_row(rt, table, line)?;
         }
@@ -35,11 +48,18 @@ fn put_row<R: Print + AllocGlobal, T: Table>(rt: &R, table: &T, line: &str) -> i
     let (input, _) = line.split_once(" => ").unwrap_or((line, ""));
     let mut got = Answer::new(rt.alloc());
     let is_answered = put_escaped(table, &mut got, input).is_some();
-    println!(rt; "{input} => {}", got.told(is_answered))
+    let printed = println!(rt; "{input} => {}", got.told(is_answered));
+    drop(got);
+    printed
 }
 
 // Puts an input whose escapes are still to be resolved.
 fn put_escaped<T: Table>(table: &T, got: &mut Answer, input: &str) -> Option<()> {
-    let input = unescaped(got, input)?;
-    table.put(got, input.as_slice())
+    let mut bytes = Bytes::new(got.alloc);
+    let answered = match unescape(got, &mut bytes, input) {
+        Some(()) => table.put(got, bytes.as_slice()),
+        None => None,
+    };
+    drop(bytes);
+    answered
 }

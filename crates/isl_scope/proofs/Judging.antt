@@ -14,7 +14,7 @@ use Rattle.isl_profile.specs.declared.spot.Spot.{Spot}
 use Rattle.isl_profile.specs.declared.tables.Tables.{Tables}
 use Rattle.isl_profile.specs.Nodes.{Around, Part, Node, offends, whole, Verdict, ended, refused}
 use Rattle.isl_profile.specs.Judged.{Comes, offence}
-use Rattle.isl_profile.specs.Promises.{FormStops, PlainComes, PlainStops, Settles}
+use Rattle.isl_profile.specs.Promises.{FormComes, FormStops, PlainComes, PlainStops, Settles}
 use Rattle.isl_profile.specs.Rows.{plain_node}
 use Rattle.isl_profile.specs.Sound.{weight, SoundNode, AllSound}
 use Rattle.isl_profile.specs.Walks.{Through, WholeComes, WholeStops}
@@ -39,6 +39,13 @@ settled_stops names more a s d t e (Refused r) x h p = record {
   under = λ later y. h.under later (Extends-then names more later x y) a _ (p.under later y);
 }
 settled_stops names more a s d t e NoMemory x h p = tt
+
+-- what the last step comes to, the form does
+pub settled_comes : (names more : List (List ℕ)) (a : Around) (s : Tables) (d : Item) (t : Tables) (e : Item) (v : Verdict) →
+    Extends names more → Settles names s d t e → PlainComes more a t e v → FormComes more a s d v
+settled_comes names more a s d t e v x h p = record {
+  under = λ later y. h.under later (Extends-then names more later x y) a v (p.under later y);
+}
 
 -- a form is its row, also under a later table of names
 

@@ -113,6 +113,9 @@ next_inner ds k d h e = rw (add-one k) (ap view_inner (drop-cons ds k d h) ∙ a
 pub no_inner : (ds : List (Bor Item)) (k : ℕ) → length ds ≤ k → view_inner (drop k ds) ≡ []
 no_inner ds k h = ap view_inner (drop_all k ds h)
 
+pub no_parts : (xs : List WrittenPart) (k : ℕ) → length xs ≤ k → view_parts (drop k xs) ≡ []
+no_parts xs k h = ap view_parts (drop_all k xs h)
+
 pub inner_sound : (names : List (List ℕ)) (w : ℕ) (o i : Around) (ys : List Part) (d : Item) (zs : List Part) → AllSound (length names) w o i ys → ys ≡ inner d ∷ zs →
     Good (length names) d × (weight i.spot < w)
 inner_sound names w o i ys d zs h e =

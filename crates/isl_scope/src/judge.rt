@@ -1,22 +1,18 @@
 // Judging a form: what it is, then its parts one after another, then the core form that is made of them.
 
-ghost use Rattle.std.specs.Prelude.{◌≡◌, ◌+◌, ◌<◌, ◌++◌, [], List, length, OnOk, IfOk, IfErr};
+ghost use Rattle.std.specs.Prelude.{◌≡◌, ◌++◌, [], length};
 ghost use Rattle.isl_base.specs.GoodData.{Good};
-ghost use Rattle.isl_base.specs.Names.{Extends};
-ghost use Rattle.isl_profile.specs.declared.tables.Tables.{Tables as TablesOf};
-ghost use Rattle.isl_profile.specs.Nodes.{Around, Part as PartOf, stands};
-ghost use Rattle.isl_profile.specs.Judged.{with_variable};
-ghost use Rattle.isl_profile.specs.Promises.{FormComes, FormStops, PlainComes, PlainStops};
-ghost use Rattle.isl_profile.specs.Walks.{PartTaken, PartStops, Through, PartsStop, WholeComes, WholeStops};
+ghost use Rattle.isl_profile.specs.Promises.{FormStops, PlainStops};
+ghost use Rattle.isl_profile.specs.Walks.{PartTaken, PartStops, PartsStop, WholeStops};
 ghost use Rattle.isl_profile.specs.Sound.{weight, SoundPart, AllSound};
-ghost use Rattle.isl_profile.specs.Marks.{Grows};
 ghost use Rattle.isl_forms.specs.Views.{at, view_part, view_parts, view_inner};
+ghost use Rattle.isl_scope.specs.Walk.{Walked, FormGives, PlainGives, WholeGives, ValueFound, AllFound, PartsFound, PartsEnded, InnerFound, InnerEnded};
 
-use isl_base::{Datum, Names, NoMemory, Refusal, Stop};
+use crate::keep::{complete_found, keep_binding, keep_value, take_parameter, take_variable};
+use isl_base::{Datum, Names, Refusal, Stop};
 use isl_forms::{Here, Inner, Part, Parts, Plan, Work, deeper, plain_plan, settle};
-use isl_making::complete;
-use isl_meaning::{Core, Var};
-use isl_profile::{Bound, BoundList, Found, FoundList, Spot, Tables};
+use isl_meaning::Core;
+use isl_profile::{BoundList, FoundList, Spot, Tables};
 use std::alloc::Global;
 
 // Where the parts of a form stand.
@@ -24,17 +20,6 @@ use std::alloc::Global;
 pub(crate) struct Spots {
     pub(crate) outside: Spot,
     pub(crate) inside: Spot,
-}
-
-// The next variable.
-fn take_variable(tables: &mut Tables) -> Result<Var, NoMemory>
-    ensures ok { OnOk result (tables.new ≡ with_variable tables.old) }
-    ensures variable { IfOk result (λ variable. variable ≡ tables.old.variables) }
-    ensures grows { Grows tables.old tables.new }
-{
-    let variable = tables.variables;
-    tables.variables = variable.checked_add(1).ok_or(NoMemory)?;
-    Ok(variable)
 }
 
 /// Judges a datum that stands there: the core form that it stands for, with what it gave in the
@@ -49,15 +34,17 @@ pub(crate) fn judge(
     datum: &Datum,
 ) -> Result<Core, Stop>
     requires good { Good (length names.old) datum.now }
-    ensures stands { IfOk result (λ f. FormComes names.new (at bound.old spot) tables.old datum.now (stands (record { form = f; tables = tables.new }))) }
-    ensures stops { IfErr result (FormStops names.new (at bound.old spot) tables.old datum.now) }
-    ensures bound { OnOk result (bound.new ≡ bound.old) }
-    ensures names { Extends names.old names.new }
-    ensures grows { Grows tables.old tables.new }
+    ensures { Walked names.old names.new tables.old tables.new bound.old bound.new result
+        (FormGives names.new (at bound.old spot) tables.old datum.now tables.new)
+        (FormStops names.new (at bound.old spot) tables.old datum.now) }
 {
     match settle(alloc, names, tables, datum)? {
         None => judge_plain(alloc, names, tables, bound, spot, datum),
-        Some(step) => judge_plain(alloc, names, tables, bound, spot, &step),
+        Some(step) => {
+            let form = judge_plain(alloc, names, tables, bound, spot, &step);
+            drop(step);
+            form
+        }
     }
 }
 
@@ -72,11 +59,9 @@ fn judge_plain(
     datum: &Datum,
 ) -> Result<Core, Stop>
     requires good { Good (length names.old) datum.now }
-    ensures stands { IfOk result (λ f. PlainComes names.new (at bound.old spot) tables.old datum.now (stands (record { form = f; tables = tables.new }))) }
-    ensures stops { IfErr result (PlainStops names.new (at bound.old spot) tables.old datum.now) }
-    ensures bound { OnOk result (bound.new ≡ bound.old) }
-    ensures names { Extends names.old names.new }
-    ensures grows { Grows tables.old tables.new }
+    ensures { Walked names.old names.new tables.old tables.new bound.old bound.new result
+        (PlainGives names.new (at bound.old spot) tables.old datum.now tables.new)
+        (PlainStops names.new (at bound.old spot) tables.old datum.now) }
 {
     let here = Here {
         alloc,
@@ -84,7 +69,10 @@ fn judge_plain(
         spot,
         place: datum.place,
     };
-    match plain_plan(here, tables, names, datum)? {
+    let Ok(plan) = plain_plan(here, tables, names, datum) else {
+        return Err(Stop::NoMemory);
+    };
+    match plan {
         Plan::Offends(place, reason) => Err(Stop::Refused(Refusal { place, reason })),
         Plan::Whole(work) => carry_out(alloc, names, tables, bound, spot, work),
     }
@@ -101,21 +89,19 @@ fn carry_out<'a>(
     work: Work<'a>,
 ) -> Result<Core, Stop>
     requires sound { AllSound (length names.old) (weight spot) (at bound.old work.outside) (at (bound.old ++ work.binds) work.inside) (view_parts work.parts ++ view_inner work.inner) }
-    ensures stands { IfOk result (λ f. WholeComes names.new (at bound.old work.entry.outside) (at (bound.old ++ work.entry.binds) work.entry.inside) tables.old
-        (view_parts work.entry.parts ++ view_inner work.entry.inner) work.entry.made (stands (record { form = f; tables = tables.new }))) }
-    ensures stops { IfErr result (WholeStops names.new (at bound.old work.entry.outside) (at (bound.old ++ work.entry.binds) work.entry.inside) tables.old
+    ensures { Walked names.old names.new tables.old tables.new bound.old bound.new result
+        (WholeGives names.new (at bound.old work.entry.outside) (at (bound.old ++ work.entry.binds) work.entry.inside) tables.old
+        (view_parts work.entry.parts ++ view_inner work.entry.inner) work.entry.made tables.new)
+        (WholeStops names.new (at bound.old work.entry.outside) (at (bound.old ++ work.entry.binds) work.entry.inside) tables.old
         (view_parts work.entry.parts ++ view_inner work.entry.inner) work.entry.made) }
-    ensures bound { OnOk result (bound.new ≡ bound.old) }
-    ensures names { Extends names.old names.new }
-    ensures grows { Grows tables.old tables.new }
 {
     let spots = Spots {
         outside: work.outside,
         inside: work.inside,
     };
-    let mut binds = work.binds;
+    let binds = work.binds;
     let mut found = FoundList::new(alloc);
-    judge_parts(
+    let walked = judge_all(
         alloc,
         names,
         tables,
@@ -123,23 +109,46 @@ fn carry_out<'a>(
         spot,
         spots,
         &work.parts,
-        &mut binds,
+        &work.inner,
+        binds,
         &mut found,
+    );
+    drop(work.parts);
+    drop(work.inner);
+    complete_found(alloc, walked, work.made, found, tables)
+}
+
+// Judges the parts of a form, those outside and then the forms inside, where what the form binds is bound.
+#[cycle(judge)]
+fn judge_all(
+    alloc: Global,
+    names: &mut Names,
+    tables: &mut Tables,
+    bound: &mut BoundList,
+    spot: Spot,
+    spots: Spots,
+    parts: &Parts,
+    inner: &Inner,
+    binds: BoundList,
+    found: &mut FoundList,
+) -> Result<(), Stop>
+    requires sound { AllSound (length names.old) (weight spot) (at bound.old spots.outside) (at (bound.old ++ binds) spots.inside) (view_parts parts.now ++ view_inner inner.now) }
+    requires none { found.old ≡ [] }
+    ensures { Walked names.old names.new tables.old tables.new bound.old bound.new result
+        (λ _. AllFound names.new (at bound.old spots.outside) (at (bound.old ++ binds) spots.inside) tables.old (view_parts parts.now ++ view_inner inner.now) found.new tables.new)
+        (PartsStop names.new (at bound.old spots.outside) (at (bound.old ++ binds) spots.inside) tables.old (view_parts parts.now ++ view_inner inner.now)) }
+{
+    let mut binds = binds;
+    judge_parts(
+        alloc, names, tables, bound, spot, spots, parts, &mut binds, found,
     )?;
     let base = bound.len();
-    bound.append_list(binds)?;
-    judge_inner(
-        alloc,
-        names,
-        tables,
-        bound,
-        spot,
-        spots,
-        &work.inner,
-        &mut found,
-    )?;
+    let Ok(()) = bound.append_list(binds) else {
+        return Err(Stop::NoMemory);
+    };
+    judge_inner(alloc, names, tables, bound, spot, spots, inner, found)?;
     bound.cut(base);
-    Ok(complete(alloc, work.made, found, tables)?)
+    Ok(())
 }
 
 // Judges a part that stands where the whole stands.
@@ -156,36 +165,28 @@ fn judge_part(
     found: &mut FoundList,
 ) -> Result<(), Stop>
     requires sound { SoundPart (length names.old) (weight spot) (at bound.old spots.outside) (at (bound.old ++ binds.old) spots.inside) (view_part part.now) }
-    ensures stands { OnOk result (PartTaken names.new (at bound.old spots.outside) (at (bound.old ++ binds.old) spots.inside) tables.old (view_part part.now)
-        found.old (at (bound.old ++ binds.new) spots.inside) tables.new found.new) }
-    ensures stops { IfErr result (PartStops names.new (at bound.old spots.outside) (at (bound.old ++ binds.old) spots.inside) tables.old (view_part part.now)) }
-    ensures bound { OnOk result (bound.new ≡ bound.old) }
-    ensures names { Extends names.old names.new }
-    ensures grows { Grows tables.old tables.new }
+    ensures { Walked names.old names.new tables.old tables.new bound.old bound.new result
+        (λ _. PartTaken names.new (at bound.old spots.outside) (at (bound.old ++ binds.old) spots.inside) tables.old (view_part part.now)
+        found.old (at (bound.old ++ binds.new) spots.inside) tables.new found.new)
+        (PartStops names.new (at bound.old spots.outside) (at (bound.old ++ binds.old) spots.inside) tables.old (view_part part.now)) }
 {
     match part {
         Part::Form(datum) => {
-            let form = judge(alloc, names, tables, bound, spots.outside, datum)?;
-            found.push(Found::Value(form))?;
+            judge_value(alloc, names, tables, bound, spots.outside, datum, found)
         }
         Part::Below(datum) => {
             let below = deeper(spots.outside, 1);
-            let form = judge(alloc, names, tables, bound, below, datum)?;
-            found.push(Found::Value(form))?;
+            judge_value(alloc, names, tables, bound, below, datum, found)
         }
         Part::Bind(symbol, datum) => {
-            let variable = take_variable(tables)?;
-            let form = judge(alloc, names, tables, bound, spots.outside, datum)?;
-            binds.push(Bound::Variable(*symbol, variable))?;
-            found.push(Found::Binding(variable, form))?;
+            let Ok(variable) = take_variable(tables) else {
+                return Err(Stop::NoMemory);
+            };
+            let form = judge(alloc, names, tables, bound, spots.outside, datum);
+            keep_binding(*symbol, variable, form, binds, found)
         }
-        Part::Parameter(symbol) => {
-            let variable = take_variable(tables)?;
-            binds.push(Bound::Variable(*symbol, variable))?;
-            found.push(Found::Parameter(variable))?;
-        }
+        Part::Parameter(symbol) => take_parameter(tables, *symbol, binds, found),
     }
-    Ok(())
 }
 
 // Judges the parts that stand where the whole stands, in front of others.
@@ -203,12 +204,10 @@ fn judge_parts(
 ) -> Result<(), Stop>
     requires sound { AllSound (length names.old) (weight spot) (at bound.old spots.outside) (at (bound.old ++ binds.old) spots.inside) (view_parts parts.now) }
     requires none { found.old ≡ [] }
-    ensures stands { OnOk result ((zs : List PartOf) → Through names.new (at bound.old spots.outside) (at (bound.old ++ binds.old) spots.inside) tables.old (view_parts parts.now ++ zs)
-        found.new (at (bound.old ++ binds.new) spots.inside) tables.new zs) }
-    ensures stops { IfErr result (λ stop. (zs : List PartOf) → PartsStop names.new (at bound.old spots.outside) (at (bound.old ++ binds.old) spots.inside) tables.old (view_parts parts.now ++ zs) stop) }
-    ensures bound { OnOk result (bound.new ≡ bound.old) }
-    ensures names { Extends names.old names.new }
-    ensures grows { Grows tables.old tables.new }
+    ensures { Walked names.old names.new tables.old tables.new bound.old bound.new result
+        (λ _. PartsFound names.new (at bound.old spots.outside) (at (bound.old ++ binds.old) spots.inside) tables.old (view_parts parts.now)
+        found.new (at (bound.old ++ binds.new) spots.inside) tables.new)
+        (PartsEnded names.new (at bound.old spots.outside) (at (bound.old ++ binds.old) spots.inside) tables.old (view_parts parts.now)) }
 {
     for part in parts.as_slice() {
         judge_part(alloc, names, tables, bound, spot, spots, part, binds, found)?;
@@ -229,17 +228,32 @@ fn judge_inner(
     found: &mut FoundList,
 ) -> Result<(), Stop>
     requires sound { AllSound (length names.old) (weight spot) (at bound.old spots.outside) (at bound.old spots.inside) (view_inner inner.now) }
-    ensures stands { OnOk result ((o : Around) (s : TablesOf) (xs : List PartOf) (i : Around) → Through names.old o i s xs found.old (at bound.old spots.inside) tables.old (view_inner inner.now) →
-        Through names.new o i s xs found.new (at bound.old spots.inside) tables.new []) }
-    ensures stops { IfErr result (λ stop. (o : Around) (s : TablesOf) (xs : List PartOf) (i : Around) → Through names.old o i s xs found.old (at bound.old spots.inside) tables.old (view_inner inner.now) →
-        PartsStop names.new o i s xs stop) }
-    ensures bound { OnOk result (bound.new ≡ bound.old) }
-    ensures names { Extends names.old names.new }
-    ensures grows { Grows tables.old tables.new }
+    ensures { Walked names.old names.new tables.old tables.new bound.old bound.new result
+        (λ _. InnerFound names.old names.new (at bound.old spots.inside) tables.old (view_inner inner.now) found.old found.new tables.new)
+        (InnerEnded names.old names.new (at bound.old spots.inside) tables.old (view_inner inner.now) found.old) }
 {
     for datum in inner.as_slice() {
-        let form = judge(alloc, names, tables, bound, spots.inside, datum)?;
-        found.push(Found::Value(form))?;
+        judge_value(alloc, names, tables, bound, spots.inside, datum, found)?;
     }
     Ok(())
+}
+
+// Judges a form, which is found behind the others.
+#[cycle(judge)]
+fn judge_value(
+    alloc: Global,
+    names: &mut Names,
+    tables: &mut Tables,
+    bound: &mut BoundList,
+    spot: Spot,
+    datum: &Datum,
+    found: &mut FoundList,
+) -> Result<(), Stop>
+    requires good { Good (length names.old) datum.now }
+    ensures { Walked names.old names.new tables.old tables.new bound.old bound.new result
+        (λ _. ValueFound names.new (at bound.old spot) tables.old datum.now found.old tables.new found.new)
+        (FormStops names.new (at bound.old spot) tables.old datum.now) }
+{
+    let form = judge(alloc, names, tables, bound, spot, datum);
+    keep_value(form, found)
 }

@@ -4,6 +4,7 @@
 mod counts;
 mod first;
 mod judge;
+mod keep;
 mod mark;
 pub mod scope;
 

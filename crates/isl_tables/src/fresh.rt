@@ -28,7 +28,10 @@ pub fn freshened(got: &mut Answer, names: &mut Names, datum: &Datum, depth: u32)
         Kind::Vector(items) => Kind::Vector(all_freshened(got, names, items, depth - 1)?),
         Kind::List { items, tail } => {
             let items = all_freshened(got, names, items, depth - 1)?;
-            let tail = tail_freshened(got, names, tail, depth - 1)?;
+            let Some(tail) = tail_freshened(got, names, tail, depth - 1) else {
+                drop(items);
+                return None;
+            };
             Kind::List { items, tail }
         }
         _ => return got.kept(datum.copy(got.alloc)),

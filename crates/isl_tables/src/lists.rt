@@ -1,7 +1,7 @@
 // Lists of bytes, of command words and of fresh symbols: what goes in and what stands there.
 
 use crate::fresh::fresh_symbols;
-use isl_base::{Bytes, Words};
+use isl_base::{Bytes, FreshList, Words};
 use isl_rows::Answer;
 
 /// `bytes` with calls of a list of bytes, `words` with the words of a list, or `fresh` with how many
@@ -20,17 +20,22 @@ pub fn put(got: &mut Answer, line: &str) -> Option<()> {
 // A list of bytes through its calls.
 fn put_bytes(got: &mut Answer, calls: &str) -> Option<()> {
     let mut bytes = Bytes::new(got.alloc);
-    for call in calls.split('|') {
-        let (name, argument) = call.split_once(' ')?;
-        if name == "append" {
-            got.add_bytes(&mut bytes, argument.as_bytes());
-        } else {
-            put_call(got, &mut bytes, name, argument.parse().ok()?)?;
-        }
-    }
+    let answered = put_calls(got, &mut bytes, calls);
     got.put(bytes.len());
     got.put(":");
     got.put_bytes(bytes.as_slice());
+    drop(bytes);
+    answered
+}
+
+fn put_calls(got: &mut Answer, bytes: &mut Bytes, calls: &str) -> Option<()> {
+    for call in calls.split('|') {
+        let (name, argument) = call.split_once(' ')?;
+        match name {
+            "append" => got.add_bytes(bytes, argument.as_bytes()),
+            _ => put_call(got, bytes, name, argument.parse().ok()?)?,
+        }
+    }
     Some(())
 }
 
@@ -38,29 +43,45 @@ fn put_bytes(got: &mut Answer, calls: &str) -> Option<()> {
 fn put_call(got: &mut Answer, bytes: &mut Bytes, name: &str, number: usize) -> Option<()> {
     match name {
         "push" => got.add(bytes, u8::try_from(number).ok()?),
-        "cut" if number <= bytes.len() => bytes.cut(number),
-        "get" => {
-            match bytes.get(number) {
-                Some(byte) => got.put_byte(*byte),
-                None => got.put("none"),
-            }
-            got.put("|");
-        }
+        "cut" => cut(bytes, number)?,
+        "get" => put_byte(got, bytes.get(number)),
         _ => return None,
     }
     Some(())
 }
 
+fn cut(bytes: &mut Bytes, len: usize) -> Option<()> {
+    if len > bytes.len() {
+        return None;
+    }
+    bytes.cut(len);
+    Some(())
+}
+
+fn put_byte(got: &mut Answer, byte: Option<&u8>) {
+    match byte {
+        Some(byte) => got.put_byte(*byte),
+        None => got.put("none"),
+    }
+    got.put("|");
+}
+
 // A list of words, and what stands behind its end.
 fn put_words(got: &mut Answer, parts: &str) -> Option<()> {
     let mut words = Words::new(got.alloc);
-    for word in parts.split('|') {
-        got.kept(words.push(word))?;
-    }
+    let added = add_words(got, &mut words, parts);
     got.put(words.len());
     for at in 0..=words.len() {
         got.put(" ");
         got.put(words.get(at).unwrap_or("none"));
+    }
+    drop(words);
+    added
+}
+
+fn add_words(got: &mut Answer, words: &mut Words, parts: &str) -> Option<()> {
+    for word in parts.split('|') {
+        got.kept(words.push(word))?;
     }
     Some(())
 }
@@ -68,8 +89,14 @@ fn put_words(got: &mut Answer, parts: &str) -> Option<()> {
 // A list of fresh symbols that is cut.
 fn put_fresh(got: &mut Answer, parts: &str) -> Option<()> {
     let (pushed, kept) = parts.split_once('|')?;
+    let kept = kept.parse().ok()?;
     let mut fresh = fresh_symbols(got, pushed.parse().ok()?);
-    let kept: usize = kept.parse().ok()?;
+    let answered = put_cut(got, &mut fresh, kept);
+    drop(fresh);
+    answered
+}
+
+fn put_cut(got: &mut Answer, fresh: &mut FreshList, kept: usize) -> Option<()> {
     if kept > fresh.len() {
         return None;
     }

@@ -16,24 +16,13 @@ pub fn put(got: &mut Answer, line: &str) -> Option<()> {
     let (made, calls) = line.split_once(": ")?;
     let (kind, made) = made.split_once(' ')?;
     let (fails, held) = made.split_once(' ')?;
-    if kind == "sink" || kind == "sure-sink" {
-        return put_sink(got, kind, fails, held.parse().ok()?, calls);
-    }
     match kind {
         "source" => put_source(got, fails, held, calls),
-        "sure-source" => {
-            let mut source = SureSource::new(bytes(got, held)?);
-            let answered = reads(got, &mut source, calls);
-            drop(source);
-            answered
-        }
+        "sure-source" => put_sure_source(got, held, calls),
+        "sink" => put_sink(got, fails, held, calls),
+        "sure-sink" => put_sure_sink(got, held, calls),
         "shelf" => put_shelf(got, fails, held, calls),
-        "sure-shelf" => {
-            let mut shelf = SureShelf::new(bytes(got, held)?);
-            let answered = reads_at(got, &mut shelf, calls);
-            drop(shelf);
-            answered
-        }
+        "sure-shelf" => put_sure_shelf(got, held, calls),
         _ => None,
     }
 }
@@ -45,6 +34,13 @@ fn put_source(got: &mut Answer, fails: &str, held: &str, calls: &str) -> Option<
         return None;
     };
     let mut source = MemSource::new(held, fails);
+    let answered = reads(got, &mut source, calls);
+    drop(source);
+    answered
+}
+
+fn put_sure_source(got: &mut Answer, held: &str, calls: &str) -> Option<()> {
+    let mut source = SureSource::new(bytes(got, held)?);
     let answered = reads(got, &mut source, calls);
     drop(source);
     answered
@@ -68,20 +64,29 @@ fn put_shelf(got: &mut Answer, fails: &str, held: &str, calls: &str) -> Option<(
     answered
 }
 
+fn put_sure_shelf(got: &mut Answer, held: &str, calls: &str) -> Option<()> {
+    let mut shelf = SureShelf::new(bytes(got, held)?);
+    let answered = reads_at(got, &mut shelf, calls);
+    drop(shelf);
+    answered
+}
+
 // A sink with room for so many bytes.
-fn put_sink(got: &mut Answer, kind: &str, fails: &str, room: usize, calls: &str) -> Option<()> {
-    if kind == "sink" {
-        let fails = call_list(got, fails)?;
-        let mut sink = got.kept(MemSink::new(got.alloc, room, fails))?;
-        writes(got, &mut sink, calls);
-        got.put_bytes(sink.bytes());
-        drop(sink);
-    } else {
-        let mut sink = got.kept(SureSink::new(got.alloc, room))?;
-        writes(got, &mut sink, calls);
-        got.put_bytes(sink.bytes());
-        drop(sink);
-    }
+fn put_sink(got: &mut Answer, fails: &str, room: &str, calls: &str) -> Option<()> {
+    let room = room.parse().ok()?;
+    let fails = call_list(got, fails)?;
+    let mut sink = got.kept(MemSink::new(got.alloc, room, fails))?;
+    writes(got, &mut sink, calls);
+    got.put_bytes(sink.bytes());
+    drop(sink);
+    Some(())
+}
+
+fn put_sure_sink(got: &mut Answer, room: &str, calls: &str) -> Option<()> {
+    let mut sink = got.kept(SureSink::new(got.alloc, room.parse().ok()?))?;
+    writes(got, &mut sink, calls);
+    got.put_bytes(sink.bytes());
+    drop(sink);
     Some(())
 }
 
@@ -92,12 +97,21 @@ fn bytes(got: &mut Answer, text: &str) -> Option<Bytes> {
 // Numbers of calls with commas between them; `-` is none.
 fn call_list(got: &mut Answer, text: &str) -> Option<CallList> {
     let mut calls = CallList::new(got.alloc);
-    if text != "-" {
-        for number in text.split(',') {
-            got.add(&mut calls, number.parse().ok()?);
-        }
+    if text == "-" {
+        return Some(calls);
+    }
+    if add_calls(got, &mut calls, text).is_none() {
+        drop(calls);
+        return None;
     }
     Some(calls)
+}
+
+fn add_calls(got: &mut Answer, calls: &mut CallList, text: &str) -> Option<()> {
+    for number in text.split(',') {
+        got.add(calls, number.parse().ok()?);
+    }
+    Some(())
 }
 
 // Reads, each of so many bytes.
@@ -111,16 +125,29 @@ fn reads<S: Source>(got: &mut Answer, source: &mut S, calls: &str) -> Option<()>
     Some(())
 }
 
-// Reads of a shelf, each of a name, from a place on, of so many bytes.
+// Reads of a shelf.
 fn reads_at<S: Shelf>(got: &mut Answer, shelf: &mut S, calls: &str) -> Option<()> {
     let mut buffer = [b'.'; ROOM];
     for call in calls.split('|') {
         let (name, call) = call.split_once(' ')?;
-        let (at, count) = call.split_once(' ')?;
-        let part = buffer.get_mut(..count.parse().ok()?)?;
-        let answer = shelf.read(name, at.parse().ok()?, part);
-        put_read(got, answer, part);
+        read_at(got, shelf, &mut buffer, name, call)?;
     }
+    Some(())
+}
+
+// A read of that name, from a place on, of so many bytes.
+fn read_at<S: Shelf>(
+    got: &mut Answer,
+    shelf: &mut S,
+    buffer: &mut [u8],
+    name: &str,
+    call: &str,
+) -> Option<()> {
+    let (at, count) = call.split_once(' ')?;
+    let at = at.parse().ok()?;
+    let part = buffer.get_mut(..count.parse().ok()?)?;
+    let answer = shelf.read(name, at, part);
+    put_read(got, answer, part);
     Some(())
 }
 

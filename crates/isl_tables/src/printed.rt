@@ -25,5 +25,6 @@ fn put_datum(got: &mut Answer, names: &Names, datum: &Datum) -> Option<()> {
     }
     let printed = got.kept(print_datum(got.alloc, datum, names))?;
     got.put_bytes(printed.as_slice());
+    drop(printed);
     Some(())
 }

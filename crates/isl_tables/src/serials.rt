@@ -2,7 +2,7 @@
 
 use crate::fresh::fresh_symbols;
 use crate::steps::put_step;
-use isl_base::{Datum, Kind, Name, Names};
+use isl_base::{Datum, FreshList, Kind, Name, Names, Symbol};
 use isl_rows::{Answer, Style, show_symbol};
 
 /// How many new symbols there are, and then forms, one after the other. The answer for each is its step
@@ -16,20 +16,48 @@ pub fn put(got: &mut Answer, names: &mut Names, data: &[Datum]) -> Option<()> {
     };
     let before = names.len();
     let mut fresh = fresh_symbols(got, u64::try_from(*count).ok()?);
-    for form in forms {
-        put_step(got, names, &mut fresh, form, Style::Plain)?;
-        got.put(" of ");
-        got.put(fresh.len());
-        got.put("; ");
-    }
-    for symbol in fresh.as_slice() {
-        show_symbol(got, names, *symbol)?;
-        got.put(" ");
-    }
+    let answered = put_all(got, names, &mut fresh, forms, before);
+    drop(fresh);
+    answered
+}
+
+// The steps of forms, the new symbols then, and the first names, so many.
+fn put_all(
+    got: &mut Answer,
+    names: &mut Names,
+    fresh: &mut FreshList,
+    forms: &[Datum],
+    before: usize,
+) -> Option<()> {
+    put_steps(got, names, fresh, forms)?;
+    put_symbols(got, names, fresh.as_slice())?;
     got.put("names");
     for number in 0..before {
         got.put(" ");
         got.put_bytes(names.text(Name(number))?);
+    }
+    Some(())
+}
+
+fn put_steps(
+    got: &mut Answer,
+    names: &mut Names,
+    fresh: &mut FreshList,
+    forms: &[Datum],
+) -> Option<()> {
+    for form in forms {
+        put_step(got, names, fresh, form, Style::Plain)?;
+        got.put(" of ");
+        got.put(fresh.len());
+        got.put("; ");
+    }
+    Some(())
+}
+
+fn put_symbols(got: &mut Answer, names: &Names, symbols: &[Symbol]) -> Option<()> {
+    for symbol in symbols {
+        show_symbol(got, names, *symbol)?;
+        got.put(" ");
     }
     Some(())
 }

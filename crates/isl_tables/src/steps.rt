@@ -27,7 +27,9 @@ pub fn put(got: &mut Answer, names: &mut Names, data: &[Datum], places: Places) 
         Places::Hidden => Style::Plain,
     };
     let mut fresh = FreshList::new(got.alloc);
-    put_step(got, names, &mut fresh, form, style)
+    let answered = put_step(got, names, &mut fresh, form, style);
+    drop(fresh);
+    answered
 }
 
 /// Appends the step of a form, which may be written with new symbols.

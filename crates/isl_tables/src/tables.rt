@@ -67,7 +67,9 @@ impl Data {
 
     fn put_read(&self, got: &mut Answer, names: &mut Names, text: &[u8]) -> Option<()> {
         let read = read_data(got, names, text)?;
-        self.put(got, names, read.as_slice())
+        let answered = self.put(got, names, read.as_slice());
+        drop(read);
+        answered
     }
 
     fn put(&self, got: &mut Answer, names: &mut Names, data: &[Datum]) -> Option<()> {

@@ -1,5 +1,7 @@
 // Texts, and the data or the stop that the reader gives of them.
 
+ghost use Rattle.std.specs.Prelude.{◌≤◌, length};
+
 use crate::tables::DEPTH;
 use isl_base::{Names, Origin};
 use isl_reader::Reader;
@@ -12,9 +14,17 @@ pub fn put(got: &mut Answer, origin: Origin, text: &[u8]) -> Option<()> {
         return None;
     }
     let mut names = Names::new(got.alloc);
+    let answered = put_all(got, &mut names, origin, text);
+    drop(names);
+    answered
+}
+
+fn put_all(got: &mut Answer, names: &mut Names, origin: Origin, text: &[u8]) -> Option<()>
+    requires { length text.now ≤ 1048576 }
+{
     let mut reader = Reader::new(text, origin);
     for _ in 0..=text.len() {
-        if put_next(got, &mut names, &mut reader)? {
+        if put_next(got, names, &mut reader)? {
             break;
         }
     }
@@ -40,9 +50,12 @@ fn put_next(got: &mut Answer, names: &mut Names, reader: &mut Reader) -> Option<
         Err(stop) => {
             got.put(if is_last { "last? !" } else { "!" });
             got.put_stop(stop);
-            if reader.next(got.alloc, names).err() != Some(stop) {
-                got.put(" not again");
-            }
+            let again = reader.next(got.alloc, names).err();
+            got.put(if again == Some(stop) {
+                ""
+            } else {
+                " not again"
+            });
             Some(true)
         }
     }

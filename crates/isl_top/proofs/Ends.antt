@@ -1,11 +1,16 @@
 -- How the status that is answered comes from the answer of the file's run.
-use Rattle.std.proofs.Common.{◌≡◌, ◌≢◌, ℕ, [], refl, sym, ◌∙◌, ◌⊎◌, inl, inr}
+use Rattle.std.proofs.Common.{◌≡◌, ◌≢◌, ℕ, List, [], refl, sym, subst, ◌∙◌, ◌⊎◌, inl, inr}
+use Rattle.std.specs.Prelude.{Option}
 use Rattle.isl_base.specs.declared.reason.Refusal.{Refusal}
 use Rattle.isl_top.specs.declared.status.Status.{Status}
 use Rattle.isl_top.specs.declared.status.Status.TheVariants.{Done, Usage, Refused, Budget, FileFault, WriteFault, NoMemory}
 use Rattle.isl_top.specs.declared.status.Answer.{Answer}
 use Rattle.isl_top.specs.declared.status.Answer.TheVariants as answer
+use Rattle.rv_machine.specs.declared.image.Image.{Image}
+use Rattle.isl_meaning.specs.declared.program.ProgramRows.{ProgramRows}
+use Rattle.isl_top.specs.Answers.{RunAnswers, FileAnswers}
 use Rattle.isl_top.specs.Lines.{line_of, status_of}
+use Rattle.isl_top.specs.Theorem.{Sent, Accepted}
 
 -- the answer that a status is of
 pub was_done : (a : Answer) → status_of a ≡ Done → a ≡ answer.Done
@@ -61,6 +66,25 @@ was_no_memory (answer.Budget n) e = absurd (cc)
 was_no_memory answer.FileFault e = absurd (cc)
 was_no_memory answer.WriteFault e = absurd (cc)
 was_no_memory answer.NoMemory e = refl
+
+-- the answer for a file whose text is a program is that of the program's run
+pub of_run :
+    (a : Answer) (program : ProgramRows) (held : Option (List ℕ)) (kept : Option Image) (steps : ℕ) (sent : Sent) (ShelfRises Rises Same : Type 0)
+    → Accepted held program → RunAnswers a program kept steps sent Rises Same → FileAnswers a held kept steps sent ShelfRises Rises Same
+of_run answer.Done program held kept steps sent ShelfRises Rises Same accepted h = (program, (accepted, h))
+of_run (answer.Budget n) program held kept steps sent ShelfRises Rises Same accepted h = (h.0, (program, (accepted, h.1)))
+of_run answer.WriteFault program held kept steps sent ShelfRises Rises Same accepted h = (h.0, (program, (accepted, h.1)))
+of_run answer.NoMemory program held kept steps sent ShelfRises Rises Same accepted h = h.0
+of_run answer.Usage program held kept steps sent ShelfRises Rises Same accepted h = h
+of_run (answer.Refused r) program held kept steps sent ShelfRises Rises Same accepted h = absurd h
+of_run answer.FileFault program held kept steps sent ShelfRises Rises Same accepted h = absurd h
+
+-- the answer for a file that is this one
+pub answered :
+    (a b : Answer) (held : Option (List ℕ)) (kept : Option Image) (steps : ℕ) (sent : Sent) (ShelfRises Rises Same : Type 0)
+    → FileAnswers a held kept steps sent ShelfRises Rises Same → a ≡ b → FileAnswers b held kept steps sent ShelfRises Rises Same
+answered a b held kept steps sent ShelfRises Rises Same h e =
+    subst (λ (x : Answer). FileAnswers x held kept steps sent ShelfRises Rises Same) e h
 
 -- an answer that is no write fault is the status of the run
 pub same_status : (a : Answer) (r t : Status) → (r ≢ WriteFault → r ≡ status_of a) → r ≡ t → t ≢ WriteFault → status_of a ≡ t

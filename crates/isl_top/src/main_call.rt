@@ -1,15 +1,12 @@
 // The call that does all that the program does.
 
-ghost use Rattle.std.specs.Prelude.{◌≡◌, ◌≢◌, ◌≤◌, ◌⊎◌, ℕ, List, Some, None};
+ghost use Rattle.std.specs.Prelude.{◌≡◌, ◌≢◌, ◌⊎◌, None};
 ghost use Rattle.isl_base.specs.Outside.{Rose};
-ghost use Rattle.isl_base.specs.declared.reason.Refusal.{Refusal as RefusalValue};
-ghost use Rattle.isl_meaning.specs.declared.program.ProgramRows.{ProgramRows as ProgramValue};
-ghost use Rattle.isl_top.specs.Theorem.{Accepted, Declined, IsDone, IsSpent, IsBudget, IsRefused, IsCutOff, IsUsage, sent_to};
-ghost use Rattle.isl_top.specs.Answers.{RunHalts, RunSpends, RunIsCutOff};
+ghost use Rattle.isl_top.specs.Theorem.{IsDone, IsSpent, IsBudget, IsRefused, IsCutOff, IsUsage, sent_to};
+ghost use Rattle.isl_top.specs.Answers.{FileAnswers};
 ghost use Rattle.isl_top.specs.Command.{asked as asked_of};
 ghost use Rattle.isl_top.specs.Lines.{WasGiven, line_of, status_of, file_fault_line, no_memory_line};
 ghost use Rattle.isl_top.specs.declared.status.Answer.{Answer as AnswerValue};
-ghost use Rattle.isl_top.specs.declared.status.Answer.TheVariants as answer;
 ghost use Rattle.isl_top.specs.declared.status.Status.TheVariants.{Done, Usage, Refused, Budget, FileFault, WriteFault, NoMemory as WantsMemory};
 
 use crate::command::asked;
@@ -99,25 +96,10 @@ fn run_file<F: Shelf, S: Source, O: Sink>(
     kept: &mut Kept,
 ) -> Answer
     requires { kept.old.image ≡ None }
-    ensures done { result ≡ answer.Done →
-        (program : ProgramValue) × (Accepted (F.holds shelf.old file.now) program
-        × RunHalts program kept.new.image steps
-        (sent_to (O.given out.old) (O.writes out.old) (O.given out.new) (O.writes out.new))) }
-    ensures budget { (n : ℕ) → result ≡ answer.Budget n → (n ≡ steps)
-        × ((program : ProgramValue) × (Accepted (F.holds shelf.old file.now) program
-        × RunSpends program kept.new.image steps
-        (sent_to (O.given out.old) (O.writes out.old) (O.given out.new) (O.writes out.new)))) }
-    ensures refused { (refusal : RefusalValue) → result ≡ answer.Refused refusal →
-        Declined (F.holds shelf.old file.now) refusal
-        × (out.new ≡ out.old) × (kept.new.image ≡ None) }
-    ensures file_fault { result ≡ answer.FileFault → Rose (F.faults shelf.old) (F.faults shelf.new)
-        × (out.new ≡ out.old) × (kept.new.image ≡ None) }
-    ensures cut_off { result ≡ answer.WriteFault → Rose (O.faults out.old) (O.faults out.new)
-        × ((program : ProgramValue) × (Accepted (F.holds shelf.old file.now) program
-        × RunIsCutOff program kept.new.image steps
-        (sent_to (O.given out.old) (O.writes out.old) (O.given out.new) (O.writes out.new)))) }
-    ensures no_memory { result ≡ answer.NoMemory → out.new ≡ out.old }
-    ensures no_usage { result ≢ answer.Usage }
+    ensures answers { FileAnswers result (F.holds shelf.old file.now) kept.new.image steps
+        (sent_to (O.given out.old) (O.writes out.old) (O.given out.new) (O.writes out.new))
+        (Rose (F.faults shelf.old) (F.faults shelf.new))
+        (Rose (O.faults out.old) (O.faults out.new)) (out.new ≡ out.old) }
     ensures input { input.new ≡ input.old }
 {
     let text = match load(alloc, shelf, file) {

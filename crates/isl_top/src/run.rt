@@ -1,14 +1,13 @@
 // A program compiled and run.
 
-ghost use Rattle.std.specs.Prelude.{◌≡◌, ◌≤◌, ℕ, None, IfOk, length};
+ghost use Rattle.std.specs.Prelude.{◌≡◌, ◌≤◌, None, IfOk, length};
 ghost use Rattle.isl_base.specs.Outside.{Rose};
 ghost use Rattle.isl_meaning.specs.model.View.{forms};
 ghost use Rattle.rv_machine.specs.State.{start};
 ghost use Rattle.isl_top.specs.Shapes.{IsFirstPath};
 ghost use Rattle.isl_top.specs.Code.{program_code};
 ghost use Rattle.isl_top.specs.Theorem.{sent_to};
-ghost use Rattle.isl_top.specs.Answers.{RunHalts, RunSpends, RunIsCutOff, IsOfRun};
-ghost use Rattle.isl_top.specs.declared.status.Answer.TheVariants.{Done, Budget, WriteFault, NoMemory as WantsMemory};
+ghost use Rattle.isl_top.specs.Answers.{RunAnswers};
 
 use crate::first_image::first_build;
 use crate::kept::Kept;
@@ -35,15 +34,9 @@ pub(crate) fn run<S: Source, O: Sink>(
     requires first { IsFirstPath program.now }
     requires small { length (program_code program.now.literals (forms program.now.main)) ≤ 4194304 }
     requires empty { kept.old.image ≡ None }
-    ensures done { result ≡ Done → RunHalts program.now kept.new.image steps
-        (sent_to (O.given out.old) (O.writes out.old) (O.given out.new) (O.writes out.new)) }
-    ensures budget { (n : ℕ) → result ≡ Budget n → (n ≡ steps) × RunSpends program.now kept.new.image steps
-        (sent_to (O.given out.old) (O.writes out.old) (O.given out.new) (O.writes out.new)) }
-    ensures cut_off { result ≡ WriteFault → RunIsCutOff program.now kept.new.image steps
-        (sent_to (O.given out.old) (O.writes out.old) (O.given out.new) (O.writes out.new)) }
-    ensures fault { result ≡ WriteFault → Rose (O.faults out.old) (O.faults out.new) }
-    ensures memory { result ≡ WantsMemory → (out.new ≡ out.old) × (kept.new.image ≡ None) }
-    ensures only { IsOfRun result }
+    ensures answers { RunAnswers result program.now kept.new.image steps
+        (sent_to (O.given out.old) (O.writes out.old) (O.given out.new) (O.writes out.new))
+        (Rose (O.faults out.old) (O.faults out.new)) (out.new ≡ out.old) }
     ensures count { O.faults out.old ≤ O.faults out.new }
     ensures input { input.new ≡ input.old }
 {

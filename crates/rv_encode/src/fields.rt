@@ -5,7 +5,7 @@ ghost use Rattle.std.specs.Prelude.{◌≡◌, ◌%◌, ◌<◌, SomeIff};
 use std::marker::Model;
 
 /// A register, by its number: 0 to 31.
-#[derive(Clone, Copy, Debug, PartialEq, Eq)]
+#[derive(Clone, Copy, Debug)]
 pub struct Register {
     number: u32,
 }
@@ -52,7 +52,7 @@ impl Register {
 }
 
 /// How far a shift goes: 0 to 31.
-#[derive(Clone, Copy, Debug, PartialEq, Eq)]
+#[derive(Clone, Copy, Debug)]
 pub struct Shift5 {
     amount: u32,
 }
@@ -99,7 +99,7 @@ impl Shift5 {
 }
 
 /// Four bits: 0 to 15.
-#[derive(Clone, Copy, Debug, PartialEq, Eq)]
+#[derive(Clone, Copy, Debug)]
 pub struct Bits4 {
     bits: u32,
 }
@@ -147,7 +147,7 @@ impl Bits4 {
 
 /// The twelve bits of an immediate, as a number from 0 to 4095. It stands for the signed number
 /// whose two's complement it is: 4095 is -1, and 2048 is -2048.
-#[derive(Clone, Copy, Debug, PartialEq, Eq)]
+#[derive(Clone, Copy, Debug)]
 pub struct Immediate12 {
     bits: u32,
 }
@@ -194,7 +194,7 @@ impl Immediate12 {
 }
 
 /// The upper twenty bits of a word, as a number from 0 to 1048575.
-#[derive(Clone, Copy, Debug, PartialEq, Eq)]
+#[derive(Clone, Copy, Debug)]
 pub struct Upper20 {
     bits: u32,
 }
@@ -242,7 +242,7 @@ impl Upper20 {
 
 /// The thirteen bits of a branch's offset in bytes, as an even number from 0 to 8190. It stands for
 /// the signed number whose two's complement it is: 8190 is -2.
-#[derive(Clone, Copy, Debug, PartialEq, Eq)]
+#[derive(Clone, Copy, Debug)]
 pub struct Offset13 {
     bits: u32,
 }
@@ -290,7 +290,7 @@ impl Offset13 {
 
 /// The twenty-one bits of a jump's offset in bytes, as an even number from 0 to 2097150. It stands
 /// for the signed number whose two's complement it is: 2097150 is -2.
-#[derive(Clone, Copy, Debug, PartialEq, Eq)]
+#[derive(Clone, Copy, Debug)]
 pub struct Offset21 {
     bits: u32,
 }

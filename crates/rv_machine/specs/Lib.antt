@@ -4,5 +4,6 @@ pub mod Words
 pub mod Arithmetic
 pub mod State
 pub mod Step
+pub mod Effects
 pub mod Run
 pub mod Turn

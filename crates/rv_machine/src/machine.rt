@@ -6,6 +6,7 @@ ghost use Rattle.rv_machine.specs.State.{arena_words as arena_words_of, start, l
 
 mod arithmetic;
 mod control;
+mod effects;
 mod memory;
 mod steps;
 mod transfers;

@@ -5,23 +5,21 @@ ghost use Rattle.isl_profile.specs.RowWords as word;
 ghost use Rattle.isl_profile.specs.BindingRows as row;
 ghost use Rattle.isl_profile.specs.Shapes as shape;
 ghost use Rattle.isl_profile.specs.Shapes.{symbol_of, pairs_in, parameters_in};
-ghost use Rattle.isl_forms.specs.Views.{at, view_parts, view_pairs, IsPlan};
+ghost use Rattle.isl_forms.specs.Drafts.{around, Draws};
+ghost use Rattle.isl_forms.specs.Views.{view_parts, view_pairs};
 
 use crate::bound::{parts_around, variable_of};
-use crate::here::{Bindings, Here, deeper, fits_depth, made_of, made_plain, made_within, offence};
-use crate::plan::{Parts, Plan, bound_parts, inner_forms, push_below, push_form, push_parameters};
+use crate::draft::{Bindings, Draft, Note, made_of, made_plain, made_within, offence};
+use crate::here::{Setting, deeper, fits_depth};
+use crate::plan::{Parts, bound_parts, inner_forms, push_below, push_form, push_parameters};
 use crate::shapes::{PairList, all_symbols, name_of, pairs_in, parameters_in, symbol_of};
 use isl_base::{Datum, NameList, NoMemory, Reason};
-use isl_profile::{Bound, BoundList, Making, Parameters, Tables};
+use isl_profile::{Bound, BoundList, Making, Parameters};
 
 /// `(let ((v x)*) f*)`
-pub(crate) fn let_plan<'a>(
-    here: Here,
-    tables: &mut Tables,
-    items: &'a [Datum],
-) -> Result<Plan<'a>, NoMemory>
-    ensures { IsPlan here.entry.bound.now tables.old tables.new
-        (row.let_row (at here.entry.bound.now here.entry.spot) tables.old here.entry.place items.now) result }
+pub(crate) fn let_draft<'a>(here: Setting, items: &'a [Datum]) -> Result<Draft<'a>, NoMemory>
+    ensures { Draws here.entry
+        (row.let_row (around here.entry) here.entry.tables.now here.entry.place items.now) result }
 {
     let [list, forms @ ..] = items else {
         return Ok(offence(here.place, Reason::BadShape));
@@ -29,17 +27,18 @@ pub(crate) fn let_plan<'a>(
     if !fits_depth(here.spot, 2) {
         return Ok(offence(here.place, Reason::DepthLimit));
     }
-    let Some(pairs) = pairs_in(here.alloc, tables.words, list)? else {
+    let Some(pairs) = pairs_in(here.alloc, here.tables.words, list)? else {
         return Ok(offence(list.place, Reason::BadBinding));
     };
     let parts = bound_parts(here.alloc, &pairs)?;
     let inner = inner_forms(here.alloc, forms)?;
     let inside = deeper(here.spot, 2);
-    made_plain(here, tables, inside, parts, inner, Making::OfVariables)
+    let making = Making::OfVariables;
+    Ok(made_plain(here, Note::Nothing, inside, parts, inner, making))
 }
 
 // The names of these bindings, none where one has no name.
-fn names_of(here: Here, pairs: &PairList) -> Result<Option<NameList>, NoMemory>
+fn names_of(here: Setting, pairs: &PairList) -> Result<Option<NameList>, NoMemory>
     ensures { IfOk result (λ names. names ≡ row.names_of (view_pairs pairs.now)) }
 {
     let mut names = NameList::new(here.alloc);
@@ -53,7 +52,7 @@ fn names_of(here: Here, pairs: &PairList) -> Result<Option<NameList>, NoMemory>
 }
 
 // Their values.
-fn values_of<'a>(here: Here, pairs: &PairList<'a>) -> Result<Parts<'a>, NoMemory>
+fn values_of<'a>(here: Setting, pairs: &PairList<'a>) -> Result<Parts<'a>, NoMemory>
     ensures { IfOk result (λ parts. view_parts parts ≡ row.values_of (view_pairs pairs.now)) }
 {
     let mut parts = Parts::new(here.alloc);
@@ -65,47 +64,45 @@ fn values_of<'a>(here: Here, pairs: &PairList<'a>) -> Result<Parts<'a>, NoMemory
 
 // Dynamic variables of these names, bound to these values round a body.
 fn dynamics<'a>(
-    here: Here,
-    tables: &mut Tables,
+    here: Setting,
     pairs: &PairList<'a>,
     names: NameList,
     forms: &'a [Datum],
-) -> Result<Plan<'a>, NoMemory>
-    ensures { IsPlan here.entry.bound.now tables.old tables.new
-        (row.dynamics_as (at here.entry.bound.now here.entry.spot) tables.old here.entry.place forms.now (view_pairs pairs.now) (Some names)) result }
+) -> Result<Draft<'a>, NoMemory>
+    ensures { Draws here.entry
+        (row.dynamics_as (around here.entry) here.entry.tables.now here.entry.place forms.now (view_pairs pairs.now) (Some names)) result }
 {
     let mut parts = values_of(here, pairs)?;
     push_below(&mut parts, forms)?;
-    made_within(here, tables, 2, parts, Making::OfDynamics(names))
+    Ok(made_within(here, Note::Nothing, 2, parts, Making::OfDynamics(names)))
 }
 
 /// `(dynamic-let ((v x)*) f*)`: dynamic variables have names.
-pub(crate) fn dynamic_let_plan<'a>(
-    here: Here,
-    tables: &mut Tables,
+pub(crate) fn dynamic_let_draft<'a>(
+    here: Setting,
     items: &'a [Datum],
-) -> Result<Plan<'a>, NoMemory>
-    ensures { IsPlan here.entry.bound.now tables.old tables.new
-        (row.dynamic_let_row (at here.entry.bound.now here.entry.spot) tables.old here.entry.place items.now) result }
+) -> Result<Draft<'a>, NoMemory>
+    ensures { Draws here.entry
+        (row.dynamic_let_row (around here.entry) here.entry.tables.now here.entry.place items.now) result }
 {
     let [list, forms @ ..] = items else {
         return Ok(offence(here.place, Reason::BadShape));
     };
-    let Some(pairs) = pairs_in(here.alloc, tables.words, list)? else {
+    let Some(pairs) = pairs_in(here.alloc, here.tables.words, list)? else {
         if !fits_depth(here.spot, 2) {
             return Ok(offence(here.place, Reason::DepthLimit));
         }
         return Ok(offence(list.place, Reason::BadBinding));
     };
     match names_of(here, &pairs)? {
-        Some(names) => dynamics(here, tables, &pairs, names, forms),
+        Some(names) => dynamics(here, &pairs, names, forms),
         None => Ok(offence(here.place, Reason::BadShape)),
     }
 }
 
 /// The variables of a lambda list, as parts.
 pub(crate) fn parameter_parts<'a>(
-    here: Here,
+    here: Setting,
     parameters: &Parameters,
 ) -> Result<Parts<'a>, NoMemory>
     ensures { IfOk result (λ parts. view_parts parts ≡ word.each_parameter (shape.all_symbols parameters.now)) }
@@ -117,13 +114,9 @@ pub(crate) fn parameter_parts<'a>(
 }
 
 /// `(lambda lambda-list f*)`
-pub(crate) fn lambda_plan<'a>(
-    here: Here,
-    tables: &mut Tables,
-    items: &'a [Datum],
-) -> Result<Plan<'a>, NoMemory>
-    ensures { IsPlan here.entry.bound.now tables.old tables.new
-        (row.lambda_row (at here.entry.bound.now here.entry.spot) tables.old here.entry.place items.now) result }
+pub(crate) fn lambda_draft<'a>(here: Setting, items: &'a [Datum]) -> Result<Draft<'a>, NoMemory>
+    ensures { Draws here.entry
+        (row.lambda_row (around here.entry) here.entry.tables.now here.entry.place items.now) result }
 {
     let [list, forms @ ..] = items else {
         return Ok(offence(here.place, Reason::BadShape));
@@ -131,7 +124,7 @@ pub(crate) fn lambda_plan<'a>(
     if !fits_depth(here.spot, 2) {
         return Ok(offence(here.place, Reason::DepthLimit));
     }
-    let Some(parameters) = parameters_in(here.alloc, tables.words, list)? else {
+    let Some(parameters) = parameters_in(here.alloc, here.tables.words, list)? else {
         return Ok(offence(list.place, Reason::BadBinding));
     };
     let parts = parameter_parts(here, &parameters)?;
@@ -139,12 +132,12 @@ pub(crate) fn lambda_plan<'a>(
     let around = parts_around(here.alloc, here.bound, here.spot.in_method)?;
     let making = Making::OfFunction(parameters.required.len(), parameters.rest.is_some(), around);
     let inside = deeper(here.spot, 2);
-    made_plain(here, tables, inside, parts, inner, making)
+    Ok(made_plain(here, Note::Nothing, inside, parts, inner, making))
 }
 
 // The local functions of a list, each the value of a variable around; none where one is not.
-fn functions_of(here: Here, pairs: &PairList) -> Result<Option<BoundList>, NoMemory>
-    ensures { IfOk result (λ functions. functions ≡ row.functions_of (at here.entry.bound.now here.entry.spot) (view_pairs pairs.now)) }
+fn functions_of(here: Setting, pairs: &PairList) -> Result<Option<BoundList>, NoMemory>
+    ensures { IfOk result (λ functions. functions ≡ row.functions_of (around here.entry) (view_pairs pairs.now)) }
 {
     let mut functions = BoundList::new(here.alloc);
     for pair in pairs.as_slice() {
@@ -161,14 +154,13 @@ fn functions_of(here: Here, pairs: &PairList) -> Result<Option<BoundList>, NoMem
 
 // A body with these local functions around.
 fn with_these<'a>(
-    here: Here,
-    tables: &mut Tables,
+    here: Setting,
     kept: bool,
     functions: BoundList,
     forms: &'a [Datum],
-) -> Result<Plan<'a>, NoMemory>
-    ensures { IsPlan here.entry.bound.now tables.old tables.new
-        (row.functions_as (at here.entry.bound.now here.entry.spot) tables.old here.entry.place forms.now kept (Some functions)) result }
+) -> Result<Draft<'a>, NoMemory>
+    ensures { Draws here.entry
+        (row.functions_as (around here.entry) here.entry.tables.now here.entry.place forms.now kept (Some functions)) result }
 {
     if kept {
         drop(functions);
@@ -188,31 +180,30 @@ fn with_these<'a>(
         parts: Parts::new(here.alloc),
         inner,
     };
-    made_of(here, tables, work, Making::InSequence)
+    Ok(made_of(here, Note::Nothing, work, Making::InSequence))
 }
 
 /// `(%with-functions ((g v)*) f*)`: in the body each g is the function that is the value of the variable
 /// v. The language keeps one of these names or not.
-pub(crate) fn with_functions_plan<'a>(
-    here: Here,
-    tables: &mut Tables,
+pub(crate) fn with_functions_draft<'a>(
+    here: Setting,
     kept: bool,
     items: &'a [Datum],
-) -> Result<Plan<'a>, NoMemory>
-    ensures { IsPlan here.entry.bound.now tables.old tables.new
-        (row.with_functions_row kept (at here.entry.bound.now here.entry.spot) tables.old here.entry.place items.now) result }
+) -> Result<Draft<'a>, NoMemory>
+    ensures { Draws here.entry
+        (row.with_functions_row kept (around here.entry) here.entry.tables.now here.entry.place items.now) result }
 {
     let [list, forms @ ..] = items else {
         return Ok(offence(here.place, Reason::BadShape));
     };
-    let Some(pairs) = pairs_in(here.alloc, tables.words, list)? else {
+    let Some(pairs) = pairs_in(here.alloc, here.tables.words, list)? else {
         if !fits_depth(here.spot, 1) {
             return Ok(offence(here.place, Reason::DepthLimit));
         }
         return Ok(offence(list.place, Reason::BadBinding));
     };
     match functions_of(here, &pairs)? {
-        Some(functions) => with_these(here, tables, kept, functions, forms),
+        Some(functions) => with_these(here, kept, functions, forms),
         None => Ok(offence(here.place, Reason::BadShape)),
     }
 }

@@ -3,18 +3,20 @@
 ghost use Rattle.std.specs.Prelude.{◌≡◌, ◌+◌, ◌<◌, ◌++◌, ◌∷◌, [], ◌&&◌, IfOk};
 ghost use Rattle.isl_profile.specs.CallRows as row;
 ghost use Rattle.isl_profile.specs.declared.making.Making.TheVariants.{CallOfValue};
-ghost use Rattle.isl_forms.specs.Views.{at, view_parts, IsPlan};
+ghost use Rattle.isl_forms.specs.Drafts.{around, Draws};
+ghost use Rattle.isl_forms.specs.Views.{view_parts};
 ghost use Rattle.isl_profile.specs.RowWords as word;
 
-use crate::here::{Here, made_within};
-use crate::plan::{Parts, Plan, push_form, push_forms};
+use crate::draft::{Draft, Note, made_within};
+use crate::here::Setting;
+use crate::plan::{Parts, push_form, push_forms};
 use crate::primitives::primitive_called;
 use isl_base::{Datum, Name, NoMemory};
 use isl_meaning::{Primitive, Var};
-use isl_profile::{Making, Tables, Two};
+use isl_profile::{Making, Two};
 
 // All parts stand where the form stands.
-fn all_forms<'a>(here: Here, items: &'a [Datum]) -> Result<Parts<'a>, NoMemory>
+fn all_forms<'a>(here: Setting, items: &'a [Datum]) -> Result<Parts<'a>, NoMemory>
     ensures { IfOk result (λ parts. view_parts parts ≡ word.each_form items.now) }
 {
     let mut parts = Parts::new(here.alloc);
@@ -23,50 +25,43 @@ fn all_forms<'a>(here: Here, items: &'a [Datum]) -> Result<Parts<'a>, NoMemory>
 }
 
 // A form all of whose parts stand where it stands.
-fn all_parts<'a>(
-    here: Here,
-    tables: &mut Tables,
-    making: Making,
-    items: &'a [Datum],
-) -> Result<Plan<'a>, NoMemory>
-    ensures { IsPlan here.entry.bound.now tables.old tables.new
-        (row.all_parts making (at here.entry.bound.now here.entry.spot) tables.old here.entry.place items.now) result }
+fn all_parts<'a>(here: Setting, making: Making, items: &'a [Datum]) -> Result<Draft<'a>, NoMemory>
+    ensures { Draws here.entry
+        (row.all_parts making (around here.entry) here.entry.tables.now here.entry.place items.now) result }
 {
     let Ok(parts) = all_forms(here, items) else {
         drop(making);
         return Err(NoMemory);
     };
-    made_within(here, tables, 1, parts, making)
+    Ok(made_within(here, Note::Nothing, 1, parts, making))
 }
 
 /// A lambda form: the call of the function that its head gives, the operator first.
-pub(crate) fn value_call_plan<'a>(
-    here: Here,
-    tables: &mut Tables,
+pub(crate) fn value_call_draft<'a>(
+    here: Setting,
     head: &'a Datum,
     items: &'a [Datum],
-) -> Result<Plan<'a>, NoMemory>
-    ensures { IsPlan here.entry.bound.now tables.old tables.new
-        (row.all_parts CallOfValue (at here.entry.bound.now here.entry.spot) tables.old here.entry.place (head.now ∷ items.now)) result }
+) -> Result<Draft<'a>, NoMemory>
+    ensures { Draws here.entry
+        (row.all_parts CallOfValue (around here.entry) here.entry.tables.now here.entry.place (head.now ∷ items.now)) result }
 {
     let mut parts = Parts::new(here.alloc);
     push_form(&mut parts, head)?;
     push_forms(&mut parts, items)?;
-    made_within(here, tables, 1, parts, Making::CallOfValue)
+    Ok(made_within(here, Note::Nothing, 1, parts, Making::CallOfValue))
 }
 
 /// The call of a local function: a variable, and its name a form of its own inside the call.
-pub(crate) fn local_call_plan<'a>(
-    here: Here,
-    tables: &mut Tables,
+pub(crate) fn local_call_draft<'a>(
+    here: Setting,
     variable: Var,
     items: &'a [Datum],
-) -> Result<Plan<'a>, NoMemory>
-    ensures { IsPlan here.entry.bound.now tables.old tables.new
-        (row.local_call variable (at here.entry.bound.now here.entry.spot) tables.old here.entry.place items.now) result }
+) -> Result<Draft<'a>, NoMemory>
+    ensures { Draws here.entry
+        (row.local_call variable (around here.entry) here.entry.tables.now here.entry.place items.now) result }
 {
     let parts = all_forms(here, items)?;
-    made_within(here, tables, 2, parts, Making::CallOfLocal(variable))
+    Ok(made_within(here, Note::Nothing, 2, parts, Making::CallOfLocal(variable)))
 }
 
 // A call of a primitive, or of the function of a name.
@@ -109,15 +104,14 @@ fn call_making(name: Name, text: &[u8], count: usize) -> Making
 }
 
 /// The call of a name: of a function object, a signal, a primitive, or the function of that name.
-pub(crate) fn named_call_plan<'a>(
-    here: Here,
-    tables: &mut Tables,
+pub(crate) fn named_call_draft<'a>(
+    here: Setting,
     name: Name,
     text: &[u8],
     items: &'a [Datum],
-) -> Result<Plan<'a>, NoMemory>
-    ensures { IsPlan here.entry.bound.now tables.old tables.new
-        (row.named_call name text.now (at here.entry.bound.now here.entry.spot) tables.old here.entry.place items.now) result }
+) -> Result<Draft<'a>, NoMemory>
+    ensures { Draws here.entry
+        (row.named_call name text.now (around here.entry) here.entry.tables.now here.entry.place items.now) result }
 {
-    all_parts(here, tables, call_making(name, text, items.len()), items)
+    all_parts(here, call_making(name, text, items.len()), items)
 }

@@ -1,37 +1,27 @@
 // The rows of exits: blocks and tags, which are lexical by name.
 
-ghost use Rattle.std.specs.Prelude.{◌≡◌, ◌+◌, ◌<◌, ◌++◌, ◌∷◌, [], Some, None, IfOk, OnOk};
+ghost use Rattle.std.specs.Prelude.{◌≡◌, ◌+◌, ◌<◌, ◌++◌, ◌∷◌, [], Some, None, IfOk};
 ghost use Rattle.isl_profile.specs.RowWords as word;
 ghost use Rattle.isl_profile.specs.ExitRows as row;
 ghost use Rattle.isl_profile.specs.Nodes.{with_bound};
 ghost use Rattle.isl_profile.specs.Shapes as shape;
 ghost use Rattle.isl_profile.specs.Names.{block_of, tag_of};
 ghost use Rattle.isl_profile.specs.Shapes.{symbol_of};
-ghost use Rattle.isl_forms.specs.Views.{at, shown, view_inner, IsPlan};
-ghost use Rattle.isl_profile.specs.Marks.{Grows};
+ghost use Rattle.isl_forms.specs.Drafts.{around, shows, Draws};
+ghost use Rattle.isl_forms.specs.Views.{view_inner};
 
 use crate::bound::{block_of, tag_of};
-use crate::here::{Bindings, Here, deeper, fits_depth, made_at_once, made_of, offence};
-use crate::plan::{Inner, Parts, Plan, inner_forms};
+use crate::draft::{Bindings, Draft, Note, made_at_once, made_of, offence};
+use crate::here::{Setting, deeper, fits_depth};
+use crate::plan::{Inner, Parts, inner_forms};
 use crate::rows::values::one_part;
 use crate::shapes::{all_differ, forms_in, lengths_in, symbol_of, tags_in};
 use isl_base::{Datum, NoMemory, Reason, Symbol};
-use isl_profile::{Bound, BoundList, Leaf, Making, One, Tables};
-
-// The next exit; a form that makes one takes its number.
-fn take_exit(tables: &mut Tables) -> Result<usize, NoMemory>
-    ensures ok { OnOk result (tables.new ≡ row.with_exit tables.old) }
-    ensures exit { IfOk result (λ exit. exit ≡ tables.old.exits) }
-    ensures grows { Grows tables.old tables.new }
-{
-    let exit = tables.exits;
-    tables.exits = exit.checked_add(1).ok_or(NoMemory)?;
-    Ok(exit)
-}
+use isl_profile::{Bound, BoundList, Leaf, Making, One};
 
 // What is not around, by its symbol: a fresh one is a bad shape.
-fn no_such<'a>(here: Here, tables: &Tables, reason: Reason, symbol: Symbol) -> Plan<'a>
-    ensures { shown here.entry.bound.now tables.now result ≡ word.no_such here.entry.place reason (shape.name_of symbol) }
+fn no_such<'a>(here: Setting, reason: Reason, symbol: Symbol) -> Draft<'a>
+    ensures { shows here.entry result ≡ word.no_such here.entry.place reason (shape.name_of symbol) }
 {
     match symbol {
         Symbol::Named(_) => offence(here.place, reason),
@@ -41,16 +31,15 @@ fn no_such<'a>(here: Here, tables: &Tables, reason: Reason, symbol: Symbol) -> P
 
 // A body with an exit, which is bound in these forms.
 fn exit_form<'a>(
-    here: Here,
-    tables: &mut Tables,
+    here: Setting,
     bound: Bound,
     inner: Inner<'a>,
     making: Making,
-) -> Result<Plan<'a>, NoMemory>
+) -> Result<Draft<'a>, NoMemory>
     requires { here.spot.depth + 2 < 4294967296 }
-    ensures { IsPlan here.entry.bound.now tables.old tables.new
-        (word.made_of (at here.entry.bound.now here.entry.spot)
-        (with_bound bound (word.deeper 2 (at here.entry.bound.now here.entry.spot))) here.entry.place tables.old (view_inner inner.entry) making) result }
+    ensures { Draws here.entry
+        (word.made_of (around here.entry)
+        (with_bound bound (word.deeper 2 (around here.entry))) here.entry.place (row.with_exit here.entry.tables.now) (view_inner inner.entry) making) result }
 {
     let mut binds = BoundList::new(here.alloc);
     let Ok(()) = binds.push(bound) else {
@@ -64,17 +53,13 @@ fn exit_form<'a>(
         parts: Parts::new(here.alloc),
         inner,
     };
-    made_of(here, tables, work, making)
+    Ok(made_of(here, Note::Exit, work, making))
 }
 
 /// `(block name f*)`
-pub(crate) fn block_plan<'a>(
-    here: Here,
-    tables: &mut Tables,
-    items: &'a [Datum],
-) -> Result<Plan<'a>, NoMemory>
-    ensures { IsPlan here.entry.bound.now tables.old tables.new
-        (row.block_row (at here.entry.bound.now here.entry.spot) tables.old here.entry.place items.now) result }
+pub(crate) fn block_draft<'a>(here: Setting, items: &'a [Datum]) -> Result<Draft<'a>, NoMemory>
+    ensures { Draws here.entry
+        (row.block_row (around here.entry) here.entry.tables.now here.entry.place items.now) result }
 {
     let [name, forms @ ..] = items else {
         return Ok(offence(here.place, Reason::BadShape));
@@ -85,11 +70,10 @@ pub(crate) fn block_plan<'a>(
     if !fits_depth(here.spot, 2) {
         return Ok(offence(here.place, Reason::DepthLimit));
     }
-    let exit = take_exit(tables)?;
+    let exit = here.tables.exits;
     let inner = inner_forms(here.alloc, forms)?;
     exit_form(
         here,
-        tables,
         Bound::Block(symbol, exit),
         inner,
         Making::OfBlock(exit),
@@ -97,13 +81,12 @@ pub(crate) fn block_plan<'a>(
 }
 
 /// `(return-from name x)`
-pub(crate) fn return_from_plan<'a>(
-    here: Here,
-    tables: &mut Tables,
+pub(crate) fn return_from_draft<'a>(
+    here: Setting,
     items: &'a [Datum],
-) -> Result<Plan<'a>, NoMemory>
-    ensures { IsPlan here.entry.bound.now tables.old tables.new
-        (row.return_from_row (at here.entry.bound.now here.entry.spot) tables.old here.entry.place items.now) result }
+) -> Result<Draft<'a>, NoMemory>
+    ensures { Draws here.entry
+        (row.return_from_row (around here.entry) here.entry.tables.now here.entry.place items.now) result }
 {
     let [name, datum] = items else {
         return Ok(offence(here.place, Reason::BadShape));
@@ -112,20 +95,16 @@ pub(crate) fn return_from_plan<'a>(
         return Ok(offence(here.place, Reason::BadShape));
     };
     match block_of(here.bound, symbol) {
-        Some(exit) => one_part(here, tables, One::ReturnTo(exit), datum),
-        None => Ok(no_such(here, tables, Reason::UnknownBlock, symbol)),
+        Some(exit) => one_part(here, One::ReturnTo(exit), datum),
+        None => Ok(no_such(here, Reason::UnknownBlock, symbol)),
     }
 }
 
 /// `(tagbody part*)`: a tag stands once.
 #[tactic(auto, using(crate::proofs::Lists::shown_inner))]
-pub(crate) fn tagbody_plan<'a>(
-    here: Here,
-    tables: &mut Tables,
-    items: &'a [Datum],
-) -> Result<Plan<'a>, NoMemory>
-    ensures { IsPlan here.entry.bound.now tables.old tables.new
-        (row.tagbody_row (at here.entry.bound.now here.entry.spot) tables.old here.entry.place items.now) result }
+pub(crate) fn tagbody_draft<'a>(here: Setting, items: &'a [Datum]) -> Result<Draft<'a>, NoMemory>
+    ensures { Draws here.entry
+        (row.tagbody_row (around here.entry) here.entry.tables.now here.entry.place items.now) result }
 {
     let tags = tags_in(here.alloc, items)?;
     if !all_differ(tags.as_slice()) {
@@ -134,12 +113,11 @@ pub(crate) fn tagbody_plan<'a>(
     if !fits_depth(here.spot, 2) {
         return Ok(offence(here.place, Reason::DepthLimit));
     }
-    let exit = take_exit(tables)?;
+    let exit = here.tables.exits;
     let inner = forms_in(here.alloc, items)?;
     let lengths = lengths_in(here.alloc, items)?;
     exit_form(
         here,
-        tables,
         Bound::Tags(tags, exit),
         inner,
         Making::OfSegments(exit, lengths),
@@ -147,33 +125,29 @@ pub(crate) fn tagbody_plan<'a>(
 }
 
 // A transfer to the segment behind a tag.
-fn go_to<'a>(here: Here, tables: &mut Tables, symbol: Symbol) -> Result<Plan<'a>, NoMemory>
-    ensures { IsPlan here.entry.bound.now tables.old tables.new
-        (row.go_to (at here.entry.bound.now here.entry.spot) tables.old here.entry.place symbol (tag_of here.entry.bound.now symbol)) result }
+fn go_to<'a>(here: Setting, symbol: Symbol) -> Result<Draft<'a>, NoMemory>
+    ensures { Draws here.entry
+        (row.go_to (around here.entry) here.entry.tables.now here.entry.place symbol (tag_of here.entry.bound.now symbol)) result }
 {
     let Some(target) = tag_of(here.bound, symbol) else {
-        return Ok(no_such(here, tables, Reason::UnknownTag, symbol));
+        return Ok(no_such(here, Reason::UnknownTag, symbol));
     };
     let Ok(segment) = u32::try_from(target.segment) else {
         return Err(NoMemory);
     };
-    made_at_once(here, tables, Leaf::Go(target.exit, segment))
+    Ok(made_at_once(here, Leaf::Go(target.exit, segment)))
 }
 
 /// `(go tag)`
-pub(crate) fn go_plan<'a>(
-    here: Here,
-    tables: &mut Tables,
-    items: &[Datum],
-) -> Result<Plan<'a>, NoMemory>
-    ensures { IsPlan here.entry.bound.now tables.old tables.new
-        (row.go_row (at here.entry.bound.now here.entry.spot) tables.old here.entry.place items.now) result }
+pub(crate) fn go_draft<'a>(here: Setting, items: &[Datum]) -> Result<Draft<'a>, NoMemory>
+    ensures { Draws here.entry
+        (row.go_row (around here.entry) here.entry.tables.now here.entry.place items.now) result }
 {
     let [tag] = items else {
         return Ok(offence(here.place, Reason::BadShape));
     };
     match symbol_of(tag) {
-        Some(symbol) => go_to(here, tables, symbol),
+        Some(symbol) => go_to(here, symbol),
         None => Ok(offence(here.place, Reason::BadShape)),
     }
 }

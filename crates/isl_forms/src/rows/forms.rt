@@ -12,22 +12,25 @@ ghost use Rattle.isl_profile.specs.Names.{function_of};
 ghost use Rattle.isl_profile.specs.RowWords as word;
 ghost use Rattle.isl_profile.specs.Rows as row;
 ghost use Rattle.isl_profile.specs.Shapes.{symbol_of};
-ghost use Rattle.isl_forms.specs.Views.{at, shown, texts, IsPlan};
+ghost use Rattle.isl_forms.specs.Drafts.{around, drawn, Draws};
+ghost use Rattle.isl_forms.specs.Views.{at, shown, texts};
 ghost use Rattle.isl_profile.specs.Marks.{Grows};
 
 use crate::bound::function_of;
-use crate::here::{Here, literal_plan, offence};
+use crate::draft::{Draft, offence};
+use crate::here::{Here, Setting};
 use crate::plan::Plan;
 use crate::primitives::{is_among, is_direct_name, is_own_name};
-use crate::rows::bindings::{dynamic_let_plan, lambda_plan, let_plan, with_functions_plan};
-use crate::rows::calls::{local_call_plan, named_call_plan, value_call_plan};
-use crate::rows::defining::{defdynamic_plan, defun_plan, global_plan};
-use crate::rows::exits::{block_plan, go_plan, return_from_plan, tagbody_plan};
+use crate::rows::bindings::{dynamic_let_draft, lambda_draft, let_draft, with_functions_draft};
+use crate::rows::calls::{local_call_draft, named_call_draft, value_call_draft};
+use crate::rows::defining::{defdynamic_draft, defun_draft, global_draft};
+use crate::rows::exits::{block_draft, go_draft, return_from_draft, tagbody_draft};
 use crate::rows::values::{
-    body_plan, class_plan, cond_plan, dynamic_plan, function_plan, method_plan, progn_plan,
-    quote_plan, set_dynamic_plan, setq_plan, symbol_plan, two_plan,
+    body_draft, class_draft, cond_draft, dynamic_draft, function_draft, method_draft, progn_draft,
+    quote_draft, set_dynamic_draft, setq_draft, symbol_draft, two_draft,
 };
 use crate::shapes::{list_items, symbol_of};
+use crate::take::take;
 use isl_base::{Datum, Kind, Names, NoMemory, Reason, Symbol};
 use isl_derived::is_derived_name;
 use isl_meaning::LiteralRow;
@@ -178,47 +181,46 @@ fn functions_kept(names: &Names, items: &[Datum]) -> bool
 }
 
 // The row of a special or defining form, by what stands behind its name.
-fn special_plan<'a>(
-    here: Here,
-    tables: &mut Tables,
+fn special_draft<'a>(
+    here: Setting,
     names: &Names,
     special: Special,
     items: &'a [Datum],
-) -> Result<Plan<'a>, NoMemory>
-    ensures { IsPlan here.entry.bound.now tables.old tables.new
-        (row.special_row names.now special (at here.entry.bound.now here.entry.spot) tables.old here.entry.place items.now) result }
+) -> Result<Draft<'a>, NoMemory>
+    ensures { Draws here.entry
+        (row.special_row names.now special (around here.entry) here.entry.tables.now here.entry.place items.now) result }
 {
     match special {
-        Special::Quote => quote_plan(here, tables, items),
-        Special::Setq => setq_plan(here, tables, items),
-        Special::Cond => cond_plan(here, tables, items),
-        Special::Progn => progn_plan(here, tables, items),
-        Special::Let => let_plan(here, tables, items),
-        Special::Lambda => lambda_plan(here, tables, items),
-        Special::Apply => two_plan(here, tables, Two::Applying, items),
-        Special::While => body_plan(here, tables, WithBody::Repeating, items),
-        Special::Block => block_plan(here, tables, items),
-        Special::ReturnFrom => return_from_plan(here, tables, items),
-        Special::Tagbody => tagbody_plan(here, tables, items),
-        Special::Go => go_plan(here, tables, items),
-        Special::Catch => body_plan(here, tables, WithBody::Catching, items),
-        Special::Throw => two_plan(here, tables, Two::Throwing, items),
-        Special::UnwindProtect => body_plan(here, tables, WithBody::Unwinding, items),
-        Special::DynamicLet => dynamic_let_plan(here, tables, items),
-        Special::Dynamic => dynamic_plan(here, tables, items),
-        Special::SetDynamic => set_dynamic_plan(here, tables, items),
-        Special::WithHandler => body_plan(here, tables, WithBody::Handling, items),
-        Special::Function => function_plan(here, tables, items),
-        Special::Class => class_plan(here, tables, items),
-        Special::CallNextMethod => method_plan(here, tables, Leaf::NextMethod, items),
-        Special::NextMethodP => method_plan(here, tables, Leaf::HasNext, items),
+        Special::Quote => quote_draft(here, items),
+        Special::Setq => setq_draft(here, items),
+        Special::Cond => cond_draft(here, items),
+        Special::Progn => progn_draft(here, items),
+        Special::Let => let_draft(here, items),
+        Special::Lambda => lambda_draft(here, items),
+        Special::Apply => two_draft(here, Two::Applying, items),
+        Special::While => body_draft(here, WithBody::Repeating, items),
+        Special::Block => block_draft(here, items),
+        Special::ReturnFrom => return_from_draft(here, items),
+        Special::Tagbody => tagbody_draft(here, items),
+        Special::Go => go_draft(here, items),
+        Special::Catch => body_draft(here, WithBody::Catching, items),
+        Special::Throw => two_draft(here, Two::Throwing, items),
+        Special::UnwindProtect => body_draft(here, WithBody::Unwinding, items),
+        Special::DynamicLet => dynamic_let_draft(here, items),
+        Special::Dynamic => dynamic_draft(here, items),
+        Special::SetDynamic => set_dynamic_draft(here, items),
+        Special::WithHandler => body_draft(here, WithBody::Handling, items),
+        Special::Function => function_draft(here, items),
+        Special::Class => class_draft(here, items),
+        Special::CallNextMethod => method_draft(here, Leaf::NextMethod, items),
+        Special::NextMethodP => method_draft(here, Leaf::HasNext, items),
         Special::WithFunctions => {
-            with_functions_plan(here, tables, functions_kept(names, items), items)
+            with_functions_draft(here, functions_kept(names, items), items)
         }
-        Special::Defglobal => global_plan(here, tables, false, items),
-        Special::Defconstant => global_plan(here, tables, true, items),
-        Special::Defdynamic => defdynamic_plan(here, tables, items),
-        Special::Defun => defun_plan(here, tables, first_reserved(names, items), items),
+        Special::Defglobal => global_draft(here, false, items),
+        Special::Defconstant => global_draft(here, true, items),
+        Special::Defdynamic => defdynamic_draft(here, items),
+        Special::Defun => defun_draft(here, first_reserved(names, items), items),
         Special::Defmacro => Ok(offence(here.place, Reason::NotBuilt)),
         Special::Defclass => Ok(offence(here.place, Reason::NotBuilt)),
         Special::Defgeneric => Ok(offence(here.place, Reason::NotBuilt)),
@@ -228,14 +230,13 @@ fn special_plan<'a>(
 
 // A call by a symbol that is no local function's.
 fn call_symbol<'a>(
-    here: Here,
-    tables: &mut Tables,
+    here: Setting,
     names: &Names,
     symbol: Symbol,
     items: &'a [Datum],
-) -> Result<Plan<'a>, NoMemory>
-    ensures { IsPlan here.entry.bound.now tables.old tables.new
-        (row.call_symbol symbol (symbol_text names.now symbol) (at here.entry.bound.now here.entry.spot) tables.old here.entry.place items.now) result }
+) -> Result<Draft<'a>, NoMemory>
+    ensures { Draws here.entry
+        (row.call_symbol symbol (symbol_text names.now symbol) (around here.entry) here.entry.tables.now here.entry.place items.now) result }
 {
     let Symbol::Named(name) = symbol else {
         return Ok(offence(here.place, Reason::BadShape));
@@ -246,7 +247,7 @@ fn call_symbol<'a>(
     if is_left_out(text) {
         return Ok(offence(here.place, Reason::LeftOut));
     }
-    named_call_plan(here, tables, name, text, items)
+    named_call_draft(here, name, text, items)
 }
 
 // The special or defining form that a symbol names.
@@ -257,20 +258,19 @@ fn special_of(names: &Names, symbol: Symbol) -> Option<Special>
 }
 
 // A list with that symbol in front.
-fn headed_plan<'a>(
-    here: Here,
-    tables: &mut Tables,
+fn headed_draft<'a>(
+    here: Setting,
     names: &Names,
     symbol: Symbol,
     items: &'a [Datum],
     tail: &Option<Box<Datum>>,
-) -> Result<Plan<'a>, NoMemory>
-    ensures { IsPlan here.entry.bound.now tables.old tables.new
-        (row.headed names.now symbol (at here.entry.bound.now here.entry.spot) tables.old here.entry.place items.now (tail_of tail.now)) result }
+) -> Result<Draft<'a>, NoMemory>
+    ensures { Draws here.entry
+        (row.headed names.now symbol (around here.entry) here.entry.tables.now here.entry.place items.now (tail_of tail.now)) result }
 {
     if let Some(special) = special_of(names, symbol) {
         return match tail {
-            None => special_plan(here, tables, names, special, items),
+            None => special_draft(here, names, special, items),
             Some(_) => Ok(offence(here.place, Reason::BadShape)),
         };
     }
@@ -278,8 +278,8 @@ fn headed_plan<'a>(
         return Ok(offence(here.place, Reason::NotAForm));
     }
     match function_of(here.bound, symbol) {
-        Some(variable) => local_call_plan(here, tables, variable, items),
-        None => call_symbol(here, tables, names, symbol, items),
+        Some(variable) => local_call_draft(here, variable, items),
+        None => call_symbol(here, names, symbol, items),
     }
 }
 
@@ -312,45 +312,81 @@ fn is_lambda_items(names: &Names, items: &[Datum]) -> bool
 }
 
 // A list whose head is no symbol.
-fn form_headed_plan<'a>(
-    here: Here,
-    tables: &mut Tables,
+fn form_headed_draft<'a>(
+    here: Setting,
     names: &Names,
     head: &'a Datum,
     items: &'a [Datum],
     tail: &Option<Box<Datum>>,
-) -> Result<Plan<'a>, NoMemory>
-    ensures { IsPlan here.entry.bound.now tables.old tables.new
-        (row.headed_by_form names.now head.now (at here.entry.bound.now here.entry.spot) tables.old here.entry.place items.now (tail_of tail.now)) result }
+) -> Result<Draft<'a>, NoMemory>
+    ensures { Draws here.entry
+        (row.headed_by_form names.now head.now (around here.entry) here.entry.tables.now here.entry.place items.now (tail_of tail.now)) result }
 {
     if !is_lambda(names, head) || tail.is_some() {
         return Ok(offence(here.place, Reason::NotAForm));
     }
-    value_call_plan(here, tables, head, items)
+    value_call_draft(here, head, items)
 }
 
 // A list of these items, with that tail.
-fn list_plan<'a>(
-    here: Here,
-    tables: &mut Tables,
+fn list_draft<'a>(
+    here: Setting,
     names: &Names,
     items: &'a [Datum],
     tail: &Option<Box<Datum>>,
-) -> Result<Plan<'a>, NoMemory>
-    ensures { IsPlan here.entry.bound.now tables.old tables.new
-        (row.list_node names.now (at here.entry.bound.now here.entry.spot) tables.old here.entry.place items.now (tail_of tail.now)) result }
+) -> Result<Draft<'a>, NoMemory>
+    ensures { Draws here.entry
+        (row.list_node names.now (around here.entry) here.entry.tables.now here.entry.place items.now (tail_of tail.now)) result }
 {
     let [head, others @ ..] = items else {
         return Ok(offence(here.place, Reason::NotAForm));
     };
     match symbol_of(head) {
-        Some(symbol) => headed_plan(here, tables, names, symbol, others, tail),
-        None => form_headed_plan(here, tables, names, head, others, tail),
+        Some(symbol) => headed_draft(here, names, symbol, others, tail),
+        None => form_headed_draft(here, names, head, others, tail),
     }
 }
 
-/// What a datum at that place that is no derived form is there.
+// What a datum at that place that is no derived form is there.
 #[tactic(auto, using(crate::proofs::Lists::shown_items))]
+fn datum_draft<'a>(here: Setting, names: &Names, datum: &'a Datum) -> Result<Draft<'a>, NoMemory>
+    requires { here.place ≡ place_of datum.now }
+    ensures { Draws here.entry (row.plain_node names.now (around here.entry) here.entry.tables.now datum.now) result }
+{
+    match &datum.kind {
+        Kind::List { items, tail } => list_draft(here, names, items.as_slice(), tail),
+        Kind::Sym(symbol) => symbol_draft(here, *symbol),
+        Kind::Int(_) => self_draft(here, datum),
+        Kind::Char(_) => self_draft(here, datum),
+        Kind::Str(_) => self_draft(here, datum),
+        Kind::Vector(_) => self_draft(here, datum),
+        Kind::Nil => self_draft(here, datum),
+    }
+}
+
+// The same of a form that stands there, with these tables.
+fn plain_draft<'a>(
+    here: Here,
+    tables: &Tables,
+    names: &Names,
+    datum: &'a Datum,
+) -> Result<Draft<'a>, NoMemory>
+    requires { here.place ≡ place_of datum.now }
+    ensures { IfOk result (λ draft. drawn (at here.entry.bound.now here.entry.spot) here.entry.place tables.now draft
+        ≡ row.plain_node names.now (at here.entry.bound.now here.entry.spot) tables.now datum.now) }
+{
+    let setting = Setting {
+        alloc: here.alloc,
+        bound: here.bound,
+        spot: here.spot,
+        place: here.place,
+        tables,
+    };
+    datum_draft(setting, names, datum)
+}
+
+/// What a datum at that place that is no derived form is there.
+#[tactic(auto, using(isl_profile::specs::bridge::Growing::grows_same))]
 pub fn plain_plan<'a>(
     here: Here,
     tables: &mut Tables,
@@ -362,21 +398,14 @@ pub fn plain_plan<'a>(
         ≡ row.plain_node names.now (at here.entry.bound.now here.entry.spot) tables.old datum.now) }
     ensures grows { Grows tables.old tables.new }
 {
-    match &datum.kind {
-        Kind::List { items, tail } => list_plan(here, tables, names, items.as_slice(), tail),
-        Kind::Sym(symbol) => symbol_plan(here, tables, *symbol),
-        Kind::Int(_) => self_plan(here, tables, datum),
-        Kind::Char(_) => self_plan(here, tables, datum),
-        Kind::Str(_) => self_plan(here, tables, datum),
-        Kind::Vector(_) => self_plan(here, tables, datum),
-        Kind::Nil => self_plan(here, tables, datum),
-    }
+    let draft = plain_draft(here, tables, names, datum)?;
+    take(here, tables, draft)
 }
 
 // A datum that evaluates to itself.
-fn self_plan<'a>(here: Here, tables: &mut Tables, datum: &Datum) -> Result<Plan<'a>, NoMemory>
-    ensures { IsPlan here.entry.bound.now tables.old tables.new
-        (word.literal_node (at here.entry.bound.now here.entry.spot) here.entry.place tables.old (literal.Datum datum.now)) result }
+fn self_draft<'a>(here: Setting, datum: &Datum) -> Result<Draft<'a>, NoMemory>
+    ensures { Draws here.entry
+        (word.literal_node (around here.entry) here.entry.place here.entry.tables.now (literal.Datum datum.now)) result }
 {
-    literal_plan(here, tables, LiteralRow::Datum(datum.copy(here.alloc)?))
+    Ok(Draft::Literal(LiteralRow::Datum(datum.copy(here.alloc)?)))
 }

@@ -4,7 +4,7 @@ ghost use Rattle.std.specs.Prelude.{◌<◌, ◌↔◌, All, IsTrue, length};
 
 use crate::inputs::{items, name};
 use crate::slots::slot_row;
-use isl_base::{Datum, Names, Place};
+use isl_base::{Datum, Name, Names, Place};
 use isl_classes::{Classes, SlotSpec, SlotSpecs};
 use isl_meaning::{ClassId, ClassIds};
 use isl_rows::Answer;
@@ -22,20 +22,43 @@ pub fn define(
         return None;
     };
     let class = name(class)?;
+    let slots = items(slots)?;
     let supers = class_list(got, classes, items(supers)?)?;
-    let supers = supers.as_slice();
-    let slots = slot_specs(got, names, items(slots)?)?;
+    let Some(slots) = slot_specs(got, names, slots) else {
+        drop(supers);
+        return None;
+    };
+    let answered = put_new(
+        got,
+        classes,
+        class,
+        place,
+        supers.as_slice(),
+        &slots,
+        abstract_class,
+    );
+    drop((supers, slots));
+    answered
+}
+
+// Puts a definition of a class that there is not yet. The answer is why it is refused, if it is.
+fn put_new(
+    got: &mut Answer,
+    classes: &mut Classes,
+    class: Name,
+    place: Place,
+    supers: &[ClassId],
+    slots: &SlotSpecs,
+    abstract_class: bool,
+) -> Option<()> {
     if classes.find(class).is_some() || !are_below(supers, classes.rows().len()) {
         return None;
     }
-    match classes.define(class, place, supers, &slots, abstract_class) {
-        Ok(_) => Some(()),
-        Err(stop) => {
-            got.begin();
-            got.put_stop(stop);
-            Some(())
-        }
+    if let Err(stop) = classes.define(class, place, supers, slots, abstract_class) {
+        got.begin();
+        got.put_stop(stop);
     }
+    Some(())
 }
 
 /// Whether these are numbers of classes, of which there are so many.

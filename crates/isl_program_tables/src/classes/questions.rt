@@ -20,13 +20,7 @@ pub fn ask(
     match (question, parts) {
         ("count", []) => got.push(classes.rows().len()),
         ("find", [class]) => got.push_found(classes.find(name(class)?)),
-        ("fit", supers) => {
-            let supers = class_list(got, classes, supers)?;
-            if !are_below(supers.as_slice(), classes.rows().len()) {
-                return None;
-            }
-            got.push_yes_no(classes.supers_fit(supers.as_slice()));
-        }
+        ("fit", supers) => push_fit(got, classes, supers)?,
         (_, [class, others @ ..]) => {
             let class = classes.find(name(class)?)?;
             if class >= classes.rows().len() {
@@ -40,6 +34,22 @@ pub fn ask(
         }
         _ => return None,
     }
+    Some(())
+}
+
+// Whether the classes of these names may be the superclasses of one class.
+fn push_fit(got: &mut Answer, classes: &Classes, supers: &[Datum]) -> Option<()> {
+    let supers = class_list(got, classes, supers)?;
+    let answered = push_fit_of(got, classes, supers.as_slice());
+    drop(supers);
+    answered
+}
+
+fn push_fit_of(got: &mut Answer, classes: &Classes, supers: &[ClassId]) -> Option<()> {
+    if !are_below(supers, classes.rows().len()) {
+        return None;
+    }
+    got.push_yes_no(classes.supers_fit(supers));
     Some(())
 }
 

@@ -38,27 +38,46 @@ fn push_below(got: &mut Answer, setting: &Setting, class: &Datum, above: &Datum)
 }
 
 fn push_applies(got: &mut Answer, setting: &Setting, tuple: &Datum, method: &Datum) -> Option<()> {
+    let method = items(method)?;
     let tuple = ids(got, items(tuple)?)?;
-    let method = ids(got, items(method)?)?;
+    let Some(method) = ids(got, method) else {
+        drop(tuple);
+        return None;
+    };
     got.push_yes_no(applies(&setting.classes, &tuple, &method));
+    drop((tuple, method));
+    Some(())
+}
+
+fn push_tuples(got: &mut Answer, parts: &[Datum]) -> Option<()> {
+    let mut lists = ItemList::new(got.alloc);
+    let answered = match add_lists(got, &mut lists, parts) {
+        Some(()) => push_tuples_of(got, &lists),
+        None => None,
+    };
+    drop(lists);
+    answered
+}
+
+fn add_lists(got: &mut Answer, lists: &mut ItemList<ClassIds>, parts: &[Datum]) -> Option<()> {
+    for part in parts {
+        let list = ids(got, items(part)?)?;
+        got.add(lists, list);
+    }
     Some(())
 }
 
 // How many tuples these lists have, and each tuple.
-fn push_tuples(got: &mut Answer, parts: &[Datum]) -> Option<()> {
-    let mut lists = ItemList::new(got.alloc);
-    for part in parts {
-        let list = ids(got, items(part)?)?;
-        got.add(&mut lists, list);
-    }
-    let count = tuple_count(&lists);
+fn push_tuples_of(got: &mut Answer, lists: &ItemList<ClassIds>) -> Option<()> {
+    let count = tuple_count(lists);
     got.push(count);
     if count > 1000 {
         return Some(());
     }
     for index in 0..count {
-        let tuple = got.kept(tuple_at(got.alloc, &lists, count, index))?;
+        let tuple = got.kept(tuple_at(got.alloc, lists, count, index))?;
         push_list(got, tuple.as_slice());
+        drop(tuple);
     }
     Some(())
 }
@@ -73,18 +92,37 @@ fn ask_generic(
 ) -> Option<()> {
     let generic = setting.generic(function)?;
     let row = setting.generics.rows().get(generic)?;
-    let numbers: ClassIds = ids(got, numbers)?;
-    match question {
-        "count" => got.push(row.methods.len()),
-        "cells-of" => {
-            let cells = got.kept(generic_cells(got.alloc, row, &setting.classes))?;
-            got.push(cells);
-        }
-        "groups" => push_groups(got, setting, generic, numbers.as_slice())?,
-        "length" => got.push(chain_length(row, &setting.classes, &numbers)),
-        "chain" => push_chain(got, setting, generic, numbers.as_slice())?,
-        _ => return None,
-    }
+    let numbers = ids(got, numbers)?;
+    let answered = match question {
+        "count" => push_count(got, row),
+        "cells-of" => push_cells_of(got, setting, row),
+        "groups" => push_groups(got, setting, row, numbers.as_slice()),
+        "length" => push_length(got, setting, row, &numbers),
+        "chain" => push_chain(got, setting, generic, numbers.as_slice()),
+        _ => None,
+    };
+    drop(numbers);
+    answered
+}
+
+fn push_count(got: &mut Answer, row: &GenericRow) -> Option<()> {
+    got.push(row.methods.len());
+    Some(())
+}
+
+fn push_cells_of(got: &mut Answer, setting: &Setting, row: &GenericRow) -> Option<()> {
+    let cells = got.kept(generic_cells(got.alloc, row, &setting.classes))?;
+    got.push(cells);
+    Some(())
+}
+
+fn push_length(
+    got: &mut Answer,
+    setting: &Setting,
+    row: &GenericRow,
+    classes: &ClassIds,
+) -> Option<()> {
+    got.push(chain_length(row, &setting.classes, classes));
     Some(())
 }
 
@@ -93,17 +131,17 @@ fn ask_generic(
 fn push_groups(
     got: &mut Answer,
     setting: &Setting,
-    generic: usize,
+    row: &GenericRow,
     numbers: &[usize],
 ) -> Option<()> {
     let [argument] = numbers else {
         return None;
     };
-    let row = setting.generics.rows().get(generic)?;
     let groups = got.kept(argument_groups(got.alloc, row, *argument, &setting.classes))?;
     push_list(got, groups.firsts.as_slice());
     push_list(got, groups.numbers.as_slice());
     got.push_yes_no(groups.specialised);
+    drop(groups);
     Some(())
 }
 
@@ -118,11 +156,16 @@ fn push_chain(
         return None;
     }
     let tables = got.kept(tables(got.alloc, setting.generics.rows(), &setting.classes))?;
-    match tables.chain(generic, classes) {
+    push_found(got, tables.chain(generic, classes));
+    drop(tables);
+    Some(())
+}
+
+fn push_found(got: &mut Answer, chain: Option<&Chain>) {
+    match chain {
         Some(chain) => push_methods(got, chain),
         None => got.push("none"),
     }
-    Some(())
 }
 
 // The around, before, primary and after methods.

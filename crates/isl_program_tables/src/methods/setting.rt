@@ -94,10 +94,10 @@ impl Setting {
         datum: &Datum,
     ) -> Option<()> {
         let (parts, rest) = without_rest(names, items(datum)?);
-        let row = method(got, names, parts)?;
         if generic >= self.generics.rows().len() {
             return None;
         }
+        let row = method(got, names, parts)?;
         match self.generics.add_method(generic, datum.place, rest, row) {
             Ok(()) => Some(()),
             Err(stop) => {

@@ -35,6 +35,7 @@ fn built_in(got: &mut Answer, names: &mut Names) -> Option<ClassRows> {
         };
         got.add(&mut rows, copy);
     }
+    drop(classes);
     Some(rows)
 }
 

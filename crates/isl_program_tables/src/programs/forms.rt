@@ -1,9 +1,10 @@
 // Core forms as data: the word of a form, and its parts in order.
 
-use crate::inputs::{command, id, ids, items, name, number};
-use crate::programs::lambda::{captured, rest_or_nil};
-use crate::programs::primitives::primitive;
-use isl_base::{Datum, Kind, Names};
+use crate::inputs::{command, found, id, items, name, number, pair};
+use crate::programs::lambda::{around, rest_or_nil};
+use crate::programs::make::{head_of, leaf, listed, named, nested, numbered, paired, under};
+use crate::programs::words::{Headed, List, Named, Numbered, Pair, WORDS, Word};
+use isl_base::{Datum, Names};
 use isl_meaning::{
     Binding, BindingList, Clause, ClauseList, Core, CoreForm, CoreList, DynBinding, DynBindings,
 };
@@ -16,14 +17,20 @@ pub fn form(got: &mut Answer, names: &Names, datum: &Datum, depth: u32) -> Optio
         return None;
     }
     let (head, parts) = command(names, datum)?;
-    match (head, parts) {
-        ("nest", [count, inner]) => {
-            let count = number(count)?;
-            let inner = form(got, names, inner, depth - 1)?;
-            Some(nested(got, count, inner))
-        }
-        _ => Some(Core::new(kind(got, names, head, parts, depth - 1)?)),
+    match found(WORDS, head)? {
+        Word::Nest => nest(got, names, parts, depth - 1),
+        word => Some(Core::new(kind(got, names, word, parts, depth - 1)?)),
     }
+}
+
+#[cycle(forms)]
+fn nest(got: &mut Answer, names: &Names, parts: &[Datum], depth: u32) -> Option<Core> {
+    let [count, inner] = parts else {
+        return None;
+    };
+    let count = number(count)?;
+    let inner = form(got, names, inner, depth)?;
+    Some(nested(got, count, inner))
 }
 
 // The form of that word and these parts.
@@ -31,142 +38,111 @@ pub fn form(got: &mut Answer, names: &Names, datum: &Datum, depth: u32) -> Optio
 fn kind(
     got: &mut Answer,
     names: &Names,
-    head: &str,
+    word: Word,
     parts: &[Datum],
     depth: u32,
 ) -> Option<CoreForm> {
-    match (head, parts) {
-        ("clauses", all) => Some(CoreForm::Clauses(clauses(got, names, all, depth)?)),
-        ("let", [all, body]) => let_form(got, names, all, body, depth),
-        ("dynamic-let", [all, body]) => dynamic_let_form(got, names, all, body, depth),
-        ("sequence" | "call-value" | "call" | "prim" | "tagbody", _) => {
-            list(got, names, head, parts, depth)
-        }
-        ("lambda", [variables, rest, body, parts @ ..]) => {
-            lambda_form(got, names, variables, rest, body, parts, depth)
-        }
-        ("go", [exit, segment]) => Some(CoreForm::Go(id(exit)?, number(segment)?)),
-        (_, [first, second]) => two(got, names, head, first, second, depth),
-        _ => leaf(head, parts),
+    match word {
+        Word::Leaf(word) => leaf(word, parts),
+        Word::Numbered(word) => numbered_form(got, names, word, parts, depth),
+        Word::Named(word) => named_form(got, names, word, parts, depth),
+        Word::Pair(word) => pair_form(got, names, word, parts, depth),
+        Word::List(word) => list_form(got, names, word, parts, depth),
+        Word::Headed(word) => headed_form(got, names, word, parts, depth),
+        Word::Clauses => clauses_form(got, names, parts, depth),
+        Word::Let => let_form(got, names, parts, depth),
+        Word::DynamicLet => dynamic_let_form(got, names, parts, depth),
+        Word::Lambda => lambda_form(got, names, parts, depth),
+        Word::Nest => None,
     }
 }
 
 #[cycle(forms)]
-fn let_form(
+fn numbered_form(
     got: &mut Answer,
     names: &Names,
-    all: &Datum,
-    body: &Datum,
-    depth: u32,
-) -> Option<CoreForm> {
-    let body = boxed(got, names, body, depth)?;
-    let all = bindings(got, names, items(all)?, depth)?;
-    Some(CoreForm::Let(all, body))
-}
-
-#[cycle(forms)]
-fn dynamic_let_form(
-    got: &mut Answer,
-    names: &Names,
-    all: &Datum,
-    body: &Datum,
-    depth: u32,
-) -> Option<CoreForm> {
-    let body = boxed(got, names, body, depth)?;
-    let all = dynamic_bindings(got, names, items(all)?, depth)?;
-    Some(CoreForm::DynamicLet(all, body))
-}
-
-#[cycle(forms)]
-fn lambda_form(
-    got: &mut Answer,
-    names: &Names,
-    variables: &Datum,
-    rest: &Datum,
-    body: &Datum,
+    word: Numbered,
     parts: &[Datum],
     depth: u32,
 ) -> Option<CoreForm> {
-    let rest = rest_or_nil(rest)?;
-    let body = boxed(got, names, body, depth)?;
-    let required = ids(got, items(variables)?)?;
-    let parts = captured(got, names, parts)?;
-    Some(CoreForm::Lambda(required, rest, body, parts))
+    let [own, inner] = parts else {
+        return None;
+    };
+    let own = id(own)?;
+    Some(numbered(word, own, boxed(got, names, inner, depth)?))
 }
 
-// Forms in a row, behind what stands in front of them.
 #[cycle(forms)]
-fn list(
+fn named_form(
     got: &mut Answer,
     names: &Names,
-    head: &str,
+    word: Named,
     parts: &[Datum],
     depth: u32,
 ) -> Option<CoreForm> {
-    match (head, parts) {
-        ("sequence", all) => Some(CoreForm::Sequence(forms(got, names, all, depth)?)),
-        ("call-value", all) => Some(CoreForm::CallValue(forms(got, names, all, depth)?)),
-        ("call", [function, all @ ..]) => {
-            let function = name(function)?;
-            Some(CoreForm::Call(function, forms(got, names, all, depth)?))
-        }
-        ("prim", [which, all @ ..]) => {
-            let which = primitive(names, which)?;
-            Some(CoreForm::Prim(which, forms(got, names, all, depth)?))
-        }
-        ("tagbody", [exit, all @ ..]) => {
-            let exit = id(exit)?;
-            Some(CoreForm::Tagbody(exit, forms(got, names, all, depth)?))
-        }
-        _ => None,
-    }
+    let [own, inner] = parts else {
+        return None;
+    };
+    let own = name(own)?;
+    Some(named(word, own, boxed(got, names, inner, depth)?))
 }
 
-// A number, a name or a form, and then a form.
 #[cycle(forms)]
-fn two(
+fn pair_form(
     got: &mut Answer,
     names: &Names,
-    head: &str,
-    first: &Datum,
-    second: &Datum,
+    word: Pair,
+    parts: &[Datum],
     depth: u32,
 ) -> Option<CoreForm> {
-    let second = boxed(got, names, second, depth)?;
-    match &first.kind {
-        Kind::Int(_) => with_number(head, id(first)?, second),
-        Kind::Sym(_) => with_name(head, first, second),
-        _ => with_form(head, boxed(got, names, first, depth)?, second),
-    }
+    let [first, second] = parts else {
+        return None;
+    };
+    let first = boxed(got, names, first, depth)?;
+    let Some(second) = boxed(got, names, second, depth) else {
+        drop(first);
+        return None;
+    };
+    Some(paired(word, first, second))
 }
 
 #[cycle(forms)]
-fn boxed(got: &mut Answer, names: &Names, datum: &Datum, depth: u32) -> Option<Box<Core>> {
-    let core = form(got, names, datum, depth)?;
-    got.kept(Box::new(got.alloc, core))
+fn list_form(
+    got: &mut Answer,
+    names: &Names,
+    word: List,
+    parts: &[Datum],
+    depth: u32,
+) -> Option<CoreForm> {
+    Some(listed(word, forms(got, names, parts, depth)?))
 }
 
 #[cycle(forms)]
-fn forms(got: &mut Answer, names: &Names, data: &[Datum], depth: u32) -> Option<CoreList> {
-    let mut list = CoreList::new(got.alloc);
-    for datum in data {
-        let core = form(got, names, datum, depth)?;
-        got.add(&mut list, core);
-    }
-    Some(list)
+fn headed_form(
+    got: &mut Answer,
+    names: &Names,
+    word: Headed,
+    parts: &[Datum],
+    depth: u32,
+) -> Option<CoreForm> {
+    let [own, inner @ ..] = parts else {
+        return None;
+    };
+    let own = head_of(names, word, own)?;
+    Some(under(own, forms(got, names, inner, depth)?))
 }
 
-// `(TEST BODY)`, or `(TEST)` alone.
 #[cycle(forms)]
-fn clauses(got: &mut Answer, names: &Names, data: &[Datum], depth: u32) -> Option<ClauseList> {
+fn clauses_form(got: &mut Answer, names: &Names, parts: &[Datum], depth: u32) -> Option<CoreForm> {
     let mut list = ClauseList::new(got.alloc);
-    for datum in data {
+    for datum in parts {
         let clause = clause(got, names, datum, depth)?;
         got.add(&mut list, clause);
     }
-    Some(list)
+    Some(CoreForm::Clauses(list))
 }
 
+// `(TEST BODY)`, or `(TEST)` alone.
 #[cycle(forms)]
 fn clause(got: &mut Answer, names: &Names, datum: &Datum, depth: u32) -> Option<Clause> {
     match items(datum)? {
@@ -189,19 +165,48 @@ fn clause(got: &mut Answer, names: &Names, datum: &Datum, depth: u32) -> Option<
     }
 }
 
+#[cycle(forms)]
+fn let_form(got: &mut Answer, names: &Names, parts: &[Datum], depth: u32) -> Option<CoreForm> {
+    let [all, body] = parts else {
+        return None;
+    };
+    let list = bindings(got, names, items(all)?, depth)?;
+    let Some(body) = boxed(got, names, body, depth) else {
+        drop(list);
+        return None;
+    };
+    Some(CoreForm::Let(list, body))
+}
+
 // `(VARIABLE VALUE)` each.
 #[cycle(forms)]
 fn bindings(got: &mut Answer, names: &Names, data: &[Datum], depth: u32) -> Option<BindingList> {
     let mut list = BindingList::new(got.alloc);
     for datum in data {
-        let [var, value] = items(datum)? else {
-            return None;
-        };
+        let (var, value) = pair(datum)?;
         let var = id(var)?;
         let value = form(got, names, value, depth)?;
         got.add(&mut list, Binding { var, value });
     }
     Some(list)
+}
+
+#[cycle(forms)]
+fn dynamic_let_form(
+    got: &mut Answer,
+    names: &Names,
+    parts: &[Datum],
+    depth: u32,
+) -> Option<CoreForm> {
+    let [all, body] = parts else {
+        return None;
+    };
+    let list = dynamic_bindings(got, names, items(all)?, depth)?;
+    let Some(body) = boxed(got, names, body, depth) else {
+        drop(list);
+        return None;
+    };
+    Some(CoreForm::DynamicLet(list, body))
 }
 
 // `(NAME VALUE)` each.
@@ -214,9 +219,7 @@ fn dynamic_bindings(
 ) -> Option<DynBindings> {
     let mut list = DynBindings::new(got.alloc);
     for datum in data {
-        let [variable, value] = items(datum)? else {
-            return None;
-        };
+        let (variable, value) = pair(datum)?;
         let name = name(variable)?;
         let value = form(got, names, value, depth)?;
         got.add(&mut list, DynBinding { name, value });
@@ -224,61 +227,33 @@ fn dynamic_bindings(
     Some(list)
 }
 
-// The form inside so many sequences of one form each.
-fn nested(got: &mut Answer, count: u32, inner: Core) -> Core {
-    let mut outer = inner;
-    for _ in 0..count {
-        let mut list = CoreList::new(got.alloc);
-        got.add(&mut list, outer);
-        outer = Core::sequence(list);
-    }
-    outer
+// Required variables, a rest variable, a body, and the captured parts.
+#[cycle(forms)]
+fn lambda_form(got: &mut Answer, names: &Names, parts: &[Datum], depth: u32) -> Option<CoreForm> {
+    let [variables, rest, body, captured @ ..] = parts else {
+        return None;
+    };
+    let rest = rest_or_nil(rest)?;
+    let body = boxed(got, names, body, depth)?;
+    let Some((required, captured)) = around(got, names, variables, captured) else {
+        drop(body);
+        return None;
+    };
+    Some(CoreForm::Lambda(required, rest, body, captured))
 }
 
-// Forms with no form inside.
-fn leaf(head: &str, parts: &[Datum]) -> Option<CoreForm> {
-    match (head, parts) {
-        ("literal", [row]) => Some(CoreForm::Literal(id(row)?)),
-        ("local", [variable]) => Some(CoreForm::Local(id(variable)?)),
-        ("global", [variable]) => Some(CoreForm::Global(name(variable)?)),
-        ("dynamic", [variable]) => Some(CoreForm::Dynamic(name(variable)?)),
-        ("next-method", []) => Some(CoreForm::NextMethod),
-        ("has-next", []) => Some(CoreForm::HasNext),
-        _ => None,
-    }
+#[cycle(forms)]
+fn boxed(got: &mut Answer, names: &Names, datum: &Datum, depth: u32) -> Option<Box<Core>> {
+    let core = form(got, names, datum, depth)?;
+    got.kept(Box::new(got.alloc, core))
 }
 
-fn with_number(head: &str, number: usize, form: Box<Core>) -> Option<CoreForm> {
-    match head {
-        "set-local" => Some(CoreForm::SetLocal(number, form)),
-        "block" => Some(CoreForm::Block(number, form)),
-        "return" => Some(CoreForm::Return(number, form)),
-        "sited" => Some(CoreForm::Sited(number, form)),
-        _ => None,
+#[cycle(forms)]
+fn forms(got: &mut Answer, names: &Names, data: &[Datum], depth: u32) -> Option<CoreList> {
+    let mut list = CoreList::new(got.alloc);
+    for datum in data {
+        let core = form(got, names, datum, depth)?;
+        got.add(&mut list, core);
     }
-}
-
-fn with_name(head: &str, variable: &Datum, form: Box<Core>) -> Option<CoreForm> {
-    let variable = name(variable)?;
-    match head {
-        "set-global" => Some(CoreForm::SetGlobal(variable, form)),
-        "def-global" => Some(CoreForm::DefGlobal(variable, form)),
-        "set-dynamic" => Some(CoreForm::SetDynamic(variable, form)),
-        "def-dynamic" => Some(CoreForm::DefDynamic(variable, form)),
-        _ => None,
-    }
-}
-
-fn with_form(head: &str, first: Box<Core>, second: Box<Core>) -> Option<CoreForm> {
-    match head {
-        "apply" => Some(CoreForm::Apply(first, second)),
-        "while" => Some(CoreForm::While(first, second)),
-        "catch" => Some(CoreForm::Catch(first, second)),
-        "throw" => Some(CoreForm::Throw(first, second)),
-        "unwind" => Some(CoreForm::Unwind(first, second)),
-        "with-handler" => Some(CoreForm::WithHandler(first, second)),
-        "signal" => Some(CoreForm::Signal(first, second)),
-        "continue" => Some(CoreForm::Continue(first, second)),
-        _ => None,
-    }
+    Some(list)
 }

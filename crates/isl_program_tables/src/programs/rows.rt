@@ -1,6 +1,6 @@
 // Rows of a program as data.
 
-use crate::inputs::{command, id, ids, items, name, number, word};
+use crate::inputs::{command, found, id, ids, items, name, number, word};
 use crate::method::method;
 use crate::programs::forms::form;
 use crate::slots::slot_rows;
@@ -24,55 +24,85 @@ pub fn take(
     parts: &[Datum],
 ) -> Option<()> {
     match (head, parts) {
-        ("cut-classes", [count]) => {
-            let count = id(count)?;
-            if count > rows.classes.len() {
-                return None;
-            }
-            rows.classes.cut(count);
-        }
+        ("cut-classes", [count]) => cut_classes(rows, id(count)?),
         ("sites", [count]) => take_sites(got, rows, number(count)?),
-        ("copy", []) => copy_main(got, rows)?,
-        _ => {
-            for part in parts {
-                take_row(got, names, rows, head, part)?;
-            }
-        }
+        ("copy", []) => copy_main(got, rows),
+        _ => take_rows(got, names, rows, found(TABLES, head)?, parts),
+    }
+}
+
+// Only the first classes stay, so many.
+fn cut_classes(rows: &mut ProgramRows, count: usize) -> Option<()> {
+    if count > rows.classes.len() {
+        return None;
+    }
+    rows.classes.cut(count);
+    Some(())
+}
+
+// The tables of a program that take rows one by one.
+#[derive(Clone, Copy)]
+enum Table {
+    Literals,
+    Procedures,
+    Classes,
+    Generics,
+    Functions,
+    Main,
+}
+
+const TABLES: &[(&str, Table)] = &[
+    ("literals", Table::Literals),
+    ("procedures", Table::Procedures),
+    ("classes", Table::Classes),
+    ("generics", Table::Generics),
+    ("functions", Table::Functions),
+    ("main", Table::Main),
+];
+
+fn take_rows(
+    got: &mut Answer,
+    names: &Names,
+    rows: &mut ProgramRows,
+    table: Table,
+    parts: &[Datum],
+) -> Option<()> {
+    for part in parts {
+        take_row(got, names, rows, table, part)?;
     }
     Some(())
 }
 
-// Takes one row of that kind.
+// Takes one row of that table.
 fn take_row(
     got: &mut Answer,
     names: &Names,
     rows: &mut ProgramRows,
-    kind: &str,
+    table: Table,
     part: &Datum,
 ) -> Option<()> {
-    match kind {
-        "literals" => {
+    match table {
+        Table::Literals => {
             let row = literal(got, names, part);
             add_found(got, &mut rows.literals, row)
         }
-        "procedures" => {
+        Table::Procedures => {
             let row = procedure(got, names, part);
             add_found(got, &mut rows.procedures, row)
         }
-        "classes" => {
+        Table::Classes => {
             let row = class(got, names, part);
             add_found(got, &mut rows.classes, row)
         }
-        "generics" => {
+        Table::Generics => {
             let row = generic(got, names, part);
             add_found(got, &mut rows.generics, row)
         }
-        "functions" => add_found(got, &mut rows.functions, function(names, part)),
-        "main" => {
+        Table::Functions => add_found(got, &mut rows.functions, function(names, part)),
+        Table::Main => {
             let row = form(got, names, part, DEPTH);
             add_found(got, &mut rows.main, row)
         }
-        _ => None,
     }
 }
 
@@ -94,7 +124,7 @@ fn copy_main(got: &mut Answer, rows: &mut ProgramRows) -> Option<()> {
 }
 
 // So many sites, in the first line.
-fn take_sites(got: &mut Answer, rows: &mut ProgramRows, count: u32) {
+fn take_sites(got: &mut Answer, rows: &mut ProgramRows, count: u32) -> Option<()> {
     for site in 0..count {
         let place = Place {
             line: 1,
@@ -102,6 +132,7 @@ fn take_sites(got: &mut Answer, rows: &mut ProgramRows, count: u32) {
         };
         got.add(&mut rows.sites, place);
     }
+    Some(())
 }
 
 // `(datum X)`, `(integer "536870912")` for an integer that no text spells, `(class 33)` or
@@ -131,9 +162,9 @@ fn procedure(got: &mut Answer, names: &Names, datum: &Datum) -> Option<Procedure
     };
     let name = name_or_nil(own)?;
     let (required, rest) = variables_of(names, items(variables)?)?;
-    let body = form(got, names, body, DEPTH)?;
-    let Some(required) = ids(got, required) else {
-        drop(body);
+    let required = ids(got, required)?;
+    let Some(body) = form(got, names, body, DEPTH) else {
+        drop(required);
         return None;
     };
     Some(Procedure {
@@ -170,10 +201,17 @@ fn class(got: &mut Answer, names: &Names, datum: &Datum) -> Option<ClassRow> {
         }
         _ => return None,
     };
+    let name = name(own)?;
+    let slots = items(slots)?;
+    let precedence = ids(got, items(line)?)?;
+    let Some(slots) = slot_rows(got, names, slots) else {
+        drop(precedence);
+        return None;
+    };
     Some(ClassRow {
-        name: name(own)?,
-        precedence: ids(got, items(line)?)?,
-        slots: slot_rows(got, names, items(slots)?)?,
+        name,
+        precedence,
+        slots,
         abstract_class,
     })
 }
@@ -189,16 +227,29 @@ fn generic(got: &mut Answer, names: &Names, datum: &Datum) -> Option<GenericRow>
         rest: false,
         methods: MethodRows::new(got.alloc),
     };
+    if take_methods(got, names, &mut row, methods).is_none() {
+        drop(row);
+        return None;
+    }
+    Some(row)
+}
+
+fn take_methods(
+    got: &mut Answer,
+    names: &Names,
+    row: &mut GenericRow,
+    methods: &[Datum],
+) -> Option<()> {
     for datum in methods {
         match &datum.kind {
             Kind::Sym(_) => row.rest = true,
             _ => {
-                let method = method(got, names, items(datum)?)?;
-                got.add(&mut row.methods, method);
+                let method = method(got, names, items(datum)?);
+                add_found(got, &mut row.methods, method)?;
             }
         }
     }
-    Some(row)
+    Some(())
 }
 
 // A name, and `procedure` or `generic` with its number.

@@ -1,19 +1,14 @@
 // One step: the word at the program counter, its instruction, and what that does.
 
-ghost use Rattle.std.specs.Prelude.{◌≡◌, ℕ, ◌<◌, option_map};
-ghost use Rattle.rv_machine.specs.Arithmetic.{sign_extended};
-ghost use Rattle.rv_machine.specs.Memory.{number_at};
-ghost use Rattle.rv_machine.specs.Step.{Does, Result as AnyResult, Step, Steps, address as address_of, execute as execute_of};
+ghost use Rattle.std.specs.Prelude.{◌≡◌, ℕ, ◌<◌};
+ghost use Rattle.rv_machine.specs.Step.{Does, Result as AnyResult, Step, Steps, execute as execute_of};
+ghost use Rattle.rv_machine.specs.Effects.{result_of as effect_result};
 
 use super::Machine;
-use super::arithmetic::{
-    even, extended8, extended12, extended16, extended21, high_mixed, high_signed, high_unsigned,
-    is_less_signed, one_if_less, one_if_less_signed, quotient, quotient_signed, remainder,
-    remainder_signed, shift_left, shift_right, shift_right_signed,
-};
-use super::memory::{byte_at, half_at, word_at};
+use super::effects::Effect;
+use super::memory::word_at;
 use crate::ending::{StepEnd, TrapKind};
-use rv_encode::{Immediate12, Instr, Register, decode};
+use rv_encode::{Instr, decode};
 
 impl Machine {
     /// Executes the instruction at the program counter (RISC-V Unprivileged ISA, 2.4 to 2.8, and the
@@ -38,220 +33,28 @@ impl Machine {
     fn execute(&mut self, instruction: Instr) -> StepEnd
         ensures { Does (execute_of instruction self.old.state) self.old result self.new }
     {
-        match instruction {
-            Instr::Lui { rd, immediate } => self.gives(rd, immediate.value() * 4096),
-            Instr::Auipc { rd, immediate } => {
-                let value = self.pc().wrapping_add(immediate.value() * 4096);
-                self.gives(rd, value)
-            }
-            Instr::Jal { rd, offset } => {
-                let target = self.pc().wrapping_add(extended21(offset));
-                self.link(rd, target)
-            }
-            Instr::Jalr { rd, rs1, offset } => {
-                let target = even(self.address(rs1, offset));
-                self.link(rd, target)
-            }
-            Instr::Beq { rs1, rs2, offset } => {
-                let taken = self.read(rs1) == self.read(rs2);
-                self.branch(taken, offset)
-            }
-            Instr::Bne { rs1, rs2, offset } => {
-                let taken = self.read(rs1) != self.read(rs2);
-                self.branch(taken, offset)
-            }
-            Instr::Blt { rs1, rs2, offset } => {
-                let taken = is_less_signed(self.read(rs1), self.read(rs2));
-                self.branch(taken, offset)
-            }
-            Instr::Bge { rs1, rs2, offset } => {
-                let taken = !is_less_signed(self.read(rs1), self.read(rs2));
-                self.branch(taken, offset)
-            }
-            Instr::Bltu { rs1, rs2, offset } => {
-                let taken = self.read(rs1) < self.read(rs2);
-                self.branch(taken, offset)
-            }
-            Instr::Bgeu { rs1, rs2, offset } => {
-                let taken = self.read(rs1) >= self.read(rs2);
-                self.branch(taken, offset)
-            }
-            Instr::Lb { rd, rs1, offset } => {
-                let found = self.signed_byte_at(self.address(rs1, offset));
-                self.load_found(rd, found)
-            }
-            Instr::Lh { rd, rs1, offset } => {
-                let found = self.signed_half_at(self.address(rs1, offset));
-                self.load_found(rd, found)
-            }
-            Instr::Lw { rd, rs1, offset } => {
-                let found = word_at(self.arena(), self.address(rs1, offset));
-                self.load_found(rd, found)
-            }
-            Instr::Lbu { rd, rs1, offset } => {
-                let found = byte_at(self.arena(), self.address(rs1, offset));
-                self.load_found(rd, found)
-            }
-            Instr::Lhu { rd, rs1, offset } => {
-                let found = half_at(self.arena(), self.address(rs1, offset));
-                self.load_found(rd, found)
-            }
-            Instr::Sb { rs2, rs1, offset } => {
-                let address = self.address(rs1, offset);
-                let value = self.read(rs2);
-                self.store_byte(address, value)
-            }
-            Instr::Sh { rs2, rs1, offset } => {
-                let address = self.address(rs1, offset);
-                let value = self.read(rs2);
-                self.store_half(address, value)
-            }
-            Instr::Sw { rs2, rs1, offset } => {
-                let address = self.address(rs1, offset);
-                let value = self.read(rs2);
-                self.store_word(address, value)
-            }
-            Instr::Addi { rd, rs1, immediate } => {
-                let value = self.read(rs1).wrapping_add(extended12(immediate));
-                self.gives(rd, value)
-            }
-            Instr::Slti { rd, rs1, immediate } => {
-                let value = one_if_less_signed(self.read(rs1), extended12(immediate));
-                self.gives(rd, value)
-            }
-            Instr::Sltiu { rd, rs1, immediate } => {
-                let value = one_if_less(self.read(rs1), extended12(immediate));
-                self.gives(rd, value)
-            }
-            Instr::Xori { rd, rs1, immediate } => {
-                let value = self.read(rs1) ^ extended12(immediate);
-                self.gives(rd, value)
-            }
-            Instr::Ori { rd, rs1, immediate } => {
-                let value = self.read(rs1) | extended12(immediate);
-                self.gives(rd, value)
-            }
-            Instr::Andi { rd, rs1, immediate } => {
-                let value = self.read(rs1) & extended12(immediate);
-                self.gives(rd, value)
-            }
-            Instr::Slli { rd, rs1, shift } => {
-                let value = shift_left(self.read(rs1), shift.value());
-                self.gives(rd, value)
-            }
-            Instr::Srli { rd, rs1, shift } => {
-                let value = shift_right(self.read(rs1), shift.value());
-                self.gives(rd, value)
-            }
-            Instr::Srai { rd, rs1, shift } => {
-                let value = shift_right_signed(self.read(rs1), shift.value());
-                self.gives(rd, value)
-            }
-            Instr::Add { rd, rs1, rs2 } => {
-                let value = self.read(rs1).wrapping_add(self.read(rs2));
-                self.gives(rd, value)
-            }
-            Instr::Sub { rd, rs1, rs2 } => {
-                let value = self.read(rs1).wrapping_sub(self.read(rs2));
-                self.gives(rd, value)
-            }
-            Instr::Sll { rd, rs1, rs2 } => {
-                let value = shift_left(self.read(rs1), self.read(rs2));
-                self.gives(rd, value)
-            }
-            Instr::Slt { rd, rs1, rs2 } => {
-                let value = one_if_less_signed(self.read(rs1), self.read(rs2));
-                self.gives(rd, value)
-            }
-            Instr::Sltu { rd, rs1, rs2 } => {
-                let value = one_if_less(self.read(rs1), self.read(rs2));
-                self.gives(rd, value)
-            }
-            Instr::Xor { rd, rs1, rs2 } => {
-                let value = self.read(rs1) ^ self.read(rs2);
-                self.gives(rd, value)
-            }
-            Instr::Srl { rd, rs1, rs2 } => {
-                let value = shift_right(self.read(rs1), self.read(rs2));
-                self.gives(rd, value)
-            }
-            Instr::Sra { rd, rs1, rs2 } => {
-                let value = shift_right_signed(self.read(rs1), self.read(rs2));
-                self.gives(rd, value)
-            }
-            Instr::Or { rd, rs1, rs2 } => {
-                let value = self.read(rs1) | self.read(rs2);
-                self.gives(rd, value)
-            }
-            Instr::And { rd, rs1, rs2 } => {
-                let value = self.read(rs1) & self.read(rs2);
-                self.gives(rd, value)
-            }
-            Instr::Mul { rd, rs1, rs2 } => {
-                let value = self.read(rs1).wrapping_mul(self.read(rs2));
-                self.gives(rd, value)
-            }
-            Instr::Mulh { rd, rs1, rs2 } => {
-                let value = high_signed(self.read(rs1), self.read(rs2));
-                self.gives(rd, value)
-            }
-            Instr::Mulhsu { rd, rs1, rs2 } => {
-                let value = high_mixed(self.read(rs1), self.read(rs2));
-                self.gives(rd, value)
-            }
-            Instr::Mulhu { rd, rs1, rs2 } => {
-                let value = high_unsigned(self.read(rs1), self.read(rs2));
-                self.gives(rd, value)
-            }
-            Instr::Div { rd, rs1, rs2 } => {
-                let value = quotient_signed(self.read(rs1), self.read(rs2));
-                self.gives(rd, value)
-            }
-            Instr::Divu { rd, rs1, rs2 } => {
-                let value = quotient(self.read(rs1), self.read(rs2));
-                self.gives(rd, value)
-            }
-            Instr::Rem { rd, rs1, rs2 } => {
-                let value = remainder_signed(self.read(rs1), self.read(rs2));
-                self.gives(rd, value)
-            }
-            Instr::Remu { rd, rs1, rs2 } => {
-                let value = remainder(self.read(rs1), self.read(rs2));
-                self.gives(rd, value)
-            }
-            Instr::Fence { .. } => {
+        let effect = self.effect_of(instruction);
+        self.take_effect(effect)
+    }
+
+    // Carries out what an instruction does.
+    fn take_effect(&mut self, effect: Effect) -> StepEnd
+        ensures { Does (effect_result effect self.old.state) self.old result self.new }
+    {
+        match effect {
+            Effect::Gives { rd, value } => self.gives(rd, value),
+            Effect::Link { rd, target } => self.link(rd, target),
+            Effect::Branch { taken, offset } => self.branch(taken, offset),
+            Effect::Load { rd, found } => self.load_found(rd, found),
+            Effect::StoreByte { address, value } => self.store_byte(address, value),
+            Effect::StoreHalf { address, value } => self.store_half(address, value),
+            Effect::StoreWord { address, value } => self.store_word(address, value),
+            Effect::Nothing => {
                 self.go_behind();
                 StepEnd::Went
             }
-            Instr::Ecall => self.call(),
-            Instr::Ebreak => StepEnd::Trap(TrapKind::Break, self.pc()),
-        }
-    }
-
-    // A register and a signed offset.
-    fn address(&self, rs1: Register, offset: Immediate12) -> u32
-        ensures { result ≡ address_of rs1 offset self.now.state }
-    {
-        self.read(rs1).wrapping_add(extended12(offset))
-    }
-
-    // The byte at an address with its highest bit repeated.
-    fn signed_byte_at(&self, address: u32) -> Option<u32>
-        ensures { result ≡ option_map (sign_extended 8) (number_at 1 address self.now.state.memory) }
-    {
-        match byte_at(self.arena(), address) {
-            Some(byte) => Some(extended8(byte)),
-            None => None,
-        }
-    }
-
-    // The half at an address with its highest bit repeated.
-    fn signed_half_at(&self, address: u32) -> Option<u32>
-        ensures { result ≡ option_map (sign_extended 16) (number_at 2 address self.now.state.memory) }
-    {
-        match half_at(self.arena(), address) {
-            Some(half) => Some(extended16(half)),
-            None => None,
+            Effect::Call => self.call(),
+            Effect::Break => StepEnd::Trap(TrapKind::Break, self.pc()),
         }
     }
 }

@@ -1,7 +1,7 @@
 -- A part of each kind is built; a loop builds one more at each turn.
-use Rattle.std.proofs.Common.{rules}
+use Rattle.std.proofs.Common.{rules, arith}
 use Rattle.isl_base.specs.Names.{Extends-same, Extends-then}
-use Rattle.isl_derived.proofs.Building.{made_built, parens_built, none_built, built_turn, copy_built}
+use Rattle.isl_derived.proofs.Building.{read_at, piece_in_smaller, made_built, parens_built, none_built, built_turn, copy_built}
 use Rattle.isl_derived.proofs.build.+build.Goals as goal
 
 pub build-returns-in-Made-clause-builds : goal.build-returns-in-Made-clause-builds
@@ -14,11 +14,18 @@ pub build-returns-in_ok-items-in-Parens-clause-builds : goal.build-returns-in_ok
 build-returns-in_ok-items-in-Parens-clause-builds t c =
     parens_built _ _ _ c.in-Parens.pieces c.in_ok-items-in-Parens.items _ (search rules) c.in_ok-items-in-Parens.ensures.builds c.parenthesized.ensures
 
-pub build_all-loop-at-init : goal.build_all-loop-at-init
-build_all-loop-at-init t c = record { built = rw c.new-items.ensures (none_built _ _); later = Extends-same _ }
+pub build_all-loop-piece-init : goal.build_all-loop-piece-init
+build_all-loop-piece-init t c = record { built = rw c.new-items.ensures (none_built _ _); later = Extends-same _ }
 
-pub build_all-loop-at-preserved : goal.build_all-loop-at-preserved
-build_all-loop-at-preserved t c = record {
-  built = built_turn _ _ _ _ _ _ c.loop-at.items _ _ c.in-Some.ensures c.in_ok-build.ensures.names c.loop-at.invariant.built c.in_ok-build.ensures.builds c.in_ok-push.ensures.ok;
-  later = Extends-then _ _ _ c.loop-at.invariant.later c.in_ok-build.ensures.names;
-}
+pub build_all-build-requires : goal.build_all-build-requires
+build_all-build-requires t c =
+    let there = read_at c.args.pieces.now c.as_slice-piece-items.result.now c.loop-piece.piece-index c.piece-item.result c.as_slice-piece-items.ensures c.loop-piece-test.true c.piece-item.is in
+    (omega (arith, piece_in_smaller c.args.pieces.now c.loop-piece.piece-index c.piece-item.result there, c.decreases), tt)
+
+pub build_all-loop-piece-preserved : goal.build_all-loop-piece-preserved
+build_all-loop-piece-preserved t c =
+    let there = read_at c.args.pieces.now c.as_slice-piece-items.result.now c.loop-piece.piece-index c.piece-item.result c.as_slice-piece-items.ensures c.loop-piece-test.true c.piece-item.is in
+    record {
+      built = built_turn _ _ _ _ _ _ c.loop-piece.items _ _ there c.in_ok-build.ensures.names c.loop-piece.invariant.built c.in_ok-build.ensures.builds c.in_ok-push.ensures.ok;
+      later = Extends-then _ _ _ c.loop-piece.invariant.later c.in_ok-build.ensures.names;
+    }

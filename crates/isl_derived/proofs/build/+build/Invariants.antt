@@ -11,8 +11,8 @@ decreases-build l = piece_size l.piece.now
 abbrev pub decreases-build_all : goal.decreases-build_all
 decreases-build_all l = pieces_size (pieces_of l.pieces.now)
 
-abbrev pub invariant-build_all-loop-at : goal.invariant-build_all-loop-at
-invariant-build_all-loop-at l = record {
-  built : BuildsAll l.names l.place (pieces_of (take l.at l.pieces)) (items_of l.items);
+abbrev pub invariant-build_all-loop-piece : goal.invariant-build_all-loop-piece
+invariant-build_all-loop-piece l = record {
+  built : BuildsAll l.names l.place (pieces_of (take l.piece-index l.pieces)) (items_of l.items);
   later : Extends l.initial.names l.names;
 }

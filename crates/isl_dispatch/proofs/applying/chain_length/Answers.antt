@@ -5,19 +5,21 @@ use Rattle.isl_meaning.specs.declared.program.MethodRow.{MethodRow}
 use Rattle.isl_meaning.specs.declared.program.Qualifier.TheVariants.{Primary}
 use Rattle.isl_meaning.specs.Classes.{applies, is_qualifier}
 use Rattle.isl_dispatch.specs.OfClasses.{with_classes}
+use Rattle.isl_dispatch.proofs.Picking.{item_at}
 use Rattle.isl_dispatch.proofs.ChainCounts.{count_of, chain_length_is}
 use Rattle.isl_dispatch.proofs.MethodTurns.{found_turn, pass_turn, at_most_one, counted_all}
 use Rattle.isl_dispatch.proofs.applying.chain_length.Goals as goal
 use Rattle.isl_dispatch.proofs.applying.chain_length.Goals.{then-applies, else-applies}
 
-pub loop-at-preserved : goal.loop-at-preserved
-loop-at-preserved c =
+pub loop-method-preserved : goal.loop-method-preserved
+loop-method-preserved c =
+    let there = item_at c.as_slice-method-items.result.now c.args.generic.now.methods c.loop-method.method-index c.method-item.result c.as_slice-method-items.ensures c.loop-method-test.true c.method-item.is in
     let p = λ (m : MethodRow). applies (with_classes c.args.classes.now) c.args.tuple.now m.classes in
     elim c.if-applies.branch [
       | then-applies w ↦
-          let here : p c.in-Some.method.now ≡ true = sym c.applies.ensures ∙ w.if-applies.true in
-          let turn = found_turn p c.args.generic.now.methods c.loop-at.at c.in-Some.method.now c.in-Some.ensures here in
-          let one = at_most_one (is_qualifier Primary c.in-Some.method.now.qualifier) in
+          let here : p c.method-item.result ≡ true = sym c.applies.ensures ∙ w.if-applies.true in
+          let turn = found_turn p c.args.generic.now.methods c.loop-method.method-index c.method-item.result there here in
+          let one = at_most_one (is_qualifier Primary c.method-item.result.qualifier) in
           let counted = w.primary_count-primary.ensures in
           record {
             fits = omega (arith, w.found-is);
@@ -26,8 +28,8 @@ loop-at-preserved c =
             some = omega (arith, w.primary-is, turn.1, counted);
           }
       | else-applies w ↦
-          let out : p c.in-Some.method.now ≡ false = sym c.applies.ensures ∙ w.if-applies.false in
-          let turn = pass_turn p c.args.generic.now.methods c.loop-at.at c.in-Some.method.now c.in-Some.ensures out in
+          let out : p c.method-item.result ≡ false = sym c.applies.ensures ∙ w.if-applies.false in
+          let turn = pass_turn p c.args.generic.now.methods c.loop-method.method-index c.method-item.result there out in
           record {
             fits = omega (arith, w.found-is);
             primaries = omega (arith, w.found-is, w.primary-is);
@@ -39,15 +41,15 @@ loop-at-preserved c =
 pub returns-then-primary-eq0 : goal.returns-then-primary-eq0
 returns-then-primary-eq0 c =
     let p = λ (m : MethodRow). applies (with_classes c.args.classes.now) c.args.tuple.now m.classes in
-    let past : length c.args.generic.now.methods ≤ c.loop-at.at = omega (arith, c.len-at-end.ensures) in
-    let none : (c.loop-at.primary == 0) ≡ true = grind (arith, nat_tests) in
-    let whole = counted_all p c.args.generic.now.methods c.loop-at.at c.loop-at.found c.loop-at.primary past c.loop-at.invariant.all c.loop-at.invariant.some in
+    let past : length c.args.generic.now.methods ≤ c.loop-method.method-index = omega (arith, ap length c.as_slice-method-items.ensures) in
+    let none : (c.loop-method.primary == 0) ≡ true = grind (arith, nat_tests) in
+    let whole = counted_all p c.args.generic.now.methods c.loop-method.method-index c.loop-method.found c.loop-method.primary past c.loop-method.invariant.all c.loop-method.invariant.some in
     (rw none at whole) ∙ sym (chain_length_is (with_classes c.args.classes.now) c.args.generic.now c.args.tuple.now)
 
 pub returns-else-primary-eq0 : goal.returns-else-primary-eq0
 returns-else-primary-eq0 c =
     let p = λ (m : MethodRow). applies (with_classes c.args.classes.now) c.args.tuple.now m.classes in
-    let past : length c.args.generic.now.methods ≤ c.loop-at.at = omega (arith, c.len-at-end.ensures) in
-    let some : (c.loop-at.primary == 0) ≡ false = grind (arith, nat_tests) in
-    let whole = counted_all p c.args.generic.now.methods c.loop-at.at c.loop-at.found c.loop-at.primary past c.loop-at.invariant.all c.loop-at.invariant.some in
+    let past : length c.args.generic.now.methods ≤ c.loop-method.method-index = omega (arith, ap length c.as_slice-method-items.ensures) in
+    let some : (c.loop-method.primary == 0) ≡ false = grind (arith, nat_tests) in
+    let whole = counted_all p c.args.generic.now.methods c.loop-method.method-index c.loop-method.found c.loop-method.primary past c.loop-method.invariant.all c.loop-method.invariant.some in
     (rw some at whole) ∙ sym (chain_length_is (with_classes c.args.classes.now) c.args.generic.now c.args.tuple.now)

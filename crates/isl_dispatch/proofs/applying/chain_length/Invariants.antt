@@ -6,13 +6,13 @@ use Rattle.isl_dispatch.specs.OfClasses.{with_classes}
 use Rattle.isl_dispatch.proofs.ChainCounts.{count_of}
 use Rattle.isl_dispatch.proofs.applying.chain_length.Given as goal
 
-abbrev pub invariant-loop-at : goal.invariant-loop-at
-invariant-loop-at l =
+abbrev pub invariant-loop-method : goal.invariant-loop-method
+invariant-loop-method l =
     record {
-      fits : l.found ≤ l.at;
+      fits : l.found ≤ l.method-index;
       primaries : l.primary ≤ l.found;
-      all : l.found + length (filter (λ m. applies (with_classes l.classes) l.tuple m.classes) (drop l.at l.generic.methods))
+      all : l.found + length (filter (λ m. applies (with_classes l.classes) l.tuple m.classes) (drop l.method-index l.generic.methods))
           ≡ length (filter (λ m. applies (with_classes l.classes) l.tuple m.classes) l.generic.methods);
-      some : l.primary + count_of Primary (filter (λ m. applies (with_classes l.classes) l.tuple m.classes) (drop l.at l.generic.methods))
+      some : l.primary + count_of Primary (filter (λ m. applies (with_classes l.classes) l.tuple m.classes) (drop l.method-index l.generic.methods))
           ≡ count_of Primary (filter (λ m. applies (with_classes l.classes) l.tuple m.classes) l.generic.methods);
     }

@@ -6,10 +6,10 @@ use Rattle.isl_dispatch.specs.declared.table.Table.{Table}
 use Rattle.isl_dispatch.specs.Tables.{IsTableOf}
 use Rattle.isl_dispatch.proofs.build.tables.Given as goal
 
-abbrev pub invariant-loop-at : goal.invariant-loop-at
-invariant-loop-at l =
+abbrev pub invariant-loop-generic : goal.invariant-loop-generic
+invariant-loop-generic l =
     record {
-      count : length l.found ≡ l.at;
+      count : length l.found ≡ l.generic-index;
       each : (i : ℕ) → (g : GenericRow) → (t : Table) → slice_get l.generics i ≡ Some g → slice_get l.found i ≡ Some t
           → IsTableOf (with_classes l.classes) g t;
     }

@@ -4,24 +4,27 @@ use Rattle.std.specs.List.{sum_by}
 use Rattle.isl_meaning.specs.Cells.{generic_cells}
 use Rattle.isl_dispatch.specs.OfClasses.{with_classes}
 use Rattle.isl_base.specs.bridge.Counted.{sum_left, one_counted}
+use Rattle.isl_dispatch.proofs.Picking.{item_at}
 use Rattle.isl_dispatch.proofs.cells.cells.Goals as goal
 
 pub returns-then-sum-eq-CELLS_LIMIT : goal.returns-then-sum-eq-CELLS_LIMIT
 returns-then-sum-eq-CELLS_LIMIT c =
+    let there = item_at c.as_slice-generic-items.result.now c.args.generics.now c.loop-generic.generic-index c.generic-item.result c.as_slice-generic-items.ensures c.loop-generic-test.true c.generic-item.is in
     let f = generic_cells (with_classes c.args.classes.now) in
-    let left : sum_by f (drop c.loop-at.at c.args.generics.now) ≡ f c.in-Some.generic.now + sum_by f (drop (c.loop-at.at + 1) c.args.generics.now) =
-    sum_left f c.args.generics.now c.loop-at.at c.in-Some.generic.now c.in-Some.ensures in
-    let counted = one_counted c.loop-at.sum (f c.in-Some.generic.now) c.in_ok-generic_cells.field-0 _ _ _ c.capped_sum-sum.result 262145
-    left c.in_ok-generic_cells.ensures c.capped_sum-sum.ensures c.loop-at.invariant.counted in
+    let left : sum_by f (drop c.loop-generic.generic-index c.args.generics.now) ≡ f c.generic-item.result + sum_by f (drop (c.loop-generic.generic-index + 1) c.args.generics.now) =
+    sum_left f c.args.generics.now c.loop-generic.generic-index c.generic-item.result there in
+    let counted = one_counted c.loop-generic.sum (f c.generic-item.result) c.in_ok-generic_cells.field-0 _ _ _ c.capped_sum-sum.result 262145
+    left c.in_ok-generic_cells.ensures c.capped_sum-sum.ensures c.loop-generic.invariant.counted in
     omega (arith, counted)
 
-pub loop-at-preserved : goal.loop-at-preserved
-loop-at-preserved c =
+pub loop-generic-preserved : goal.loop-generic-preserved
+loop-generic-preserved c =
+    let there = item_at c.as_slice-generic-items.result.now c.args.generics.now c.loop-generic.generic-index c.generic-item.result c.as_slice-generic-items.ensures c.loop-generic-test.true c.generic-item.is in
     let f = generic_cells (with_classes c.args.classes.now) in
-    let left : sum_by f (drop c.loop-at.at c.args.generics.now) ≡ f c.in-Some.generic.now + sum_by f (drop (c.loop-at.at + 1) c.args.generics.now) =
-    sum_left f c.args.generics.now c.loop-at.at c.in-Some.generic.now c.in-Some.ensures in
+    let left : sum_by f (drop c.loop-generic.generic-index c.args.generics.now) ≡ f c.generic-item.result + sum_by f (drop (c.loop-generic.generic-index + 1) c.args.generics.now) =
+    sum_left f c.args.generics.now c.loop-generic.generic-index c.generic-item.result there in
     record {
       fits = omega (arith, c.capped_sum-sum.ensures);
-      counted = one_counted c.loop-at.sum (f c.in-Some.generic.now) c.in_ok-generic_cells.field-0 _ _ _ c.capped_sum-sum.result 262145
-          left c.in_ok-generic_cells.ensures c.capped_sum-sum.ensures c.loop-at.invariant.counted;
+      counted = one_counted c.loop-generic.sum (f c.generic-item.result) c.in_ok-generic_cells.field-0 _ _ _ c.capped_sum-sum.result 262145
+          left c.in_ok-generic_cells.ensures c.capped_sum-sum.ensures c.loop-generic.invariant.counted;
     }

@@ -5,10 +5,10 @@ use Rattle.isl_meaning.specs.Cells.{generic_cells}
 use Rattle.isl_dispatch.specs.OfClasses.{with_classes}
 use Rattle.isl_dispatch.proofs.cells.cells.Given as goal
 
-abbrev pub invariant-loop-at : goal.invariant-loop-at
-invariant-loop-at l =
+abbrev pub invariant-loop-generic : goal.invariant-loop-generic
+invariant-loop-generic l =
     record {
       fits : l.sum ≤ 262145;
-      counted : min (l.sum + sum_by (generic_cells (with_classes l.classes)) (drop l.at l.generics)) 262145
+      counted : min (l.sum + sum_by (generic_cells (with_classes l.classes)) (drop l.generic-index l.generics)) 262145
           ≡ min (sum_by (generic_cells (with_classes l.classes)) l.generics) 262145;
     }

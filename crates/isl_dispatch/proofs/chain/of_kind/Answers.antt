@@ -1,20 +1,20 @@
 -- Method by method.
 use Rattle.std.proofs.Common.{◌≡◌, ◌+◌, ◌++◌, ◌∷◌, [], true, false, drop, append_assoc, sym, ap, ◌∙◌}
 use Rattle.isl_meaning.specs.Classes.{of_kind, is_qualifier}
-use Rattle.isl_dispatch.proofs.Picking.{kind_here, kind_later, number_at, picked_at, picked_past}
+use Rattle.isl_dispatch.proofs.Picking.{kind_here, kind_later, item_at, picked_at, picked_past}
 use Rattle.isl_dispatch.proofs.chain.of_kind.Goals as goal
 use Rattle.isl_dispatch.proofs.chain.of_kind.Goals.{then-is_qualifier+in_ok-push, else-is_qualifier}
 
 pub returns-in_default-get : goal.returns-in_default-get
 returns-in_default-get c =
     λ picked x.
-    let there = number_at c.deref.result.now c.args.order.now.items c.loop-at.at c.in-Some.number.now c.deref.ensures.value c.in-Some.ensures.lookup.3.0 c.in-Some.ensures.lookup.1 in
+    let there = item_at c.deref.result.now c.args.order.now.items c.loop-at.at c.in-Some.number.now c.deref.ensures.value c.in-Some.ensures.lookup.3.0 c.in-Some.ensures.lookup.1 in
     absurd (picked_past c.args.generic.now.methods picked c.args.order.now.items c.loop-at.at c.in-Some.number.now x there c.in_default-get.ensures)
 
 pub loop-at-preserved : goal.loop-at-preserved
 loop-at-preserved c =
     λ picked x.
-    let there = number_at c.deref.result.now c.args.order.now.items c.loop-at.at c.in-Some.number.now c.deref.ensures.value c.in-Some.ensures.lookup.3.0 c.in-Some.ensures.lookup.1 in
+    let there = item_at c.deref.result.now c.args.order.now.items c.loop-at.at c.in-Some.number.now c.deref.ensures.value c.in-Some.ensures.lookup.3.0 c.in-Some.ensures.lookup.1 in
     let here = picked_at c.args.generic.now.methods picked c.args.order.now.items c.loop-at.at c.in-Some.number.now c.in-Some-get.method.now x there c.in-Some-get.ensures in
     elim c.if-is_qualifier.branch [
       | then-is_qualifier+in_ok-push w ↦

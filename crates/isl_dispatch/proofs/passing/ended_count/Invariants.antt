@@ -4,13 +4,13 @@ use Rattle.isl_meaning.specs.declared.program.Qualifier.TheVariants.{Primary}
 use Rattle.isl_dispatch.proofs.ChainCounts.{count_of}
 use Rattle.isl_dispatch.proofs.passing.ended_count.Given as goal
 
-abbrev pub invariant-loop-at : goal.invariant-loop-at
-invariant-loop-at l =
+abbrev pub invariant-loop-method : goal.invariant-loop-method
+invariant-loop-method l =
     record {
-      fits : l.found ≤ l.at;
+      fits : l.found ≤ l.method-index;
       primaries : l.primary ≤ l.found;
-      all : l.found + length (filter (λ m. nat_le (length m.classes) l.argument) (drop l.at l.methods))
+      all : l.found + length (filter (λ m. nat_le (length m.classes) l.argument) (drop l.method-index l.methods))
           ≡ length (filter (λ m. nat_le (length m.classes) l.argument) l.methods);
-      some : l.primary + count_of Primary (filter (λ m. nat_le (length m.classes) l.argument) (drop l.at l.methods))
+      some : l.primary + count_of Primary (filter (λ m. nat_le (length m.classes) l.argument) (drop l.method-index l.methods))
           ≡ count_of Primary (filter (λ m. nat_le (length m.classes) l.argument) l.methods);
     }

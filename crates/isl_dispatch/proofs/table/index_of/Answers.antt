@@ -1,13 +1,13 @@
 -- Argument by argument.
 use Rattle.std.proofs.Common.{◌+◌, ◌*◌, min, refl, ap, ◌∙◌, arith}
-use Rattle.isl_dispatch.proofs.Picking.{number_at}
+use Rattle.isl_dispatch.proofs.Picking.{item_at}
 use Rattle.isl_dispatch.proofs.Placing.{indexing_more, indexing_all}
 use Rattle.isl_dispatch.proofs.table.index_of.Goals as goal
 
 pub loop-at-preserved : goal.loop-at-preserved
 loop-at-preserved c =
     λ program g maps called.
-    let class = number_at c.args.classes.now c.args.classes.now c.loop-at.at c.in-Some-get.class.now refl c.in-Some-get.ensures.lookup.3.0 c.in-Some-get.ensures.lookup.1 in
+    let class = item_at c.args.classes.now c.args.classes.now c.loop-at.at c.in-Some-get.class.now refl c.in-Some-get.ensures.lookup.3.0 c.in-Some-get.ensures.lookup.1 in
     indexing_more program g c.args.classes.now c.loop-at.index c.loop-at.at c.in-Some.argument.now c.in-Some-get.class.now _ _
     (c.loop-at.invariant program g maps called)
     (maps.each c.loop-at.at c.in-Some.argument.now c.in-Some.ensures)

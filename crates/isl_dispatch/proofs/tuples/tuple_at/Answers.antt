@@ -1,26 +1,35 @@
 -- List by list.
-use Rattle.std.proofs.Common.{arith}
+use Rattle.std.proofs.Common.{length, ap, arith}
+use Rattle.isl_dispatch.proofs.Picking.{item_at}
 use Rattle.isl_dispatch.proofs.Decoding.{some_left, next_left, decoding_more, decoding_all}
 use Rattle.isl_dispatch.proofs.tuples.tuple_at.Goals as goal
 
 pub nonzero_div-left : goal.nonzero_div-left
-nonzero_div-left c = rw c.len-left.ensures ((some_left _ _ _ _ _ _ c.in-Some.list.now c.loop-at.invariant c.in-Some.ensures).0)
+nonzero_div-left c =
+    let there = item_at c.as_slice-list-items.result.now c.args.lists.now c.loop-list.list-index c.list-item.result c.as_slice-list-items.ensures c.loop-list-test.true c.list-item.is in
+    rw c.len-left.ensures ((some_left _ _ _ _ _ _ c.list-item.result c.loop-list.invariant there).0)
 
 pub nonzero_div-place : goal.nonzero_div-place
-nonzero_div-place c = rw c.len-left.ensures ((next_left _ _ _ _ _ _ c.in-Some.list.now c.loop-at.invariant c.in-Some.ensures).1)
+nonzero_div-place c =
+    let there = item_at c.as_slice-list-items.result.now c.args.lists.now c.loop-list.list-index c.list-item.result c.as_slice-list-items.ensures c.loop-list-test.true c.list-item.is in
+    rw c.len-left.ensures ((next_left _ _ _ _ _ _ c.list-item.result c.loop-list.invariant there).1)
 
-pub unreachable-requires-in_default-get : goal.unreachable-requires-in_default-get
-unreachable-requires-in_default-get c =
-    let past = rw c.len-left.ensures at c.in_default-get.ensures in
-    omega (arith, past, (next_left _ _ _ _ _ _ c.in-Some.list.now c.loop-at.invariant c.in-Some.ensures).2)
+pub unreachable-requires : goal.unreachable-requires
+unreachable-requires c =
+    let there = item_at c.as_slice-list-items.result.now c.args.lists.now c.loop-list.list-index c.list-item.result c.as_slice-list-items.ensures c.loop-list-test.true c.list-item.is in
+    let past = rw c.len-left.ensures at c.in_default.ensures in
+    omega (arith, past, (next_left _ _ _ _ _ _ c.list-item.result c.loop-list.invariant there).2)
 
 pub nonzero_rem-place : goal.nonzero_rem-place
-nonzero_rem-place c = rw c.len-left.ensures ((next_left _ _ _ _ _ _ c.in-Some.list.now c.loop-at.invariant c.in-Some.ensures).1)
+nonzero_rem-place c =
+    let there = item_at c.as_slice-list-items.result.now c.args.lists.now c.loop-list.list-index c.list-item.result c.as_slice-list-items.ensures c.loop-list-test.true c.list-item.is in
+    rw c.len-left.ensures ((next_left _ _ _ _ _ _ c.list-item.result c.loop-list.invariant there).1)
 
-pub loop-at-preserved : goal.loop-at-preserved
-loop-at-preserved c =
-    let got = rw c.len-left.ensures at c.in-Some-get.ensures in
-    rw (c.len-left.ensures, c.in_ok-push.ensures.ok) (decoding_more _ _ _ _ _ _ c.in-Some.list.now c.in-Some-get.class.now c.loop-at.invariant c.in-Some.ensures got)
+pub loop-list-preserved : goal.loop-list-preserved
+loop-list-preserved c =
+    let there = item_at c.as_slice-list-items.result.now c.args.lists.now c.loop-list.list-index c.list-item.result c.as_slice-list-items.ensures c.loop-list-test.true c.list-item.is in
+    let got = rw c.len-left.ensures at c.in-Some.ensures in
+    rw (c.len-left.ensures, c.in_ok-push.ensures.ok) (decoding_more _ _ _ _ _ _ c.list-item.result c.in-Some.class.now c.loop-list.invariant there got)
 
 pub returns : goal.returns
-returns c = decoding_all _ _ _ _ _ _ c.loop-at.invariant (omega (arith, c.len-at-end.ensures))
+returns c = decoding_all _ _ _ _ _ _ c.loop-list.invariant (omega (arith, ap length c.as_slice-list-items.ensures))

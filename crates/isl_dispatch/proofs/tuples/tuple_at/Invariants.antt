@@ -2,5 +2,5 @@
 use Rattle.isl_dispatch.proofs.Decoding.{Decoding}
 use Rattle.isl_dispatch.proofs.tuples.tuple_at.Given as goal
 
-abbrev pub invariant-loop-at : goal.invariant-loop-at
-invariant-loop-at l = Decoding l.lists l.index l.tuple l.left l.place l.at
+abbrev pub invariant-loop-list : goal.invariant-loop-list
+invariant-loop-list l = Decoding l.lists l.index l.tuple l.left l.place l.list-index

@@ -3,9 +3,9 @@ use Rattle.std.proofs.Common.{◌≡◌, ◌*◌, ◌≤◌, min, length, drop}
 use Rattle.isl_meaning.specs.Cells.{tuples}
 use Rattle.isl_dispatch.proofs.tuples.tuple_count.Given as goal
 
-abbrev pub invariant-loop-at : goal.invariant-loop-at
-invariant-loop-at l =
+abbrev pub invariant-loop-list : goal.invariant-loop-list
+invariant-loop-list l =
     record {
       fits : l.count ≤ 18446744073709551615;
-      counted : min (l.count * length (tuples (drop l.at l.lists))) 18446744073709551615 ≡ min (length (tuples l.lists)) 18446744073709551615;
+      counted : min (l.count * length (tuples (drop l.list-index l.lists))) 18446744073709551615 ≡ min (length (tuples l.lists)) 18446744073709551615;
     }

@@ -1,5 +1,5 @@
 -- Each program is a lemma of its own.
-use Rattle.isl_flat_worked.proofs.Examples.{earlier_turn, many_cleanups, without_itself, continued, methods_in_order, seen_through_a_call, rest_list, counting, counting_words, counting_flat}
+use Rattle.isl_flat_worked.proofs.Examples.{earlier_turn, many_cleanups, without_itself, continued, methods_in_order, seen_through_a_call, rest_list, counting, counting_words, counting_flat, own_slots, slots_left}
 use Rattle.isl_flat_worked.proofs.worked.worked_flat.Goals as goal
 
 pub returns-clause-earlier_turn : goal.returns-clause-earlier_turn
@@ -31,3 +31,9 @@ returns-clause-counting_words c = counting_words
 
 pub returns-clause-counting_flat : goal.returns-clause-counting_flat
 returns-clause-counting_flat c = counting_flat
+
+pub returns-clause-own_slots : goal.returns-clause-own_slots
+returns-clause-own_slots c = own_slots
+
+pub returns-clause-slots_left : goal.returns-clause-slots_left
+returns-clause-slots_left c = slots_left

@@ -1,8 +1,6 @@
 -- What is made of forms, clauses and bindings, one after another; of bodies; and of functions.
-use Rattle.std.proofs.Common.{◌≡◌, ◌≤◌, ◌+◌, List, [], ◌∷◌, ◌++◌, Option, ap, ◌∙◌, length, take, drop, arith, length-append, append_assoc}
-use Rattle.std.specs.Prelude.{slice_get, option_map, option_to_list, Bool}
-use Rattle.isl_meaning.specs.Form.{Form, parameters}
-use Rattle.isl_meaning.specs.Meaning.{bound_variables}
+use Rattle.std.proofs.Common.{◌≡◌, ◌≤◌, ◌+◌, [], ◌∷◌, Option, refl, ap, ◌∙◌, length, arith, length-append}
+use Rattle.std.specs.Prelude.{option_map}
 use Rattle.isl_meaning.specs.declared.core_form.Binding.{Binding}
 use Rattle.isl_meaning.specs.declared.core_form.DynBinding.{DynBinding}
 use Rattle.isl_meaning.specs.model.View.{maybe_form, bindings_of, dynamics_of}
@@ -10,21 +8,19 @@ use Rattle.isl_base.specs.declared.datum.Name.{Name}
 use Rattle.isl_closure.specs.declared.flat_core.FlatClause.{FlatClause}
 use Rattle.isl_closure.specs.declared.flat_core.FlatBinding.{FlatBinding}
 use Rattle.isl_closure.specs.declared.flat_core.FlatDynBinding.{FlatDynBinding}
-use Rattle.isl_closure.specs.declared.place.CapturedKind.{CapturedKind}
 use Rattle.isl_closure.specs.declared.place.Home.{Home}
-use Rattle.isl_closure.specs.declared.program.FlatProcedure.{FlatProcedure}
-use Rattle.isl_closure.specs.FlatForm.{FlatForm}
-use Rattle.isl_closure.specs.Scope.{Scope, home_of, homes_of, with_bound, kinds_of, seen}
-use Rattle.isl_closure.specs.Flatten.{flat, functions, functions_of_values, functions_of_dynamics, home_of_rest, body_scope, flat_procedure, inner_procedures, procedures_of_body, procedures_of_values, procedures_of_dynamics}
-use Rattle.isl_closure.specs.bridge.Counted.{all_counted, values_counted, dynamics_counted}
+use Rattle.isl_closure.specs.FlatForm.{FlatForm, FlatForms, FlatClauses, FlatBindings, FlatDynamics}
+use Rattle.isl_closure.specs.FlatForm as form
+use Rattle.isl_closure.specs.Scope.{home_of, place_of, exit_place_of, method_place_of, flat_parts}
+use Rattle.isl_closure.specs.Flatten.{flat, flat_dynamics, functions, functions_of_dynamics, inner_procedures, procedures_of_body, procedures_of_dynamics}
 use Rattle.isl_closure.specs.model.View as flat_view
-use Rattle.isl_flatten.specs.NewVariables.{new_variables, homes_of_new, with_new, slots_of}
-use Rattle.isl_meaning.specs.Captured.{captures}
-use Rattle.isl_meaning.specs.declared.part.Part.TheVariants.{Method}
+use Rattle.isl_closure.specs.bridge.Counted.{all_counted, dynamics_counted}
+use Rattle.isl_flatten.specs.Binders.{binders, binders_of_body, binders_of_dynamics}
 use Rattle.isl_flatten.specs.declared.places.Places.{Places}
 use Rattle.isl_flatten.specs.Places.{scope_of}
-use Rattle.isl_flatten.proofs.Bodies.{same_scope, released, enough_bound, required_homes, rest_home, enough_parameters, put_back, bound_at, its_home, is_there}
-use Rattle.isl_flatten.proofs.Going.{gone_on, all_is_made, all_is_inside, one_clause, clause_inside, clause_count, clause_counted, one_binding, one_dynamic, forms_made, forms_inside, clauses_made, clauses_inside, bindings_made, bindings_inside, dynamics_made, dynamics_inside, length_after, made_after, inside_after}
+use Rattle.isl_flatten.proofs.Bodies.{enough_bound, home_found, inside_made, let_made, procedure_made, function_made}
+use Rattle.isl_flatten.proofs.Going.{gone_on, one_clause, clause_inside, clause_count, clause_counted, clause_front, one_binding, binding_inside, binding_count, binding_front, one_dynamic, dynamic_inside, dynamic_count, dynamic_front, forms_so, clauses_so, bindings_so, dynamics_so}
+use Rattle.isl_flatten.proofs.Made.{viewed, mapped, both, seen_from, alone, around, row, at_form, at_two, at_let, at_dynamic_let, at_function}
 use Rattle.isl_flatten.proofs.forms.+flat.Goals as goal
 
 abbrev a_clause : FlatForm → Option FlatForm → FlatClause
@@ -36,154 +32,126 @@ a_binding h f = record { home = h; value = f }
 abbrev a_dynamic : Name → FlatForm → FlatDynBinding
 a_dynamic n f = record { name = n; value = f }
 
-abbrev a_procedure : List CapturedKind → List Home → Option Home → Bool → FlatForm → FlatProcedure
-a_procedure captured required rest keeps body =
-    record { captured = captured; required = required; rest = rest; keeps_method = keeps; body = body }
-
 -- two forms
 
-pub both-returns-clause-second : goal.both-returns-clause-second
-both-returns-clause-second t c =
-    let s = scope_of c.args.places.now in
-    let before = c.args.lambdas.now in
+pub both-returns : goal.both-returns
+both-returns t c =
     let f = c.args.first.now in
-    made_after s (scope_of c.boxed.new.places) (ap scope_of c.in_ok-first.ensures.same) before c.boxed.new.lambdas (inner_procedures s (length before) f) (functions f)
-    c.in_ok-first.ensures.inside (all_counted s (length before) f) c.args.second.now c.in_ok-boxed.field-0.value c.in_ok-boxed.ensures.made
+    let g = c.args.second.now in
+    both (λ s n. flat s n f) (λ s n. inner_procedures s n f) (binders f) (λ s n. flat s n g) (λ s n. inner_procedures s n g) (binders g) (functions f)
+    c.args.binders.now _ _ _ _ _ _ _ _ (λ s n. all_counted s n f) c.in_ok-first.ensures c.in_ok-boxed.ensures
 
-pub both-returns-clause-inside : goal.both-returns-clause-inside
-both-returns-clause-inside t c =
-    let s = scope_of c.args.places.now in
-    let before = c.args.lambdas.now in
-    let f = c.args.first.now in
-    inside_after s (scope_of c.boxed.new.places) (ap scope_of c.in_ok-first.ensures.same) before c.boxed.new.lambdas (inner_procedures s (length before) f) (functions f)
-    c.in_ok-first.ensures.inside (all_counted s (length before) f) c.args.second.now c.boxed-2.new.lambdas c.in_ok-boxed.ensures.inside
-
-pub flat_forms-returns-clause-made : goal.flat_forms-returns-clause-made
-flat_forms-returns-clause-made t c =
-    let s = scope_of c.args.places.now in
-    let before = c.args.lambdas.now in
+pub flat_forms-returns : goal.flat_forms-returns
+flat_forms-returns t c =
     let xs = c.args.list.now in
     let all : length xs ≤ c.loop-at.at = omega (arith, c.loop-at-test.false, c.len-at-end.ensures) in
-    ap flat_view.forms (all_is_made (flat s) (inner_procedures s) functions xs before c.loop-at.at c.loop-at.made c.loop-at.lambdas c.loop-at.invariant.going all)
-    ∙ forms_made s (length before) xs
-
-pub flat_forms-returns-clause-inside : goal.flat_forms-returns-clause-inside
-flat_forms-returns-clause-inside t c =
-    let s = scope_of c.args.places.now in
-    let before = c.args.lambdas.now in
-    let xs = c.args.list.now in
-    let all : length xs ≤ c.loop-at.at = omega (arith, c.loop-at-test.false, c.len-at-end.ensures) in
-    all_is_inside (flat s) (inner_procedures s) functions xs before c.loop-at.at c.loop-at.made c.loop-at.lambdas c.loop-at.invariant.going all
-    ∙ ap (λ ys. before ++ ys) (forms_inside s (length before) xs)
+    record {
+      same = c.loop-at.invariant.same;
+      longer = c.loop-at.invariant.longer;
+      so = forms_so (scope_of c.args.places.now) c.args.binders.now xs c.args.progress.now c.loop-at.at c.loop-at.made c.loop-at.progress c.loop-at.invariant.going all;
+    }
 
 pub flat_forms-loop-at-preserved : goal.flat_forms-loop-at-preserved
 flat_forms-loop-at-preserved t c =
     let s = scope_of c.args.places.now in
-    let now = c.loop-at.lambdas in
-    let n = length now in
     let f = c.in-Some.form.now in
-    let same = c.loop-at.invariant.same in
+    let made = c.in_ok-flat.ensures in
     record {
-      same = c.in_ok-flat.ensures.same ∙ same;
-      going = gone_on (flat s) (inner_procedures s) functions (all_counted s) c.args.list.now c.args.lambdas.now c.loop-at.at c.loop-at.made now f c.push.new.self c.flat.new.lambdas
-          c.loop-at.invariant.going c.in-Some.ensures
-          (c.in_ok-push.ensures.ok ∙ ap (λ x. c.loop-at.made ++ x ∷ []) (c.in_ok-flat.ensures.made ∙ ap (λ p. flat (scope_of p) n f) same))
-          (c.in_ok-flat.ensures.inside ∙ ap (λ p. now ++ inner_procedures (scope_of p) n f) same);
+      same = made.same ∙ c.loop-at.invariant.same;
+      longer = omega (arith, c.loop-at.invariant.longer, made.longer);
+      going = gone_on (flat s) (inner_procedures s) functions binders c.args.binders.now (all_counted s) c.args.list.now c.args.progress.now c.loop-at.at c.loop-at.made c.loop-at.progress c.flat.new.progress f _ c.push.new.self
+          c.loop-at.invariant.going c.in-Some.ensures c.in_ok-push.ensures.ok
+          (seen_from (λ s n. flat s n f) (λ s n. inner_procedures s n f) (binders f) c.args.binders.now c.args.places.now _ _ _ _ _ c.loop-at.invariant.same made);
     }
 
-pub flat_clauses-returns-clause-made : goal.flat_clauses-returns-clause-made
-flat_clauses-returns-clause-made t c =
-    let s = scope_of c.args.places.now in
-    let before = c.args.lambdas.now in
+pub flat_clauses-returns : goal.flat_clauses-returns
+flat_clauses-returns t c =
     let xs = c.args.list.now in
     let all : length xs ≤ c.loop-at.at = omega (arith, c.loop-at-test.false, c.len-at-end.ensures) in
-    ap flat_view.clauses_of (all_is_made (one_clause s) (clause_inside s) clause_count xs before c.loop-at.at c.loop-at.made c.loop-at.lambdas c.loop-at.invariant.going all)
-    ∙ clauses_made s (length before) xs
-
-pub flat_clauses-returns-clause-inside : goal.flat_clauses-returns-clause-inside
-flat_clauses-returns-clause-inside t c =
-    let s = scope_of c.args.places.now in
-    let before = c.args.lambdas.now in
-    let xs = c.args.list.now in
-    let all : length xs ≤ c.loop-at.at = omega (arith, c.loop-at-test.false, c.len-at-end.ensures) in
-    all_is_inside (one_clause s) (clause_inside s) clause_count xs before c.loop-at.at c.loop-at.made c.loop-at.lambdas c.loop-at.invariant.going all
-    ∙ ap (λ ys. before ++ ys) (clauses_inside s (length before) xs)
+    record {
+      same = c.loop-at.invariant.same;
+      longer = c.loop-at.invariant.longer;
+      so = clauses_so (scope_of c.args.places.now) c.args.binders.now xs c.args.progress.now c.loop-at.at c.loop-at.made c.loop-at.progress c.loop-at.invariant.going all;
+    }
 
 pub flat_clauses-loop-at-preserved : goal.flat_clauses-loop-at-preserved
 flat_clauses-loop-at-preserved t c =
     let s = scope_of c.args.places.now in
-    let now = c.loop-at.lambdas in
-    let n = length now in
-    let f = c.in-Some.clause.now.test in
-    let b = c.in-Some.clause.now.body in
-    let same = c.loop-at.invariant.same in
-    let between = c.flat.new.lambdas in
-    let still : c.flat.new.places ≡ c.args.places.now = c.in_ok-test.ensures.same ∙ same in
-    let tested : between ≡ now ++ inner_procedures s n f = c.in_ok-test.ensures.inside ∙ ap (λ p. now ++ inner_procedures (scope_of p) n f) same in
-    let k : length between ≡ n + functions f = length_after now between (inner_procedures s n f) (functions f) tested (all_counted s n f) in
+    let x = c.in-Some.clause.now in
+    let f = x.test in
+    let b = x.body in
+    let table = c.args.binders.now in
+    let two = both (λ s n. flat s n f) (λ s n. inner_procedures s n f) (binders f) (λ s n. option_map (flat s n) b) (λ s n. procedures_of_body s n (maybe_form b)) (binders_of_body (maybe_form b)) (functions f)
+    table _ _ _ _ _ _ _ _ (λ s n. all_counted s n f) c.in_ok-test.ensures c.in-Ok.ensures in
+    let made = mapped (λ s (p : FlatForm × Option FlatForm). a_clause p.0 p.1) (λ s n. (flat s n f, option_map (flat s (n + functions f)) b)) (λ s n. clause_inside s n x) (clause_front x) table _ _ _ _ _ two in
     record {
-      same = c.in-Ok.ensures.same ∙ still;
-      going = gone_on (one_clause s) (clause_inside s) clause_count (clause_counted s) c.args.list.now c.args.lambdas.now c.loop-at.at c.loop-at.made now c.in-Some.clause.now c.push.new.self c.flat_body.new.lambdas
-          c.loop-at.invariant.going c.in-Some.ensures
-          (c.in_ok-push.ensures.ok
-          ∙ ap (λ x. c.loop-at.made ++ a_clause x c.in-Ok.body ∷ []) (c.in_ok-test.ensures.made ∙ ap (λ p. flat (scope_of p) n f) same)
-          ∙ ap (λ x. c.loop-at.made ++ a_clause (flat s n f) x ∷ [])
-          (c.in-Ok.ensures.made ∙ ap (λ p. option_map (flat (scope_of p) (length between)) b) still ∙ ap (λ m. option_map (flat s m) b) k))
-          (c.in-Ok.ensures.inside
-          ∙ ap (λ p. between ++ procedures_of_body (scope_of p) (length between) (maybe_form b)) still
-          ∙ ap (λ m. between ++ procedures_of_body s m (maybe_form b)) k
-          ∙ ap (λ ys. ys ++ procedures_of_body s (n + functions f) (maybe_form b)) tested
-          ∙ append_assoc now (inner_procedures s n f) (procedures_of_body s (n + functions f) (maybe_form b)));
+      same = made.same ∙ c.loop-at.invariant.same;
+      longer = omega (arith, c.loop-at.invariant.longer, made.longer);
+      going = gone_on (one_clause s) (clause_inside s) clause_count clause_front table (clause_counted s) c.args.list.now c.args.progress.now c.loop-at.at c.loop-at.made c.loop-at.progress c.flat_body.new.progress x _ c.push.new.self
+          c.loop-at.invariant.going c.in-Some.ensures c.in_ok-push.ensures.ok
+          (seen_from (λ s n. one_clause s n x) (λ s n. clause_inside s n x) (clause_front x) table c.args.places.now _ _ _ _ _ c.loop-at.invariant.same made);
     }
 
-pub flat_dynamics-returns-clause-made : goal.flat_dynamics-returns-clause-made
-flat_dynamics-returns-clause-made t c =
-    let s = scope_of c.args.places.now in
-    let before = c.args.lambdas.now in
+pub flat_values-returns : goal.flat_values-returns
+flat_values-returns t c =
     let xs = c.args.list.now in
     let all : length xs ≤ c.loop-at.at = omega (arith, c.loop-at-test.false, c.len-at-end.ensures) in
-    ap flat_view.dynamics_of (all_is_made (one_dynamic s) (λ n (b : DynBinding). inner_procedures s n b.value) (λ (b : DynBinding). functions b.value) xs before c.loop-at.at c.loop-at.made c.loop-at.lambdas c.loop-at.invariant.going all)
-    ∙ dynamics_made s (length before) xs
+    record {
+      same = c.loop-at.invariant.same;
+      longer = c.loop-at.invariant.longer;
+      so = λ body are. bindings_so (scope_of c.args.places.now) body c.args.binders.now xs c.args.progress.now c.loop-at.at c.loop-at.made c.loop-at.progress (c.loop-at.invariant.going body are) all;
+    }
 
-pub flat_dynamics-returns-clause-inside : goal.flat_dynamics-returns-clause-inside
-flat_dynamics-returns-clause-inside t c =
+pub flat_values-loop-at-preserved : goal.flat_values-loop-at-preserved
+flat_values-loop-at-preserved t c =
     let s = scope_of c.args.places.now in
-    let before = c.args.lambdas.now in
+    let b = c.in-Some.binding.now in
+    let f = b.value in
+    let table = c.args.binders.now in
+    let home = c.home_of_binding.result in
+    let made = mapped (λ s y. a_binding home y) (λ s n. flat s n f) (λ s n. inner_procedures s n f) (binders f) table _ _ _ _ _ c.in_ok-value.ensures in
+    record {
+      same = made.same ∙ c.loop-at.invariant.same;
+      longer = omega (arith, c.loop-at.invariant.longer, made.longer);
+      going = λ body are.
+          let found : home ≡ home_of b.var body = c.home_of_binding.ensures ∙ home_found c.args.list.now body c.args.news.now are c.loop-at.at b c.in-Some.ensures in
+          gone_on (one_binding s body) (binding_inside s) binding_count binding_front table (λ n (x : Binding). all_counted s n x.value) c.args.list.now c.args.progress.now c.loop-at.at c.loop-at.made c.loop-at.progress c.flat.new.progress b _ c.push.new.self
+          (c.loop-at.invariant.going body are) c.in-Some.ensures c.in_ok-push.ensures.ok
+          (λ rest e. viewed (λ y. y) (λ n. a_binding home (flat s n f)) (λ n. inner_procedures s n f) (λ n. one_binding s body n b) (λ n. binding_inside s n b) table _ _ _ rest (λ n. ap (λ h. a_binding h (flat s n f)) found) (λ n. refl)
+          (seen_from (λ s n. a_binding home (flat s n f)) (λ s n. inner_procedures s n f) (binders f) table c.args.places.now _ _ _ _ _ c.loop-at.invariant.same made rest e));
+    }
+
+pub flat_dynamics-returns : goal.flat_dynamics-returns
+flat_dynamics-returns t c =
     let xs = c.args.list.now in
     let all : length xs ≤ c.loop-at.at = omega (arith, c.loop-at-test.false, c.len-at-end.ensures) in
-    all_is_inside (one_dynamic s) (λ n (b : DynBinding). inner_procedures s n b.value) (λ (b : DynBinding). functions b.value) xs before c.loop-at.at c.loop-at.made c.loop-at.lambdas c.loop-at.invariant.going all
-    ∙ ap (λ ys. before ++ ys) (dynamics_inside s (length before) xs)
+    record {
+      same = c.loop-at.invariant.same;
+      longer = c.loop-at.invariant.longer;
+      so = dynamics_so (scope_of c.args.places.now) c.args.binders.now xs c.args.progress.now c.loop-at.at c.loop-at.made c.loop-at.progress c.loop-at.invariant.going all;
+    }
 
 pub flat_dynamics-loop-at-preserved : goal.flat_dynamics-loop-at-preserved
 flat_dynamics-loop-at-preserved t c =
     let s = scope_of c.args.places.now in
-    let now = c.loop-at.lambdas in
-    let n = length now in
     let b = c.in-Some.binding.now in
-    let same = c.loop-at.invariant.same in
+    let f = b.value in
+    let table = c.args.binders.now in
+    let made = mapped (λ s y. a_dynamic b.name y) (λ s n. flat s n f) (λ s n. inner_procedures s n f) (binders f) table _ _ _ _ _ c.in_ok-value.ensures in
     record {
-      same = c.in_ok-value.ensures.same ∙ same;
-      going = gone_on (one_dynamic s) (λ n (b : DynBinding). inner_procedures s n b.value) (λ (b : DynBinding). functions b.value) (λ n (b : DynBinding). all_counted s n b.value) c.args.list.now c.args.lambdas.now c.loop-at.at c.loop-at.made now b c.push.new.self c.flat.new.lambdas
-          c.loop-at.invariant.going c.in-Some.ensures
-          (c.in_ok-push.ensures.ok ∙ ap (λ x. c.loop-at.made ++ a_dynamic b.name x ∷ []) (c.in_ok-value.ensures.made ∙ ap (λ p. flat (scope_of p) n b.value) same))
-          (c.in_ok-value.ensures.inside ∙ ap (λ p. now ++ inner_procedures (scope_of p) n b.value) same);
+      same = made.same ∙ c.loop-at.invariant.same;
+      longer = omega (arith, c.loop-at.invariant.longer, made.longer);
+      going = gone_on (one_dynamic s) (dynamic_inside s) dynamic_count dynamic_front table (λ n (x : DynBinding). all_counted s n x.value) c.args.list.now c.args.progress.now c.loop-at.at c.loop-at.made c.loop-at.progress c.flat.new.progress b _ c.push.new.self
+          c.loop-at.invariant.going c.in-Some.ensures c.in_ok-push.ensures.ok
+          (seen_from (λ s n. one_dynamic s n b) (λ s n. inner_procedures s n f) (binders f) table c.args.places.now _ _ _ _ _ c.loop-at.invariant.same made);
     }
 
-pub flat_dynamic_let-returns-in-Ok-clause-body : goal.flat_dynamic_let-returns-in-Ok-clause-body
-flat_dynamic_let-returns-in-Ok-clause-body t c =
-    let s = scope_of c.args.places.now in
-    let before = c.args.lambdas.now in
+pub flat_dynamic_let-returns-in-Ok : goal.flat_dynamic_let-returns-in-Ok
+flat_dynamic_let-returns-in-Ok t c =
     let ds = dynamics_of c.args.list.now in
-    made_after s (scope_of c.flat_dynamics.new.places) (ap scope_of c.in_ok-made.ensures.same) before c.flat_dynamics.new.lambdas (procedures_of_dynamics s (length before) ds) (functions_of_dynamics ds)
-    c.in_ok-made.ensures.inside (dynamics_counted s (length before) ds) c.args.body.now c.in-Ok.body.value c.in-Ok.ensures.made
-
-pub flat_dynamic_let-returns-in-Ok-clause-inside : goal.flat_dynamic_let-returns-in-Ok-clause-inside
-flat_dynamic_let-returns-in-Ok-clause-inside t c =
-    let s = scope_of c.args.places.now in
-    let before = c.args.lambdas.now in
-    let ds = dynamics_of c.args.list.now in
-    inside_after s (scope_of c.flat_dynamics.new.places) (ap scope_of c.in_ok-made.ensures.same) before c.flat_dynamics.new.lambdas (procedures_of_dynamics s (length before) ds) (functions_of_dynamics ds)
-    c.in_ok-made.ensures.inside (dynamics_counted s (length before) ds) c.args.body.now c.boxed.new.lambdas c.in-Ok.ensures.inside
+    let g = c.args.body.now in
+    both (λ s n. flat_dynamics s n ds) (λ s n. procedures_of_dynamics s n ds) (binders_of_dynamics ds) (λ s n. flat s n g) (λ s n. inner_procedures s n g) (binders g) (functions_of_dynamics ds)
+    c.args.binders.now _ _ _ _ _ _ _ _ (λ s n. dynamics_counted s n ds) c.in_ok-made.ensures c.in-Ok.ensures
 
 -- new variables
 
@@ -193,166 +161,222 @@ flat_inside-release-requires t c =
     let p = c.args.places.now in
     omega (arith, c.len.ensures, enough_bound news p, ap (λ (q : Places). length q.variables) (c.in_ok-made.ensures.same ∙ c.in_ok-bind.ensures))
 
-pub flat_inside-returns-clause-same : goal.flat_inside-returns-clause-same
-flat_inside-returns-clause-same t c =
-    let news = c.args.news.now in
-    let p = c.args.places.now in
-    c.release.ensures
-    ∙ ap (λ (q : Places). let r : Places = record q { variables = drop c.len.result q.variables; slots = p.slots } in r) (c.in_ok-made.ensures.same ∙ c.in_ok-bind.ensures)
-    ∙ ap (λ n. let r : Places = record p { variables = drop n (slots_of news p.slots ++ p.variables) } in r) c.len.ensures
-    ∙ ap (λ vs. let r : Places = record p { variables = vs } in r) (released news p)
+pub flat_inside-returns : goal.flat_inside-returns
+flat_inside-returns t c =
+    inside_made c.args.news.now c.args.body.now c.args.binders.now c.args.places.now _ _ _ _ _ _ c.len.result
+    c.in_ok-bind.ensures c.len.ensures c.release.ensures c.in_ok-made.ensures
 
-pub flat_let-loop-at-preserved : goal.flat_let-loop-at-preserved
-flat_let-loop-at-preserved t c =
-    let s = scope_of c.args.places.now in
-    let body = c.args.body.now in
-    let now = c.loop-at.lambdas in
-    let n = length now in
-    let b = c.in-Some.binding.now in
-    let same = c.loop-at.invariant.same in
-    let at = c.loop-at.at in
-    let news = c.in_ok-news.news in
-    let found = bound_at c.args.list.now body news (c.in_ok-news.ensures ∙ ap (λ vs. new_variables vs body) c.in_ok-bound.ensures) at b c.in-Some.ensures in
-    let home = its_home news at b.var body c.in-Some-get.new.now c.in-Some-get.ensures found in
-    record {
-      same = c.in_ok-value.ensures.same ∙ same;
-      going = gone_on (one_binding s body) (λ n (b : Binding). inner_procedures s n b.value) (λ (b : Binding). functions b.value) (λ n (b : Binding). all_counted s n b.value) c.args.list.now c.args.lambdas.now at c.loop-at.made now b c.push.new.self c.flat.new.lambdas
-          c.loop-at.invariant.going c.in-Some.ensures
-          (c.in_ok-push.ensures.ok
-          ∙ ap (λ h. c.loop-at.made ++ a_binding h c.in_ok-value.value ∷ []) home
-          ∙ ap (λ x. c.loop-at.made ++ a_binding (home_of b.var body) x ∷ []) (c.in_ok-value.ensures.made ∙ ap (λ p. flat (scope_of p) n b.value) same))
-          (c.in_ok-value.ensures.inside ∙ ap (λ p. now ++ inner_procedures (scope_of p) n b.value) same);
-    }
-
-pub flat_let-unreachable-requires-in_default-get : goal.flat_let-unreachable-requires-in_default-get
-flat_let-unreachable-requires-in_default-get t c =
-    let body = c.args.body.now in
-    let b = c.in-Some.binding.now in
-    let at = c.loop-at.at in
-    let news = c.in_ok-news.news in
-    is_there news at b.var body c.in_default-get.ensures
-    (bound_at c.args.list.now body news (c.in_ok-news.ensures ∙ ap (λ vs. new_variables vs body) c.in_ok-bound.ensures) at b c.in-Some.ensures)
-
-pub flat_let-returns-in-Ok-clause-bindings : goal.flat_let-returns-in-Ok-clause-bindings
-flat_let-returns-in-Ok-clause-bindings t c =
-    let s = scope_of c.args.places.now in
-    let body = c.args.body.now in
-    let before = c.args.lambdas.now in
-    let xs = c.args.list.now in
-    let all : length xs ≤ c.loop-at.at = omega (arith, c.loop-at-test.false, c.len-at-end.ensures) in
-    ap flat_view.bindings_of (all_is_made (one_binding s body) (λ n (b : Binding). inner_procedures s n b.value) (λ (b : Binding). functions b.value) xs before c.loop-at.at c.loop-at.made c.loop-at.lambdas c.loop-at.invariant.going all)
-    ∙ bindings_made s body (length before) xs
-
--- the values' functions, and then those of the body
-abbrev LetIs : Scope → Form → List Binding → List FlatProcedure → List FlatProcedure → Type 0
-LetIs s body xs before after = after ≡ before ++ procedures_of_values s (length before) (bindings_of xs)
-
-pub flat_let-returns-in-Ok-clause-body : goal.flat_let-returns-in-Ok-clause-body
-flat_let-returns-in-Ok-clause-body t c =
-    let s = scope_of c.args.places.now in
-    let body = c.args.body.now in
-    let before = c.args.lambdas.now in
-    let xs = c.args.list.now in
-    let vs = bound_variables (bindings_of xs) in
-    let all : length xs ≤ c.loop-at.at = omega (arith, c.loop-at-test.false, c.len-at-end.ensures) in
-    let values : LetIs s body xs before c.loop-at.lambdas =
-    (all_is_inside (one_binding s body) (λ n (b : Binding). inner_procedures s n b.value) (λ (b : Binding). functions b.value) xs before c.loop-at.at c.loop-at.made c.loop-at.lambdas c.loop-at.invariant.going all
-    ∙ ap (λ ys. before ++ ys) (bindings_inside s body (length before) xs)) in
-    let bound : with_new c.in_ok-news.news (scope_of c.loop-at.places) ≡ with_bound vs body s =
-    (ap (λ p. with_new c.in_ok-news.news (scope_of p)) c.loop-at.invariant.same
-    ∙ ap (λ ns. with_new ns s) (c.in_ok-news.ensures ∙ ap (λ us. new_variables us body) c.in_ok-bound.ensures)
-    ∙ same_scope vs body s) in
-    made_after (with_bound vs body s) (with_new c.in_ok-news.news (scope_of c.loop-at.places)) bound before c.loop-at.lambdas (procedures_of_values s (length before) (bindings_of xs)) (functions_of_values (bindings_of xs))
-    values (values_counted s (length before) (bindings_of xs)) body c.in-Ok.body c.in-Ok.ensures.made
-
-pub flat_let-returns-in-Ok-clause-inside : goal.flat_let-returns-in-Ok-clause-inside
-flat_let-returns-in-Ok-clause-inside t c =
-    let s = scope_of c.args.places.now in
-    let body = c.args.body.now in
-    let before = c.args.lambdas.now in
-    let xs = c.args.list.now in
-    let vs = bound_variables (bindings_of xs) in
-    let all : length xs ≤ c.loop-at.at = omega (arith, c.loop-at-test.false, c.len-at-end.ensures) in
-    let values : LetIs s body xs before c.loop-at.lambdas =
-    (all_is_inside (one_binding s body) (λ n (b : Binding). inner_procedures s n b.value) (λ (b : Binding). functions b.value) xs before c.loop-at.at c.loop-at.made c.loop-at.lambdas c.loop-at.invariant.going all
-    ∙ ap (λ ys. before ++ ys) (bindings_inside s body (length before) xs)) in
-    let bound : with_new c.in_ok-news.news (scope_of c.loop-at.places) ≡ with_bound vs body s =
-    (ap (λ p. with_new c.in_ok-news.news (scope_of p)) c.loop-at.invariant.same
-    ∙ ap (λ ns. with_new ns s) (c.in_ok-news.ensures ∙ ap (λ us. new_variables us body) c.in_ok-bound.ensures)
-    ∙ same_scope vs body s) in
-    inside_after (with_bound vs body s) (with_new c.in_ok-news.news (scope_of c.loop-at.places)) bound before c.loop-at.lambdas (procedures_of_values s (length before) (bindings_of xs)) (functions_of_values (bindings_of xs))
-    values (values_counted s (length before) (bindings_of xs)) body c.flat_inside.new.lambdas c.in-Ok.ensures.inside
-
-pub flat_let-returns-in-Ok-clause-same : goal.flat_let-returns-in-Ok-clause-same
-flat_let-returns-in-Ok-clause-same t c = c.in-Ok.ensures.same ∙ c.loop-at.invariant.same
+pub flat_let-returns-in-Ok : goal.flat_let-returns-in-Ok
+flat_let-returns-in-Ok t c =
+    let_made (bindings_of c.args.list.now) c.args.body.now c.args.binders.now c.args.places.now _ _ c.args.progress.now _ _ _ _ _ _
+    c.in_ok-news.ensures c.in_ok-made.ensures c.in-Ok.ensures
 
 -- functions
 
-pub function-returns-clause-inside : goal.function-returns-clause-inside
-function-returns-clause-inside t c =
-    let s = scope_of c.args.places.now in
-    let parts = c.args.parts.now in
-    let required = c.args.required.now in
-    let rest = c.args.rest in
-    let body = c.args.body.now in
-    let before = c.args.lambdas.now in
-    let more = c.push.new.self in
-    let k : length more ≡ length before + 1 = ap length c.in_ok-push.ensures.ok ∙ length-append before (c.reserved.result ∷ []) in
-    let inside : Scope = scope_of c.in_ok-inside.inside in
-    let within : inside ≡ seen s parts = c.in_ok-inside.ensures in
-    put_back before c.reserved.result c.in_ok-procedure.procedure (inner_procedures (body_scope required rest body inside) (length more) body) more c.procedure.new.lambdas c.replace.new.self c.len-number.result
-    c.in_ok-push.ensures.ok c.in_ok-procedure.ensures.inside c.replace.ensures.now c.len-number.ensures
-    ∙ ap (λ q. before ++ q ∷ inner_procedures (body_scope required rest body inside) (length more) body)
-    (c.in_ok-procedure.ensures.made
-    ∙ ap (λ ks. flat_procedure inside (length more) ks required rest body) c.in_ok-kinds.ensures
-    ∙ ap (λ r. flat_procedure r (length more) (kinds_of s parts) required rest body) within
-    ∙ ap (λ n. flat_procedure (seen s parts) n (kinds_of s parts) required rest body) k)
-    ∙ ap (λ i. before ++ flat_procedure (seen s parts) (length before + 1) (kinds_of s parts) required rest body ∷ i)
-    (ap (λ r. inner_procedures (body_scope required rest body r) (length more) body) within
-    ∙ ap (λ n. inner_procedures (body_scope required rest body (seen s parts)) n body) k)
+pub function-returns : goal.function-returns
+function-returns t c =
+    function_made _ c.args.required.now c.args.rest c.args.body.now c.args.parts.now c.args.binders.now c.args.places.now _ _ c.args.progress.now _ _ c.reserved.result _ _ _ _
+    c.len-number.ensures c.in_ok-push.ensures.ok c.in_ok-kinds.ensures c.in_ok-inside.ensures refl c.in_ok-procedure.ensures c.replace.ensures.now
 
-pub procedure-first_homes-requires : goal.procedure-first_homes-requires
-procedure-first_homes-requires t c =
-    let required = c.args.required.now in
-    let rest = c.args.rest in
-    let body = c.args.body.now in
-    omega (arith, c.len.ensures, ap length (c.in_ok-news.ensures ∙ ap (λ vs. new_variables vs body) c.in_ok-parameters.ensures), enough_parameters required rest body)
+pub function-replace-requires : goal.function-replace-requires
+function-replace-requires t c =
+    omega (arith, c.len-number.ensures, c.in_ok-procedure.ensures.longer, ap length c.in_ok-push.ensures.ok, length-append c.args.progress.now.lambdas (c.reserved.result ∷ []))
 
-pub procedure-returns-clause-made : goal.procedure-returns-clause-made
-procedure-returns-clause-made t c =
-    let s = scope_of c.args.places.now in
-    let n = length c.args.lambdas.now in
-    let required = c.args.required.now in
-    let rest = c.args.rest in
-    let body = c.args.body.now in
-    let news = c.in_ok-news.news in
-    let keeps = c.captures-2.result in
-    let made = c.in_ok-made.made in
-    let are : news ≡ new_variables (parameters required rest) body = c.in_ok-news.ensures ∙ ap (λ vs. new_variables vs body) c.in_ok-parameters.ensures in
-    ap (λ hs. a_procedure c.args.captured hs c.home_at.result keeps made)
-    (c.in_ok-homes.ensures
-    ∙ ap (λ k. take k (homes_of_new news)) c.len.ensures
-    ∙ ap (λ ns. take (length required) (homes_of_new ns)) are
-    ∙ required_homes required (option_to_list rest) body)
-    ∙ ap (λ h. a_procedure c.args.captured (homes_of required body) h keeps made)
-    (c.home_at.ensures
-    ∙ ap (λ k. slice_get (homes_of_new news) k) c.len-2.ensures
-    ∙ ap (λ ns. slice_get (homes_of_new ns) (length required)) are
-    ∙ rest_home required rest body)
-    ∙ ap (λ k. a_procedure c.args.captured (homes_of required body) (home_of_rest rest body) k made) c.captures-2.ensures
-    ∙ ap (λ f. a_procedure c.args.captured (homes_of required body) (home_of_rest rest body) (captures Method body) f)
-    (c.in_ok-made.ensures.made
-    ∙ ap (λ ns. flat (with_new ns s) n body) are
-    ∙ ap (λ r. flat r n body) (same_scope (parameters required rest) body s))
+pub procedure-returns : goal.procedure-returns
+procedure-returns t c =
+    procedure_made c.args.captured c.args.required.now c.args.rest c.args.body.now c.args.binders.now c.args.places.now _ c.args.progress.now _ _ _ c.len.result c.len-2.result _ _ _
+    c.in_ok-own.ensures c.len.ensures c.len-2.ensures c.in_ok-homes.ensures c.home_at.ensures c.in_ok-made.ensures
 
-pub procedure-returns-clause-inside : goal.procedure-returns-clause-inside
-procedure-returns-clause-inside t c =
-    let s = scope_of c.args.places.now in
-    let before = c.args.lambdas.now in
-    let required = c.args.required.now in
-    let rest = c.args.rest in
-    let body = c.args.body.now in
-    let are : c.in_ok-news.news ≡ new_variables (parameters required rest) body = c.in_ok-news.ensures ∙ ap (λ vs. new_variables vs body) c.in_ok-parameters.ensures in
-    c.in_ok-made.ensures.inside
-    ∙ ap (λ ns. before ++ inner_procedures (with_new ns s) (length before) body) are
-    ∙ ap (λ r. before ++ inner_procedures r (length before) body) (same_scope (parameters required rest) body s)
+-- forms
+
+pub flat_kind-returns-in-Literal : goal.flat_kind-returns-in-Literal
+unfolding flat
+flat_kind-returns-in-Literal t c =
+    row _ _ (λ s (m : FlatForm). m) _ _ _ _ _ _ _ _ _ _
+    c.in-Literal.is (alone (λ s n. form.literal c.in-Literal.id) c.args.binders.now c.args.places.now c.args.progress.now _ refl) refl (λ s n. refl) (λ s n. refl) (λ rest. refl)
+
+pub flat_kind-returns-in-Local : goal.flat_kind-returns-in-Local
+unfolding flat
+flat_kind-returns-in-Local t c =
+    row _ _ (λ s (m : FlatForm). m) _ _ _ _ _ _ _ _ _ _
+    c.in-Local.is (alone (λ s n. form.local (place_of s c.in-Local.var)) c.args.binders.now c.args.places.now c.args.progress.now _ (ap form.local c.variable.ensures)) refl (λ s n. refl) (λ s n. refl) (λ rest. refl)
+
+pub flat_kind-returns-in_ok-boxed-in-SetLocal : goal.flat_kind-returns-in_ok-boxed-in-SetLocal
+unfolding flat
+flat_kind-returns-in_ok-boxed-in-SetLocal t c =
+    row _ _ (λ s (m : FlatForm). form.set_local (place_of s c.in-SetLocal.var) m) _ _ _ _ _ _ _ _ _ _
+    c.in-SetLocal.is (at_form _ _ _ _ _ _ _ _ c.deref.ensures c.in_ok-boxed-in-SetLocal.ensures) (ap (λ w. form.set_local w c.in_ok-boxed-in-SetLocal.field-0.value) c.variable-place.ensures) (λ s n. refl) (λ s n. refl) (λ rest. refl)
+
+pub flat_kind-returns-in-Global : goal.flat_kind-returns-in-Global
+unfolding flat
+flat_kind-returns-in-Global t c =
+    row _ _ (λ s (m : FlatForm). m) _ _ _ _ _ _ _ _ _ _
+    c.in-Global.is (alone (λ s n. form.global c.in-Global.name.0) c.args.binders.now c.args.places.now c.args.progress.now _ refl) refl (λ s n. refl) (λ s n. refl) (λ rest. refl)
+
+pub flat_kind-returns-in_ok-boxed-in-SetGlobal : goal.flat_kind-returns-in_ok-boxed-in-SetGlobal
+unfolding flat
+flat_kind-returns-in_ok-boxed-in-SetGlobal t c =
+    row _ _ (λ s (m : FlatForm). form.set_global c.in-SetGlobal.name.0 m) _ _ _ _ _ _ _ _ _ _
+    c.in-SetGlobal.is (at_form _ _ _ _ _ _ _ _ c.deref-in-SetGlobal.ensures c.in_ok-boxed-in-SetGlobal.ensures) refl (λ s n. refl) (λ s n. refl) (λ rest. refl)
+
+pub flat_kind-returns-in_ok-boxed-in-DefGlobal : goal.flat_kind-returns-in_ok-boxed-in-DefGlobal
+unfolding flat
+flat_kind-returns-in_ok-boxed-in-DefGlobal t c =
+    row _ _ (λ s (m : FlatForm). form.def_global c.in-DefGlobal.name.0 m) _ _ _ _ _ _ _ _ _ _
+    c.in-DefGlobal.is (at_form _ _ _ _ _ _ _ _ c.deref-in-DefGlobal.ensures c.in_ok-boxed-in-DefGlobal.ensures) refl (λ s n. refl) (λ s n. refl) (λ rest. refl)
+
+pub flat_kind-returns-in_ok-flat_clauses-in-Clauses : goal.flat_kind-returns-in_ok-flat_clauses-in-Clauses
+unfolding flat
+flat_kind-returns-in_ok-flat_clauses-in-Clauses t c =
+    row _ _ (λ s (m : FlatClauses). form.clauses m) _ _ _ _ _ _ _ _ _ _
+    c.in-Clauses.is c.in_ok-flat_clauses-in-Clauses.ensures refl (λ s n. refl) (λ s n. refl) (λ rest. refl)
+
+pub flat_kind-returns-in_ok-flat_forms-in-Sequence : goal.flat_kind-returns-in_ok-flat_forms-in-Sequence
+unfolding flat
+flat_kind-returns-in_ok-flat_forms-in-Sequence t c =
+    row _ _ (λ s (m : FlatForms). form.sequence m) _ _ _ _ _ _ _ _ _ _
+    c.in-Sequence.is c.in_ok-flat_forms-in-Sequence.ensures refl (λ s n. refl) (λ s n. refl) (λ rest. refl)
+
+pub flat_kind-returns-in-Ok : goal.flat_kind-returns-in-Ok
+unfolding flat
+flat_kind-returns-in-Ok t c =
+    row _ _ (λ s (m : FlatBindings × FlatForm). form.let_form m.0 m.1) _ _ _ _ _ _ _ _ _ _
+    c.in-Let.is (at_let _ _ _ _ _ _ _ _ _ c.deref-in-Let.ensures c.in_ok-list-in-Let.ensures) (ap (form.let_form (flat_view.bindings_of c.in_ok-list-in-Let.list)) c.in-Ok.ensures.ok) (λ s n. refl) (λ s n. refl) (λ rest. refl)
+
+pub flat_kind-returns-in_ok-number-in-Lambda : goal.flat_kind-returns-in_ok-number-in-Lambda
+unfolding flat
+flat_kind-returns-in_ok-number-in-Lambda t c =
+    row _ _ (λ s m. form.make_function m (flat_parts s c.in-Lambda.parts)) _ _ _ _ _ _ _ _ _ _
+    c.in-Lambda.is (at_function _ _ _ _ _ _ _ _ _ _ _ c.deref-in-Lambda.ensures c.in_ok-number-in-Lambda.ensures) (ap (form.make_function c.in_ok-number-in-Lambda.number) c.in_ok-captured-in-Lambda.ensures) (λ s n. refl) (λ s n. refl) (λ rest. refl)
+
+pub flat_kind-returns-in_ok-flat_forms-in-Call : goal.flat_kind-returns-in_ok-flat_forms-in-Call
+unfolding flat
+flat_kind-returns-in_ok-flat_forms-in-Call t c =
+    row _ _ (λ s (m : FlatForms). form.call c.in-Call.name.0 m) _ _ _ _ _ _ _ _ _ _
+    c.in-Call.is c.in_ok-flat_forms-in-Call.ensures refl (λ s n. refl) (λ s n. refl) (λ rest. refl)
+
+pub flat_kind-returns-in_ok-flat_forms-in-CallValue : goal.flat_kind-returns-in_ok-flat_forms-in-CallValue
+unfolding flat
+flat_kind-returns-in_ok-flat_forms-in-CallValue t c =
+    row _ _ (λ s (m : FlatForms). form.call_value m) _ _ _ _ _ _ _ _ _ _
+    c.in-CallValue.is c.in_ok-flat_forms-in-CallValue.ensures refl (λ s n. refl) (λ s n. refl) (λ rest. refl)
+
+pub flat_kind-returns-in_ok-first-in-Apply : goal.flat_kind-returns-in_ok-first-in-Apply
+unfolding flat
+flat_kind-returns-in_ok-first-in-Apply t c =
+    row _ _ (λ s (m : FlatForm × FlatForm). form.apply m.0 m.1) _ _ _ _ _ _ _ _ _ _
+    c.in-Apply.is (at_two _ _ _ _ _ _ _ _ _ _ c.deref-in-Apply.ensures c.deref-in-Apply-2.ensures c.in_ok-first-in-Apply.ensures) refl (λ s n. refl) (λ s n. refl) (λ rest. refl)
+
+pub flat_kind-returns-in_ok-flat_forms-in-Prim : goal.flat_kind-returns-in_ok-flat_forms-in-Prim
+unfolding flat
+flat_kind-returns-in_ok-flat_forms-in-Prim t c =
+    row _ _ (λ s (m : FlatForms). form.prim c.in-Prim.which m) _ _ _ _ _ _ _ _ _ _
+    c.in-Prim.is c.in_ok-flat_forms-in-Prim.ensures refl (λ s n. refl) (λ s n. refl) (λ rest. refl)
+
+pub flat_kind-returns-in_ok-test-in-While : goal.flat_kind-returns-in_ok-test-in-While
+unfolding flat
+flat_kind-returns-in_ok-test-in-While t c =
+    row _ _ (λ s (m : FlatForm × FlatForm). form.while_form m.0 m.1) _ _ _ _ _ _ _ _ _ _
+    c.in-While.is (at_two _ _ _ _ _ _ _ _ _ _ c.deref-in-While.ensures c.deref-in-While-2.ensures c.in_ok-test-in-While.ensures) refl (λ s n. refl) (λ s n. refl) (λ rest. refl)
+
+pub flat_kind-returns-in_ok-body-in-Block : goal.flat_kind-returns-in_ok-body-in-Block
+unfolding flat
+flat_kind-returns-in_ok-body-in-Block t c =
+    row _ _ (λ s (m : FlatForm). form.block m) _ _ _ _ _ _ _ _ _ _
+    c.in-Block.is (around _ _ _ c.in-Block.exit _ _ _ _ _ _ _ _ c.in_ok-enter-in-Block.ensures c.leave.ensures (at_form _ _ _ _ _ _ _ _ c.deref-in-Block.ensures c.in_ok-body-in-Block.ensures)) refl (λ s n. refl) (λ s n. refl) (λ rest. refl)
+
+pub flat_kind-returns-in_ok-boxed-in-Return : goal.flat_kind-returns-in_ok-boxed-in-Return
+unfolding flat
+flat_kind-returns-in_ok-boxed-in-Return t c =
+    row _ _ (λ s (m : FlatForm). form.return_from (exit_place_of s c.in-Return.exit) m) _ _ _ _ _ _ _ _ _ _
+    c.in-Return.is (at_form _ _ _ _ _ _ _ _ c.deref-in-Return.ensures c.in_ok-boxed-in-Return.ensures) (ap (λ w. form.return_from w c.in_ok-boxed-in-Return.field-0.value) c.exit-place.ensures) (λ s n. refl) (λ s n. refl) (λ rest. refl)
+
+pub flat_kind-returns-in_ok-list-in-Tagbody : goal.flat_kind-returns-in_ok-list-in-Tagbody
+unfolding flat
+flat_kind-returns-in_ok-list-in-Tagbody t c =
+    row _ _ (λ s (m : FlatForms). form.tagbody m) _ _ _ _ _ _ _ _ _ _
+    c.in-Tagbody.is (around _ _ _ c.in-Tagbody.exit _ _ _ _ _ _ _ _ c.in_ok-enter-in-Tagbody.ensures c.leave-in-Tagbody.ensures c.in_ok-list-in-Tagbody.ensures) refl (λ s n. refl) (λ s n. refl) (λ rest. refl)
+
+pub flat_kind-returns-in-Go : goal.flat_kind-returns-in-Go
+unfolding flat
+flat_kind-returns-in-Go t c =
+    row _ _ (λ s (m : FlatForm). m) _ _ _ _ _ _ _ _ _ _
+    c.in-Go.is (alone (λ s n. form.go (exit_place_of s c.in-Go.exit) c.in-Go.segment) c.args.binders.now c.args.places.now c.args.progress.now _ (ap (λ w. form.go w c.in-Go.segment) c.exit.ensures)) refl (λ s n. refl) (λ s n. refl) (λ rest. refl)
+
+pub flat_kind-returns-in_ok-tag-in-Catch : goal.flat_kind-returns-in_ok-tag-in-Catch
+unfolding flat
+flat_kind-returns-in_ok-tag-in-Catch t c =
+    row _ _ (λ s (m : FlatForm × FlatForm). form.catch_form m.0 m.1) _ _ _ _ _ _ _ _ _ _
+    c.in-Catch.is (at_two _ _ _ _ _ _ _ _ _ _ c.deref-in-Catch.ensures c.deref-in-Catch-2.ensures c.in_ok-tag-in-Catch.ensures) refl (λ s n. refl) (λ s n. refl) (λ rest. refl)
+
+pub flat_kind-returns-in_ok-tag-in-Throw : goal.flat_kind-returns-in_ok-tag-in-Throw
+unfolding flat
+flat_kind-returns-in_ok-tag-in-Throw t c =
+    row _ _ (λ s (m : FlatForm × FlatForm). form.throw m.0 m.1) _ _ _ _ _ _ _ _ _ _
+    c.in-Throw.is (at_two _ _ _ _ _ _ _ _ _ _ c.deref-in-Throw.ensures c.deref-in-Throw-2.ensures c.in_ok-tag-in-Throw.ensures) refl (λ s n. refl) (λ s n. refl) (λ rest. refl)
+
+pub flat_kind-returns-in_ok-form-in-Unwind : goal.flat_kind-returns-in_ok-form-in-Unwind
+unfolding flat
+flat_kind-returns-in_ok-form-in-Unwind t c =
+    row _ _ (λ s (m : FlatForm × FlatForm). form.unwind m.0 m.1) _ _ _ _ _ _ _ _ _ _
+    c.in-Unwind.is (at_two _ _ _ _ _ _ _ _ _ _ c.deref-in-Unwind.ensures c.deref-in-Unwind-2.ensures c.in_ok-form-in-Unwind.ensures) refl (λ s n. refl) (λ s n. refl) (λ rest. refl)
+
+pub flat_kind-returns-in_ok-list-in-DynamicLet : goal.flat_kind-returns-in_ok-list-in-DynamicLet
+unfolding flat
+flat_kind-returns-in_ok-list-in-DynamicLet t c =
+    row _ _ (λ s (m : FlatDynamics × FlatForm). form.dynamic_let m.0 m.1) _ _ _ _ _ _ _ _ _ _
+    c.in-DynamicLet.is (at_dynamic_let _ _ _ _ _ _ _ _ _ c.deref-in-DynamicLet.ensures c.in_ok-list-in-DynamicLet.ensures) refl (λ s n. refl) (λ s n. refl) (λ rest. refl)
+
+pub flat_kind-returns-in-Dynamic : goal.flat_kind-returns-in-Dynamic
+unfolding flat
+flat_kind-returns-in-Dynamic t c =
+    row _ _ (λ s (m : FlatForm). m) _ _ _ _ _ _ _ _ _ _
+    c.in-Dynamic.is (alone (λ s n. form.dynamic c.in-Dynamic.name.0) c.args.binders.now c.args.places.now c.args.progress.now _ refl) refl (λ s n. refl) (λ s n. refl) (λ rest. refl)
+
+pub flat_kind-returns-in_ok-boxed-in-SetDynamic : goal.flat_kind-returns-in_ok-boxed-in-SetDynamic
+unfolding flat
+flat_kind-returns-in_ok-boxed-in-SetDynamic t c =
+    row _ _ (λ s (m : FlatForm). form.set_dynamic c.in-SetDynamic.name.0 m) _ _ _ _ _ _ _ _ _ _
+    c.in-SetDynamic.is (at_form _ _ _ _ _ _ _ _ c.deref-in-SetDynamic.ensures c.in_ok-boxed-in-SetDynamic.ensures) refl (λ s n. refl) (λ s n. refl) (λ rest. refl)
+
+pub flat_kind-returns-in_ok-boxed-in-DefDynamic : goal.flat_kind-returns-in_ok-boxed-in-DefDynamic
+unfolding flat
+flat_kind-returns-in_ok-boxed-in-DefDynamic t c =
+    row _ _ (λ s (m : FlatForm). form.def_dynamic c.in-DefDynamic.name.0 m) _ _ _ _ _ _ _ _ _ _
+    c.in-DefDynamic.is (at_form _ _ _ _ _ _ _ _ c.deref-in-DefDynamic.ensures c.in_ok-boxed-in-DefDynamic.ensures) refl (λ s n. refl) (λ s n. refl) (λ rest. refl)
+
+pub flat_kind-returns-in_ok-handler-in-WithHandler : goal.flat_kind-returns-in_ok-handler-in-WithHandler
+unfolding flat
+flat_kind-returns-in_ok-handler-in-WithHandler t c =
+    row _ _ (λ s (m : FlatForm × FlatForm). form.with_handler m.0 m.1) _ _ _ _ _ _ _ _ _ _
+    c.in-WithHandler.is (at_two _ _ _ _ _ _ _ _ _ _ c.deref-in-WithHandler.ensures c.deref-in-WithHandler-2.ensures c.in_ok-handler-in-WithHandler.ensures) refl (λ s n. refl) (λ s n. refl) (λ rest. refl)
+
+pub flat_kind-returns-in_ok-condition-in-Signal : goal.flat_kind-returns-in_ok-condition-in-Signal
+unfolding flat
+flat_kind-returns-in_ok-condition-in-Signal t c =
+    row _ _ (λ s (m : FlatForm × FlatForm). form.signal_form m.0 m.1) _ _ _ _ _ _ _ _ _ _
+    c.in-Signal.is (at_two _ _ _ _ _ _ _ _ _ _ c.deref-in-Signal.ensures c.deref-in-Signal-2.ensures c.in_ok-condition-in-Signal.ensures) refl (λ s n. refl) (λ s n. refl) (λ rest. refl)
+
+pub flat_kind-returns-in_ok-condition-in-Continue : goal.flat_kind-returns-in_ok-condition-in-Continue
+unfolding flat
+flat_kind-returns-in_ok-condition-in-Continue t c =
+    row _ _ (λ s (m : FlatForm × FlatForm). form.continue_form m.0 m.1) _ _ _ _ _ _ _ _ _ _
+    c.in-Continue.is (at_two _ _ _ _ _ _ _ _ _ _ c.deref-in-Continue.ensures c.deref-in-Continue-2.ensures c.in_ok-condition-in-Continue.ensures) refl (λ s n. refl) (λ s n. refl) (λ rest. refl)
+
+pub flat_kind-returns-in-NextMethod : goal.flat_kind-returns-in-NextMethod
+unfolding flat
+flat_kind-returns-in-NextMethod t c =
+    row _ _ (λ s (m : FlatForm). m) _ _ _ _ _ _ _ _ _ _
+    c.in-NextMethod.is (alone (λ s n. form.next_method (method_place_of s)) c.args.binders.now c.args.places.now c.args.progress.now _ (ap form.next_method c.method.ensures)) refl (λ s n. refl) (λ s n. refl) (λ rest. refl)
+
+pub flat_kind-returns-in-HasNext : goal.flat_kind-returns-in-HasNext
+unfolding flat
+flat_kind-returns-in-HasNext t c =
+    row _ _ (λ s (m : FlatForm). m) _ _ _ _ _ _ _ _ _ _
+    c.in-HasNext.is (alone (λ s n. form.has_next (method_place_of s)) c.args.binders.now c.args.places.now c.args.progress.now _ (ap form.has_next c.method-in-HasNext.ensures)) refl (λ s n. refl) (λ s n. refl) (λ rest. refl)
+
+pub flat_kind-returns-in_ok-boxed-in-Sited : goal.flat_kind-returns-in_ok-boxed-in-Sited
+unfolding flat
+flat_kind-returns-in_ok-boxed-in-Sited t c =
+    row _ _ (λ s (m : FlatForm). form.sited c.in-Sited.site m) _ _ _ _ _ _ _ _ _ _
+    c.in-Sited.is (at_form _ _ _ _ _ _ _ _ c.deref-in-Sited.ensures c.in_ok-boxed-in-Sited.ensures) refl (λ s n. refl) (λ s n. refl) (λ rest. refl)

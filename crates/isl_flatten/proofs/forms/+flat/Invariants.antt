@@ -1,12 +1,13 @@
 -- The sizes of the forms fall.
-use Rattle.std.proofs.Common.{◌≡◌, ◌+◌, ◌*◌}
-use Rattle.isl_meaning.specs.Form.{form_size, forms_size, clauses_size, maybe_size, bindings_size, dynamics_size}
+use Rattle.std.proofs.Common.{◌≡◌, ◌≤◌, ◌+◌, ◌*◌, length}
+use Rattle.isl_meaning.specs.Form.{Form, form_size, forms_size, clauses_size, maybe_size, bindings_size, dynamics_size}
+use Rattle.isl_meaning.specs.Meaning.{bound_variables}
 use Rattle.isl_meaning.specs.model.View.{view_form, forms, clauses_of, maybe_form, bindings_of, dynamics_of}
-use Rattle.isl_meaning.specs.declared.core_form.Binding.{Binding}
-use Rattle.isl_meaning.specs.declared.core_form.DynBinding.{DynBinding}
 use Rattle.isl_closure.specs.Flatten.{flat, functions, inner_procedures}
+use Rattle.isl_flatten.specs.Binders.{binders}
+use Rattle.isl_flatten.specs.NewVariables.{new_variables}
 use Rattle.isl_flatten.specs.Places.{scope_of}
-use Rattle.isl_flatten.proofs.Going.{Going, one_clause, clause_inside, clause_count, one_binding, one_dynamic}
+use Rattle.isl_flatten.proofs.Going.{Going, one_clause, clause_inside, clause_count, clause_front, one_binding, binding_inside, binding_count, binding_front, one_dynamic, dynamic_inside, dynamic_count, dynamic_front}
 use Rattle.isl_flatten.proofs.forms.+flat.Given as goal
 
 abbrev pub decreases-flat : goal.decreases-flat
@@ -33,6 +34,9 @@ decreases-flat_clauses l = 5 * clauses_size (clauses_of l.list.now)
 abbrev pub decreases-flat_let : goal.decreases-flat_let
 decreases-flat_let l = 5 * (bindings_size (bindings_of l.list.now) + form_size l.body.now) + 3
 
+abbrev pub decreases-flat_values : goal.decreases-flat_values
+decreases-flat_values l = 5 * bindings_size (bindings_of l.list.now)
+
 abbrev pub decreases-flat_inside : goal.decreases-flat_inside
 decreases-flat_inside l = 5 * form_size l.body.now + 2
 
@@ -51,23 +55,28 @@ decreases-procedure l = 5 * form_size l.body.now + 3
 abbrev pub invariant-flat_forms-loop-at : goal.invariant-flat_forms-loop-at
 invariant-flat_forms-loop-at l = record {
   same : l.places ≡ l.initial.places;
-  going : Going (flat (scope_of l.initial.places)) (inner_procedures (scope_of l.initial.places)) functions l.list l.initial.lambdas l.at l.made l.lambdas;
+  longer : length l.initial.progress.lambdas ≤ length l.progress.lambdas;
+  going : Going (flat (scope_of l.initial.places)) (inner_procedures (scope_of l.initial.places)) functions binders l.binders l.list l.initial.progress l.at l.made l.progress;
 }
 
 abbrev pub invariant-flat_clauses-loop-at : goal.invariant-flat_clauses-loop-at
 invariant-flat_clauses-loop-at l = record {
   same : l.places ≡ l.initial.places;
-  going : Going (one_clause (scope_of l.initial.places)) (clause_inside (scope_of l.initial.places)) clause_count l.list l.initial.lambdas l.at l.made l.lambdas;
+  longer : length l.initial.progress.lambdas ≤ length l.progress.lambdas;
+  going : Going (one_clause (scope_of l.initial.places)) (clause_inside (scope_of l.initial.places)) clause_count clause_front l.binders l.list l.initial.progress l.at l.made l.progress;
 }
 
-abbrev pub invariant-flat_let-loop-at : goal.invariant-flat_let-loop-at
-invariant-flat_let-loop-at l = record {
+abbrev pub invariant-flat_values-loop-at : goal.invariant-flat_values-loop-at
+invariant-flat_values-loop-at l = record {
   same : l.places ≡ l.initial.places;
-  going : Going (one_binding (scope_of l.initial.places) l.body) (λ n (b : Binding). inner_procedures (scope_of l.initial.places) n b.value) (λ (b : Binding). functions b.value) l.list l.initial.lambdas l.at l.made l.lambdas;
+  longer : length l.initial.progress.lambdas ≤ length l.progress.lambdas;
+  going : (body : Form) → l.news ≡ new_variables (bound_variables (bindings_of l.list)) body
+      → Going (one_binding (scope_of l.initial.places) body) (binding_inside (scope_of l.initial.places)) binding_count binding_front l.binders l.list l.initial.progress l.at l.made l.progress;
 }
 
 abbrev pub invariant-flat_dynamics-loop-at : goal.invariant-flat_dynamics-loop-at
 invariant-flat_dynamics-loop-at l = record {
   same : l.places ≡ l.initial.places;
-  going : Going (one_dynamic (scope_of l.initial.places)) (λ n (b : DynBinding). inner_procedures (scope_of l.initial.places) n b.value) (λ (b : DynBinding). functions b.value) l.list l.initial.lambdas l.at l.made l.lambdas;
+  longer : length l.initial.progress.lambdas ≤ length l.progress.lambdas;
+  going : Going (one_dynamic (scope_of l.initial.places)) (dynamic_inside (scope_of l.initial.places)) dynamic_count dynamic_front l.binders l.list l.initial.progress l.at l.made l.progress;
 }

@@ -1,6 +1,12 @@
 -- With what is made of the rest all is made.
-use Rattle.isl_flatten.proofs.Going.{Going, one_procedure, procedure_inside, procedure_count}
+use Rattle.std.proofs.Common.{◌≡◌}
+use Rattle.isl_closure.specs.Scope.{no_scope}
+use Rattle.isl_flatten.specs.Places.{scope_of}
+use Rattle.isl_flatten.proofs.Going.{Going, one_procedure, procedure_inside, procedure_count, procedure_front}
 use Rattle.isl_flatten.proofs.program.flat_procedures.Given as goal
 
 abbrev pub invariant-loop-at : goal.invariant-loop-at
-invariant-loop-at l = Going one_procedure procedure_inside procedure_count l.list l.initial.lambdas l.at l.made l.lambdas
+invariant-loop-at l = record {
+  alone : scope_of l.places ≡ no_scope;
+  going : Going one_procedure procedure_inside procedure_count procedure_front l.binders l.list l.initial.progress l.at l.made l.progress;
+}

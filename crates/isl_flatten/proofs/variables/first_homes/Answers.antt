@@ -1,5 +1,7 @@
 -- A variable more.
 use Rattle.std.proofs.Common.{ap, ◌∙◌, refl, take, arith, ◌≡◌}
+use Rattle.std.specs.Prelude.{min}
+use Rattle.std.proofs.lemmas.List.{take_min}
 use Rattle.isl_flatten.specs.declared.variables.NewVariable.{NewVariable}
 use Rattle.isl_flatten.specs.NewVariables.{homes_of_new}
 use Rattle.isl_flatten.proofs.Turns.{turn, first_of}
@@ -13,7 +15,8 @@ loop-at-preserved c =
 pub returns : goal.returns
 returns c =
     let news = c.args.news.now in
-    let all : c.loop-at.at ≡ c.args.count = omega (arith, c.loop-at-test.false, c.loop-at.auto.at-end) in
+    let all : c.loop-at.at ≡ c.min-at-end.result = omega (arith, c.loop-at-test.false, c.loop-at.auto.at-end) in
     c.loop-at.invariant
-    ∙ ap (λ k. homes_of_new (take k news)) all
+    ∙ ap (λ k. homes_of_new (take k news)) (all ∙ c.min-at-end.ensures ∙ ap (λ k. min c.args.count k) c.len.ensures)
+    ∙ ap homes_of_new (take_min c.args.count news)
     ∙ first_of homes_of_new (λ (x : NewVariable). x.home) refl (λ x xs. refl) c.args.count news

@@ -13,8 +13,8 @@ list-joined p at d e ds more all t h k l =
     h ∙ ap (λ es. item p (list (items_of es) t)) k ∙ ap (λ es. item p (list es t)) (items-joined ds more)
     ∙ ap (λ x. item p (joined ds x)) l
 
-pub returns-in_ok-append_list-in-List : goal.returns-in_ok-append_list-in-List
-returns-in_ok-append_list-in-List c =
+pub returns-in-Ok : goal.returns-in-Ok
+returns-in-Ok c =
     list-joined c.args.place c.datum.inside.place c.args.datum c.new-in-List.result c.args.items c.in-List.more
-    c.append_list.new.self (tail_of c.in-List.tail) c.new-in-List.ensures c.in_ok-append_list-in-List.ensures.ok
+    c.append_list.new.self (tail_of c.in-List.tail) c.new-in-List.ensures c.in-Ok.ensures.ok
     (cc (c.datum.view_is, c.in-List.is))

@@ -8,13 +8,13 @@ use Rattle.isl_top.proofs.run.run.Goals as goal
 pub started-requires : goal.started-requires
 started-requires g c = record { fits = omega (arith, ap length c.in-Ok.ensures.code, c.requires.small); bounded = omega arith }
 
-pub returns-in-Halt-clause-done : goal.returns-in-Halt-clause-done
-returns-in-Halt-clause-done g c =
+pub returns-in-Halt-clause-answers : goal.returns-in-Halt-clause-answers
+returns-in-Halt-clause-answers g c =
     let fits : length c.in-Ok.image.words ≤ usual_arena_words = omega (arith, ap length c.in-Ok.ensures.code, c.requires.small) in
     let begin = c.in-Ok-started.ensures.state in
     let compiled = c.in-Ok.ensures.compiled in
     let feeds = fed c.args.program.now c.in-Ok.image compiled fits _ begin (g.S.Source.left c.args.input.now) c.args.steps in
-    λ e. record {
+    record {
       built = built c.args.program.now c.in-Ok.image compiled fits;
       halts = halted c.args.program.now c.in-Ok.image compiled fits _ begin c.args.steps c.in-Halt.field-0 (λ input. c.in-Halt.ensures.ending tt input (feeds input));
       printed = whole c.args.program.now c.in-Ok.image compiled fits _ begin c.args.steps _ _ _ _ (λ input. (c.in-Halt.ensures.stands tt input (feeds input)).given);
@@ -25,14 +25,13 @@ returns-in-Halt-clause-input g c =
     let fits : length c.in-Ok.image.words ≤ usual_arena_words = omega (arith, ap length c.in-Ok.ensures.code, c.requires.small) in
     c.in-Halt.ensures.no_read tt [] (unread c.args.program.now c.in-Ok.image c.in-Ok.ensures.compiled fits _ c.in-Ok-started.ensures.state c.args.steps [])
 
-pub returns-in-Budget-clause-budget : goal.returns-in-Budget-clause-budget
-returns-in-Budget-clause-budget g c =
+pub returns-in-Budget-clause-answers : goal.returns-in-Budget-clause-answers
+returns-in-Budget-clause-answers g c =
     let fits : length c.in-Ok.image.words ≤ usual_arena_words = omega (arith, ap length c.in-Ok.ensures.code, c.requires.small) in
     let begin = c.in-Ok-started.ensures.state in
     let compiled = c.in-Ok.ensures.compiled in
-    let feeds = fed c.args.program.now c.in-Ok.image compiled fits _ begin (g.S.Source.left c.args.input.now) c.args.steps in
-    λ n e. (
-      cc,
+    let feeds = fed c.args.program.now c.in-Ok.image compiled fits _ begin (g.S.Source.left c.args.input.now) c.args.steps in (
+      refl,
       record {
         built = built c.args.program.now c.in-Ok.image compiled fits;
         spends = spent c.args.program.now c.in-Ok.image compiled fits _ begin c.args.steps (λ input. c.in-Budget.ensures.ending tt input (feeds input));
@@ -45,14 +44,16 @@ returns-in-Budget-clause-input g c =
     let fits : length c.in-Ok.image.words ≤ usual_arena_words = omega (arith, ap length c.in-Ok.ensures.code, c.requires.small) in
     c.in-Budget.ensures.no_read tt [] (unread c.args.program.now c.in-Ok.image c.in-Ok.ensures.compiled fits _ c.in-Ok-started.ensures.state c.args.steps [])
 
-pub returns-in-WriteFault-clause-cut_off : goal.returns-in-WriteFault-clause-cut_off
-returns-in-WriteFault-clause-cut_off g c =
+pub returns-in-WriteFault-clause-answers : goal.returns-in-WriteFault-clause-answers
+returns-in-WriteFault-clause-answers g c =
     let laws : Laws = record { printed = c.law_budget.ensures.printed; split = c.law_split.ensures } in
-    let fits : length c.in-Ok.image.words ≤ usual_arena_words = omega (arith, ap length c.in-Ok.ensures.code, c.requires.small) in
-    λ e. record {
-      built = built c.args.program.now c.in-Ok.image c.in-Ok.ensures.compiled fits;
-      printed = cut_off c.args.program.now c.in-Ok.image c.in-Ok.ensures.compiled fits _ c.in-Ok-started.ensures.state laws c.args.steps _ _ _ _ _ refl (c.in-WriteFault.ensures.write_fault refl);
-    }
+    let fits : length c.in-Ok.image.words ≤ usual_arena_words = omega (arith, ap length c.in-Ok.ensures.code, c.requires.small) in (
+      c.in-WriteFault.ensures.sink_rose refl,
+      record {
+        built = built c.args.program.now c.in-Ok.image c.in-Ok.ensures.compiled fits;
+        printed = cut_off c.args.program.now c.in-Ok.image c.in-Ok.ensures.compiled fits _ c.in-Ok-started.ensures.state laws c.args.steps _ _ _ _ _ refl (c.in-WriteFault.ensures.write_fault refl);
+      },
+    )
 
 pub returns-in-WriteFault-clause-input : goal.returns-in-WriteFault-clause-input
 returns-in-WriteFault-clause-input g c =

@@ -1,0 +1,5 @@
+pub mod Moment
+pub mod Applications
+pub mod Step
+pub mod Run
+pub mod Law

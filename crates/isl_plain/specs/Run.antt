@@ -1,0 +1,45 @@
+-- Runs of the machine: so many steps, where it begins, and what it has done when it has ended.
+use Rattle.std.specs.Prelude.{◌≡◌, ℕ, zero, suc, List, [], ◌∷◌, Option, Some, None}
+use Rattle.isl_meaning.specs.Values.{nil}
+use Rattle.isl_meaning.specs.State.{Outcome, value, more, first_state}
+use Rattle.isl_meaning.specs.Layout.{objects_at_start}
+use Rattle.isl_meaning.specs.Meaning.{Meant}
+use Rattle.isl_closure.specs.FlatNodes.{tables}
+use Rattle.isl_closure.specs.FlatMeaning.{meant}
+use Rattle.isl_plain.specs.Moment.{Setting, Control, evaluate, signals, come_to, Moment, awaits, main_forms}
+use Rattle.isl_plain.specs.Step.{step}
+
+-- the next moment; after the end there is none, and the machine stays
+abbrev pub next_or : Moment → Option Moment → Moment
+next_or m None = m
+next_or m (Some next) = next
+
+abbrev pub next : Setting → Moment → Moment
+next s m = next_or m (step s m)
+
+-- so many steps
+abbrev pub steps : Setting → ℕ → Moment → Moment
+steps s zero m = m
+steps s (suc n) m = steps s n (next s m)
+
+-- the machine has ended
+abbrev pub IsEnd : Setting → Moment → Type 0
+IsEnd s m = step s m ≡ None
+
+-- the machine before a program's main forms, with an input and so many levels
+abbrev pub start : Setting → List ℕ → ℕ → Moment
+start s input k = record {
+  control = come_to (value nil);
+  frames = awaits (main_forms k s.program.main) ∷ [];
+  state = record { state = first_state (objects_at_start s.names (tables s.program)) input; frame = []; captured = [] };
+}
+
+-- the outcome to which the machine has come
+abbrev pub outcome_of : Control → Outcome
+outcome_of (evaluate f at) = more
+outcome_of (signals c mark level around) = more
+outcome_of (come_to o) = o
+
+-- what the machine has done when it has ended
+abbrev pub done : Moment → Meant
+done m = meant (record { outcome = outcome_of m.control; state = m.state })
