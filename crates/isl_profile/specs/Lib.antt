@@ -3,6 +3,7 @@ pub mod Words
 pub mod Names
 pub mod Nodes
 pub mod Makings
+pub mod Suits
 pub mod Shapes
 pub mod RowWords
 pub mod ValueRows
