@@ -71,7 +71,7 @@ found_none n (g ∷ gs) e = by_test (same_name n g.name) (generic_named gs n) (f
     by_test false (Some j) more h = absurd (cc h)
 
 -- it has that name
-found_name : (n : Name) (gs : List GenericRow) (x : GenericRow) → found n gs ≡ Some x → same_name n x.name ≡ true
+pub found_name : (n : Name) (gs : List GenericRow) (x : GenericRow) → found n gs ≡ Some x → same_name n x.name ≡ true
 found_name n [] x e = absurd (cc e)
 found_name n (g ∷ gs) x e = by_test (same_name n g.name) refl (found_name n gs x) e
   where
@@ -151,7 +151,7 @@ class_last Writes c = by_test (0 == c)
     by_test false = rw (eq-eqb c c refl) refl
 class_last Asks c = rw (eq-eqb c c refl) refl
 
-no_method_of : (c : ℕ) (k : Accessor) (p : ℕ) (ms : List MethodRow) → list_all (λ (m : MethodRow). list_all (λ d. nat_lt d c) m.classes) ms ≡ true
+pub no_method_of : (c : ℕ) (k : Accessor) (p : ℕ) (ms : List MethodRow) → list_all (λ (m : MethodRow). list_all (λ d. nat_lt d c) m.classes) ms ≡ true
     → list_any (λ m. same_method m (method_of (accessor_head k c) p)) ms ≡ false
 no_method_of c k p [] h = refl
 no_method_of c k p (m ∷ ms) h =
@@ -166,12 +166,12 @@ no_method_of c k p (m ∷ ms) h =
 
 -- such a method fits
 
-as_many_classes : (k : Accessor) (c : ℕ) → length (classes_of k c) ≡ arguments_of k
+pub as_many_classes : (k : Accessor) (c : ℕ) → length (classes_of k c) ≡ arguments_of k
 as_many_classes Reads c = refl
 as_many_classes Writes c = refl
 as_many_classes Asks c = refl
 
-classes_there : (k : Accessor) (c n : ℕ) → c < n → list_all (λ d. nat_lt d n) (classes_of k c) ≡ true
+pub classes_there : (k : Accessor) (c n : ℕ) → c < n → list_all (λ d. nat_lt d n) (classes_of k c) ≡ true
 classes_there Reads c n l = and_from _ _ (lt-ltb c n l) refl
 classes_there Writes c n l = and_from _ _ (lt-ltb 0 n (omega (arith, l))) (and_from _ _ (lt-ltb c n l) refl)
 classes_there Asks c n l = and_from _ _ (lt-ltb c n l) refl
@@ -201,7 +201,7 @@ pub record Accessed (c : ℕ) (n : Name) (t u : Tables) : Type 0 where
   pub stands : (q : ℕ) → StandsBelow q (defined t) → StandsBelow q (defined u)
 
 -- what is ready stays so beside a method of another name
-ready_with : (c : ℕ) (t : Tables) (j : ℕ) (h : Head) (p : ℕ) (n : Name) → ((x : GenericRow) → slice_get t.generics j ≡ Some x → same_name n x.name ≡ true) → (w : Use)
+pub ready_with : (c : ℕ) (t : Tables) (j : ℕ) (h : Head) (p : ℕ) (n : Name) → ((x : GenericRow) → slice_get t.generics j ≡ Some x → same_name n x.name ≡ true) → (w : Use)
     → same_name n w.name ≡ false → IsReady c t w → IsReady c (with_method_at j h p t) w
 ready_with c t j h p n f w d r =
     let same : found w.name (with_method_at j h p t).generics ≡ found w.name t.generics =
@@ -209,7 +209,7 @@ ready_with c t j h p n f w d r =
     subst (MaybeReady c w t.functions) (sym same) r
 
 -- and beside a generic function of another name
-ready_generic : (c : ℕ) (t : Tables) (n : Name) (required : ℕ) (rest of_file : Bool) (w : Use) → same_name n w.name ≡ false → IsReady c t w
+pub ready_generic : (c : ℕ) (t : Tables) (n : Name) (required : ℕ) (rest of_file : Bool) (w : Use) → same_name n w.name ≡ false → IsReady c t w
     → IsReady c (with_generic n required rest of_file t) w
 ready_generic c t n required rest of_file w d r =
     let turned : same_name w.name n ≡ false = other_way n.0 w.name.0 d in
@@ -295,7 +295,7 @@ stands_alone_next q g p e a s = record {
     below_or : (i : ℕ) → i < q + 1 → (i < q) ⊎ (i ≡ q)
     below_or i b = ⊎_elim inl (λ k. inr (omega (arith, k, b))) (cases_lt i q)
 
-each_differs : (n : Name) (us : List Use) → list_any (λ (w : Use). same_name n w.name) us ≡ false → (c : ℕ) (t u : Tables)
+pub each_differs : (n : Name) (us : List Use) → list_any (λ (w : Use). same_name n w.name) us ≡ false → (c : ℕ) (t u : Tables)
     → ((w : Use) → same_name n w.name ≡ false → IsReady c t w → IsReady c u w) → Each (IsReady c t) us → Each (IsReady c u) us
 each_differs n [] d c t u f r = tt
 each_differs n (w ∷ us) d c t u f r =

@@ -1,5 +1,5 @@
 -- Below top level nothing is defined, and a function of a definition leaves one procedure.
-use Rattle.std.proofs.Common.{◌≡◌, ◌+◌, ℕ, Bool, false, List, [], ◌∷◌, ◌++◌, length, Some, None, is_some, refl, ap, ◌∙◌, arith}
+use Rattle.std.proofs.Common.{◌≡◌, ◌+◌, ⊎_elim, inl, inr, ℕ, Bool, false, List, [], ◌∷◌, ◌++◌, length, Some, None, is_some, refl, ap, ◌∙◌, arith}
 use Rattle.isl_base.specs.Data.{Item}
 use Rattle.isl_profile.specs.declared.tables.Tables.{Tables}
 use Rattle.isl_profile.specs.declared.making.Found.{Found}
@@ -19,7 +19,8 @@ use Rattle.isl_profile.specs.bridge.Growing.{grows_then}
 use Rattle.isl_whole.specs.Below.{SameNames, NothingDefined, OneProcedure}
 use Rattle.isl_whole.proofs.Places.{each_append}
 use Rattle.isl_whole.proofs.Procedures.{IsOrdinary, AllOrdinary, IsLow, AllLow, all_low, inner_ordinary}
-use Rattle.isl_whole.proofs.Starting.{grows_numbers, names_then, none_defined, none_then, none_literal, none_numbers, none_fresh, LowWhole, Starts}
+use Rattle.isl_whole.proofs.Starting.{grows_numbers, names_then, none_defined, none_then, none_literal, none_numbers, none_fresh, LowWhole, Joins, Starts}
+use Rattle.isl_whole.proofs.Known.{known_same}
 use Rattle.isl_whole.proofs.Growing.{starts_node}
 
 abbrev DefinesNothing : Tables → Verdict → Type 0
@@ -55,10 +56,13 @@ starts_from s t top (offends p r) g n h = tt
 starts_from s t top unnamed g n h = tt
 starts_from s t top (steps a u d) g n h = record {
   grows = grows_then s t u g h.grows;
+  names = names_then s t u n.names h.names;
   low = λ e. let l : (a.spot.top ≡ false) × NothingDefined t u = h.low e in (l.0, none_then s t u n l.1);
 }
 starts_from s t top (whole o i u xs m) g n h = record {
   grows = grows_then s t u g h.grows;
+  names = names_then s t u n.names h.names;
+  suited = ⊎_elim inl (λ (j : Joins t u xs m.making). inr (record { functions = j.functions; suits = λ keep w. j.suits keep (known_same s t n.names w) })) h.suited;
   low = λ e.
       let l : LowWhole t o i u xs m.making = h.low e in
       record { defined = none_then s t u n l.defined; parts = l.parts; ordinary = l.ordinary; makes = l.makes };
@@ -82,7 +86,7 @@ part_below names o i s (bind x d) l p = record {
 part_below names o i s (parameter x) l p = record {
   top = false;
   low = refl;
-  starts = record { grows = grows_variable s; low = λ e. record { defined = none_variable s; parts = tt; ordinary = tt; makes = λ rs u. none_defined u } };
+  starts = record { grows = grows_variable s; names = (none_variable s).names; suited = inl tt; low = λ e. record { defined = none_variable s; parts = tt; ordinary = tt; makes = λ rs u. none_defined u } };
 }
 part_below names o i s (wrong q r) l p = record { top = false; low = refl; starts = tt }
 part_below names o i s (function w) l p = absurd p

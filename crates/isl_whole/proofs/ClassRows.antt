@@ -1,5 +1,5 @@
 -- The row of the form that defines a class is apt.
-use Rattle.std.proofs.Common.{◌+◌, ◌==◌, ◌≡◌, ◌≤◌, ◌<◌, ℕ, nat_lt, Bool, true, false, not, ◌&&◌, ◌||◌, List, [], ◌∷◌, ◌++◌, length, flat_map, is_some, Option, Some, None, if◌then◌else◌, refl, sym, ap, subst, ◌∙◌, length-append, append-nil, arith}
+use Rattle.std.proofs.Common.{◌+◌, ◌==◌, ◌≡◌, ◌≤◌, ◌<◌, ℕ, Bool, true, false, not, ◌&&◌, ◌||◌, List, [], ◌∷◌, ◌++◌, length, flat_map, is_some, Option, Some, None, if◌then◌else◌, refl, sym, ap, subst, ◌∙◌, length-append, append-nil, arith}
 use Rattle.std.specs.Prelude.{All}
 use Rattle.std.specs.List.{list_all, list_any}
 use Rattle.std.specs.List.{cons_option}
@@ -13,11 +13,8 @@ use Rattle.isl_base.specs.DataParts.{AllOf}
 use Rattle.isl_base.specs.GoodData.{Good}
 use Rattle.isl_meaning.specs.declared.program.ClassRow.{ClassRow}
 use Rattle.isl_meaning.specs.declared.program.GenericRow.{GenericRow}
-use Rattle.isl_meaning.specs.declared.program.MethodRow.{MethodRow}
 use Rattle.isl_meaning.specs.declared.program.FunctionRow.{FunctionRow}
 use Rattle.isl_meaning.specs.Subforms.{Each}
-use Rattle.isl_meaning.specs.Facts.{method_fits, same_method, generic_fits}
-use Rattle.isl_meaning.specs.Lookup.{all_differ}
 use Rattle.isl_classes.specs.Given.{given as given_slots, spec_names, is_wrong}
 use Rattle.isl_classes.specs.InheritedPrecedence.{supers_fit}
 use Rattle.isl_classes.specs.InheritedSlots.{same_name, each_first}
@@ -34,9 +31,8 @@ use Rattle.isl_profile.specs.ClassShapes.{WrittenSlot, slots_in, WrittenSuper, s
 use Rattle.isl_profile.specs.GenericRows.{keeps, unless_unknown}
 use Rattle.isl_profile.specs.ClassRows.{Function, for_initform, for_method, functions_of, all_functions, Use, uses, is_lacking, is_of_function, is_kept_name, takes_it, row_named, fits_generic, names_differ, known_supers, first_unknown_super, are_supers, few_inherited, has_wrong_options, part_of, slot_parts, class_parts, slot_specs, slot_functions, class_made, class_in_text, class_of_prelude, is_taken_class, is_reserved_class, class_of, class_shaped, defclass_row}
 use Rattle.isl_profile.specs.bridge.SoundClasses.{sound_defclass}
-use Rattle.isl_whole.specs.Definitions.{Definitions, defined, rows_of, Later, slot_fits, SoundDefinitions}
-use Rattle.isl_whole.proofs.Tests.{all_more}
-use Rattle.isl_whole.proofs.Definitions.{method_parts, literals_later, procedures_later, own_later, generics_later, functions_later, mains_later, all_push}
+use Rattle.isl_whole.specs.Definitions.{Definitions, defined, Later, slot_fits, SoundDefinitions}
+use Rattle.isl_whole.proofs.Definitions.{literals_later, procedures_later, own_later, generics_later, functions_later, mains_later, all_push}
 use Rattle.isl_whole.proofs.Places.{each_append}
 use Rattle.isl_whole.proofs.Procedures.{MadeFrom}
 use Rattle.isl_whole.proofs.Wanted.{AptAt, Stage}
@@ -47,6 +43,8 @@ use Rattle.isl_whole.proofs.GenericRows.{unless_functions}
 use Rattle.isl_whole.proofs.Joining.{IsFunction, AllFunctions, Joins, FunctionsCame, WhereSound, where_test, where_within, where_defining, apt_joining}
 use Rattle.isl_whole.proofs.Slots.{MaybeSlots, named_slots, AllGiven, all_given, RightSlots, right_slots, names_of_specs, FunctionsMade, functions_made, slots_fit}
 use Rattle.isl_whole.proofs.Accessors.{found, found_named, found_none, found_some, MaybeReady, IsReady, functions_joined}
+use Rattle.isl_whole.specs.Known.{methods_there, KnownTables}
+use Rattle.isl_whole.proofs.Known.{sound_known}
 use Rattle.isl_whole.proofs.ClassRules.{ClassRules}
 
 -- the parts of a class are functions
@@ -73,12 +71,12 @@ slot_part_functions inherited earlier (x ∷ xs) =
     (each_append IsFunction (flat_map (part_of x) (functions_of x)) (slot_parts inherited (earlier ++ x.name ∷ []) xs)
     (all_part_functions x (functions_of x)) (slot_part_functions inherited (earlier ++ x.name ∷ []) xs))
 
-class_functions : (s : Tables) (cs : List WrittenSuper) (xs : List WrittenSlot) → AllFunctions (class_parts s cs xs)
+pub class_functions : (s : Tables) (cs : List WrittenSuper) (xs : List WrittenSlot) → AllFunctions (class_parts s cs xs)
 class_functions s cs xs =
     unless_functions (first_unknown_super s.classes.rows cs) _ (slot_part_functions (inherited_names s.classes (known_supers s.classes.rows cs)) [] xs)
 
 -- where none is wrong, these are the functions of all slots
-right_parts : (p : Option Place) (xs : List Part) → AllRight (unless_unknown p xs) → unless_unknown p xs ≡ xs
+pub right_parts : (p : Option Place) (xs : List Part) → AllRight (unless_unknown p xs) → unless_unknown p xs ≡ xs
 right_parts None xs r = refl
 right_parts (Some p) xs r = absurd r.0
 
@@ -97,7 +95,7 @@ one_there : (n : ℕ) (o : Option ℕ) (cs : List ℕ) → Below n o → All (λ
 one_there n None cs l a = a
 one_there n (Some c) cs l a = All-cons (λ d. d < n) c cs l a
 
-supers_there : (rows : List ClassRow) (cs : List WrittenSuper) → All (λ c. c < length rows) (known_supers rows cs)
+pub supers_there : (rows : List ClassRow) (cs : List WrittenSuper) → All (λ c. c < length rows) (known_supers rows cs)
 supers_there rows [] = All-nil (λ c. c < length rows)
 supers_there rows (c ∷ cs) =
     one_there (length rows) (class_named rows c.name) (known_supers rows cs) (below_is rows c.name (class_named rows c.name) refl) (supers_there rows cs)
@@ -121,23 +119,17 @@ free_use true true true true kept h k = absurd (cc k)
 free_use true true true false true h k = absurd (cc k)
 free_use true true true false false h k = absurd (cc k)
 
-below_all : (g : Definitions) (x : GenericRow) (ms : List MethodRow) → list_all (method_fits (rows_of g) x) ms ≡ true
-    → list_all (λ (m : MethodRow). list_all (λ d. nat_lt d (length g.classes.rows)) m.classes) ms ≡ true
-below_all g x ms h =
-    all_more (method_fits (rows_of g) x) (λ (m : MethodRow). list_all (λ d. nat_lt d (length g.classes.rows)) m.classes) (λ m e. (method_parts (rows_of g) x m e).in_range) ms h
-
-found_fits : (g : Definitions) (n : Name) (gs : List GenericRow) (x : GenericRow) → list_all (generic_fits (rows_of g)) gs ≡ true → found n gs ≡ Some x → generic_fits (rows_of g) x ≡ true
-found_fits g n [] x h e = absurd (cc e)
-found_fits g n (y ∷ gs) x h e =
-    let k : (generic_fits (rows_of g) y ≡ true) × (list_all (generic_fits (rows_of g)) gs ≡ true) = and_parts _ _ h in
-    by_test (same_name n y.name) (found_fits g n gs x k.1) k.0 e
+found_there : (k : ℕ) (n : Name) (gs : List GenericRow) (x : GenericRow) → list_all (methods_there k) gs ≡ true → found n gs ≡ Some x → methods_there k x ≡ true
+found_there k n [] x h e = absurd (cc e)
+found_there k n (y ∷ gs) x h e =
+    let w : (methods_there k y ≡ true) × (list_all (methods_there k) gs ≡ true) = and_parts _ _ h in
+    by_test (same_name n y.name) (found_there k n gs x w.1) w.0 e
   where
-    by_test : (b : Bool) → (found n gs ≡ Some x → generic_fits (rows_of g) x ≡ true) → generic_fits (rows_of g) y ≡ true → (if b then Some y else found n gs) ≡ Some x
-        → generic_fits (rows_of g) x ≡ true
-    by_test true more k h = let same : y ≡ x = cc h in ap (generic_fits (rows_of g)) (sym same) ∙ k
-    by_test false more k h = more h
+    by_test : (b : Bool) → (found n gs ≡ Some x → methods_there k x ≡ true) → methods_there k y ≡ true → (if b then Some y else found n gs) ≡ Some x → methods_there k x ≡ true
+    by_test true more h e = let same : y ≡ x = cc e in ap (methods_there k) (sym same) ∙ h
+    by_test false more h e = more e
 
-use_ready : (names : List (List ℕ)) (a : Around) (s : Tables) (u : Use) (o : Option ℕ) → SoundDefinitions (defined s) → generic_named s.generics u.name ≡ o
+use_ready : (names : List (List ℕ)) (a : Around) (s : Tables) (u : Use) (o : Option ℕ) → KnownTables s → generic_named s.generics u.name ≡ o
     → is_of_function a s u ≡ false → is_kept_name names a s u ≡ false → fits_generic s u ≡ true → IsReady (length s.classes.rows) s u
 use_ready names a s u None w e f k t =
     let free : has_function s u.name ≡ false =
@@ -151,15 +143,13 @@ use_ready names a s u (Some i) w e f k t = by_found (found u.name s.generics) re
     by_found (Some x) q =
         let row : row_named s.generics (generic_named s.generics u.name) ≡ Some x = ap (row_named s.generics) e ∙ found_named u.name s.generics i e ∙ q in
         let takes : ((x.required == u.arguments) ≡ true) × (not x.rest ≡ true) = and_parts _ _ (ap (takes_it u.arguments) (sym row) ∙ t) in
-        let fit : (list_all (method_fits (rows_of (defined s)) x) x.methods ≡ true) × (all_differ same_method x.methods ≡ true) =
-        and_parts _ _ (found_fits (defined s) u.name s.generics x w.generics.fit q) in
         record {
           required = eqb-true x.required u.arguments takes.0;
           rest = not-true x.rest takes.1;
-          below = below_all (defined s) x x.methods fit.0;
+          below = found_there (length s.classes.rows) u.name s.generics x w.there q;
         }
 
-uses_ready : (names : List (List ℕ)) (a : Around) (s : Tables) (us : List Use) → SoundDefinitions (defined s) → list_any (is_of_function a s) us ≡ false
+uses_ready : (names : List (List ℕ)) (a : Around) (s : Tables) (us : List Use) → KnownTables s → list_any (is_of_function a s) us ≡ false
     → list_any (is_kept_name names a s) us ≡ false → list_all (fits_generic s) us ≡ true → Each (IsReady (length s.classes.rows) s) us
 uses_ready names a s [] w f k t = tt
 uses_ready names a s (u ∷ us) w f k t =
@@ -170,7 +160,7 @@ uses_ready names a s (u ∷ us) w f k t =
 
 -- with a class more
 
-rows_longer : (h : Hierarchy) (n : Name) (supers : List ℕ) (slots : List GivenSlot) (b : Bool) → length (with_class h n supers slots b).rows ≡ length h.rows + 1
+pub rows_longer : (h : Hierarchy) (n : Name) (supers : List ℕ) (slots : List GivenSlot) (b : Bool) → length (with_class h n supers slots b).rows ≡ length h.rows + 1
 unfolding with_class
 rows_longer h n supers slots b = length-append h.rows _
 
@@ -216,16 +206,35 @@ class_joined t c of_file w hierarchy fit =
     }
 
 -- what a class definition is judged by
-record Judged (s : Tables) (n : Name) (cs : List WrittenSuper) (xs : List WrittenSlot) : Type 0 where
-  new : class_named s.classes.rows n ≡ None
-  supers : supers_fit s.classes.rows (known_supers s.classes.rows cs) ≡ true
-  few : length (each_first (inherited_names s.classes (known_supers s.classes.rows cs))) ≤ slot_limit
-  given : AllGiven (all_functions xs)
-  ready : Each (IsReady (length s.classes.rows) s) (uses xs)
-  differ : names_differ (uses xs) ≡ true
+pub record Judged (s : Tables) (n : Name) (cs : List WrittenSuper) (xs : List WrittenSlot) : Type 0 where
+  pub new : class_named s.classes.rows n ≡ None
+  pub supers : supers_fit s.classes.rows (known_supers s.classes.rows cs) ≡ true
+  pub few : length (each_first (inherited_names s.classes (known_supers s.classes.rows cs))) ≤ slot_limit
+  pub given : AllGiven (all_functions xs)
+  pub ready : Each (IsReady (length s.classes.rows) s) (uses xs)
+  pub differ : names_differ (uses xs) ≡ true
+
+-- what its tests say of it, one after another
+pub judged : (names : List (List ℕ)) (a : Around) (s : Tables) (n : Name) (cs : List WrittenSuper) (xs : List WrittenSlot) → KnownTables s → MaybeSlots (Some xs)
+    → list_any is_lacking (all_functions xs) ≡ false → (is_taken_class a s n || list_any (is_of_function a s) (uses xs)) ≡ false
+    → (is_reserved_class a s n || list_any (is_kept_name names a s) (uses xs)) ≡ false → not (are_supers s cs) ≡ false → not (few_inherited s cs) ≡ false
+    → (list_all (fits_generic s) (uses xs) && names_differ (uses xs)) ≡ true → Judged s n cs xs
+judged names a s n cs xs w written there taken reserved supers few fit =
+    let t : (is_taken_class a s n ≡ false) × (list_any (is_of_function a s) (uses xs) ≡ false) = or_parts (is_taken_class a s n) (list_any (is_of_function a s) (uses xs)) taken in
+    let r : (is_reserved_class a s n ≡ false) × (list_any (is_kept_name names a s) (uses xs) ≡ false) =
+    or_parts (is_reserved_class a s n) (list_any (is_kept_name names a s) (uses xs)) reserved in
+    let both : (list_all (fits_generic s) (uses xs) ≡ true) × (names_differ (uses xs) ≡ true) = and_parts _ _ fit in
+    record {
+      new = new_name a.spot.sited (is_truth a s n) s.prelude_classes (class_named s.classes.rows n) t.0 r.0;
+      supers = (and_parts (supers_fit s.classes.rows (known_supers s.classes.rows cs)) _ (not-false (are_supers s cs) supers)).0;
+      few = leb-true _ slot_limit (not-false (few_inherited s cs) few);
+      given = all_given (all_functions xs) written there;
+      ready = uses_ready names a s (uses xs) w t.1 r.1 both.0;
+      differ = both.1;
+    }
 
 -- what is ready stays so where the same is defined
-ready_same : (c : ℕ) (s t : Tables) (us : List Use) → t.generics ≡ s.generics → t.functions ≡ s.functions → Each (IsReady c s) us → Each (IsReady c t) us
+pub ready_same : (c : ℕ) (s t : Tables) (us : List Use) → t.generics ≡ s.generics → t.functions ≡ s.functions → Each (IsReady c s) us → Each (IsReady c t) us
 ready_same c s t [] e f r = tt
 ready_same c s t (u ∷ us) e f r = (
   subst (λ (fs : List FunctionRow). MaybeReady c u fs (found u.name t.generics)) (sym f)
@@ -286,23 +295,12 @@ class_of_apt rules names n a s p d name cs xs os b g named =
     where_test n a s (list_any is_lacking (all_functions xs)) _ _ (λ e q. tt) (λ given.
     where_defining n a s p a.spot.top (is_taken_class a s name || list_any (is_of_function a s) (uses xs))
     (is_reserved_class a s name || list_any (is_kept_name names a s) (uses xs)) _ (λ top taken reserved.
-    let t : (is_taken_class a s name ≡ false) × (list_any (is_of_function a s) (uses xs) ≡ false) = or_parts (is_taken_class a s name) (list_any (is_of_function a s) (uses xs)) taken in
-    let r : (is_reserved_class a s name ≡ false) × (list_any (is_kept_name names a s) (uses xs) ≡ false) =
-    or_parts (is_reserved_class a s name) (list_any (is_kept_name names a s) (uses xs)) reserved in
     where_test n a s (list_any is_of_left_out os) _ _ (λ e q. tt) (λ e.
     where_within n a s p _ (λ l.
     where_test n a s (not (are_supers s cs)) _ _ (λ f q. tt) (λ supers.
     where_test n a s (not (few_inherited s cs)) _ _ (λ f q. tt) (λ few.
     where_test n a s (list_all (fits_generic s) (uses xs) && names_differ (uses xs)) _ _ (λ fit.
-    let both : (list_all (fits_generic s) (uses xs) ≡ true) × (names_differ (uses xs) ≡ true) = and_parts _ _ fit in
-    class_made_apt rules n a s d name cs xs os b g top l (record {
-      new = new_name a.spot.sited (is_truth a s name) s.prelude_classes (class_named s.classes.rows name) t.0 r.0;
-      supers = (and_parts (supers_fit s.classes.rows (known_supers s.classes.rows cs)) _ (not-false (are_supers s cs) supers)).0;
-      few = leb-true _ slot_limit (not-false (few_inherited s cs) few);
-      given = all_given (all_functions xs) named given;
-      ready = uses_ready names a s (uses xs) b.whole t.1 r.1 both.0;
-      differ = both.1;
-    })) (λ f q. tt)))))))
+    class_made_apt rules n a s d name cs xs os b g top l (judged names a s name cs xs (sound_known s b.whole) named given taken reserved supers few fit)) (λ f q. tt)))))))
 
 class_shaped_apt : (rules : ClassRules) (names : List (List ℕ)) (n : ℕ) (a : Around) (s : Tables) (p : Place) (d : Item) (name : Option Name) (cs : Option (List WrittenSuper)) (xs : Option (List WrittenSlot)) (os : List ClassOption)
     → Stage a s → Good n d → MaybeSlots xs → WhereSound n a s (class_shaped names a s p d name cs xs os)

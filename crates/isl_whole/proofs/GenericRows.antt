@@ -55,12 +55,19 @@ specialised_functions s n m None = (tt, tt)
 specialised_functions s n m (Some ps) =
     unless_functions (first_unknown s.classes.rows ps.classes) (method_function n m.qualifier ps.parameters m.body) (function_functions n m.qualifier ps.parameters m.body)
 
-method_functions : (s : Tables) (n : Name) (m : WrittenMethod) → AllFunctions (method_parts s n m)
+pub method_functions : (s : Tables) (n : Name) (m : WrittenMethod) → AllFunctions (method_parts s n m)
 method_functions s n m = specialised_functions s n m (specialised_in s.words m.list)
 
-each_functions : (s : Tables) (n : Name) (ms : List WrittenMethod) → AllFunctions (each_method s n ms)
+pub each_functions : (s : Tables) (n : Name) (ms : List WrittenMethod) → AllFunctions (each_method s n ms)
 each_functions s n [] = tt
 each_functions s n (m ∷ ms) = each_append IsFunction (method_parts s n m) (each_method s n ms) (method_functions s n m) (each_functions s n ms)
+
+-- a method that fits has a qualifier
+pub some_qualifier : (x : GenericRow) (s : Tables) (m : WrittenMethod) → fits s (Some x) m ≡ true → is_some m.qualifier ≡ true
+some_qualifier x s m f =
+    let number : Bool = fits_by_number x (specialised_in s.words m.list) in
+    let e : ((is_some m.qualifier && number) ≡ true) × (not (is_there x (written_head s m)) ≡ true) = and_parts _ _ f in
+    (and_parts (is_some m.qualifier) number e.0).0
 
 -- the generic function of that number takes the methods one after another
 methods_joined : (s : Tables) (n : Name) (i : ℕ) (ms : List WrittenMethod) (x y : GenericRow) (t : Tables) (p : ℕ) → 0 < length s.classes.rows
@@ -95,12 +102,6 @@ methods_joined s n i (m ∷ ms) x y t p l w c g a f r made =
           rest.stand (subst (λ (g : Definitions). StandsBelow (p + 1) g) (method_defined t i h p)
           (stands_next p (defined t) i (method_of h p) (slice_get_within t.generics i y g) refl b));
     })
-  where
-    some_qualifier : (x : GenericRow) (s : Tables) (m : WrittenMethod) → fits s (Some x) m ≡ true → is_some m.qualifier ≡ true
-    some_qualifier x s m f =
-        let number : Bool = fits_by_number x (specialised_in s.words m.list) in
-        let e : ((is_some m.qualifier && number) ≡ true) × (not (is_there x (written_head s m)) ≡ true) = and_parts _ _ f in
-        (and_parts (is_some m.qualifier) number e.0).0
 
 -- a generic function of a new name, with its methods
 new_joined : (s : Tables) (n : Name) (ps : Parameters) (ms : List WrittenMethod) (of_file : Bool) (u : Tables) → 0 < length s.classes.rows → has_function s n ≡ false
@@ -175,7 +176,7 @@ there_joined s n i m x u l e f c =
     subst (λ (hs : List Head). Joins (length s.procedures) (defined u) (defined (with_methods i hs (length s.procedures) u))) (append-nil (written_heads s m)) all
 
 -- a generic function that is named is there
-named_there : (gs : List GenericRow) (n : Name) (i : ℕ) → generic_named gs n ≡ Some i → (x : GenericRow) × (slice_get gs i ≡ Some x)
+pub named_there : (gs : List GenericRow) (n : Name) (i : ℕ) → generic_named gs n ≡ Some i → (x : GenericRow) × (slice_get gs i ≡ Some x)
 named_there [] n i e = absurd (cc e)
 named_there (g ∷ gs) n i e = by_test (same_name n g.name) (generic_named gs n) (named_there gs n) e
   where

@@ -22,8 +22,8 @@ use Rattle.isl_profile.specs.Shapes.{symbol_of, clauses_in}
 use Rattle.isl_profile.specs.GivenNames.{unfit}
 use Rattle.isl_profile.specs.Rows.{first_reserved, functions_kept, special_row, special_node, without_dot, call_symbol, call_as, special_of, headed_as, is_lambda, headed_by_form, headed_by, list_node, plain_node, class_in_front, unless_refused, derived_as, node}
 use Rattle.isl_profile.specs.bridge.Growing.{grows_same}
-use Rattle.isl_whole.proofs.Starting.{Begins, none_defined, Starts, begins_so, starts_if, starts_literal}
-use Rattle.isl_whole.proofs.StartingForms.{starts_symbol, starts_quote, starts_setq, starts_progn, starts_cond_as, starts_two, starts_body, starts_dynamic, starts_set_dynamic, starts_function, starts_method, starts_class, starts_block, starts_return_from, starts_tagbody, starts_go, starts_all_parts, call_nothing, starts_local_call, starts_let, starts_dynamic_let, starts_lambda, starts_with_functions}
+use Rattle.isl_whole.proofs.Starting.{Begins, names_same, none_defined, Starts, begins_so, starts_if, starts_literal}
+use Rattle.isl_whole.proofs.StartingForms.{starts_symbol, starts_quote, starts_setq, starts_progn, starts_cond_as, starts_two, starts_body, starts_dynamic, starts_set_dynamic, starts_function, starts_method, starts_class, starts_block, starts_return_from, starts_tagbody, starts_go, starts_all_parts, call_nothing, call_simple, starts_local_call, starts_let, starts_dynamic_let, starts_lambda, starts_with_functions}
 use Rattle.isl_whole.proofs.StartingDefinitions.{starts_global, starts_defdynamic, starts_defun, starts_defgeneric, starts_defmethod, starts_defclass}
 
 -- all rows
@@ -73,7 +73,7 @@ starts_without_dot s top p (dotted d) x h = tt
 starts_call_symbol : (s : Tables) (x : Symbol) (text : Option (List ℕ)) (a : Around) (p : Place) (ds : List Item) → Starts s a.spot.top (call_symbol x text a s p ds)
 starts_call_symbol s (Named n) None a p ds = tt
 starts_call_symbol s (Fresh e serial) None a p ds = tt
-starts_call_symbol s (Named n) (Some text) a p ds = starts_if s a.spot.top (is_left_out text) _ _ tt (starts_all_parts s _ a p ds (call_nothing n text (length ds)))
+starts_call_symbol s (Named n) (Some text) a p ds = starts_if s a.spot.top (is_left_out text) _ _ tt (starts_all_parts s _ a p ds (call_simple n text (length ds)) (call_nothing n text (length ds)))
 starts_call_symbol s (Fresh e serial) (Some text) a p ds = tt
 
 starts_call : (s : Tables) (x : Symbol) (text : Option (List ℕ)) (v : Option ℕ) (a : Around) (p : Place) (ds : List Item) → Starts s a.spot.top (call_as x text v a s p ds)
@@ -86,7 +86,7 @@ starts_headed names s x None a p ds t = starts_without_dot s a.spot.top p t _ (s
 
 starts_by_form : (names : List (List ℕ)) (s : Tables) (h : Item) (a : Around) (p : Place) (ds : List Item) (t : Tail) → Starts s a.spot.top (headed_by_form names h a s p ds t)
 starts_by_form names s h a p ds t =
-    starts_if s a.spot.top (is_lambda names h) _ _ (starts_without_dot s a.spot.top p t _ (starts_all_parts s CallOfValue a p (h ∷ ds) (λ rs u. none_defined u))) tt
+    starts_if s a.spot.top (is_lambda names h) _ _ (starts_without_dot s a.spot.top p t _ (starts_all_parts s CallOfValue a p (h ∷ ds) tt (λ rs u. none_defined u))) tt
 
 starts_headed_by : (names : List (List ℕ)) (s : Tables) (h : Item) (x : Option Symbol) (a : Around) (p : Place) (ds : List Item) (t : Tail) → Starts s a.spot.top (headed_by names h x a s p ds t)
 starts_headed_by names s h (Some x) a p ds t = starts_headed names s x (special_of (symbol_text names x)) a p ds t
@@ -108,7 +108,7 @@ starts_datum names s a (item p nil) = starts_literal s a p _
 starts_derived : (names : List (List ℕ)) (s : Tables) (x : Derivation) (a : Around) (d : Item) → Starts s a.spot.top (derived_as names x a s d)
 starts_derived names s plain a d = starts_datum names s a d
 starts_derived names s unfit a d = tt
-starts_derived names s (becomes r) a d = record { grows = grows_same s; low = λ e. (e, none_defined s) }
+starts_derived names s (becomes r) a d = record { grows = grows_same s; names = names_same s; low = λ e. (e, none_defined s) }
 
 starts_unless : (s : Tables) (top : Bool) (r : Option Refusal) (x : Node) → Starts s top x → Starts s top (unless_refused r x)
 starts_unless s top None x h = h

@@ -24,8 +24,11 @@ pub mod Joining
 pub mod Slots
 pub mod Accessors
 pub mod ClassRules
+pub mod Known
 pub mod GenericRows
+pub mod SuitedMethods
 pub mod ClassRows
+pub mod SuitedClasses
 pub mod AllRows
 pub mod Parts
 pub mod PartsBehind

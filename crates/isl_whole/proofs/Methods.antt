@@ -67,6 +67,9 @@ method_turned k m =
 pub none_alike : (m : MethodRow) (ms : List MethodRow) → list_any (same_method m) ms ≡ false → list_any (λ k. same_method k m) ms ≡ false
 none_alike m ms h = none_of_less (same_method m) (λ k. same_method k m) (λ k e. method_turned k m ∙ e) ms h
 
+pub none_turned : (m : MethodRow) (ms : List MethodRow) → list_any (λ k. same_method k m) ms ≡ false → list_any (same_method m) ms ≡ false
+none_turned m ms h = none_of_less (λ k. same_method k m) (same_method m) (λ k e. method_turned m k ∙ e) ms h
+
 -- a generic function as it is judged, and as it is
 
 pub record Alike (x y : GenericRow) : Type 0 where

@@ -14,7 +14,7 @@ use Rattle.isl_meaning.specs.Subforms.{Each}
 use Rattle.isl_meaning.specs.Standing.{is_alone}
 use Rattle.isl_meaning.specs.Facts.{initform_fits}
 use Rattle.isl_classes.specs.Given.{given as given_slots, spec_names, is_wrong}
-use Rattle.isl_classes.specs.InheritedClasses.{slots_given, slot_limit}
+use Rattle.isl_classes.specs.InheritedClasses.{slots_given, slot_limit, first_wrong}
 use Rattle.isl_classes.specs.InheritedSlots.{has_name, each_first, with_name}
 use Rattle.isl_classes.specs.Keeping.{KeepsNames}
 use Rattle.isl_derived.specs.Asked.{list_items, is_word}
@@ -175,14 +175,19 @@ all_slot_parts (x ∷ xs) = flat_map (part_of x) (functions_of x) ++ all_slot_pa
 pub record RightSlots (inherited earlier : List Name) (xs : List WrittenSlot) : Type 0 where
   pub parts : slot_parts inherited earlier xs ≡ all_slot_parts xs
   pub few : length (each_first (inherited ++ earlier)) ≤ slot_limit → length (each_first (inherited ++ (earlier ++ map (λ x. x.name) xs))) ≤ slot_limit
+  pub none_wrong : (p : ℕ) → first_wrong inherited earlier (given_slots (slot_specs p xs)) ≡ None
 
 within_limit : (n : Name) (earlier names : List Name) → is_wrong n earlier names ≡ false → length (with_name n names) ≤ slot_limit
 within_limit n earlier names e =
     let o : (has_name n earlier ≡ false) × (nat_lt slot_limit (length (with_name n names)) ≡ false) = or_parts (has_name n earlier) (nat_lt slot_limit (length (with_name n names))) e in
     ltb-false slot_limit (length (with_name n names)) o.1
 
+right_slot : (n : Name) (inherited earlier : List Name) → each_first (inherited ++ earlier ++ n ∷ []) ≡ with_name n (each_first (inherited ++ earlier))
+    → is_wrong n earlier (each_first (inherited ++ earlier)) ≡ false → (has_name n earlier || nat_lt slot_limit (length (each_first (inherited ++ earlier ++ n ∷ [])))) ≡ false
+right_slot n inherited earlier one e = ap (λ ns. has_name n earlier || nat_lt slot_limit (length ns)) one ∙ e
+
 pub right_slots : KeepsNames → (inherited earlier : List Name) (xs : List WrittenSlot) → AllRight (slot_parts inherited earlier xs) → RightSlots inherited earlier xs
-right_slots keep inherited earlier [] r = record { parts = refl; few = λ l. subst (λ (ns : List Name). length (each_first (inherited ++ ns)) ≤ slot_limit) (sym (append-nil earlier)) l }
+right_slots keep inherited earlier [] r = record { parts = refl; few = λ l. subst (λ (ns : List Name). length (each_first (inherited ++ ns)) ≤ slot_limit) (sym (append-nil earlier)) l; none_wrong = λ p. refl }
 right_slots keep inherited earlier (x ∷ xs) r = by_test (has_wrong_options x || is_wrong x.name earlier (each_first (inherited ++ earlier))) refl r
     (λ q. right_slots keep inherited (earlier ++ x.name ∷ []) xs q)
   where
@@ -203,6 +208,9 @@ right_slots keep inherited earlier (x ∷ xs) r = by_test (has_wrong_options x |
               ∙ ap (λ ys. flat_map (part_of x) (functions_of x) ++ ys) rest.parts;
           few = λ l.
               subst (λ (ns : List Name). length (each_first (inherited ++ ns)) ≤ slot_limit) (append_assoc earlier (x.name ∷ []) (map (λ y. y.name) xs)) (rest.few here);
+          none_wrong = λ p.
+              let q : ℕ = p + length (functions_of x) in
+              ap (λ b. if b then Some x.place else first_wrong inherited (earlier ++ x.name ∷ []) (given_slots (slot_specs q xs))) (right_slot x.name inherited earlier (keep (inherited ++ earlier) x.name) o.1) ∙ rest.none_wrong q;
         }
 
 pub names_of_specs : (p : ℕ) (xs : List WrittenSlot) → spec_names (slot_specs p xs) ≡ map (λ x. x.name) xs

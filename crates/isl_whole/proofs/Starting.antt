@@ -1,5 +1,5 @@
 -- The tables that nodes begin with: they stand behind those in front of them, and below top level nothing is defined there.
-use Rattle.std.proofs.Common.{◌+◌, ◌≤◌, ℕ, nat_le, Bool, true, false, List, [], ◌∷◌, length, Some, if◌then◌else◌, refl, ◌∙◌, ◌≡◌, ◌++◌}
+use Rattle.std.proofs.Common.{◌+◌, ◌≤◌, ℕ, nat_le, Bool, true, false, List, [], ◌∷◌, length, Some, if◌then◌else◌, refl, ◌∙◌, ◌≡◌, ◌++◌, ◌⊎◌, inl}
 use Rattle.isl_base.specs.declared.place.Place.{Place}
 use Rattle.isl_base.specs.declared.datum.Name.{Name}
 use Rattle.isl_base.specs.declared.datum.Symbol.{Symbol}
@@ -12,7 +12,7 @@ use Rattle.isl_profile.specs.declared.making.Found.{Found}
 use Rattle.isl_profile.specs.declared.making.One.{One}
 use Rattle.isl_profile.specs.declared.making.One.TheVariants.{SetVariable, SetGlobal, DefineGlobal, SetDynamic, DefineDynamic, ReturnTo}
 use Rattle.isl_profile.specs.declared.making.Making.{Making}
-use Rattle.isl_profile.specs.declared.making.Making.TheVariants.{Ready, OfOne}
+use Rattle.isl_profile.specs.declared.making.Making.TheVariants.{Ready, OfOne, OfTwo, OfBody, InSequence, CallOf, CallOfValue, CallOfLocal, CallOfPrimitive, OfClauses, OfVariables, OfDynamics, OfFunction, OfBlock, OfSegments, OfFunctionNamed, OfProcedure, OfAccessor, OfMethods, OfClass}
 use Rattle.isl_profile.specs.Nodes.{Around, Part, form, below, inner, bind, parameter, wrong, function, Node, offends, unnamed, steps, whole}
 use Rattle.isl_profile.specs.Shapes.{Pair}
 use Rattle.isl_profile.specs.RowWords.{deeper, with_site_if, within_depth, made_of, made_at_once, unsited, with_literal, literal_node, each_bound}
@@ -21,8 +21,13 @@ use Rattle.isl_profile.specs.DefiningRows.{with_name}
 use Rattle.isl_profile.specs.Makings.{finish}
 use Rattle.isl_profile.specs.Judged.{with_fresh}
 use Rattle.isl_profile.specs.Marks.{Grows}
+use Rattle.isl_profile.specs.Suits.{Suits}
+use Rattle.isl_classes.specs.Keeping.{KeepsNames}
 use Rattle.isl_profile.specs.bridge.Growing.{grows_then, grows_same, nothing_added, grows_with, grows_by}
 use Rattle.isl_whole.specs.Below.{SameNames, NothingDefined}
+use Rattle.isl_whole.specs.Known.{KnownTables}
+use Rattle.isl_whole.proofs.MethodViews.{AllRight}
+use Rattle.isl_whole.proofs.Joining.{AllFunctions}
 use Rattle.isl_whole.proofs.Forms.{each_more}
 use Rattle.isl_whole.proofs.FoundNodes.{IsPlain, AllPlain}
 use Rattle.isl_whole.proofs.Procedures.{IsOrdinary, AllOrdinary, AllLow, all_low}
@@ -104,13 +109,50 @@ none_site : (b : Bool) (p : Place) (s : Tables) → NothingDefined s (with_site_
 none_site true p s = none_with s s.literals s.set (s.sites ++ p ∷ []) s.fresh s.variables s.exits
 none_site false p s = none_defined s
 
+pub none_name : (b : Bool) (d : Item) (s : Tables) → NothingDefined s (with_name b d s)
+none_name true d s = none_literal s _
+none_name false d s = none_defined s
+
 -- what is made defines nothing
 abbrev pub MakesNothing : Making → Type 0
 MakesNothing k = (rs : List Found) (u : Tables) → NothingDefined u (finish k rs u)
 
+-- what is made suits the tables behind its parts, and leaves known tables: at once, or where its parts are functions and the tables that it
+-- was judged by are known
+
+abbrev pub IsSimple : Making → Type 0
+IsSimple (Ready l) = Unit {0}
+IsSimple (OfOne k) = Unit {0}
+IsSimple (OfTwo k) = Unit {0}
+IsSimple (OfBody k) = Unit {0}
+IsSimple InSequence = Unit {0}
+IsSimple (CallOf n) = Unit {0}
+IsSimple CallOfValue = Unit {0}
+IsSimple (CallOfLocal v) = Unit {0}
+IsSimple (CallOfPrimitive p) = Unit {0}
+IsSimple (OfClauses ns) = Unit {0}
+IsSimple OfVariables = Unit {0}
+IsSimple (OfDynamics ns) = Unit {0}
+IsSimple (OfFunction n rest parts) = Unit {0}
+IsSimple (OfBlock x) = Unit {0}
+IsSimple (OfSegments x ns) = Unit {0}
+IsSimple (OfFunctionNamed name n rest of_file l) = Unit {0}
+IsSimple (OfProcedure name n rest) = Unit {0}
+IsSimple (OfAccessor name k v l) = Unit {0}
+IsSimple (OfMethods t hs p of_file l) = ⊥
+IsSimple (OfClass c p of_file l) = ⊥
+
+pub record Joins (s t : Tables) (xs : List Part) (k : Making) : Type 0 where
+  pub functions : AllFunctions xs
+  pub suits : KeepsNames → KnownTables s → (u : Tables) (rs : List Found) → SameNames t u → AllRight xs → Suits k u × KnownTables (finish k rs u)
+
+abbrev pub Suited : Tables → Tables → List Part → Making → Type 0
+Suited s t xs k = IsSimple k ⊎ Joins s t xs k
+
 -- a node and the tables that it begins with; below top level nothing is defined there
 pub record StartsStep (s : Tables) (top : Bool) (a : Around) (t : Tables) : Type 0 where
   pub grows : Grows s t
+  pub names : SameNames s t
   pub low : top ≡ false → (a.spot.top ≡ false) × NothingDefined s t
 
 pub record LowWhole (s : Tables) (o i : Around) (t : Tables) (xs : List Part) (k : Making) : Type 0 where
@@ -121,6 +163,8 @@ pub record LowWhole (s : Tables) (o i : Around) (t : Tables) (xs : List Part) (k
 
 pub record StartsWhole (s : Tables) (top : Bool) (o i : Around) (t : Tables) (xs : List Part) (k : Making) : Type 0 where
   pub grows : Grows s t
+  pub names : SameNames s t
+  pub suited : Suited s t xs k
   pub low : top ≡ false → LowWhole s o i t xs k
 
 abbrev pub Starts : Tables → Bool → Node → Type 0
@@ -142,9 +186,11 @@ starts_if s top false x y g h = h
 pub starts_within : (s : Tables) (k : ℕ) (a : Around) (p : Place) (x : Node) → Starts s a.spot.top x → Starts s a.spot.top (within_depth k a p x)
 starts_within s k a p x h = starts_if s a.spot.top (nat_le (a.spot.depth + k) 1000) x _ h tt
 
-pub starts_made : (s : Tables) (a i : Around) (p : Place) (t : Tables) (xs : List Part) (k : Making) → Grows s t → NothingDefined s t → (a.spot.top ≡ false → i.spot.top ≡ false)
-    → AllOrdinary xs → (a.spot.top ≡ false → MakesNothing k) → Starts s a.spot.top (made_of a i p t xs k)
-starts_made s a i p t xs k g d low o m = record {
+pub starts_made : (s : Tables) (a i : Around) (p : Place) (t : Tables) (xs : List Part) (k : Making) → IsSimple k → Grows s t → NothingDefined s t
+    → (a.spot.top ≡ false → i.spot.top ≡ false) → AllOrdinary xs → (a.spot.top ≡ false → MakesNothing k) → Starts s a.spot.top (made_of a i p t xs k)
+starts_made s a i p t xs k e g d low o m = record {
+  names = (none_then s t (with_site_if a.spot.sited p t) d (none_site a.spot.sited p t)).names;
+  suited = inl e;
   grows = grows_then s t (with_site_if a.spot.sited p t) g (grows_site a.spot.sited p t);
   low = λ e. record {
     defined = none_then s t (with_site_if a.spot.sited p t) d (none_site a.spot.sited p t);
@@ -155,15 +201,15 @@ starts_made s a i p t xs k g d low o m = record {
 }
 
 -- nothing is added first, and the parts stand a form deeper
-pub starts_plain : (s : Tables) (a : Around) (p : Place) (xs : List Part) (k : Making) → AllOrdinary xs → MakesNothing k → Starts s a.spot.top (made_of a (deeper 1 a) p s xs k)
-starts_plain s a p xs k o m = starts_made s a (deeper 1 a) p s xs k (grows_same s) (none_defined s) (λ e. refl) o (λ e. m)
+pub starts_plain : (s : Tables) (a : Around) (p : Place) (xs : List Part) (k : Making) → IsSimple k → AllOrdinary xs → MakesNothing k → Starts s a.spot.top (made_of a (deeper 1 a) p s xs k)
+starts_plain s a p xs k e o m = starts_made s a (deeper 1 a) p s xs k e (grows_same s) (none_defined s) (λ e. refl) o (λ e. m)
 
 pub starts_at_once : (s : Tables) (a : Around) (p : Place) (l : Leaf) → Starts s a.spot.top (made_at_once a p s l)
-starts_at_once s a p l = starts_within s 1 a p _ (starts_plain s a p [] (Ready l) tt (λ rs u. none_defined u))
+starts_at_once s a p l = starts_within s 1 a p _ (starts_plain s a p [] (Ready l) tt tt (λ rs u. none_defined u))
 
 pub starts_unsited : (s : Tables) (a : Around) (p : Place) (t : Tables) (l : Leaf) → Grows s t → NothingDefined s t → Starts s a.spot.top (unsited a p t l)
 starts_unsited s a p t l g d =
-    starts_within s 1 a p _ (record { grows = g; low = λ e. record { defined = d; parts = tt; ordinary = tt; makes = λ rs u. none_defined u } })
+    starts_within s 1 a p _ (record { grows = g; names = d.names; suited = inl tt; low = λ e. record { defined = d; parts = tt; ordinary = tt; makes = λ rs u. none_defined u } })
 
 pub starts_literal : (s : Tables) (a : Around) (p : Place) (row : LiteralRow) → Starts s a.spot.top (literal_node a p s row)
 starts_literal s a p row = starts_unsited s a p (with_literal row s) _ (grows_literal s row) (none_literal s row)

@@ -35,7 +35,7 @@ use Rattle.isl_whole.specs.Below.{NothingDefined}
 use Rattle.isl_whole.proofs.Places.{each_append}
 use Rattle.isl_whole.proofs.FoundNodes.{both_plain, forms_plain, below_plain, inner_plain, parameters_plain, values_plain, clauses_plain}
 use Rattle.isl_whole.proofs.Procedures.{IsOrdinary, inner_ordinary}
-use Rattle.isl_whole.proofs.Starting.{grows_set, grows_numbers, none_defined, none_set, none_numbers, MakesNothing, Starts, starts_if, starts_within, starts_made, starts_plain, starts_at_once, starts_unsited, starts_literal, Sets, sets_nothing, plain_ordinary, bound_ordinary}
+use Rattle.isl_whole.proofs.Starting.{grows_set, grows_numbers, none_defined, none_set, none_numbers, MakesNothing, IsSimple, Starts, starts_if, starts_within, starts_made, starts_plain, starts_at_once, starts_unsited, starts_literal, Sets, sets_nothing, plain_ordinary, bound_ordinary}
 
 -- values
 
@@ -56,7 +56,7 @@ starts_quote s a p [] = tt
 starts_quote s a p (d ∷ e ∷ ds) = tt
 
 pub starts_one : (s : Tables) (a : Around) (p : Place) (t : Tables) (k : One) (d : Item) → Grows s t → NothingDefined s t → (a.spot.top ≡ false → Sets k) → Starts s a.spot.top (one_part a p t k d)
-starts_one s a p t k d g n h = starts_within s 1 a p _ (starts_made s a (deeper 1 a) p t (form d ∷ []) (OfOne k) g n (λ e. refl) (tt, tt) (λ e. sets_nothing k (h e)))
+starts_one s a p t k d g n h = starts_within s 1 a p _ (starts_made s a (deeper 1 a) p t (form d ∷ []) (OfOne k) tt g n (λ e. refl) (tt, tt) (λ e. sets_nothing k (h e)))
 
 starts_set_free : (s : Tables) (a : Around) (p : Place) (x : Symbol) (d : Item) → Starts s a.spot.top (set_free a s p x d)
 starts_set_free s a p (Named n) d = starts_if s a.spot.top (is_constant s n) _ _ tt (starts_one s a p (with_set n s) _ d (grows_set s n) (none_set s n) (λ e. tt))
@@ -84,14 +84,14 @@ starts_setq s a p (d ∷ e ∷ f ∷ ds) = tt
 pub starts_progn : (s : Tables) (a : Around) (p : Place) (ds : List Item) → Starts s a.spot.top (progn_row a s p ds)
 starts_progn s a p ds =
     starts_within s 1 a p _
-    (starts_made s a (deeper_at_top a) p s (each_inner ds) InSequence (grows_same s) (none_defined s) (λ e. e) (inner_ordinary ds) (λ e rs u. none_defined u))
+    (starts_made s a (deeper_at_top a) p s (each_inner ds) InSequence tt (grows_same s) (none_defined s) (λ e. e) (inner_ordinary ds) (λ e rs u. none_defined u))
 
 pub starts_cond_as : (s : Tables) (a : Around) (p : Place) (cs : Option (List ClauseParts)) → Starts s a.spot.top (cond_as a s p cs)
 starts_cond_as s a p None = tt
-starts_cond_as s a p (Some cs) = starts_within s (own_depth cs) a p _ (starts_plain s a p (clause_parts cs) _ (plain_ordinary (clause_parts cs) (clauses_plain cs)) (λ rs u. none_defined u))
+starts_cond_as s a p (Some cs) = starts_within s (own_depth cs) a p _ (starts_plain s a p (clause_parts cs) _ tt (plain_ordinary (clause_parts cs) (clauses_plain cs)) (λ rs u. none_defined u))
 
 pub starts_two : (s : Tables) (k : Two) (a : Around) (p : Place) (ds : List Item) → Starts s a.spot.top (two_row k a s p ds)
-starts_two s k a p (d ∷ e ∷ []) = starts_within s 1 a p _ (starts_plain s a p (form d ∷ form e ∷ []) (OfTwo k) (tt, (tt, tt)) (λ rs u. none_defined u))
+starts_two s k a p (d ∷ e ∷ []) = starts_within s 1 a p _ (starts_plain s a p (form d ∷ form e ∷ []) (OfTwo k) tt (tt, (tt, tt)) (λ rs u. none_defined u))
 starts_two s k a p [] = tt
 starts_two s k a p (d ∷ []) = tt
 starts_two s k a p (d ∷ e ∷ f ∷ ds) = tt
@@ -99,7 +99,7 @@ starts_two s k a p (d ∷ e ∷ f ∷ ds) = tt
 pub starts_body : (s : Tables) (k : WithBody) (a : Around) (p : Place) (ds : List Item) → Starts s a.spot.top (body_row k a s p ds)
 starts_body s k a p [] = tt
 starts_body s k a p (d ∷ ds) =
-    starts_within s 2 a p _ (starts_plain s a p (form d ∷ each_below ds) (OfBody k) (tt, plain_ordinary (each_below ds) (below_plain ds)) (λ rs u. none_defined u))
+    starts_within s 2 a p _ (starts_plain s a p (form d ∷ each_below ds) (OfBody k) tt (tt, plain_ordinary (each_below ds) (below_plain ds)) (λ rs u. none_defined u))
 
 starts_dynamic_as : (s : Tables) (a : Around) (p : Place) (n : Option Name) → Starts s a.spot.top (dynamic_as a s p n)
 starts_dynamic_as s a p None = tt
@@ -174,7 +174,7 @@ starts_block_as : (s : Tables) (a : Around) (p : Place) (x : Option Symbol) (fs 
 starts_block_as s a p None fs = tt
 starts_block_as s a p (Some x) fs =
     starts_within s 2 a p _
-    (starts_made s a (with_bound (Block x s.exits) (deeper 2 a)) p (with_exit s) (each_inner fs) (OfBlock s.exits) (grows_exit s) (none_exit s) (λ e. refl)
+    (starts_made s a (with_bound (Block x s.exits) (deeper 2 a)) p (with_exit s) (each_inner fs) (OfBlock s.exits) tt (grows_exit s) (none_exit s) (λ e. refl)
     (inner_ordinary fs) (λ e rs u. none_defined u))
 
 pub starts_block : (s : Tables) (a : Around) (p : Place) (ds : List Item) → Starts s a.spot.top (block_row a s p ds)
@@ -198,7 +198,7 @@ starts_return_from s a p (x ∷ d ∷ e ∷ ds) = tt
 pub starts_tagbody : (s : Tables) (a : Around) (p : Place) (ds : List Item) → Starts s a.spot.top (tagbody_row a s p ds)
 starts_tagbody s a p ds =
     starts_if s a.spot.top (all_differ (tags_in ds)) _ _ (starts_within s 2 a p _
-    (starts_made s a (with_bound (Tags (tags_in ds) s.exits) (deeper 2 a)) p (with_exit s) (each_inner (forms_in ds)) (OfSegments s.exits (lengths_in ds)) (grows_exit s) (none_exit s)
+    (starts_made s a (with_bound (Tags (tags_in ds) s.exits) (deeper 2 a)) p (with_exit s) (each_inner (forms_in ds)) (OfSegments s.exits (lengths_in ds)) tt (grows_exit s) (none_exit s)
     (λ e. refl) (inner_ordinary (forms_in ds)) (λ e rs u. none_defined u)))
     tt
 
@@ -217,8 +217,8 @@ starts_go s a p (d ∷ e ∷ ds) = tt
 
 -- calls
 
-pub starts_all_parts : (s : Tables) (k : Making) (a : Around) (p : Place) (ds : List Item) → MakesNothing k → Starts s a.spot.top (all_parts k a s p ds)
-starts_all_parts s k a p ds m = starts_within s 1 a p _ (starts_plain s a p (each_form ds) k (plain_ordinary (each_form ds) (forms_plain ds)) m)
+pub starts_all_parts : (s : Tables) (k : Making) (a : Around) (p : Place) (ds : List Item) → IsSimple k → MakesNothing k → Starts s a.spot.top (all_parts k a s p ds)
+starts_all_parts s k a p ds e m = starts_within s 1 a p _ (starts_plain s a p (each_form ds) k e (plain_ordinary (each_form ds) (forms_plain ds)) m)
 
 chosen_nothing : (b : Bool) (k l : Making) → MakesNothing k → MakesNothing l → MakesNothing (if b then k else l)
 chosen_nothing true k l h g = h
@@ -234,16 +234,30 @@ call_nothing n text count =
     (chosen_nothing (is_pair_call text (codes "signal-condition") count) (OfTwo Signalling) _ (λ rs u. none_defined u)
     (chosen_nothing (is_pair_call text (codes "continue-condition") count) (OfTwo Continuing) _ (λ rs u. none_defined u) (named_nothing n (primitive_called text count))))
 
+chosen_simple : (b : Bool) (k l : Making) → IsSimple k → IsSimple l → IsSimple (if b then k else l)
+chosen_simple true k l h g = h
+chosen_simple false k l h g = g
+
+named_simple : (n : Name) (p : Option Primitive) → IsSimple (named_making n p)
+named_simple n None = tt
+named_simple n (Some p) = tt
+
+pub call_simple : (n : Name) (text : List ℕ) (count : ℕ) → IsSimple (call_making n text count)
+call_simple n text count =
+    chosen_simple (is_value_call text count) CallOfValue _ tt
+    (chosen_simple (is_pair_call text (codes "signal-condition") count) (OfTwo Signalling) _ tt
+    (chosen_simple (is_pair_call text (codes "continue-condition") count) (OfTwo Continuing) _ tt (named_simple n (primitive_called text count))))
+
 pub starts_local_call : (s : Tables) (v : ℕ) (a : Around) (p : Place) (ds : List Item) → Starts s a.spot.top (local_call v a s p ds)
 starts_local_call s v a p ds =
-    starts_within s 2 a p _ (starts_plain s a p (each_form ds) (CallOfLocal v) (plain_ordinary (each_form ds) (forms_plain ds)) (λ rs u. none_defined u))
+    starts_within s 2 a p _ (starts_plain s a p (each_form ds) (CallOfLocal v) tt (plain_ordinary (each_form ds) (forms_plain ds)) (λ rs u. none_defined u))
 
 -- forms that bind
 
 starts_let_as : (s : Tables) (a : Around) (p : Place) (bs : Item) (fs : List Item) (qs : Option (List Pair)) → Starts s a.spot.top (let_as a s p bs fs qs)
 starts_let_as s a p bs fs None = tt
 starts_let_as s a p bs fs (Some qs) =
-    starts_made s a (deeper 2 a) p s (each_bound qs ++ each_inner fs) OfVariables (grows_same s) (none_defined s) (λ e. refl)
+    starts_made s a (deeper 2 a) p s (each_bound qs ++ each_inner fs) OfVariables tt (grows_same s) (none_defined s) (λ e. refl)
     (each_append IsOrdinary (each_bound qs) (each_inner fs) (bound_ordinary qs) (inner_ordinary fs)) (λ e rs u. none_defined u)
 
 pub starts_let : (s : Tables) (a : Around) (p : Place) (ds : List Item) → Starts s a.spot.top (let_row a s p ds)
@@ -254,7 +268,7 @@ starts_dynamics_as : (s : Tables) (a : Around) (p : Place) (fs : List Item) (qs 
 starts_dynamics_as s a p fs qs None = tt
 starts_dynamics_as s a p fs qs (Some ns) =
     starts_within s 2 a p _
-    (starts_plain s a p (values_of qs ++ each_below fs) (OfDynamics ns)
+    (starts_plain s a p (values_of qs ++ each_below fs) (OfDynamics ns) tt
     (plain_ordinary (values_of qs ++ each_below fs) (both_plain (values_of qs) (each_below fs) (values_plain qs) (below_plain fs))) (λ rs u. none_defined u))
 
 starts_dynamic_let_as : (s : Tables) (a : Around) (p : Place) (bs : Item) (fs : List Item) (qs : Option (List Pair)) → Starts s a.spot.top (dynamic_let_as a s p bs fs qs)
@@ -269,7 +283,7 @@ starts_lambda_as : (s : Tables) (a : Around) (p : Place) (l : Item) (fs : List I
 starts_lambda_as s a p l fs None = tt
 starts_lambda_as s a p l fs (Some ps) =
     let xs : List Part = each_parameter (all_symbols ps) ++ each_inner fs in
-    starts_made s a (deeper 2 a) p s xs _ (grows_same s) (none_defined s) (λ e. refl)
+    starts_made s a (deeper 2 a) p s xs _ tt (grows_same s) (none_defined s) (λ e. refl)
     (plain_ordinary xs (both_plain (each_parameter (all_symbols ps)) (each_inner fs) (parameters_plain (all_symbols ps)) (inner_plain fs))) (λ e rs u. none_defined u)
 
 pub starts_lambda : (s : Tables) (a : Around) (p : Place) (ds : List Item) → Starts s a.spot.top (lambda_row a s p ds)
@@ -282,7 +296,7 @@ starts_functions_as s a p fs false None = tt
 starts_functions_as s a p fs true (Some bs) = tt
 starts_functions_as s a p fs false (Some bs) =
     starts_within s 1 a p _
-    (starts_made s a (with_all bs (deeper 1 a)) p s (each_inner fs) InSequence (grows_same s) (none_defined s) (λ e. refl) (inner_ordinary fs) (λ e rs u. none_defined u))
+    (starts_made s a (with_all bs (deeper 1 a)) p s (each_inner fs) InSequence tt (grows_same s) (none_defined s) (λ e. refl) (inner_ordinary fs) (λ e rs u. none_defined u))
 
 starts_with_functions_as : (s : Tables) (kept : Bool) (a : Around) (p : Place) (bs : Item) (fs : List Item) (qs : Option (List Pair)) → Starts s a.spot.top (with_functions_as kept a s p bs fs qs)
 starts_with_functions_as s kept a p bs fs None = starts_within s 1 a p _ tt

@@ -6,3 +6,4 @@ pub mod Classes
 pub mod Between
 pub mod Numbers
 pub mod Below
+pub mod Known
