@@ -96,17 +96,17 @@ starts_list : (names : List (List ℕ)) (s : Tables) (a : Around) (p : Place) (d
 starts_list names s a p [] t = tt
 starts_list names s a p (h ∷ ds) t = starts_headed_by names s h (symbol_of h) a p ds t
 
-starts_datum : (names : List (List ℕ)) (s : Tables) (a : Around) (d : Item) → Starts s a.spot.top (plain_node names a s d)
-starts_datum names s a (item p (list ds t)) = starts_list names s a p (items_list ds) t
-starts_datum names s a (item p (symbol x)) = starts_symbol s a p x
-starts_datum names s a (item p (integer z)) = starts_literal s a p _
-starts_datum names s a (item p (character c)) = starts_literal s a p _
-starts_datum names s a (item p (string bytes)) = starts_literal s a p _
-starts_datum names s a (item p (vector ds)) = starts_literal s a p _
-starts_datum names s a (item p nil) = starts_literal s a p _
+pub starts_plain_node : (names : List (List ℕ)) (s : Tables) (a : Around) (d : Item) → Starts s a.spot.top (plain_node names a s d)
+starts_plain_node names s a (item p (list ds t)) = starts_list names s a p (items_list ds) t
+starts_plain_node names s a (item p (symbol x)) = starts_symbol s a p x
+starts_plain_node names s a (item p (integer z)) = starts_literal s a p _
+starts_plain_node names s a (item p (character c)) = starts_literal s a p _
+starts_plain_node names s a (item p (string bytes)) = starts_literal s a p _
+starts_plain_node names s a (item p (vector ds)) = starts_literal s a p _
+starts_plain_node names s a (item p nil) = starts_literal s a p _
 
 starts_derived : (names : List (List ℕ)) (s : Tables) (x : Derivation) (a : Around) (d : Item) → Starts s a.spot.top (derived_as names x a s d)
-starts_derived names s plain a d = starts_datum names s a d
+starts_derived names s plain a d = starts_plain_node names s a d
 starts_derived names s unfit a d = tt
 starts_derived names s (becomes r) a d = record { grows = grows_same s; names = names_same s; low = λ e. (e, none_defined s) }
 

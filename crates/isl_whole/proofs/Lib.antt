@@ -44,3 +44,4 @@ pub mod StartingDefinitions
 pub mod Growing
 pub mod Grown
 pub mod Below
+pub mod Suiting

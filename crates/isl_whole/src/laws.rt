@@ -1,6 +1,6 @@
 // Laws of what forms stand for: a form is whole where it stands, and so is a program of such forms.
 
-ghost use Rattle.std.specs.Prelude.{◌≡◌, ℕ, ◌≤◌, true, false, List, None, length};
+ghost use Rattle.std.specs.Prelude.{◌≡◌, ℕ, ◌≤◌, true, false, List, [], None, length};
 ghost use Rattle.isl_base.specs.declared.datum.Name.{Name};
 ghost use Rattle.isl_base.specs.Data.{Item};
 ghost use Rattle.isl_base.specs.GoodData.{Good};
@@ -12,18 +12,23 @@ ghost use Rattle.isl_meaning.specs.Cells.{program_cells};
 ghost use Rattle.isl_meaning.specs.Facts.{is_whole};
 ghost use Rattle.isl_classes.specs.InheritedBuiltIn.{AreBuiltIn};
 ghost use Rattle.isl_profile.specs.declared.tables.Tables.{Tables};
-ghost use Rattle.isl_profile.specs.Nodes.{Around, Written, Standing, stands as comes_to};
+ghost use Rattle.isl_profile.specs.declared.making.Found.{Found};
+ghost use Rattle.isl_profile.specs.declared.making.Made.{Made};
+ghost use Rattle.isl_profile.specs.Nodes.{Around, Part, Written, Standing, stands as comes_to};
 ghost use Rattle.isl_profile.specs.FunctionNodes.{function_node};
-ghost use Rattle.isl_profile.specs.Rows.{node};
+ghost use Rattle.isl_profile.specs.Rows.{node, plain_node};
 ghost use Rattle.isl_profile.specs.DefiningRows.{has_function};
 ghost use Rattle.isl_profile.specs.Makings.{generic_named};
 ghost use Rattle.isl_profile.specs.Judged.{Comes};
+ghost use Rattle.isl_profile.specs.Walks.{Through};
+ghost use Rattle.isl_profile.specs.Suits.{Suits};
 ghost use Rattle.isl_whole.specs.Scopes.{Within};
 ghost use Rattle.isl_whole.specs.Definitions.{defined, rows_of, SoundTables};
 ghost use Rattle.isl_whole.specs.Places.{NothingAround, GoodAround};
 ghost use Rattle.isl_whole.specs.Right.{Came, with_main};
 ghost use Rattle.isl_whole.specs.Between.{WholeBetween, HasNoForm};
 ghost use Rattle.isl_whole.specs.Below.{NothingDefined, OneProcedure};
+ghost use Rattle.isl_whole.specs.Known.{KnownTables, MakesSuited, SuitsNode};
 
 use isl_classes::laws::law_definitions;
 use isl_derived::laws::law_good_steps;
@@ -52,6 +57,32 @@ pub fn law_below_top_level()
     ensures functions { (names : List (List ℕ)) (a : Around) (s : Tables) (w : Written) (m : Standing) →
         Comes names (function_node a s w) (comes_to m) → OneProcedure s m.tables }
 {}
+
+/// Sound tables are known. What a form makes of parts that all stand suits the tables behind them, where those in front
+/// of the form are known: so it is of a datum, of one that is no derived form, and of a function of a definition; and so
+/// it is where the parts were met one after another.
+pub fn law_suits()
+    ensures sound { (s : Tables) → SoundTables s → KnownTables s }
+    ensures forms { (names : List (List ℕ)) (a : Around) (s : Tables) (d : Item) → KnownTables s → SuitsNode (node names a s d) }
+    ensures plain_forms { (names : List (List ℕ)) (a : Around) (s : Tables) (d : Item) → KnownTables s → SuitsNode (plain_node names a s d) }
+    ensures functions { (a : Around) (s : Tables) (w : Written) → KnownTables s → SuitsNode (function_node a s w) }
+    ensures walks { (names : List (List ℕ)) (o i : Around) (s : Tables) (xs : List Part) (m : Made) (rs : List Found) (i2 : Around) (t : Tables) →
+        MakesSuited o i s xs m → Through names o i s xs rs i2 t [] → Suits m.making t }
+{
+    law_definitions();
+}
+
+/// Behind a form, wherever it stands, tables are known where those in front of it are.
+pub fn law_known()
+    ensures forms { (names : List (List ℕ)) (a : Around) (s : Tables) (d : Item) (m : Standing) → KnownTables s →
+        Comes names (node names a s d) (comes_to m) → KnownTables m.tables }
+    ensures plain_forms { (names : List (List ℕ)) (a : Around) (s : Tables) (d : Item) (m : Standing) → KnownTables s →
+        Comes names (plain_node names a s d) (comes_to m) → KnownTables m.tables }
+    ensures functions { (names : List (List ℕ)) (a : Around) (s : Tables) (w : Written) (m : Standing) → KnownTables s →
+        Comes names (function_node a s w) (comes_to m) → KnownTables m.tables }
+{
+    law_definitions();
+}
 
 /// A name that no function has is that of no generic function.
 pub fn law_generic_names()
