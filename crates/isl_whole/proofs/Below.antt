@@ -19,7 +19,7 @@ use Rattle.isl_profile.specs.bridge.Growing.{grows_then}
 use Rattle.isl_whole.specs.Below.{SameNames, NothingDefined, OneProcedure}
 use Rattle.isl_whole.proofs.Places.{each_append}
 use Rattle.isl_whole.proofs.Procedures.{IsOrdinary, AllOrdinary, IsLow, AllLow, all_low, inner_ordinary}
-use Rattle.isl_whole.proofs.Starting.{grows_numbers, names_then, none_defined, none_then, none_literal, none_numbers, none_fresh, LowWhole, Joins, Starts}
+use Rattle.isl_whole.proofs.Starting.{grows_numbers, names_then, none_defined, none_then, none_literal, none_numbers, none_fresh, LowWhole, JoinsSuited, Starts}
 use Rattle.isl_whole.proofs.Known.{known_same}
 use Rattle.isl_whole.proofs.Growing.{starts_node}
 
@@ -62,7 +62,7 @@ starts_from s t top (steps a u d) g n h = record {
 starts_from s t top (whole o i u xs m) g n h = record {
   grows = grows_then s t u g h.grows;
   names = names_then s t u n.names h.names;
-  suited = ⊎_elim inl (λ (j : Joins t u xs m.making). inr (record { functions = j.functions; suits = λ keep w. j.suits keep (known_same s t n.names w) })) h.suited;
+  suited = ⊎_elim inl (λ (j : JoinsSuited t u xs m.making). inr (record { functions = j.functions; suits = λ keep w. j.suits keep (known_same s t n.names w) })) h.suited;
   low = λ e.
       let l : LowWhole t o i u xs m.making = h.low e in
       record { defined = none_then s t u n l.defined; parts = l.parts; ordinary = l.ordinary; makes = l.makes };

@@ -1,21 +1,19 @@
 -- Tables that are known: sound ones, and those with other names, generic functions and methods.
-use Rattle.std.proofs.Common.{◌≡◌, ◌<◌, ◌==◌, ℕ, nat_lt, Bool, true, false, ◌||◌, List, [], ◌∷◌, ◌++◌, length, map, refl, sym, ap, subst, ◌∙◌, arith}
+use Rattle.std.proofs.Common.{◌≡◌, ◌<◌, ◌==◌, ℕ, nat_lt, Bool, true, false, List, [], ◌∷◌, ◌++◌, length, refl, sym, ap, subst, ◌∙◌, arith}
 use Rattle.std.specs.List.{list_all, list_any}
 use Rattle.std.proofs.lemmas.Bool.{and_parts, or_left, or_parts, eq-eqb}
 use Rattle.isl_base.specs.declared.datum.Name.{Name}
-use Rattle.isl_meaning.specs.declared.program.Callee.{Callee}
 use Rattle.isl_meaning.specs.declared.program.Callee.TheVariants as callee
 use Rattle.isl_meaning.specs.declared.program.FunctionRow.{FunctionRow}
 use Rattle.isl_meaning.specs.declared.program.GenericRow.{GenericRow}
-use Rattle.isl_meaning.specs.declared.program.MethodRow.{MethodRow}
 use Rattle.isl_meaning.specs.Facts.{method_fits, same_method, generic_fits}
 use Rattle.isl_meaning.specs.Lookup.{all_differ, is_in}
 use Rattle.isl_classes.specs.InheritedClasses.{Hierarchy}
 use Rattle.isl_dispatch.specs.Methods.{names_of}
 use Rattle.isl_profile.specs.declared.tables.Tables.{Tables}
 use Rattle.isl_profile.specs.declared.making.Head.{Head}
-use Rattle.isl_profile.specs.Makings.{with_callee, with_generic, with_method_at}
-use Rattle.isl_profile.specs.DefiningRows.{is_that, has_function as has_name}
+use Rattle.isl_profile.specs.Makings.{with_generic, with_method_at}
+use Rattle.isl_profile.specs.DefiningRows.{has_function as has_name}
 use Rattle.isl_profile.specs.Suits.{SuitsName}
 use Rattle.isl_whole.specs.Below.{SameNames}
 use Rattle.isl_whole.specs.Definitions.{Definitions, defined, rows_of, has_function, SoundTables}
@@ -32,6 +30,7 @@ fit_there g x h =
     let e : (list_all (method_fits (rows_of g) x) x.methods ≡ true) × (all_differ same_method x.methods ≡ true) = and_parts _ _ h in
     all_more (method_fits (rows_of g) x) (method_there (length g.classes.rows)) (λ m k. (method_parts (rows_of g) x m k).in_range) x.methods e.0
 
+-- sound tables are known
 pub sound_known : (s : Tables) → SoundTables s → KnownTables s
 sound_known s w = record {
   some = omega (arith, w.classes.hierarchy.enough);
@@ -53,6 +52,8 @@ pub known_function : (s : Tables) (f : FunctionRow) → KnownTables s → KnownR
 known_function s f w = record { some = w.some; named = named_more s.functions f s.generics w.named; there = w.there }
 
 -- a name of no function is new
+
+-- among the names of generic functions
 not_in : (n : Name) (gs : List GenericRow) → list_any (λ (x : GenericRow). x.name.0 == n.0) gs ≡ false → is_in n.0 (names_of gs) ≡ false
 not_in n [] h = refl
 not_in n (g ∷ gs) h =
@@ -60,6 +61,7 @@ not_in n (g ∷ gs) h =
     or_parts (g.name.0 == n.0) (list_any (λ (x : GenericRow). x.name.0 == n.0) gs) h in
     rw (other_way g.name.0 n.0 o.0) (not_in n gs o.1)
 
+-- in the tables
 pub name_suits : (s : Tables) (n : Name) → KnownTables s → has_name s n ≡ false → SuitsName n s
 name_suits s n w h = record { new = not_in n s.generics (no_generic n s.functions s.generics h w.named) }
 

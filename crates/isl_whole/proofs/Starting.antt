@@ -142,12 +142,12 @@ IsSimple (OfAccessor name k v l) = Unit {0}
 IsSimple (OfMethods t hs p of_file l) = ⊥
 IsSimple (OfClass c p of_file l) = ⊥
 
-pub record Joins (s t : Tables) (xs : List Part) (k : Making) : Type 0 where
+pub record JoinsSuited (s t : Tables) (xs : List Part) (k : Making) : Type 0 where
   pub functions : AllFunctions xs
   pub suits : KeepsNames → KnownTables s → (u : Tables) (rs : List Found) → SameNames t u → AllRight xs → Suits k u × KnownTables (finish k rs u)
 
 abbrev pub Suited : Tables → Tables → List Part → Making → Type 0
-Suited s t xs k = IsSimple k ⊎ Joins s t xs k
+Suited s t xs k = IsSimple k ⊎ JoinsSuited s t xs k
 
 -- a node and the tables that it begins with; below top level nothing is defined there
 pub record StartsStep (s : Tables) (top : Bool) (a : Around) (t : Tables) : Type 0 where

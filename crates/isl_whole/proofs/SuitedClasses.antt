@@ -1,7 +1,7 @@
 -- A class that is judged to be right suits the tables behind its functions, and so do its methods, one after another.
-use Rattle.std.proofs.Common.{◌+◌, ◌≡◌, ◌≤◌, ◌<◌, ℕ, nat_lt, Bool, true, false, not, ◌&&◌, List, [], ◌∷◌, ◌++◌, length, flat_map, slice_get, option_map, Option, Some, None, if◌then◌else◌, refl, sym, ap, subst, ◌∙◌, arith}
+use Rattle.std.proofs.Common.{◌+◌, ◌≡◌, ◌≤◌, ◌<◌, ℕ, nat_lt, Bool, true, false, not, List, [], ◌∷◌, length, flat_map, slice_get, option_map, Option, Some, None, if◌then◌else◌, refl, sym, ap, subst, ◌∙◌, arith}
 use Rattle.std.specs.Prelude.{All}
-use Rattle.std.specs.List.{list_all, list_any}
+use Rattle.std.specs.List.{list_any}
 use Rattle.std.proofs.lemmas.Bool.{and_parts, and_from, not-true, eq-eqb, ltb-true, lt-ltb, le-ltb}
 use Rattle.std.proofs.lemmas.Option.{slice_get_within}
 use Rattle.isl_base.specs.declared.datum.Name.{Name}
@@ -11,7 +11,6 @@ use Rattle.isl_base.specs.Names.{slice_get-behind}
 use Rattle.isl_meaning.specs.declared.program.GenericRow.{GenericRow}
 use Rattle.isl_meaning.specs.declared.program.FunctionRow.{FunctionRow}
 use Rattle.isl_meaning.specs.Subforms.{Each}
-use Rattle.isl_meaning.specs.Facts.{same_method}
 use Rattle.isl_classes.specs.Given.{given as given_slots}
 use Rattle.isl_classes.specs.InheritedPrecedence.{supers_fit}
 use Rattle.isl_classes.specs.InheritedSlots.{same_name, each_first}
@@ -21,12 +20,12 @@ use Rattle.isl_profile.specs.declared.tables.Tables.{Tables}
 use Rattle.isl_profile.specs.declared.making.Accessor.{Accessor}
 use Rattle.isl_profile.specs.declared.making.Head.{Head}
 use Rattle.isl_profile.specs.declared.making.NewClass.{NewClass}
-use Rattle.isl_profile.specs.Makings.{generic_named, arguments_of, accessor_head, classes_of, with_generic, with_method_at, with_accessor_in, with_slot_functions, with_new_class, finish_class}
+use Rattle.isl_profile.specs.Makings.{generic_named, arguments_of, accessor_head, classes_of, with_generic, with_accessor_in, with_slot_functions, with_new_class, finish_class}
 use Rattle.isl_profile.specs.DefiningRows.{is_that}
 use Rattle.isl_profile.specs.GivenNames.{no_name, unfit, lacking, given}
 use Rattle.isl_profile.specs.ClassShapes.{WrittenSlot, WrittenSuper}
 use Rattle.isl_profile.specs.ClassRows.{Function, for_initform, for_method, all_functions, Use, uses, names_differ, known_supers, first_unknown_super, slot_function, slot_parts, class_parts, slot_specs, slot_functions}
-use Rattle.isl_profile.specs.Suits.{takes_head, SuitsHead, SuitsClass, SuitsAccessorIn, SuitsFunctions}
+use Rattle.isl_profile.specs.Suits.{takes_head, SuitsClass, SuitsAccessorIn, SuitsFunctions}
 use Rattle.isl_whole.specs.Below.{SameNames}
 use Rattle.isl_whole.specs.Known.{methods_there, KnownTables}
 use Rattle.isl_whole.proofs.Tests.{all_more}
@@ -41,7 +40,7 @@ use Rattle.isl_whole.proofs.SuitedMethods.{same_as_itself}
 
 -- the method of an option suits the tables, and what is known and ready stays so
 
-record Suited (o : Option ℕ) (n : Name) (k : Accessor) (c p : ℕ) (of_file : Bool) (t : Tables) : Type 0 where
+record AccessorSuited (o : Option ℕ) (n : Name) (k : Accessor) (c p : ℕ) (of_file : Bool) (t : Tables) : Type 0 where
   suits : SuitsAccessorIn o n k c p of_file t
   known : KnownTables (with_accessor_in o n k c p of_file t)
   classes : (with_accessor_in o n k c p of_file t).classes ≡ t.classes
@@ -49,7 +48,7 @@ record Suited (o : Option ℕ) (n : Name) (k : Accessor) (c p : ℕ) (of_file : 
 
 -- of a generic function that is there
 suited_there : (i : ℕ) (n : Name) (k : Accessor) (c p : ℕ) (of_file : Bool) (t : Tables) (x : GenericRow) → KnownTables t → slice_get t.generics i ≡ Some x
-    → same_name n x.name ≡ true → RowReady c (record { name = n; arguments = arguments_of k }) x → c < length t.classes.rows → Suited (Some i) n k c p of_file t
+    → same_name n x.name ≡ true → RowReady c (record { name = n; arguments = arguments_of k }) x → c < length t.classes.rows → AccessorSuited (Some i) n k c p of_file t
 suited_there i n k c p of_file t x w e same r l =
     let h : Head = accessor_head k c in
     record {
@@ -66,11 +65,11 @@ suited_there i n k c p of_file t x w e same r l =
 
 -- of a new one
 suited_new : (n : Name) (k : Accessor) (c p : ℕ) (of_file : Bool) (t : Tables) → KnownTables t → list_any (λ (f : FunctionRow). is_that n f.name) t.functions ≡ false
-    → c < length t.classes.rows → Suited None n k c p of_file t
+    → c < length t.classes.rows → AccessorSuited None n k c p of_file t
 suited_new n k c p of_file t w fresh l =
     let u : Tables = with_generic n (arguments_of k) false of_file t in
     let x : GenericRow = new_row n (arguments_of k) false in
-    let one : Suited (Some (length t.generics)) n k c p of_file u =
+    let one : AccessorSuited (Some (length t.generics)) n k c p of_file u =
     suited_there (length t.generics) n k c p of_file u x (known_generic t n (arguments_of k) false of_file w) (slice_get-behind t.generics x) (eq-eqb n.0 n.0 refl)
     (record { required = refl; rest = refl; below = refl }) l in
     record {
@@ -80,14 +79,15 @@ suited_new n k c p of_file t w fresh l =
       ready = λ v d q. one.ready v d (ready_generic c t n (arguments_of k) false of_file v d q);
     }
 
+-- of either
 suited : (o : Option ℕ) (n : Name) (k : Accessor) (c p : ℕ) (of_file : Bool) (t : Tables) → KnownTables t → generic_named t.generics n ≡ o
-    → IsReady c t (record { name = n; arguments = arguments_of k }) → c < length t.classes.rows → Suited o n k c p of_file t
+    → IsReady c t (record { name = n; arguments = arguments_of k }) → c < length t.classes.rows → AccessorSuited o n k c p of_file t
 suited None n k c p of_file t w e r l =
     suited_new n k c p of_file t w (subst (MaybeReady c (record { name = n; arguments = arguments_of k }) t.functions) (found_none n t.generics e) r) l
 suited (Some i) n k c p of_file t w e r l = by_found (found n t.generics) refl r
   where
     by_found : (q : Option GenericRow) → found n t.generics ≡ q → MaybeReady c (record { name = n; arguments = arguments_of k }) t.functions q
-        → Suited (Some i) n k c p of_file t
+        → AccessorSuited (Some i) n k c p of_file t
     by_found None f r = absurd (found_some n t.generics i e f)
     by_found (Some x) f r = suited_there i n k c p of_file t x w (found_named n t.generics i e ∙ f) (found_name n t.generics x f) r l
 
@@ -105,7 +105,7 @@ functions_suit (for_method unfit k ∷ fs) c p of_file t w l g r d = absurd g.0
 functions_suit (for_method lacking k ∷ fs) c p of_file t w l g r d = absurd g.0
 functions_suit (for_method (given n) k ∷ fs) c p of_file t w l g r d =
     let u : Tables = with_accessor_in (generic_named t.generics n) n k c p of_file t in
-    let a : Suited (generic_named t.generics n) n k c p of_file t = suited (generic_named t.generics n) n k c p of_file t w refl r.0 l in
+    let a : AccessorSuited (generic_named t.generics n) n k c p of_file t = suited (generic_named t.generics n) n k c p of_file t w refl r.0 l in
     let e : (not (list_any (λ (w : Use). same_name n w.name) (uses_of fs)) ≡ true) × (names_differ (uses_of fs) ≡ true) =
     and_parts (not (list_any (λ (w : Use). same_name n w.name) (uses_of fs))) (names_differ (uses_of fs)) d in
     let rest : SuitsFunctions (flat_map slot_function fs) c (p + 1) of_file u × KnownTables (with_slot_functions (flat_map slot_function fs) c (p + 1) of_file u) =
@@ -113,8 +113,7 @@ functions_suit (for_method (given n) k ∷ fs) c p of_file t w l g r d =
     (each_differs n (uses_of fs) (not-true (list_any (λ (w : Use). same_name n w.name) (uses_of fs)) e.0) c t u a.ready r.1) e.1 in
     ((a.suits, rest.0), rest.1)
 
--- a class is not refused
-
+-- a class whose superclasses go together and whose slots are right is not refused
 not_refused : (h : Hierarchy) (q : Place) (supers : List ℕ) (slots : List GivenSlot) → supers_fit h.rows supers ≡ true → length (each_first (inherited_names h supers)) ≤ slot_limit
     → first_wrong (inherited_names h supers) [] slots ≡ None → refusal h q supers slots ≡ None
 unfolding refusal slots_refusal
@@ -141,9 +140,11 @@ known_class t c of_file w =
 
 -- a class with its functions
 
+-- the class of a definition
 abbrev pub class_of : Name → List ℕ → Bool → ℕ → List WrittenSlot → NewClass
 class_of n supers b p xs = record { name = n; supers = supers; abstract_class = b; slots = slot_specs p xs; functions = slot_functions xs }
 
+-- it suits the tables, and so do its functions behind it
 pub class_suits : KeepsNames → (s : Tables) (n : Name) (cs : List WrittenSuper) (xs : List WrittenSlot) (b : Bool) (p : ℕ) (of_file : Bool) (u : Tables) → KnownTables s
     → SameNames s u → Judged s n cs xs → AllRight (class_parts s cs xs)
     → let new : NewClass = class_of n (known_supers s.classes.rows cs) b p xs in

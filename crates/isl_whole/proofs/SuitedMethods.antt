@@ -1,5 +1,5 @@
 -- Methods that fit suit the tables behind their functions.
-use Rattle.std.proofs.Common.{◌+◌, ◌≡◌, ◌<◌, ℕ, Bool, true, false, not, ◌&&◌, nat_lt, List, [], ◌∷◌, ◌++◌, length, slice_get, is_some, Some, refl, sym, ap, subst, ◌∙◌, append-nil}
+use Rattle.std.proofs.Common.{◌+◌, ◌≡◌, ◌<◌, ℕ, Bool, true, false, not, nat_lt, List, [], ◌∷◌, ◌++◌, length, slice_get, is_some, Some, refl, sym, ap, subst, ◌∙◌, append-nil}
 use Rattle.std.specs.List.{list_all, list_any}
 use Rattle.std.proofs.lemmas.Bool.{and_parts, and_from, eq-eqb}
 use Rattle.std.proofs.lemmas.Option.{slice_get_within}
@@ -26,6 +26,7 @@ use Rattle.isl_whole.proofs.Methods.{Alike, alike_same, alike_more, FitsRow, fit
 use Rattle.isl_whole.proofs.GenericRows.{some_qualifier}
 use Rattle.isl_whole.proofs.Known.{known_same, name_suits, known_generic, known_method}
 
+-- a truth is the same as itself
 pub same_as_itself : (b : Bool) → same_truth b b ≡ true
 same_as_itself true = refl
 same_as_itself false = refl

@@ -20,7 +20,7 @@ ghost use Rattle.isl_profile.specs.Rows.{node, plain_node};
 ghost use Rattle.isl_profile.specs.DefiningRows.{has_function};
 ghost use Rattle.isl_profile.specs.Makings.{generic_named};
 ghost use Rattle.isl_profile.specs.Judged.{Comes};
-ghost use Rattle.isl_profile.specs.Walks.{Through};
+ghost use Rattle.isl_profile.specs.Walks.{PartTaken, Through};
 ghost use Rattle.isl_profile.specs.Suits.{Suits};
 ghost use Rattle.isl_whole.specs.Scopes.{Within};
 ghost use Rattle.isl_whole.specs.Definitions.{defined, rows_of, SoundTables};
@@ -72,7 +72,8 @@ pub fn law_suits()
     law_definitions();
 }
 
-/// Behind a form, wherever it stands, tables are known where those in front of it are.
+/// Behind a form, wherever it stands, tables are known where those in front of it are; so they are behind a part, and
+/// behind parts that were met one after another.
 pub fn law_known()
     ensures forms { (names : List (List ℕ)) (a : Around) (s : Tables) (d : Item) (m : Standing) → KnownTables s →
         Comes names (node names a s d) (comes_to m) → KnownTables m.tables }
@@ -80,6 +81,10 @@ pub fn law_known()
         Comes names (plain_node names a s d) (comes_to m) → KnownTables m.tables }
     ensures functions { (names : List (List ℕ)) (a : Around) (s : Tables) (w : Written) (m : Standing) → KnownTables s →
         Comes names (function_node a s w) (comes_to m) → KnownTables m.tables }
+    ensures parts { (names : List (List ℕ)) (o i : Around) (s : Tables) (x : Part) (rs : List Found) (i2 : Around) (t : Tables) (rs2 : List Found) →
+        KnownTables s → PartTaken names o i s x rs i2 t rs2 → KnownTables t }
+    ensures walks { (names : List (List ℕ)) (o i : Around) (s : Tables) (xs : List Part) (rs : List Found) (i2 : Around) (t : Tables) →
+        KnownTables s → Through names o i s xs rs i2 t [] → KnownTables t }
 {
     law_definitions();
 }
