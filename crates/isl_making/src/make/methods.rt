@@ -30,6 +30,7 @@ pub(crate) fn want(stop: Stop) -> NoMemory
 pub(crate) fn generic_named(generics: &Generics, name: Name) -> Option<GenericId>
     ensures { result ≡ generic_named generics.now name }
 {
+    // No two rows have one name.
     generics.rows();
     generics.find(name)
 }
@@ -139,11 +140,13 @@ pub(crate) fn define_methods(
 {
     match taker {
         Taker::New(name, required, rest) => {
-            let Ok(generic) = add_generic(name, required, rest, of_file, tables) else {
-                drop(heads);
-                return Err(NoMemory);
-            };
-            add_methods(alloc, generic, heads, first, tables)
+            match add_generic(name, required, rest, of_file, tables) {
+                Ok(generic) => add_methods(alloc, generic, heads, first, tables),
+                Err(stop) => {
+                    drop(heads);
+                    Err(stop)
+                }
+            }
         }
         Taker::There(generic) => add_methods(alloc, generic, heads, first, tables),
     }

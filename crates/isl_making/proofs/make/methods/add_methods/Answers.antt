@@ -1,8 +1,7 @@
 -- One method more is added, or memory is wanting.
-use Rattle.std.proofs.Common.{refl, ◌∙◌, sym, subst, arith}
-use Rattle.isl_profile.specs.declared.tables.Tables.{Tables}
-use Rattle.isl_profile.specs.Marks.{Grows}
-use Rattle.isl_making.proofs.MakingMethods.{no_methods, next_method, one_method, all_methods, method_grows}
+use Rattle.std.proofs.Common.{refl, ◌∙◌}
+use Rattle.isl_making.proofs.MakingStops.{on_err}
+use Rattle.isl_making.proofs.MakingMethods.{no_methods, next_method, one_method, grown}
 use Rattle.isl_making.proofs.make.methods.add_methods.Goals as goal
 
 pub loop-at-init : goal.loop-at-init
@@ -16,3 +15,6 @@ loop-at-preserved c = record {
   added = one_method _ _ _ _ _ _ _ _ _ _ _ c.loop-at.invariant.added c.take_head-head.ensures.item c.in_ok-procedure.ensures c.in_ok-add_method.ensures.ok;
   length = c.take_head-head.ensures.length ∙ c.loop-at.invariant.length;
 }
+
+pub returns-in_err-procedure-clause-err : goal.returns-in_err-procedure-clause-err
+returns-in_err-procedure-clause-err c = on_err _ (grown _ _ _ _ _ _ _ _ _ c.loop-at.invariant.added c.in_ok-add_method.ensures.ok)
