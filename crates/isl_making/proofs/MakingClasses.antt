@@ -2,11 +2,12 @@
 use Rattle.std.proofs.Common.{◌≡◌, ◌≤◌, ◌+◌, ℕ, Bool, List, ◌∷◌, length, length-append, drop, refl, ap, sym, subst, ◌∙◌}
 use Rattle.std.proofs.lemmas.List.{drop_all}
 use Rattle.isl_base.specs.declared.datum.Name.{Name}
+use Rattle.isl_classes.specs.Given.{given}
 use Rattle.isl_classes.specs.InheritedClasses.{Hierarchy, GivenSlot, with_class}
 use Rattle.isl_profile.specs.declared.tables.Tables.{Tables}
 use Rattle.isl_profile.specs.declared.making.NewClass.{NewClass}
 use Rattle.isl_profile.specs.declared.making.SlotFunction.{SlotFunction}
-use Rattle.isl_profile.specs.Makings.{with_slot_function, with_slot_functions, with_new_class}
+use Rattle.isl_profile.specs.Makings.{prelude_count, with_slot_function, with_slot_functions, with_new_class}
 use Rattle.isl_profile.specs.Marks.{Grows}
 use Rattle.isl_profile.specs.Suits.{SuitsFunction, SuitsFunctions}
 use Rattle.isl_profile.specs.bridge.Growing.{grows_same, grows_then, slot_function_grows, class_grows}
@@ -56,11 +57,20 @@ pub all_functions : (c : ℕ) (of_file : Bool) (xs : List SlotFunction) (p : ℕ
     → FunctionsAdded c of_file xs p s (drop i ys) q t → length ys ≤ i → t ≡ with_slot_functions xs c p of_file s
 all_functions c of_file xs p s ys i q t a l = ap (λ ws. with_slot_functions ws c q of_file t) (sym (drop_all i ys l)) ∙ a.same
 
--- with a class more there is one row more
-pub one_row_more : (h : Hierarchy) (name : Name) (supers : List ℕ) (slots : List GivenSlot) (a : Bool)
+-- with a class more there is one row more, which is counted where the class is one of the prelude
+
+one_row_more : (h : Hierarchy) (name : Name) (supers : List ℕ) (slots : List GivenSlot) (a : Bool)
     → length (with_class h name supers slots a).rows ≡ length h.rows + 1
 unfolding with_class
 one_row_more h name supers slots a = length-append h.rows _
+
+pub class_counted : (s u : Tables) (c : NewClass) (of_file : Bool) (h : Hierarchy) → h ≡ with_class s.classes c.name c.supers (given c.slots) c.abstract_class
+    → u ≡ record s { classes = h; prelude_classes = prelude_count of_file s.prelude_classes (length h.rows) } → u ≡ with_new_class c of_file s
+class_counted s u c of_file h e f =
+    f
+    ∙ ap (λ (g : Hierarchy). record s { classes = g; prelude_classes = prelude_count of_file s.prelude_classes (length g.rows) }) e
+    ∙ ap (λ n. record s { classes = with_class s.classes c.name c.supers (given c.slots) c.abstract_class; prelude_classes = prelude_count of_file s.prelude_classes n })
+    (one_row_more s.classes c.name c.supers (given c.slots) c.abstract_class)
 
 -- tables that have grown by a class, and then by more
 pub class_then : (s t u : Tables) (c : NewClass) (of_file : Bool) → t ≡ with_new_class c of_file s → Grows t u → Grows s u

@@ -1,5 +1,5 @@
 -- The generic function, where it is new, and then the methods.
-use Rattle.isl_making.proofs.MakingStops.{on_err, err_then}
+use Rattle.isl_making.proofs.MakingStops.{err_then}
 use Rattle.isl_making.proofs.MakingMethods.{generic_then, same_grows}
 use Rattle.isl_making.proofs.make.methods.define_methods.Goals as goal
 
