@@ -215,7 +215,7 @@ grows_in mark s h n gs g rows own there = record {
 grows_generics : (mark s : Tables) (gs : List GenericRow) → Grows mark s → AreThere mark.generics gs → Grows mark (record s { generics = gs })
 grows_generics mark s gs g there = grows_in mark s s.classes s.prelude_classes gs g g.classes g.slots there
 
-with_generic_grows : (mark s : Tables) (n : Name) (required : ℕ) (rest of_file : Bool) → Grows mark s → Grows mark (with_generic n required rest of_file s)
+pub with_generic_grows : (mark s : Tables) (n : Name) (required : ℕ) (rest of_file : Bool) → Grows mark s → Grows mark (with_generic n required rest of_file s)
 with_generic_grows mark s n required rest of_file g =
     with_callee_grows mark _ n (callee.Generic (length s.generics)) of_file
     (grows_generics mark s (s.generics ++ new_row n required rest ∷ []) g (there_with mark.generics s.generics _ g.generics))
@@ -229,7 +229,7 @@ method_there (g ∷ gs) [] i m a = absurd a
 method_there (g ∷ gs) (h ∷ hs) zero m a = (method_more g h m a.0, a.1)
 method_there (g ∷ gs) (h ∷ hs) (suc i) m a = (a.0, method_there gs hs i m a.1)
 
-with_method_grows : (mark s : Tables) (i : ℕ) (h : Head) (p : ℕ) → Grows mark s → Grows mark (with_method_at i h p s)
+pub with_method_grows : (mark s : Tables) (i : ℕ) (h : Head) (p : ℕ) → Grows mark s → Grows mark (with_method_at i h p s)
 with_method_grows mark s i h p g = grows_generics mark s _ g (method_there mark.generics s.generics i _ g.generics)
 
 with_methods_grows : (mark s : Tables) (i : ℕ) (hs : List Head) (p : ℕ) → Grows mark s → Grows mark (with_methods i hs p s)
@@ -247,7 +247,7 @@ accessor_grows mark s (Some i) n k c p of_file g = with_method_grows mark s i (a
 accessor_grows mark s None n k c p of_file g =
     with_method_grows mark _ (length s.generics) (accessor_head k c) p (with_generic_grows mark s n (arguments_of k) false of_file g)
 
-slot_function_grows : (mark s : Tables) (x : SlotFunction) (c p : ℕ) (of_file : Bool) → Grows mark s → Grows mark (with_slot_function x c p of_file s)
+pub slot_function_grows : (mark s : Tables) (x : SlotFunction) (c p : ℕ) (of_file : Bool) → Grows mark s → Grows mark (with_slot_function x c p of_file s)
 slot_function_grows mark s Initform c p of_file g = g
 slot_function_grows mark s (Method n k) c p of_file g = accessor_grows mark s (generic_named s.generics n) n k c p of_file g
 
@@ -266,7 +266,7 @@ own_with : (xs : List (List SlotRow)) (h : Hierarchy) (name : Name) (supers : Li
 unfolding with_class
 own_with xs h name supers slots a e = grows_at_end xs h.own _ e
 
-class_grows : (mark s : Tables) (c : NewClass) (of_file : Bool) → Grows mark s → Grows mark (with_new_class c of_file s)
+pub class_grows : (mark s : Tables) (c : NewClass) (of_file : Bool) → Grows mark s → Grows mark (with_new_class c of_file s)
 class_grows mark s c of_file g =
     grows_in mark s (with_class s.classes c.name c.supers (given c.slots) c.abstract_class) _ s.generics g
     (rows_with mark.classes.rows s.classes c.name c.supers (given c.slots) c.abstract_class g.classes)
