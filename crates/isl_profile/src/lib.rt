@@ -11,8 +11,8 @@ pub mod tables;
 
 pub use bound::{Bound, BoundList, Target};
 pub use making::{
-    Accessor, BodyLengths, Found, FoundList, Head, Heads, Leaf, Lengths, Made, Making, NewClass, One,
-    SlotFunction, SlotFunctions, Taker, Two, WithBody,
+    Accessor, BodyLengths, Found, FoundList, Head, Heads, Leaf, Lengths, Made, Making, NewClass,
+    One, SlotFunction, SlotFunctions, Taker, Two, WithBody,
 };
 pub use parameters::Parameters;
 pub use special::{Special, is_special_name, special_named};
