@@ -42,6 +42,7 @@ pub record ExitsAgree (e : FlatExits) (l : LexicalScope) (s : Scope) : Type 0 wh
 exit_first : (x : ℕ) (e : ExitAround) (es : List ExitAround) → (x == e.exit) ≡ true → exit_around x (e ∷ es) ≡ Some e.around
 exit_first x e es h = ap (λ b. if b then Some e.around else exit_around x es) h
 
+-- the exits behind the first one
 exit_after : (x : ℕ) (e : ExitAround) (es : List ExitAround) → (x == e.exit) ≡ false → exit_around x (e ∷ es) ≡ exit_around x es
 exit_after x e es h = ap (λ b. if b then Some e.around else exit_around x es) h
 
@@ -55,6 +56,7 @@ made_more : (e : FlatExits) (a : Around) (p : ExitPlace) (b : Around) → made_b
 made_more e a (Own n) b h = in_front e.own (a ∷ []) n b h
 made_more e a (Captured n) b h = h
 
+-- and the scope inside
 agree_around : (e : FlatExits) (l : LexicalScope) (s : Scope) → ExitsAgree e l s → (x : ℕ) (a : Around)
     → ExitsAgree (with_own a e) (standing.with_around x a l) (with_around x s)
 agree_around e l s c x a = record {
@@ -75,9 +77,11 @@ record IsSeen (parts : List Part) (x : ℕ) (a : Around) (es : List ExitAround) 
   captured : list_any (same_part (Exit x)) parts ≡ true
   there : exit_around x es ≡ Some a
 
+-- whether a function captured that exit
 abbrev is_captured : List Part → ExitAround → Bool
 is_captured parts e = list_any (same_part (Exit e.exit)) parts
 
+-- the first of the exits around, and those behind it
 seen_first : (parts : List Part) (x : ℕ) (a : Around) (e : ExitAround) (es : List ExitAround)
     → (exit_around x (filter (is_captured parts) es) ≡ Some a → IsSeen parts x a es)
     → (b : Bool) → is_captured parts e ≡ b
@@ -95,6 +99,7 @@ seen_first parts x a e es rest false q h =
     (λ is t. absurd (let z : true ≡ false = sym r.captured ∙ (ap (λ y. list_any (same_part (Exit y)) parts) is ∙ q) in cc z))
     (λ f. record { captured = r.captured; there = exit_after x e es f ∙ r.there })
 
+-- an exit that is seen, of all
 is_seen : (parts : List Part) (x : ℕ) (a : Around) (es : List ExitAround) → exit_around x (filter (is_captured parts) es) ≡ Some a → IsSeen parts x a es
 is_seen parts x a [] h = absurd (cc h)
 is_seen parts x a (e ∷ es) h = seen_first parts x a e es (λ g. is_seen parts x a es g) (is_captured parts e) refl h
@@ -158,6 +163,7 @@ both_lead all [] ys (c ∷ cs) ds x y = absurd x
 both_lead all (q ∷ xs) ys [] ds x y = absurd x
 both_lead all (q ∷ xs) ys (c ∷ cs) ds x y = (x.0, both_lead all xs ys cs ds x.1 y)
 
+-- two parts beside one another
 two : {n k m : ℕ} {A B : List (List (Option Around)) → Type 0} {xs ys : List FlatProcedure} → Led n k A xs → Led (n + k) m B ys
     → Led n (k + m) (λ all. A all × B all) (xs ++ ys)
 two {n} {k} {m} {A} {B} {xs} {ys} x y = record {
@@ -182,12 +188,14 @@ one_function {n} {k} {qs} captured q x = record {
 head_stands : (l : LexicalScope) (f : Form) (fs : List Form) → list_all (stands l) (f ∷ fs) ≡ true → stands l f ≡ true
 head_stands l f fs h = first_true (stands l f) (list_all (stands l) fs) h
 
+-- those after it
 tail_stands : (l : LexicalScope) (f : Form) (fs : List Form) → list_all (stands l) (f ∷ fs) ≡ true → list_all (stands l) fs ≡ true
 tail_stands l f fs h = second_true (stands l f) (list_all (stands l) fs) h
 
 mutual
   unfolding flat
 
+  -- the exits of a form and of the functions in it lead
   pub leads : (e : FlatExits) (l : LexicalScope) (s : Scope) → ExitsAgree e l s → (n : ℕ) (f : Form) → stands l f ≡ true
       → Led n (functions f) (λ all. Leads all e (flat s n f)) (inner_procedures s n f)
   leads e l s c n (core.literal i) h = none (λ all. tt)

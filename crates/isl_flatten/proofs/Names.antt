@@ -36,11 +36,13 @@ module _ {X : Type 0} where
   turned : (xs ys : List (Entry X)) (e : Entry X) → ys ≡ xs ++ e ∷ [] → reverse ys ≡ e ∷ reverse xs
   turned xs ys e h = ap reverse h ∙ reverse-append xs (e ∷ [])
 
+  -- the same where entries are put at the end
   pub push_found : (xs ys : List (Entry X)) (found now : BTreeMap ℕ X) (e : Entry X) → AreFound (reverse xs) found → e.before ≡ under e.name (bound (reverse xs))
       → Updates nat_cmp found now e.name (Some e.what) → ys ≡ xs ++ e ∷ [] → AreFound (reverse ys) now
   push_found xs ys found now e x h u is =
       subst (λ es. AreFound es now) (sym (turned xs ys e is)) (more_found (reverse xs) found now e x h u)
 
+  -- and what names stand for then
   pub push_bound : (xs ys : List (Entry X)) (e : Entry X) → ys ≡ xs ++ e ∷ [] → bound (reverse ys) ≡ (e.name, e.what) ∷ bound (reverse xs)
   push_bound xs ys e is = ap bound (turned xs ys e is)
 
@@ -56,16 +58,19 @@ module _ {X : Type 0} where
       back q true t = x.before.0 ∙ ap (λ n. under n (bound es)) (sym (eqb-true q e.name t))
       back q false t = refl
 
+  -- a list of which the last one is known, from its end
   last_turned : (xs : List (Entry X)) (at : ℕ) (e : Entry X) → at + 1 ≡ length xs → slice_get xs at ≡ Some e → reverse xs ≡ e ∷ reverse (take at xs)
   last_turned xs at e last h =
       ap reverse (sym (take_all (at + 1) xs (omega (arith, last))) ∙ take_at xs at e h) ∙ reverse-append (take at xs) (e ∷ [])
 
+  -- the last entry is cut, and its name stands for what it did before
   pub pop_found : (xs ys : List (Entry X)) (found now : BTreeMap ℕ X) (at : ℕ) (e : Entry X) → AreFound (reverse xs) found → at + 1 ≡ length xs → slice_get xs at ≡ Some e
       → UpdatesBy nat_cmp (nat_cmp e.name) found now e.before → ys ≡ take at xs → AreFound (reverse ys) now
   pop_found xs ys found now at e x last h u is =
       subst (λ zs. AreFound (reverse zs) now) (sym is)
       (less_found (reverse (take at xs)) found now e (subst (λ es. AreFound es found) (last_turned xs at e last h) x) u)
 
+  -- and what names stand for then
   pub pop_bound : (xs ys : List (Entry X)) (at : ℕ) (e : Entry X) → at + 1 ≡ length xs → slice_get xs at ≡ Some e → ys ≡ take at xs
       → bound (reverse ys) ≡ drop 1 (bound (reverse xs))
   pop_bound xs ys at e last h is =
@@ -81,6 +86,7 @@ module _ {X : Type 0} where
       ∙ ap (λ b. if b then Some e.what else under e.name (bound (reverse (take at xs)))) one in
       subst IsSome (sym is) refl
 
+  -- a name each entry
   length_bound : (es : List (Entry X)) → length (bound es) ≡ length es
   length_bound [] = refl
   length_bound (e ∷ es) = ap suc (length_bound es)
@@ -94,12 +100,14 @@ module _ {X : Type 0} where
   cut_again xs ys zs e count n is cut =
       cut ∙ ap (take count) is ∙ take-append-le count xs (e ∷ []) (omega (arith, n)) ∙ take_all count xs (omega (arith, n))
 
+  -- where there was no memory for a name more, each is found as before
   pub again_found : (xs ys zs : List (Entry X)) (found now : BTreeMap ℕ X) (e : Entry X) (count : ℕ) → AreFound (reverse xs) found
       → count ≡ length xs → ys ≡ xs ++ e ∷ [] → zs ≡ take count ys → IsUnchanged found now → AreFound (reverse zs) now
   again_found xs ys zs found now e count x n is cut same =
       subst (λ vs. AreFound (reverse vs) now) (sym (cut_again xs ys zs e count n is cut))
       (record { before = x.before; found = λ q. ap (lookup (is_at (nat_cmp q))) same ∙ x.found q })
 
+  -- and stands for what it did
   pub again_bound : (xs ys zs : List (Entry X)) (e : Entry X) (count : ℕ) → count ≡ length xs → ys ≡ xs ++ e ∷ [] → zs ≡ take count ys
       → bound (reverse zs) ≡ bound (reverse xs)
   again_bound xs ys zs e count n is cut = ap (λ vs. bound (reverse vs)) (cut_again xs ys zs e count n is cut)

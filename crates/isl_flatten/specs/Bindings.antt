@@ -6,6 +6,7 @@ use Rattle.isl_closure.specs.FlatState.{under}
 use Rattle.isl_flatten.specs.declared.bindings.Entry.{Entry}
 
 module _ {X : Type 0} where
+  -- what names stand for, the innermost first
   abbrev pub bound : List (Entry X) → List (ℕ × X)
   bound [] = []
   bound (e ∷ es) = (e.name, e.what) ∷ bound es

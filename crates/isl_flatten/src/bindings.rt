@@ -76,6 +76,7 @@ impl<X: Copy + Drop> Bindings<X> {
         }
     }
 
+    // The innermost name stands for what it did before. Takes no memory.
     fn release_last(&mut self)
         requires { 1 ≤ length self.old }
         ensures { self.new ≡ drop 1 self.old }
