@@ -2,3 +2,4 @@ pub mod Lists
 pub mod Choices
 pub mod Shaping
 pub mod Settling
+pub mod Naming

@@ -15,3 +15,8 @@ all_behind xs (Some ys) = Some (xs ++ ys)
 abbrev pub longer_by : ℕ → List ℕ → List ℕ
 longer_by n [] = []
 longer_by n (m ∷ ms) = (n + m) ∷ ms
+
+-- a number among the rest, which begins at that place
+abbrev pub from : ℕ → Option ℕ → Option ℕ
+from n None = None
+from n (Some m) = Some (n + m)

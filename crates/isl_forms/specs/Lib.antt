@@ -1,3 +1,4 @@
 pub mod Views
 pub mod Behind
 pub mod Drafts
+pub mod Definitions

@@ -36,8 +36,8 @@ use isl_derived::is_derived_name;
 use isl_meaning::LiteralRow;
 use isl_profile::{Leaf, Special, Tables, Two, WithBody, is_special_name, special_named};
 
-// The name of a symbol, where a text names it.
-fn symbol_text<'n>(names: &'n Names, symbol: Symbol) -> Option<&'n [u8]>
+/// The name of a symbol, where a text names it.
+pub(crate) fn symbol_text<'n>(names: &'n Names, symbol: Symbol) -> Option<&'n [u8]>
     ensures { MatchOption result (symbol_text names.now symbol ≡ None) (λ text. symbol_text names.now symbol ≡ Some text.now) }
 {
     match symbol {
