@@ -1,5 +1,6 @@
 -- What contracts see of definitions as the code reads them: names, methods, slots, options.
 use Rattle.std.specs.Prelude.{◌≡◌, ℕ, Bool, List, [], ◌∷◌, ◌++◌, map, Option, Some, None}
+use Rattle.std.specs.Borrow.{Bor}
 use Rattle.isl_forms.specs.declared.naming.GivenName.{GivenName as ReadName}
 use Rattle.isl_forms.specs.declared.naming.GivenName.TheVariants as read
 use Rattle.isl_forms.specs.declared.methods.Asked.{Asked as ReadAsked}
@@ -7,8 +8,16 @@ use Rattle.isl_forms.specs.declared.methods.Asked.TheVariants as class
 use Rattle.isl_forms.specs.declared.methods.Taken.{Taken as ReadTaken}
 use Rattle.isl_forms.specs.declared.methods.Specialised.{Specialised as ReadSpecialised}
 use Rattle.isl_forms.specs.declared.methods.WrittenMethod.{WrittenMethod as ReadMethod}
+use Rattle.isl_forms.specs.declared.rows.generics.GenericOption.{GenericOption as ReadGenericOption}
+use Rattle.isl_forms.specs.declared.rows.generics.GenericOption.TheVariants as option
+use Rattle.isl_profile.specs.GenericRows.{GenericOption, no_option, left_out, standard, of_method}
 use Rattle.isl_profile.specs.GivenNames.{GivenName, no_name, unfit, lacking, given, number_of, in_table}
 use Rattle.isl_profile.specs.MethodShapes.{Asked, any_object, of_class, Taken, Specialised, WrittenMethod}
+
+-- what a borrow is of, where there is one
+abbrev pub borrowed : {X : Type 0} → Option (Bor X) → Option X
+borrowed None = None
+borrowed (Some x) = Some x.now
 
 -- names
 
@@ -56,3 +65,10 @@ maybe_method (Some m) = Some (view_method m)
 
 abbrev pub view_methods : List ReadMethod → List WrittenMethod
 view_methods ms = map view_method ms
+
+-- options of generic functions
+abbrev pub view_option : ReadGenericOption → GenericOption
+view_option option.NoOption = no_option
+view_option option.LeftOut = left_out
+view_option option.Standard = standard
+view_option (option.OfMethod m) = of_method (view_method m)

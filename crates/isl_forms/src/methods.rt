@@ -48,8 +48,8 @@ pub(crate) struct WrittenMethod<'a> {
 // A parameter: a variable and its class.
 #[derive(Clone, Copy)]
 pub(crate) struct Taken {
-    variable: Symbol,
-    class: Asked,
+    pub(crate) variable: Symbol,
+    pub(crate) class: Asked,
 }
 
 // The class that a datum asks for.
