@@ -1,16 +1,22 @@
 -- What contracts see of class definitions as the code reads them: superclasses, slots, options, functions.
-use Rattle.std.specs.Prelude.{List, [], ◌∷◌, map, Option, Some, None}
+use Rattle.std.specs.Prelude.{List, [], ◌∷◌, ◌&&◌, not, map, Option, Some, None, if◌then◌else◌}
+use Rattle.std.specs.List.{list_all}
+use Rattle.isl_base.specs.declared.reason.Reason.{Reason}
+use Rattle.isl_base.specs.declared.reason.Reason.TheVariants.{BadSupers, BadSlot, BadMethod}
+use Rattle.isl_profile.specs.declared.tables.Tables.{Tables}
 use Rattle.isl_forms.specs.declared.slots.SlotOption.{SlotOption as ReadOption}
 use Rattle.isl_forms.specs.declared.slots.SlotOption.TheVariants as option
 use Rattle.isl_forms.specs.declared.slots.WrittenSlot.{WrittenSlot as ReadSlot}
 use Rattle.isl_forms.specs.declared.slots.WrittenSuper.{WrittenSuper as ReadSuper}
 use Rattle.isl_forms.specs.declared.slots.ClassOption.{ClassOption as ReadClassOption}
 use Rattle.isl_forms.specs.declared.slots.ClassOption.TheVariants as class
-use Rattle.isl_forms.specs.declared.rows.classes.Function.{Function as ReadFunction}
-use Rattle.isl_forms.specs.declared.rows.classes.Function.TheVariants as read
+use Rattle.isl_forms.specs.declared.functions.Function.{Function as ReadFunction}
+use Rattle.isl_forms.specs.declared.functions.Function.TheVariants as read
+use Rattle.isl_forms.specs.declared.functions.Use.{Use as ReadUse}
+use Rattle.isl_forms.specs.declared.rows.classes.WrittenClass.{WrittenClass as ReadClass}
 use Rattle.isl_forms.specs.Definitions.{view_given}
-use Rattle.isl_profile.specs.ClassShapes.{SlotOption, wrong_option, initform_of, initarg_of, method_of, accessor_of, WrittenSlot, WrittenSuper, ClassOption, no_option, left_out, abstract}
-use Rattle.isl_profile.specs.ClassRows.{Function, for_initform, for_method}
+use Rattle.isl_profile.specs.ClassShapes.{SlotOption, wrong_option, initform_of, initarg_of, method_of, accessor_of, WrittenSlot, WrittenSuper, ClassOption, no_option, left_out, abstract, are_options}
+use Rattle.isl_profile.specs.ClassRows.{Function, for_initform, for_method, Use, are_supers, few_inherited, fits_generic, names_differ}
 
 -- slots
 
@@ -72,3 +78,38 @@ view_read (read.Method g k) = for_method (view_given g) k
 
 abbrev pub view_functions : List ReadFunction → List Function
 view_functions fs = map view_read fs
+
+abbrev pub view_use : ReadUse → Use
+view_use u = record { name = u.name; arguments = u.arguments }
+
+abbrev pub maybe_use : Option ReadUse → Option Use
+maybe_use None = None
+maybe_use (Some u) = Some (view_use u)
+
+abbrev pub view_uses : List ReadUse → List Use
+view_uses us = map view_use us
+
+-- what a definition says apart from its name, where all of it is allowed
+
+pub record ClassWritten : Type 0 where
+  pub supers : List WrittenSuper
+  pub slots : List WrittenSlot
+  pub options : List ClassOption
+
+abbrev pub maybe_written : Option ReadClass → Option ClassWritten
+maybe_written None = None
+maybe_written (Some c) =
+    Some (record { supers = view_supers c.supers; slots = view_slots c.slots; options = view_class_options c.options })
+
+abbrev pub written_as : Option (List WrittenSuper) → Option (List WrittenSlot) → List ClassOption → Option ClassWritten
+written_as None xs os = None
+written_as (Some cs) None os = None
+written_as (Some cs) (Some xs) os = if are_options os then Some (record { supers = cs; slots = xs; options = os }) else None
+
+-- the lowest reason behind that of an option that is left out, which the definition shares with none of its parts
+abbrev pub class_offence : Tables → List WrittenSuper → List Use → Option Reason
+class_offence s cs us =
+    if not (are_supers s cs) then Some BadSupers
+    else if not (few_inherited s cs) then Some BadSlot
+    else if list_all (fits_generic s) us && names_differ us then None
+    else Some BadMethod

@@ -3,6 +3,7 @@
 
 mod bound;
 mod draft;
+mod functions;
 pub mod here;
 mod methods;
 mod naming;

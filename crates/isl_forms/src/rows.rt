@@ -8,4 +8,6 @@ pub(crate) mod exits;
 pub(crate) mod forms;
 pub(crate) mod generics;
 pub(crate) mod methods;
+pub(crate) mod slots;
+pub(crate) mod supers;
 pub(crate) mod values;
