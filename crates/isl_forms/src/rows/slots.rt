@@ -7,7 +7,7 @@ ghost use Rattle.isl_classes.specs.InheritedClasses.{inherited_names};
 ghost use Rattle.isl_classes.specs.InheritedSlots as inherited;
 ghost use Rattle.isl_profile.specs.ClassRows as row;
 ghost use Rattle.isl_profile.specs.Nodes.{wrong};
-ghost use Rattle.isl_forms.specs.ClassDefinitions.{view_slot_option, view_slot_options, view_slot, view_slots, view_supers, view_functions, specs_to};
+ghost use Rattle.isl_forms.specs.ClassDefinitions.{view_slot_option, view_slot_options, view_slot, view_slots, view_supers, view_functions};
 ghost use Rattle.isl_forms.specs.Views.{view_parts};
 
 use crate::functions::{functions_of, initform_from, push_parts};
@@ -101,29 +101,25 @@ fn is_wrong(names: &NameList, earlier: &NameList, slot: &WrittenSlot) -> bool
     has_wrong_options(slot) || is_wrong_name(names.as_slice(), earlier.as_slice(), slot.name)
 }
 
-// The parts that slots are, up to the first that is wrong.
-fn push_slots<'a>(
+// The parts that a slot is, which stands behind these.
+fn push_right_slot<'a>(
     here: Setting,
     parts: &mut Parts<'a>,
     names: &mut NameList,
     earlier: &mut NameList,
-    slots: &WrittenSlots<'a>,
+    slot: &WrittenSlot<'a>,
 ) -> Result<(), NoMemory>
-    ensures { (inherited : _) → names.old ≡ inherited.each_first (inherited ++ earlier.old) → OnOk result (view_parts parts.new ≡ view_parts parts.old
-        ++ row.slot_parts inherited earlier.old (view_slots slots.now)) }
+    ensures parts { OnOk result (view_parts parts.new ≡ view_parts parts.old
+        ++ flat_map (row.part_of (view_slot slot.now)) (row.functions_of (view_slot slot.now))) }
+    ensures names { OnOk result (names.new ≡ inherited.with_name slot.now.name names.old) }
+    ensures earlier { OnOk result (earlier.new ≡ earlier.old ++ slot.now.name ∷ []) }
 {
-    for slot in slots.as_slice() {
-        if is_wrong(names, earlier, slot) {
-            return parts.push(Part::Wrong(slot.place, Reason::BadSlot));
-        }
-        push_slot(here, parts, slot)?;
-        push_new(names, slot.name)?;
-        earlier.push(slot.name)?;
-    }
-    Ok(())
+    push_slot(here, parts, slot)?;
+    push_new(names, slot.name)?;
+    earlier.push(slot.name)
 }
 
-// The parts that slots are, of a class that has the slots of these superclasses.
+// The parts that slots are, up to the first that is wrong, of a class that has the slots of these superclasses.
 fn slot_parts<'a>(
     here: Setting,
     supers: &WrittenSupers,
@@ -135,7 +131,13 @@ fn slot_parts<'a>(
     let mut names = inherited(here, supers)?;
     let mut earlier = NameList::new(here.alloc);
     let mut parts = Parts::new(here.alloc);
-    push_slots(here, &mut parts, &mut names, &mut earlier, slots)?;
+    for slot in slots.as_slice() {
+        if is_wrong(&names, &earlier, slot) {
+            parts.push(Part::Wrong(slot.place, Reason::BadSlot))?;
+            return Ok(parts);
+        }
+        push_right_slot(here, &mut parts, &mut names, &mut earlier, slot)?;
+    }
     Ok(parts)
 }
 
