@@ -3,3 +3,5 @@ pub mod Choices
 pub mod Shaping
 pub mod Settling
 pub mod Naming
+pub mod Generics
+pub mod Supers

@@ -1,0 +1,28 @@
+-- The superclasses that are known are there.
+use Rattle.std.proofs.Common.{◌≡◌, ◌<◌, ℕ, ◌+◌, Bool, true, false, List, [], ◌∷◌, Option, Some, None, if◌then◌else◌, length, refl, sym, ap, ◌∙◌, arith}
+use Rattle.std.specs.Prelude.{zero, suc, option_map, All}
+use Rattle.std.specs.List.{filter_map}
+use Rattle.isl_base.specs.declared.datum.Name.{Name}
+use Rattle.isl_meaning.specs.declared.program.ClassRow.{ClassRow}
+use Rattle.isl_classes.specs.InheritedClasses.{class_named}
+use Rattle.isl_classes.specs.InheritedSlots.{same_name}
+use Rattle.isl_profile.specs.ClassShapes.{WrittenSuper}
+use Rattle.isl_profile.specs.ClassRows.{known_supers}
+
+below_by : (b : Bool) (o : Option ℕ) (m c : ℕ) → ((d : ℕ) → o ≡ Some d → d < m) → (if b then Some 0 else option_map (λ k. k + 1) o) ≡ Some c → c < m + 1
+below_by true o m c f h = let first : 0 ≡ c = cc in omega (arith, first)
+below_by false None m c f h = absurd (cc)
+below_by false (Some d) m c f h = let next : d + 1 ≡ c = cc in let below : d < m = f d refl in omega (arith, next, below)
+
+class_there : (rows : List ClassRow) (n : Name) (c : ℕ) → class_named rows n ≡ Some c → c < length rows
+class_there [] n c h = absurd (cc)
+class_there (row ∷ rows) n c h =
+    below_by (same_name n row.name) (class_named rows n) (length rows) c (λ d k. class_there rows n d k) h
+
+pub known_there : (rows : List ClassRow) (cs : List WrittenSuper) → All (λ c. c < length rows) (known_supers rows cs)
+known_there rows [] = tt
+known_there rows (c ∷ cs) = by (class_named rows c.name) refl
+  where
+    by : (o : Option ℕ) → class_named rows c.name ≡ o → All (λ d. d < length rows) (known_supers rows (c ∷ cs))
+    by None h = rw h (known_there rows cs)
+    by (Some d) h = rw h (class_there rows c.name d h, known_there rows cs)
