@@ -5,3 +5,5 @@ pub mod Settling
 pub mod Naming
 pub mod Generics
 pub mod Supers
+pub mod Methods
+pub mod Setters

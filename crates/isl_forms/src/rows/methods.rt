@@ -233,6 +233,7 @@ fn is_closed(here: Setting, names: &Names, datum: &Datum, name: Name) -> bool
 }
 
 /// The generic function of a name.
+#[tactic(auto, using(crate::proofs::Generics::found_by_name))]
 pub(crate) fn generic_named(tables: &Tables, name: Name) -> Option<GenericId>
     ensures { result ≡ generic_named tables.now.generics name }
 {
