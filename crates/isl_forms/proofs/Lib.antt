@@ -7,3 +7,4 @@ pub mod Generics
 pub mod Supers
 pub mod Methods
 pub mod Setters
+pub mod ClassSlots

@@ -184,7 +184,7 @@ fn all_fit_generic(
     ensures { IfOk result (λ fit. fit ≡ row.all_fit here.entry.tables.now (Some generic.old) (view_methods methods.now)) }
 {
     for method in methods.as_slice() {
-        if !fits(here, Some(&*generic), method)? {
+        if !fits(here, generic, method)? {
             return Ok(false);
         }
         add_method(here, generic, method)?;

@@ -133,19 +133,30 @@ fn fits_generic(
 /// Whether a generic function takes a method, by what is known of both.
 pub(crate) fn fits(
     here: Setting,
-    generic: Option<&GenericRow>,
+    generic: &GenericRow,
     method: &WrittenMethod,
 ) -> Result<bool, NoMemory>
-    ensures { IfOk result (λ fit. fit ≡ row.fits here.entry.tables.now (borrowed generic.entry) (view_method method.now)) }
+    ensures { IfOk result (λ fit. fit ≡ row.fits here.entry.tables.now (Some generic.now) (view_method method.now)) }
 {
     if method.qualifier.is_none() {
         return Ok(false);
     }
-    let Some(generic) = generic else {
-        return Ok(true);
-    };
     let specialised = specialised_in(here.alloc, here.tables.words, method.list)?;
     fits_generic(here, generic, method, &specialised)
+}
+
+// The same of the generic function of that number.
+fn fits_number(
+    here: Setting,
+    generic: GenericId,
+    method: &WrittenMethod,
+) -> Result<bool, NoMemory>
+    ensures { IfOk result (λ fit. fit ≡ row.fits here.entry.tables.now (slice_get here.entry.tables.now.generics generic) (view_method method.now)) }
+{
+    match generic_row(here.tables, generic) {
+        Some(generic) => fits(here, generic, method),
+        None => Ok(method.qualifier.is_some()),
+    }
 }
 
 // Appends the function of a method that has these parameters, or the offence of its first class that is not known.
@@ -284,7 +295,7 @@ fn method_for<'a>(
     let Some(generic) = generic_named(here.tables, name) else {
         return Ok(offence(here.place, Reason::UnknownGeneric));
     };
-    if fits(here, generic_row(here.tables, generic), method)? {
+    if fits_number(here, generic, method)? {
         one_method(here, datum, name, method, generic)
     } else {
         Ok(offence(here.place, Reason::BadMethod))

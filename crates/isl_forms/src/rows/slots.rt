@@ -120,6 +120,7 @@ fn push_right_slot<'a>(
 }
 
 // The parts that slots are, up to the first that is wrong, of a class that has the slots of these superclasses.
+#[tactic(auto, using(crate::proofs::ClassSlots::name_seen))]
 fn slot_parts<'a>(
     here: Setting,
     supers: &WrittenSupers,
