@@ -394,8 +394,8 @@ pub(crate) fn is_abstract(options: &ClassOptions) -> bool
     ensures { result ≡ shape.is_abstract (view_class_options options.now) }
 {
     for option in options.as_slice() {
-        if let ClassOption::Abstract(is_abstract) = option {
-            return *is_abstract;
+        if let ClassOption::Abstract(answer) = option {
+            return *answer;
         }
     }
     false

@@ -55,18 +55,17 @@ fn has_wrong_options(slot: &WrittenSlot) -> bool
 fn is_wrong_name(names: &[Name], earlier: &[Name], name: Name) -> bool
     ensures { result ≡ given.is_wrong name earlier.now names.now }
 {
-    has_name(earlier, name) || SLOT_LIMIT < count_with(names, name)
+    has_name(earlier, name) || is_past_limit(names, name)
 }
 
-// How many names there are with that one.
-fn count_with(names: &[Name], name: Name) -> usize
-    requires { length names.now < 18446744073709551615 }
-    ensures { result ≡ length (inherited.with_name name names.now) }
+// Whether there are too many names with that one.
+fn is_past_limit(names: &[Name], name: Name) -> bool
+    ensures { result ≡ nat_lt 64 (length (inherited.with_name name names.now)) }
 {
     if has_name(names, name) {
-        names.len()
+        SLOT_LIMIT < names.len()
     } else {
-        names.len() + 1
+        SLOT_LIMIT <= names.len()
     }
 }
 
