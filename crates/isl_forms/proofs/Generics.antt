@@ -26,8 +26,8 @@ first_by true o h = refl
 first_by false o h = absurd (cc)
 
 later_by : (b : Bool) (o : Option ℕ) (i : ℕ) → (b ≡ true → ⊥) → o ≡ Some i → (if b then Some 0 else option_map (λ k. k + 1) o) ≡ Some (i + 1)
-later_by true o i no h = absurd (no refl)
-later_by false o i no h = ap (option_map (λ k. k + 1)) h
+later_by true o i differs h = absurd (differs refl)
+later_by false o i differs h = ap (option_map (λ k. k + 1)) h
 
 this_one : (gs : List GenericRow) (n : Name) (i : ℕ) → HaveOwnNames gs → slice_get (names_of gs) i ≡ Some n.0 → generic_named gs n ≡ Some i
 this_one [] n i own h = absurd (cc)

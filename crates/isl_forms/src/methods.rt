@@ -4,7 +4,7 @@ ghost use Rattle.std.specs.Prelude.{◌≡◌, ◌++◌, ◌∷◌, [], Some, No
 ghost use Rattle.std.specs.List.{list_any};
 ghost use Rattle.isl_derived.specs.Asked.{list_items};
 ghost use Rattle.isl_profile.specs.MethodShapes as shape;
-ghost use Rattle.isl_profile.specs.Shapes.{symbol_of};
+ghost use Rattle.isl_profile.specs.Shapes.{symbol_of, parameter_in};
 ghost use Rattle.isl_forms.specs.Definitions.{view_asked, view_all_asked, maybe_asked, maybe_taken, view_specialised, maybe_specialised, maybe_method};
 
 use crate::rows::forms::is_word;
@@ -76,7 +76,7 @@ fn taken_in(words: ReservedWords, datum: &Datum) -> Option<Taken>
 
 // A parameter that is a variable.
 fn taken_alone(words: ReservedWords, datum: &Datum) -> Option<Taken>
-    ensures { maybe_taken result ≡ shape.taken (shape.parameter_in words (symbol_of datum.now)) (Some shape.any_object) }
+    ensures { maybe_taken result ≡ shape.taken (parameter_in words (symbol_of datum.now)) (Some shape.any_object) }
 {
     let variable = parameter_in(words, datum)?;
     Some(Taken {
@@ -111,7 +111,7 @@ fn specialised_of(
             let Some(rest) = behind_rest(words, &items[at + 1..]) else {
                 return Ok(None);
             };
-            return Ok(Some(specialised(required, Some(rest), classes)));
+            return Ok(Some(with_classes(required, Some(rest), classes)));
         }
         let Some(taken) = taken_by(words, item) else {
             return Ok(None);
@@ -119,10 +119,10 @@ fn specialised_of(
         required.push(taken.variable)?;
         classes.push(taken.class)?;
     }
-    Ok(Some(specialised(required, None, classes)))
+    Ok(Some(with_classes(required, None, classes)))
 }
 
-fn specialised(required: FreshList, rest: Option<Symbol>, classes: AskedList) -> Specialised
+fn with_classes(required: FreshList, rest: Option<Symbol>, classes: AskedList) -> Specialised
     ensures { view_specialised result
         ≡ record { parameters = record { required = required; rest = rest }; classes = view_all_asked classes } }
 {

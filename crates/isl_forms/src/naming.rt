@@ -63,7 +63,7 @@ fn is_text(names: &Names, number: usize, text: &[u8]) -> bool
 }
 
 // The name of a text, where the table has it.
-#[tactic(auto, using(crate::proofs::Naming::from_start, crate::proofs::Naming::other_seen, crate::proofs::Naming::found_here))]
+#[tactic(auto, using(crate::proofs::TextNumbers::from_start, crate::proofs::TextNumbers::other_seen, crate::proofs::TextNumbers::found_here, crate::proofs::TextNumbers::none_left))]
 fn name_of_text(names: &Names, text: &[u8]) -> GivenName
     ensures { view_given result ≡ name.in_table (name.number_of names.now text.now) }
 {

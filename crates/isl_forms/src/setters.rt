@@ -10,7 +10,7 @@ use isl_profile::Special;
 use std::alloc::Global;
 
 // The name `(setf s)` of a symbol, where there is one.
-#[tactic(auto, using(crate::proofs::Setters::nothing_named, crate::proofs::Setters::one_named))]
+#[tactic(auto, using(crate::proofs::MoreNames::nothing_named, crate::proofs::MoreNames::one_named))]
 fn add_setter(alloc: Global, names: &mut Names, symbol: Symbol) -> Result<(), NoMemory>
     ensures { Extends names.old names.new }
 {
@@ -24,7 +24,7 @@ fn add_setter(alloc: Global, names: &mut Names, symbol: Symbol) -> Result<(), No
 }
 
 // The name that a datum `(setf s)` gives.
-#[tactic(auto, using(crate::proofs::Setters::nothing_named))]
+#[tactic(auto, using(crate::proofs::MoreNames::nothing_named))]
 fn add_name(alloc: Global, names: &mut Names, datum: &Datum) -> Result<(), NoMemory>
     ensures { Extends names.old names.new }
 {
@@ -35,7 +35,7 @@ fn add_name(alloc: Global, names: &mut Names, datum: &Datum) -> Result<(), NoMem
 }
 
 // The name `(setf s)` of a datum that is the symbol s.
-#[tactic(auto, using(crate::proofs::Setters::nothing_named))]
+#[tactic(auto, using(crate::proofs::MoreNames::nothing_named))]
 fn add_setter_of(alloc: Global, names: &mut Names, datum: &Datum) -> Result<(), NoMemory>
     ensures { Extends names.old names.new }
 {
@@ -53,7 +53,7 @@ fn asks_for_name(names: &Names, option: &Datum) -> bool {
 }
 
 // The name that an option of a slot asks for.
-#[tactic(auto, using(crate::proofs::Setters::nothing_named))]
+#[tactic(auto, using(crate::proofs::MoreNames::nothing_named))]
 fn add_by_option(
     alloc: Global,
     names: &mut Names,
@@ -72,7 +72,7 @@ fn add_by_option(
 }
 
 // The names that the options of a slot ask for.
-#[tactic(auto, using(crate::proofs::Setters::nothing_named, crate::proofs::Setters::more_named))]
+#[tactic(auto, using(crate::proofs::MoreNames::nothing_named, crate::proofs::MoreNames::more_named))]
 fn add_by_options(alloc: Global, names: &mut Names, options: &[Datum]) -> Result<(), NoMemory>
     ensures { Extends names.old names.new }
 {
@@ -84,7 +84,7 @@ fn add_by_options(alloc: Global, names: &mut Names, options: &[Datum]) -> Result
 }
 
 // The names that a slot asks for.
-#[tactic(auto, using(crate::proofs::Setters::nothing_named))]
+#[tactic(auto, using(crate::proofs::MoreNames::nothing_named))]
 fn add_by_slot(alloc: Global, names: &mut Names, slot: &Datum) -> Result<(), NoMemory>
     ensures { Extends names.old names.new }
 {
@@ -96,7 +96,7 @@ fn add_by_slot(alloc: Global, names: &mut Names, slot: &Datum) -> Result<(), NoM
 }
 
 // The names that slots ask for.
-#[tactic(auto, using(crate::proofs::Setters::nothing_named, crate::proofs::Setters::more_named))]
+#[tactic(auto, using(crate::proofs::MoreNames::nothing_named, crate::proofs::MoreNames::more_named))]
 fn add_by_slots(alloc: Global, names: &mut Names, slots: &[Datum]) -> Result<(), NoMemory>
     ensures { Extends names.old names.new }
 {
@@ -107,7 +107,7 @@ fn add_by_slots(alloc: Global, names: &mut Names, slots: &[Datum]) -> Result<(),
 }
 
 // The names that the definition of a class asks for, by what stands behind its head.
-#[tactic(auto, using(crate::proofs::Setters::nothing_named))]
+#[tactic(auto, using(crate::proofs::MoreNames::nothing_named))]
 fn add_by_class(alloc: Global, names: &mut Names, items: &[Datum]) -> Result<(), NoMemory>
     ensures { Extends names.old names.new }
 {
@@ -121,7 +121,7 @@ fn add_by_class(alloc: Global, names: &mut Names, items: &[Datum]) -> Result<(),
 }
 
 // The name that the definition of a generic function or of a method asks for.
-#[tactic(auto, using(crate::proofs::Setters::nothing_named))]
+#[tactic(auto, using(crate::proofs::MoreNames::nothing_named))]
 fn add_first(alloc: Global, names: &mut Names, items: &[Datum]) -> Result<(), NoMemory>
     ensures { Extends names.old names.new }
 {
@@ -132,7 +132,7 @@ fn add_first(alloc: Global, names: &mut Names, items: &[Datum]) -> Result<(), No
 }
 
 /// The names that a form asks for.
-#[tactic(auto, using(crate::proofs::Setters::nothing_named))]
+#[tactic(auto, using(crate::proofs::MoreNames::nothing_named))]
 pub(crate) fn add_setters(alloc: Global, names: &mut Names, datum: &Datum) -> Result<(), NoMemory>
     ensures { Extends names.old names.new }
 {

@@ -148,6 +148,7 @@ fn slot_option<'a>(
 }
 
 // Appends what options say, each a name and a value; whether all are allowed.
+#[tactic(auto, using(crate::proofs::ClassSlots::option_seen))]
 fn push_options<'a>(
     alloc: Global,
     names: &Names,

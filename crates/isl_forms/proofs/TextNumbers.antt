@@ -1,7 +1,8 @@
 -- The number of a text in a table of names, a text at a time.
-use Rattle.std.proofs.Common.{◌≡◌, ◌<◌, ℕ, ◌+◌, Bool, true, false, List, [], ◌∷◌, Option, Some, None, if◌then◌else◌, length, drop, refl, sym, ap, ◌∙◌, arith}
+use Rattle.std.proofs.Common.{◌≡◌, ◌<◌, ◌≤◌, ℕ, ◌+◌, Bool, true, false, List, [], ◌∷◌, Option, Some, None, if◌then◌else◌, length, drop, refl, sym, ap, ◌∙◌, arith}
 use Rattle.std.specs.Prelude.{zero, suc, option_map, slice_get}
 use Rattle.std.specs.Str.{bytes_eq}
+use Rattle.std.proofs.lemmas.List.{drop_all}
 use Rattle.isl_derived.specs.Asked.{is_text}
 use Rattle.isl_profile.specs.GivenNames.{number_of}
 use Rattle.isl_forms.specs.Behind.{from}
@@ -27,16 +28,16 @@ some_text (u ∷ us) (suc n) h = let below : n < length us = omega arith in some
 
 at_text : (ts : List (List ℕ)) (n : ℕ) (text t : List ℕ) (all : Option ℕ) → slice_get ts n ≡ Some t → bytes_eq t text ≡ false
     → from n (number_of (drop n ts) text) ≡ all → from (n + 1) (number_of (drop (n + 1) ts) text) ≡ all
-at_text ts n text t all here no h =
-    by_text n (bytes_eq t text) (number_of (drop (n + 1) ts) text) no
+at_text ts n text t all here other h =
+    by_text n (bytes_eq t text) (number_of (drop (n + 1) ts) text) other
     ∙ (ap (λ us. from n (number_of us text)) (sym (rest_from ts n t here)) ∙ h)
 
 -- a text that is another was seen
 pub other_seen : (ts : List (List ℕ)) (n : ℕ) (text : List ℕ) (all : Option ℕ) → n < length ts → is_text text (slice_get ts n) ≡ false
     → from n (number_of (drop n ts) text) ≡ all → from (n + 1) (number_of (drop (n + 1) ts) text) ≡ all
-other_seen ts n text all below no h =
+other_seen ts n text all below other h =
     let t : (t : List ℕ) × (slice_get ts n ≡ Some t) = some_text ts n below in
-    let differs : bytes_eq t.0 text ≡ false = ap (is_text text) (sym t.1) ∙ no in
+    let differs : bytes_eq t.0 text ≡ false = ap (is_text text) (sym t.1) ∙ other in
     at_text ts n text t.0 all t.1 differs h
 
 first_is : (n : ℕ) (b : Bool) (m : Option ℕ) → b ≡ true → Some n ≡ from n (if b then Some 0 else option_map (λ k. k + 1) m)
@@ -46,9 +47,9 @@ first_is n false m h = absurd (cc)
 -- the text was found
 pub found_here : (ts : List (List ℕ)) (n : ℕ) (text : List ℕ) (all : Option ℕ) → n < length ts → is_text text (slice_get ts n) ≡ true
     → from n (number_of (drop n ts) text) ≡ all → Some n ≡ all
-found_here ts n text all below yes h =
+found_here ts n text all below this h =
     let t : (t : List ℕ) × (slice_get ts n ≡ Some t) = some_text ts n below in
-    let same : bytes_eq t.0 text ≡ true = ap (is_text text) (sym t.1) ∙ yes in
+    let same : bytes_eq t.0 text ≡ true = ap (is_text text) (sym t.1) ∙ this in
     first_is n (bytes_eq t.0 text) (number_of (drop (n + 1) ts) text) same
     ∙ (ap (λ us. from n (number_of us text)) (sym (rest_from ts n t.0 t.1)) ∙ h)
 
@@ -56,3 +57,7 @@ found_here ts n text all below yes h =
 pub from_start : (m : Option ℕ) → from 0 m ≡ m
 from_start None = refl
 from_start (Some m) = ap (λ k. Some k) (omega arith)
+
+-- all texts were seen
+pub none_left : (ts : List (List ℕ)) (n : ℕ) (text : List ℕ) (all : Option ℕ) → length ts ≤ n → from n (number_of (drop n ts) text) ≡ all → None ≡ all
+none_left ts n text all seen h = let rest : drop n ts ≡ [] = drop_all n ts seen in ap (λ us. from n (number_of us text)) (sym rest) ∙ h
