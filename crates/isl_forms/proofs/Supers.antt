@@ -17,7 +17,8 @@ below_by false (Some d) m c f h = let next : d + 1 ≡ c = cc in let below : d <
 class_there : (rows : List ClassRow) (n : Name) (c : ℕ) → class_named rows n ≡ Some c → c < length rows
 class_there [] n c h = absurd (cc)
 class_there (row ∷ rows) n c h =
-    below_by (same_name n row.name) (class_named rows n) (length rows) c (λ d k. class_there rows n d k) h
+    let below : c < length rows + 1 = below_by (same_name n row.name) (class_named rows n) (length rows) c (λ d k. class_there rows n d k) h in
+    omega (arith, below)
 
 in_front : (m d : ℕ) (ds : List ℕ) → d < m → All (λ c. c < m) ds → (k e : ℕ) → k < length (d ∷ ds) → slice_index_or (d ∷ ds) k e < m
 in_front m d ds h all zero e l = h

@@ -165,7 +165,8 @@ fn push_options<'a>(
         return Ok(false);
     };
     options.push(option)?;
-    push_options(alloc, names, others, options)
+    let allowed = push_options(alloc, names, others, options)?;
+    Ok(allowed)
 }
 
 // The slot of that name with those options.
