@@ -34,6 +34,7 @@ this_one [] n i own h = absurd (cc)
 this_one (g ∷ gs) n zero own h =
     let same : n.0 ≡ g.name.0 = cc in first_by (n.0 == g.name.0) (generic_named gs n) (eq-eqb n.0 g.name.0 same)
 this_one (g ∷ gs) n (suc i) own h =
+    let next : i + 1 ≡ suc i = omega arith in
     later_by (n.0 == g.name.0) (generic_named gs n) i
     (λ first.
         let same : n.0 ≡ g.name.0 = eqb-true n.0 g.name.0 first in
@@ -41,6 +42,7 @@ this_one (g ∷ gs) n (suc i) own h =
         let twice : 0 ≡ suc i = own.once 0 (suc i) n.0 there h in
         absurd (omega (arith, twice)))
     (this_one gs n i (own_behind g gs own) h)
+    ∙ ap (λ k. Some k) next
 
 -- what is found of a name is the generic function of the name
 pub found_by_name : (gs : List GenericRow) (n : Name) (found : Option ℕ) → HaveOwnNames gs

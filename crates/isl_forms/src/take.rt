@@ -17,6 +17,7 @@ use isl_meaning::{LiteralRow, SiteId};
 use isl_profile::{BoundList, Leaf, Made, Making, Spot, Tables};
 
 // The next site, where forms have sites; its place is kept.
+#[tactic(auto, using(isl_profile::specs::bridge::Growing::grows_same, isl_profile::specs::bridge::Growing::there_same))]
 fn take_site(here: Here, tables: &mut Tables) -> Result<Option<SiteId>, NoMemory>
     ensures site { IfOk result (λ site. site ≡ word.next_site (at here.entry.bound.now here.entry.spot) tables.old) }
     ensures ok { OnOk result (tables.new ≡ word.with_site (at here.entry.bound.now here.entry.spot) here.entry.place tables.old) }
@@ -30,6 +31,7 @@ fn take_site(here: Here, tables: &mut Tables) -> Result<Option<SiteId>, NoMemory
 }
 
 // What a form makes known before its parts are judged.
+#[tactic(auto, using(isl_profile::specs::bridge::Growing::grows_same, isl_profile::specs::bridge::Growing::there_same))]
 fn take_note(tables: &mut Tables, note: Note) -> Result<(), NoMemory>
     ensures ok { OnOk result (tables.new ≡ noting note tables.old) }
     ensures grows { Grows tables.old tables.new }
@@ -108,6 +110,7 @@ fn unsited<'a>(here: Here, tables: &Tables, leaf: Leaf) -> Plan<'a>
 }
 
 // A literal, whose row is kept.
+#[tactic(auto, using(isl_profile::specs::bridge::Growing::grows_same, isl_profile::specs::bridge::Growing::there_same))]
 fn take_literal<'a>(here: Here, tables: &mut Tables, row: LiteralRow) -> Result<Plan<'a>, NoMemory>
     ensures { IsPlan here.entry.bound.now tables.old tables.new
         (word.literal_node (at here.entry.bound.now here.entry.spot) here.entry.place tables.old row) result }
@@ -118,6 +121,7 @@ fn take_literal<'a>(here: Here, tables: &mut Tables, row: LiteralRow) -> Result<
 }
 
 // The form that a definition of a file stands for: the symbol of its name, whose literal is met first.
+#[tactic(auto, using(isl_profile::specs::bridge::Growing::grows_same, isl_profile::specs::bridge::Growing::there_same))]
 fn named_form(here: Here, tables: &mut Tables, datum: &Datum) -> Result<Leaf, NoMemory>
     ensures form { IfOk result (λ form. form ≡ row.named_form here.entry.spot.sited tables.old) }
     ensures ok { OnOk result (tables.new ≡ row.with_name here.entry.spot.sited datum.now tables.old) }
@@ -179,6 +183,7 @@ fn take_definition<'a>(
 }
 
 // The same of a definition of that name at that place.
+#[tactic(auto, using(isl_profile::specs::bridge::Growing::grows_same, isl_profile::specs::bridge::Growing::there_same))]
 fn symbol_form(here: Here, tables: &mut Tables, place: Place, name: Name) -> Result<Leaf, NoMemory>
     ensures form { IfOk result (λ form. form ≡ row.named_form here.entry.spot.sited tables.old) }
     ensures ok { OnOk result (tables.new ≡ row.with_name here.entry.spot.sited (item place (symbol (Symbol.Named name))) tables.old) }
@@ -247,6 +252,7 @@ fn take_class<'a>(
 }
 
 /// The plan that a draft is for; after `NoMemory` the tables may have grown.
+#[tactic(auto, using(isl_profile::specs::bridge::Growing::grows_same))]
 pub(crate) fn take<'a>(
     here: Here,
     tables: &mut Tables,

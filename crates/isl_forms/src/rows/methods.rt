@@ -200,9 +200,10 @@ pub(crate) fn push_method<'a>(
     ensures { OnOk result (view_parts parts.new ≡ view_parts parts.old
         ++ row.method_parts here.entry.tables.now name (view_method method.now)) }
 {
-    match specialised_in(here.alloc, here.tables.words, method.list)? {
+    let list = method.list;
+    match specialised_in(here.alloc, here.tables.words, list)? {
         Some(specialised) => push_function(here, parts, name, method, specialised),
-        None => parts.push(Part::Wrong(method.list.place, Reason::BadBinding)),
+        None => parts.push(Part::Wrong(list.place, Reason::BadBinding)),
     }
 }
 
