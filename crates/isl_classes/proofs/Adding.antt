@@ -13,7 +13,7 @@ use Rattle.isl_meaning.specs.declared.program.SlotRow.{SlotRow}
 use Rattle.isl_classes.specs.InheritedClasses.{Hierarchy, IsRow, AreClasses, class_named}
 use Rattle.isl_classes.specs.InheritedSlots.{same_name}
 use Rattle.isl_classes.specs.Table.{IsIndexed}
-use Rattle.isl_classes.proofs.Names.{either}
+use Rattle.isl_classes.specs.FirstNames.{either}
 
 -- a class that is found is found among more
 named-front : (rows : List ClassRow) (row : ClassRow) (n : Name) (c : ℕ) → class_named rows n ≡ Some c → class_named (rows ++ row ∷ []) n ≡ Some c

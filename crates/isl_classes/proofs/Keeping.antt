@@ -7,7 +7,7 @@ use Rattle.isl_classes.specs.InheritedClasses.{row_of, slots_given, with_own, wi
 use Rattle.isl_classes.specs.Keeping.{KeepsHierarchies, KeepsNames}
 use Rattle.isl_classes.proofs.Adding.{added}
 use Rattle.isl_classes.proofs.Defining.{is_right, hierarchy_more}
-use Rattle.isl_classes.proofs.Names.{each_first-push}
+use Rattle.isl_classes.specs.FirstNames.{each_first-push}
 
 pub hierarchies_kept : KeepsHierarchies
 unfolding with_class

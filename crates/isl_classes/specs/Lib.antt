@@ -1,5 +1,6 @@
 pub mod InheritedPrecedence
 pub mod InheritedSlots
+pub mod FirstNames
 pub mod InheritedClasses
 pub mod InheritedBuiltIn
 pub mod Given

@@ -59,7 +59,8 @@ there_then (g ∷ gs) [] ks a b = absurd a
 there_then (g ∷ gs) (h ∷ hs) [] a b = absurd b
 there_then (g ∷ gs) (h ∷ hs) (k ∷ ks) a b = (more_then g h k a.0 b.0, there_then gs hs ks a.1 b.1)
 
-there_same : (gs : List GenericRow) → AreThere gs gs
+-- the same generic functions
+pub there_same : (gs : List GenericRow) → AreThere gs gs
 there_same [] = tt
 there_same (g ∷ gs) = ((refl, refl, refl, take-length g.methods), there_same gs)
 
