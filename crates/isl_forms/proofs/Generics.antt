@@ -37,10 +37,10 @@ this_one (g ∷ gs) n (suc i) own h =
     let next : i + 1 ≡ suc i = omega arith in
     later_by (n.0 == g.name.0) (generic_named gs n) i
     (λ first.
-        let same : n.0 ≡ g.name.0 = eqb-true n.0 g.name.0 first in
-        let there : slice_get (names_of (g ∷ gs)) 0 ≡ Some n.0 = ap (λ k. Some k) (sym same) in
-        let twice : 0 ≡ suc i = own.once 0 (suc i) n.0 there h in
-        absurd (omega (arith, twice)))
+    let same : n.0 ≡ g.name.0 = eqb-true n.0 g.name.0 first in
+    let there : slice_get (names_of (g ∷ gs)) 0 ≡ Some n.0 = ap (λ k. Some k) (sym same) in
+    let twice : 0 ≡ suc i = own.once 0 (suc i) n.0 there h in
+    absurd (omega (arith, twice)))
     (this_one gs n i (own_behind g gs own) h)
     ∙ ap (λ k. Some k) next
 

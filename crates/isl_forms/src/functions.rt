@@ -33,10 +33,7 @@ pub(crate) struct Use {
 pub(crate) type Uses = ItemList<Use>;
 
 // Appends the functions that an option asks for.
-fn push_by_option<'a>(
-    functions: &mut Functions<'a>,
-    option: SlotOption<'a>,
-) -> Result<(), NoMemory>
+fn push_by_option<'a>(functions: &mut Functions<'a>, option: SlotOption<'a>) -> Result<(), NoMemory>
     ensures { OnOk result (view_functions functions.new
         ≡ view_functions functions.old ++ row.functions_of_option (view_slot_option option.entry)) }
 {

@@ -38,7 +38,11 @@ fn setf_text(alloc: Global, text: &[u8]) -> Result<Bytes, NoMemory>
 }
 
 /// The text `(setf s)` of a symbol, none where no name is made of it.
-pub(crate) fn setter_text(alloc: Global, names: &Names, symbol: Symbol) -> Result<Option<Bytes>, NoMemory>
+pub(crate) fn setter_text(
+    alloc: Global,
+    names: &Names,
+    symbol: Symbol,
+) -> Result<Option<Bytes>, NoMemory>
     ensures text { IfOk result (λ found. made_of_text names.now found
         ≡ name.setter_of_text names.now (symbol_text names.now symbol)) }
     ensures short { IfOk result (λ found. IfSome found (λ text. length text ≤ 263)) }
@@ -101,11 +105,7 @@ pub(crate) fn symbol_to_set(names: &Names, datum: &Datum) -> Option<Symbol>
 }
 
 /// The name that a datum gives to a generic function.
-pub(crate) fn given_name(
-    alloc: Global,
-    names: &Names,
-    datum: &Datum,
-) -> Result<GivenName, NoMemory>
+pub(crate) fn given_name(alloc: Global, names: &Names, datum: &Datum) -> Result<GivenName, NoMemory>
     ensures { IfOk result (λ found. view_given found ≡ name.given_name names.now datum.now) }
 {
     match symbol_of(datum) {

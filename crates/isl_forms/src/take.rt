@@ -17,7 +17,6 @@ use isl_meaning::{LiteralRow, SiteId};
 use isl_profile::{BoundList, Leaf, Made, Making, Spot, Tables};
 
 // The next site, where forms have sites; its place is kept.
-#[tactic(auto, using(isl_profile::specs::bridge::Growing::grows_same, isl_profile::specs::bridge::Growing::there_same))]
 fn take_site(here: Here, tables: &mut Tables) -> Result<Option<SiteId>, NoMemory>
     ensures site { IfOk result (λ site. site ≡ word.next_site (at here.entry.bound.now here.entry.spot) tables.old) }
     ensures ok { OnOk result (tables.new ≡ word.with_site (at here.entry.bound.now here.entry.spot) here.entry.place tables.old) }
@@ -38,7 +37,10 @@ fn take_note(tables: &mut Tables, note: Note) -> Result<(), NoMemory>
 {
     match note {
         Note::Nothing => Ok(()),
-        Note::Set(name) => tables.set.push(name),
+        Note::Set(name) => {
+            tables.set.push(name)?;
+            Ok(())
+        }
         Note::Exit => {
             tables.exits = tables.exits.checked_add(1).ok_or(NoMemory)?;
             Ok(())
@@ -121,7 +123,6 @@ fn take_literal<'a>(here: Here, tables: &mut Tables, row: LiteralRow) -> Result<
 }
 
 // The form that a definition of a file stands for: the symbol of its name, whose literal is met first.
-#[tactic(auto, using(isl_profile::specs::bridge::Growing::grows_same, isl_profile::specs::bridge::Growing::there_same))]
 fn named_form(here: Here, tables: &mut Tables, datum: &Datum) -> Result<Leaf, NoMemory>
     ensures form { IfOk result (λ form. form ≡ row.named_form here.entry.spot.sited tables.old) }
     ensures ok { OnOk result (tables.new ≡ row.with_name here.entry.spot.sited datum.now tables.old) }
@@ -183,7 +184,6 @@ fn take_definition<'a>(
 }
 
 // The same of a definition of that name at that place.
-#[tactic(auto, using(isl_profile::specs::bridge::Growing::grows_same, isl_profile::specs::bridge::Growing::there_same))]
 fn symbol_form(here: Here, tables: &mut Tables, place: Place, name: Name) -> Result<Leaf, NoMemory>
     ensures form { IfOk result (λ form. form ≡ row.named_form here.entry.spot.sited tables.old) }
     ensures ok { OnOk result (tables.new ≡ row.with_name here.entry.spot.sited (item place (symbol (Symbol.Named name))) tables.old) }

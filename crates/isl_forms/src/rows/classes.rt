@@ -46,8 +46,7 @@ fn is_kept_name(here: Setting, names: &Names, one: Use) -> bool
     ensures { result ≡ row.is_kept_name names.now (around here.entry) here.entry.tables.now (view_use one) }
 {
     is_truth(here, one.name)
-        || (here.spot.sited
-            && (keeps(names, one.name) || has_name(&here.tables.prelude, one.name)))
+        || (here.spot.sited && (keeps(names, one.name) || has_name(&here.tables.prelude, one.name)))
 }
 
 // Whether a generic function of the name has that number of arguments, where there is one.

@@ -23,12 +23,12 @@ use crate::here::{Here, Setting};
 use crate::plan::Plan;
 use crate::primitives::{is_among, is_direct_name, is_own_name};
 use crate::rows::bindings::{dynamic_let_draft, lambda_draft, let_draft, with_functions_draft};
-use crate::rows::classes::defclass_draft;
 use crate::rows::calls::{local_call_draft, named_call_draft, value_call_draft};
+use crate::rows::classes::defclass_draft;
 use crate::rows::defining::{defdynamic_draft, defun_draft, global_draft};
+use crate::rows::exits::{block_draft, go_draft, return_from_draft, tagbody_draft};
 use crate::rows::generics::defgeneric_draft;
 use crate::rows::methods::defmethod_draft;
-use crate::rows::exits::{block_draft, go_draft, return_from_draft, tagbody_draft};
 use crate::rows::values::{
     body_draft, class_draft, cond_draft, dynamic_draft, function_draft, method_draft, progn_draft,
     quote_draft, set_dynamic_draft, setq_draft, symbol_draft, two_draft,

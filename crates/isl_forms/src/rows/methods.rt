@@ -146,11 +146,7 @@ pub(crate) fn fits(
 }
 
 // The same of the generic function of that number.
-fn fits_number(
-    here: Setting,
-    generic: GenericId,
-    method: &WrittenMethod,
-) -> Result<bool, NoMemory>
+fn fits_number(here: Setting, generic: GenericId, method: &WrittenMethod) -> Result<bool, NoMemory>
     ensures { IfOk result (λ fit. fit ≡ row.fits here.entry.tables.now (slice_get here.entry.tables.now.generics generic) (view_method method.now)) }
 {
     match generic_row(here.tables, generic) {

@@ -6,6 +6,6 @@ use Rattle.isl_forms.specs.ClassDefinitions.{view_slot_options, view_functions}
 use Rattle.isl_forms.proofs.functions.push_functions.Given as goal
 
 abbrev pub invariant-loop-option : goal.invariant-loop-option
-invariant-loop-option l = 
+invariant-loop-option l =
     view_functions l.functions ++ flat_map functions_of_option (view_slot_options (drop l.option-index l.slot.options))
     ≡ view_functions l.fn.functions ++ flat_map functions_of_option (view_slot_options l.slot.options)

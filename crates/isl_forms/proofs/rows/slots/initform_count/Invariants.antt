@@ -6,7 +6,7 @@ use Rattle.isl_forms.specs.ClassDefinitions.{view_slot_options}
 use Rattle.isl_forms.proofs.rows.slots.initform_count.Given as goal
 
 abbrev pub invariant-loop-option : goal.invariant-loop-option
-invariant-loop-option l = 
+invariant-loop-option l =
     record {
       few : l.count ≤ l.option-index;
       counted : l.count + length (filter_map initform_in (view_slot_options (drop l.option-index l.options))) ≡ length (filter_map initform_in (view_slot_options l.options));

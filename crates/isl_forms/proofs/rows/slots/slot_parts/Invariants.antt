@@ -8,7 +8,7 @@ use Rattle.isl_forms.specs.Views.{view_parts}
 use Rattle.isl_forms.proofs.rows.slots.slot_parts.Given as goal
 
 abbrev pub invariant-loop-slot : goal.invariant-loop-slot
-invariant-loop-slot l = 
+invariant-loop-slot l =
     let inherited = inherited_names l.here.tables.now.classes (known_supers l.here.tables.now.classes.rows (view_supers l.supers)) in
     record {
       names : l.names ≡ each_first (inherited ++ l.earlier);
