@@ -13,7 +13,7 @@ use Rattle.isl_meaning.specs.declared.program.SlotRow.{SlotRow}
 use Rattle.isl_classes.specs.InheritedClasses.{Hierarchy, IsRow, AreClasses, class_named}
 use Rattle.isl_classes.specs.InheritedSlots.{same_name}
 use Rattle.isl_classes.specs.Table.{IsIndexed}
-use Rattle.isl_classes.proofs.Names.{either}
+use Rattle.isl_classes.specs.FirstNames.{either}
 
 -- a class that is found is found among more
 named-front : (rows : List ClassRow) (row : ClassRow) (n : Name) (c : ℕ) → class_named rows n ≡ Some c → class_named (rows ++ row ∷ []) n ≡ Some c
@@ -60,7 +60,7 @@ module _ (h : Hierarchy) (row : ClassRow) (own : List SlotRow) (a : AreClasses h
       let P : ℕ → ClassRow → Type 0 = λ d x. IsRow h.rows (h.own ++ own ∷ []) d x in
       rw (rows_stay, own_stays) (subst (λ d. P d r) (sym e) (subst (λ x. P (length h.rows) x) k right))
 
-  added : AreClasses (record { rows = h.rows ++ row ∷ []; own = h.own ++ own ∷ [] })
+  pub added : AreClasses (record { rows = h.rows ++ row ∷ []; own = h.own ++ own ∷ [] })
   added = record {
     paired = length-append h.own (own ∷ []) ∙ ap (λ n. n + 1) a.paired ∙ sym (length-append h.rows (row ∷ []));
     right = λ c r k. ⊎_elim (λ front. front_right c r front) (λ last. last_right c r last.0 last.1) (slice_get-push h.rows row c r k);

@@ -16,7 +16,7 @@ use Rattle.isl_classes.specs.InheritedSlots.{same_name, has_name, each_first, wi
 use Rattle.isl_classes.specs.InheritedClasses.{Hierarchy, IsRow, AreClasses, IsBuiltIn, class_named, slot_limit}
 use Rattle.isl_classes.specs.InheritedBuiltIn.{SaysSlots, AreBuiltIn, built_in_own, own_initarg, texts_of}
 use Rattle.isl_classes.specs.FirstClasses.{AreFirst, IsMade}
-use Rattle.isl_classes.proofs.Names.{either}
+use Rattle.isl_classes.specs.FirstNames.{either}
 use Rattle.isl_classes.proofs.Defining.{said-own, length-united, names-append}
 
 -- what passes for all passes for each

@@ -12,7 +12,7 @@ use Rattle.isl_classes.specs.declared.slot_spec.SlotSpec.{SlotSpec}
 use Rattle.isl_classes.specs.InheritedClasses.{GivenSlot, first_wrong, bad_slot, slot_limit, slots_refusal}
 use Rattle.isl_classes.specs.InheritedSlots.{with_name, each_first}
 use Rattle.isl_classes.specs.Given.{given, spec_names, is_wrong, StopsBy}
-use Rattle.isl_classes.proofs.Names.{each_first-push}
+use Rattle.isl_classes.specs.FirstNames.{each_first-push}
 
 more : (xs : List SlotSpec) (i : ℕ) (s : SlotSpec) → i < length xs → s ≡ get_or xs i s → take (i + 1) xs ≡ take i xs ++ s ∷ []
 more xs i s h e = take_more xs i s h ∙ ap (λ x. take i xs ++ x ∷ []) (sym e)

@@ -6,3 +6,4 @@ pub mod Defining
 pub mod BuiltIns
 pub mod Ordering
 pub mod Inheriting
+pub mod Keeping

@@ -1,8 +1,10 @@
 pub mod InheritedPrecedence
 pub mod InheritedSlots
+pub mod FirstNames
 pub mod InheritedClasses
 pub mod InheritedBuiltIn
 pub mod Given
 pub mod Table
 pub mod FirstClasses
 pub mod Lines
+pub mod Keeping

@@ -5,18 +5,19 @@ ghost use Rattle.isl_meaning.specs.Classes.{precedence_of, slots_of};
 ghost use Rattle.isl_meaning.specs.Lookup.{is_in};
 ghost use Rattle.isl_meaning.specs.Objects.{built_in_classes};
 ghost use Rattle.isl_classes.specs.InheritedPrecedence.{supers_fit};
-ghost use Rattle.isl_classes.specs.InheritedClasses.{IsHierarchy, class_named, place_of_slot, refusal, with_class};
+ghost use Rattle.isl_classes.specs.InheritedSlots.{each_first};
+ghost use Rattle.isl_classes.specs.InheritedClasses.{IsHierarchy, class_named, inherited_names, place_of_slot, refusal, with_class};
 ghost use Rattle.isl_base.specs.Names.{Extends};
 ghost use Rattle.isl_classes.specs.InheritedBuiltIn.{AreBuiltIn};
 ghost use Rattle.isl_classes.specs.Given.{given, StopsBy};
 
 use crate::builtin::all_built_in;
-use crate::definition::new_class;
+use crate::definition::{inherited_names, new_class};
 use crate::line::{is_among, precedence_of, supers_fit};
 use crate::place::place_of_slot;
 use crate::slot_spec::SlotSpecs;
 use crate::table::ClassTable;
-use isl_base::{Name, Names, NoMemory, Place, Stop};
+use isl_base::{Name, NameList, Names, NoMemory, Place, Stop};
 use isl_meaning::{ClassId, ClassRows};
 use std::alloc::Global;
 use std::marker::Model;
@@ -172,5 +173,12 @@ impl Classes {
         ensures { result ≡ supers_fit self.now.rows supers.now }
     {
         supers_fit(self.table.rows(), supers)
+    }
+
+    /// The names of the slots that a class of these direct superclasses inherits, each once.
+    pub fn inherited_names(&self, supers: &[ClassId]) -> Result<NameList, NoMemory>
+        ensures { IfOk result (λ names. names ≡ each_first (inherited_names self.now supers.now)) }
+    {
+        inherited_names(self.alloc, &self.table, supers)
     }
 }

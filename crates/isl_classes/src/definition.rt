@@ -11,9 +11,9 @@ use crate::judged::{judge_slots, own_slots, refused};
 use crate::line::{above, supers_fit};
 use crate::row::row_of;
 use crate::slot_spec::SlotSpecs;
-use crate::slots::said_by;
+use crate::slots::{said_by, slot_names};
 use crate::table::ClassTable;
-use isl_base::{Name, NoMemory, Place, Reason, Stop};
+use isl_base::{Name, NameList, NoMemory, Place, Reason, Stop};
 use isl_meaning::{ClassId, ClassIds, ClassRow, SlotRows};
 use std::alloc::Global;
 
@@ -94,6 +94,18 @@ fn all_above(alloc: Global, table: &ClassTable, supers: &[ClassId]) -> Result<Ab
     let line = above(alloc, table.rows(), supers)?;
     let inherited = said_by(alloc, table.own(), line.as_slice())?;
     Ok(Above { line, inherited })
+}
+
+/// The names of the slots that these superclasses have, each once.
+pub fn inherited_names(
+    alloc: Global,
+    table: &ClassTable,
+    supers: &[ClassId],
+) -> Result<NameList, NoMemory>
+    ensures { IfOk result (λ names. names ≡ each_first (inherited_names table.now supers.now)) }
+{
+    let above = all_above(alloc, table, supers)?;
+    slot_names(alloc, above.inherited.as_slice())
 }
 
 // The class with these above it.

@@ -6,6 +6,7 @@ ghost use Rattle.isl_classes.specs.InheritedClasses.{Hierarchy, IsHierarchy, Giv
 ghost use Rattle.isl_base.specs.declared.datum.Name.{Name};
 ghost use Rattle.isl_classes.specs.InheritedSlots.{has_name, same_name};
 ghost use Rattle.isl_classes.specs.Lines.{line, slots_named};
+ghost use Rattle.isl_classes.specs.Keeping.{KeepsHierarchies, KeepsNames};
 
 /// Precedence lists are an order of the classes (ISO/IEC 13816:2007, 15). A class stands in its own
 /// list, and no class stands in a list twice. What stands in the list of a class that a list has
@@ -33,4 +34,11 @@ pub fn law_cut()
         len ≤ length h.rows → take len (with_class h n supers slots a).rows ≡ take len h.rows }
     ensures own { (h : Hierarchy) (n : Name) (supers : List ℕ) (slots : List GivenSlot) (a : Bool) (len : ℕ) →
         len ≤ length h.own → take len (with_class h n supers slots a).own ≡ take len h.own }
+{}
+
+/// A class of a new name below classes that are there and go together leaves a hierarchy, where its slots are few; and
+/// a name more stands at the end of names that are kept at their first places.
+pub fn law_definitions()
+    ensures hierarchies { KeepsHierarchies }
+    ensures names { KeepsNames }
 {}

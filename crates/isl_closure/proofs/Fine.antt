@@ -102,12 +102,12 @@ itself_true l f h =
     first_true (stands_itself l f) (list_all (stands l) (outer f))
     (first_true (stands_itself l f && list_all (stands l) (outer f)) (list_all (stands (around_inner f l)) (inner f)) (sym (stands_folded l f) ∙ h))
 
-outer_true : (l : LexicalScope) (f : Form) → stands l f ≡ true → list_all (stands l) (outer f) ≡ true
+pub outer_true : (l : LexicalScope) (f : Form) → stands l f ≡ true → list_all (stands l) (outer f) ≡ true
 outer_true l f h =
     second_true (stands_itself l f) (list_all (stands l) (outer f))
     (first_true (stands_itself l f && list_all (stands l) (outer f)) (list_all (stands (around_inner f l)) (inner f)) (sym (stands_folded l f) ∙ h))
 
-inner_true : (l : LexicalScope) (f : Form) → stands l f ≡ true → list_all (stands (around_inner f l)) (inner f) ≡ true
+pub inner_true : (l : LexicalScope) (f : Form) → stands l f ≡ true → list_all (stands (around_inner f l)) (inner f) ≡ true
 inner_true l f h =
     second_true (stands_itself l f && list_all (stands l) (outer f)) (list_all (stands (around_inner f l)) (inner f)) (sym (stands_folded l f) ∙ h)
 

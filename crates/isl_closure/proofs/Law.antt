@@ -23,6 +23,7 @@ use Rattle.isl_closure.specs.Scope.{no_scope, homes_of}
 use Rattle.isl_closure.proofs.Alike.{World, alone, Sound, Sim}
 use Rattle.isl_closure.proofs.Applied.{ProceduresMatch}
 use Rattle.isl_closure.proofs.Combined.{itself}
+use Rattle.isl_closure.proofs.Exits.{whole_leads}
 use Rattle.isl_closure.proofs.Fine.{fit_alone, own_fine}
 use Rattle.isl_closure.proofs.Fitting.{whole_fits}
 use Rattle.isl_closure.proofs.Levels.{SoundMains, mains_alike}
@@ -170,4 +171,4 @@ whole_stands law program whole =
     }
 
 pub law_of_flat_programs : LawOfNames → LawOfFlatPrograms
-law_of_flat_programs law program whole = (whole_stands law program whole, whole_fits program whole)
+law_of_flat_programs law program whole = (whole_stands law program whole, whole_fits program whole, whole_leads law program whole)

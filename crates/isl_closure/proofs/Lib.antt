@@ -13,6 +13,7 @@ pub mod Numbers
 pub mod Fine
 pub mod Sounds
 pub mod Start
+pub mod Exits
 pub mod Law
 pub mod Stands
 pub mod Fitting

@@ -8,6 +8,7 @@ use Rattle.isl_meaning.specs.Facts.{is_whole}
 use Rattle.isl_meaning.specs.Meaning.{Meant, meaning}
 use Rattle.isl_closure.specs.FlatMeaning.{flat_meaning}
 use Rattle.isl_closure.specs.FlatNodes as flat_nodes
+use Rattle.isl_closure.specs.FlatExits.{ProgramLeads}
 use Rattle.isl_closure.specs.FlatFits.{ProgramFits}
 use Rattle.isl_closure.specs.FlatStanding.{ProgramStands}
 use Rattle.isl_closure.specs.Flatten.{flat, flat_program}
@@ -33,4 +34,5 @@ LawOfFlatNodes = (s : Scope) (n : ℕ) (f : Form) → flat_nodes.nodes (flat s n
 -- the law of flat programs: what code may rest on in a whole program that is made flat
 abbrev pub LawOfFlatPrograms : Type 0
 LawOfFlatPrograms =
-    (program : ProgramRows) → is_whole program ≡ true → ProgramStands (flat_program program) × ProgramFits (flat_program program)
+    (program : ProgramRows) → is_whole program ≡ true
+    → ProgramStands (flat_program program) × ProgramFits (flat_program program) × ProgramLeads (flat_program program)

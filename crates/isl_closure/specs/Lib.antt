@@ -7,6 +7,7 @@ pub mod Scope
 pub mod Flatten
 pub mod FlatStanding
 pub mod FlatFits
+pub mod FlatExits
 pub mod Law
 pub mod model
 pub mod bridge

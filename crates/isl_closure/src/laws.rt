@@ -20,7 +20,8 @@ pub fn law_flat_nodes()
 /// The law of flat programs: in a program that is made flat each place is there and of its kind where it is named, a
 /// captured value is never set, what a function captures is of the kinds that its procedure says, and a function has a
 /// number above that of the function in which it is made; literals and sites are there, and primitives have as many
-/// arguments as they take.
+/// arguments as they take; a `return-from` leaves a block, and a `go` names a segment that its tagbody has, also where the
+/// exit was captured.
 pub fn law_flat_programs()
     ensures { LawOfFlatPrograms }
 {

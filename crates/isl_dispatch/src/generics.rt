@@ -78,8 +78,9 @@ impl Generics {
 
     /// The generic function of that name; none exactly where there is none. Takes no memory.
     pub fn find(&self, name: Name) -> Option<GenericId>
-        ensures { MatchOption result (is_in name.0 (names_of self.now) ≡ false)
+        ensures id { MatchOption result (is_in name.0 (names_of self.now) ≡ false)
             (λ id. slice_get (names_of self.now) id ≡ Some name.0) }
+        ensures named { HaveOwnNames self.now }
     {
         match self.numbers.get(&name.0) {
             Some(number) => Some(*number),
@@ -146,6 +147,13 @@ impl Generics {
         ensures whole { list_all row_is_whole self.now ≡ true }
     {
         &self.rows
+    }
+
+    /// The rows alone, for those who ask no more of generic functions. Takes no memory.
+    pub fn into_rows(self) -> GenericRows
+        ensures { result ≡ self }
+    {
+        self.rows
     }
 
     /// The cells of the dispatch tables with these classes: for each specialised argument one for

@@ -3,4 +3,4 @@
 
 pub mod worked;
 
-pub use worked::worked_flat;
+pub use worked::{flat_calls, flat_conditions, flat_data, flat_exits, worked_flat};

@@ -1,5 +1,6 @@
 pub mod CellWalks
 pub mod Turns
+pub mod Names
 pub mod Captured
 pub mod Made
 pub mod Going

@@ -1,4 +1,5 @@
 pub mod NewVariables
+pub mod Bindings
 pub mod Places
 pub mod Found
 pub mod Binders

@@ -4,6 +4,7 @@ ghost use Rattle.std.specs.Prelude.{◌≡◌, ℕ, List, [], IfOk};
 ghost use Rattle.isl_meaning.specs.Meaning.{meaning};
 ghost use Rattle.isl_meaning.specs.State.{Limit};
 ghost use Rattle.isl_closure.specs.FlatMeaning.{flat_meaning};
+ghost use Rattle.isl_closure.specs.FlatExits.{ProgramLeads};
 ghost use Rattle.isl_closure.specs.FlatFits.{ProgramFits};
 ghost use Rattle.isl_closure.specs.FlatStanding.{ProgramStands};
 ghost use Rattle.isl_closure.specs.Flatten.{flat_program};
@@ -24,14 +25,15 @@ use isl_meaning::{CoreList, ProcedureList, Program, ProgramRows};
 use std::alloc::Global;
 
 /// The program made flat, just as the translation has it. For every input, with every number of levels and of words, it
-/// has the end, the bytes, the units and the peak of the program; and each place that it names is there. After `NoMemory`
-/// what was made of it is dropped.
+/// has the end, the bytes, the units and the peak of the program; each place that it names is there, and each exit leads
+/// where it did. After `NoMemory` what was made of it is dropped.
 pub fn flatten(alloc: Global, program: &Program) -> Result<FlatProgram, NoMemory>
     ensures made { IfOk result (λ flat. flat ≡ flat_program program.now) }
     ensures same_runs { IfOk result (λ flat. (names : List (List ℕ)) (input : List ℕ) (k : ℕ) (limit : Limit)
         → SameRun (meaning names program.now input k limit) (flat_meaning names flat input k limit)) }
     ensures stands { IfOk result (λ flat. ProgramStands flat) }
     ensures fits { IfOk result (λ flat. ProgramFits flat) }
+    ensures leads { IfOk result (λ flat. ProgramLeads flat) }
 {
     law_closures();
     law_flat_programs();

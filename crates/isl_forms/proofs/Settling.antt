@@ -24,6 +24,7 @@ use Rattle.isl_profile.specs.Marks.{Grows}
 use Rattle.isl_profile.specs.Shapes.{symbol_of}
 use Rattle.isl_profile.specs.bridge.GoodParts.{MaybeGood, good_parts}
 use Rattle.isl_profile.specs.Promises.{Settles, StepsStop}
+use Rattle.isl_forms.specs.Settled.{with_symbols}
 use Rattle.isl_profile.specs.bridge.Growing.{grows_same, nothing_added, grows_by}
 
 -- the steps so far: whatever the second comes to, with these tables, the first does
@@ -39,11 +40,8 @@ pub record Led (old names : List (List ℕ)) (s : Tables) (d : Item) (t : Tables
   pub later : Extends old names
   pub good : Good (length names) e
   pub leads : Leads names s d t e
+  pub kept : t ≡ with_symbols t.fresh s
   pub grows : Grows s t
-
--- the tables with these new symbols
-abbrev pub with_symbols : List Symbol → Tables → Tables
-with_symbols after t = record t { fresh = after }
 
 -- the class of a `the` is refused or not, under every later table of names
 
@@ -148,7 +146,7 @@ no_class_of names t e last g same c = no_class names t e g (subst (λ i. class_i
 -- a turn of the loop
 
 pub led_same : (names : List (List ℕ)) (s : Tables) (d : Item) → Good (length names) d → Led names names s d s d
-led_same names s d g = record { later = Extends-same names; good = g; leads = leads_same names s d; grows = grows_same s }
+led_same names s d g = record { later = Extends-same names; good = g; leads = leads_same names s d; kept = refl; grows = grows_same s }
 
 pub led_step : (old names more : List (List ℕ)) (s : Tables) (d : Item) (t : Tables) (e last e2 : Item) (taken : Step) (after : List Symbol)
     → Led old names s d t e → last ≡ e → class_in_front names t (list_items last) ≡ None → taken ≡ Derived e2 → Extends names more → StepStays more last t.fresh taken after
@@ -164,6 +162,7 @@ led_step old names more s d t e last e2 taken after l same c is x h w =
       later = Extends-then old names more l.later x;
       good = record { formed = whole.0; named = whole.1 };
       leads = leads_step names more s d t e e2 after l.leads (no_class_of names t e last l.good same c) x stays;
+      kept = ap (with_symbols after) l.kept;
       grows = subst P (sym there.1.1) (fresh_grows s t (new_symbols (length t.fresh) there.0) l.grows);
     }
 
@@ -172,6 +171,7 @@ pub record Ended (old more : List (List ℕ)) (s : Tables) (d : Item) (t : Table
   pub later : Extends old more
   pub good : Good (length more) e
   pub settles : Settles more s d t e
+  pub kept : t ≡ with_symbols t.fresh s
   pub grows : Grows s t
 
 pub led_ends : (old names more : List (List ℕ)) (s : Tables) (d : Item) (t : Tables) (e last : Item) (taken : Step) (after : List Symbol)
@@ -187,6 +187,7 @@ led_ends old names more s d t e last taken after l same c is x h =
       later = Extends-then old names more l.later x;
       good = good_stays names more e x l.good;
       settles = settles_there names more s d t e after l.leads (no_class_of names t e last l.good same c) x stays;
+      kept = ap (with_symbols after) l.kept;
       grows = subst P (sym there.1) l.grows;
     }
 
@@ -194,6 +195,7 @@ led_ends old names more s d t e last taken after l same c is x h =
 pub record Stopped (old more : List (List ℕ)) (s : Tables) (d : Item) (t : Tables) (stop : Stop) : Type 0 where
   pub later : Extends old more
   pub stops : StepsStop more s d stop
+  pub kept : t ≡ with_symbols t.fresh s
   pub grows : Grows s t
 
 pub led_stops : (old names more : List (List ℕ)) (s : Tables) (d : Item) (t : Tables) (e last : Item) (stop : Stop) (after : List Symbol)
@@ -205,6 +207,7 @@ led_stops old names more s d t e last stop after l same c x h unchanged =
     record {
       later = Extends-then old names more l.later x;
       stops = stops_there names more s d t e stop l.leads (no_class_of names t e last l.good same c) x (subst Q same h);
+      kept = ap (with_symbols after) l.kept;
       grows = subst P (sym unchanged) l.grows;
     }
 

@@ -1,20 +1,22 @@
 -- What contracts see of drafts: the node that a draft is for, where a form stands.
-use Rattle.std.specs.Prelude.{◌≡◌, ◌++◌, false, None, Result, IfOk}
+use Rattle.std.specs.Prelude.{◌≡◌, ◌++◌, false, None, length, Result, IfOk}
 use Rattle.isl_base.specs.declared.faults.NoMemory.{NoMemory}
 use Rattle.isl_forms.specs.declared.draft.Draft.{Draft}
-use Rattle.isl_forms.specs.declared.draft.Draft.TheVariants.{Offends, Literal, Unsited, Sited, Defines}
+use Rattle.isl_forms.specs.declared.draft.Draft.TheVariants.{Offends, Unnamed, Literal, Unsited, Sited, Defines, DefinesMethods, DefinesClass}
 use Rattle.isl_forms.specs.declared.draft.Note.{Note}
 use Rattle.isl_forms.specs.declared.draft.Note.TheVariants.{Nothing, Set, Exit}
 use Rattle.isl_forms.specs.declared.here.Setting.{Setting}
 use Rattle.isl_forms.specs.Views.{at, view_parts, view_inner}
-use Rattle.isl_profile.specs.declared.making.Making.TheVariants.{OfFunctionNamed}
+use Rattle.isl_profile.specs.declared.making.Making.TheVariants.{OfFunctionNamed, OfMethods, OfClass}
 use Rattle.isl_profile.specs.declared.tables.Tables.{Tables}
-use Rattle.isl_profile.specs.Nodes.{Around, Node, offends, whole}
+use Rattle.isl_profile.specs.Nodes.{Around, Node, offends, unnamed, whole}
 use Rattle.isl_profile.specs.RowWords.{alone, literal_node, unsited, with_site, next_site}
 use Rattle.isl_profile.specs.ValueRows.{with_set}
 use Rattle.isl_profile.specs.ExitRows.{with_exit}
 use Rattle.isl_profile.specs.DefiningRows.{with_name, named_form}
 use Rattle.isl_base.specs.declared.place.Place.{Place}
+use Rattle.isl_base.specs.declared.datum.Symbol.TheVariants.{Named}
+use Rattle.isl_base.specs.Data.{item, symbol}
 
 -- what is around a form that stands there
 abbrev pub around : Setting → Around
@@ -29,6 +31,7 @@ noting Exit s = with_exit s
 -- the node that a draft is for
 abbrev pub drawn : Around → Place → Tables → Draft → Node
 drawn a p s (Offends q r) = offends q r
+drawn a p s Unnamed = unnamed
 drawn a p s (Literal row) = literal_node a p s row
 drawn a p s (Unsited l) = unsited a p s l
 drawn a p s (Sited b) =
@@ -37,6 +40,12 @@ drawn a p s (Sited b) =
 drawn a p s (Defines f) =
     whole (alone false a) (alone false a) (with_name a.spot.sited f.datum.now s) (view_parts f.parts ++ view_inner f.inner)
     (record { site = None; making = OfFunctionNamed f.name f.required f.rest a.spot.sited (named_form a.spot.sited s) })
+drawn a p s (DefinesMethods m) =
+    whole a a (with_name a.spot.sited (item m.place (symbol (Named m.name))) s) (view_parts m.parts)
+    (record { site = None; making = OfMethods m.taker m.heads (length s.procedures) a.spot.sited (named_form a.spot.sited s) })
+drawn a p s (DefinesClass c) =
+    whole a a (with_name a.spot.sited c.datum.now s) (view_parts c.parts)
+    (record { site = None; making = OfClass c.class (length s.procedures) a.spot.sited (named_form a.spot.sited s) })
 
 -- the same where a form stands
 abbrev pub shows : Setting → Draft → Node

@@ -1,21 +1,23 @@
 -- What contracts see of the code's data that borrow: texts, data, bindings, clauses, parts.
-use Rattle.std.specs.Prelude.{◌≡◌, ℕ, List, [], ◌∷◌, ◌++◌, map, Option, Some, None, Result, IfOk}
+use Rattle.std.specs.Prelude.{◌≡◌, ℕ, List, ◌++◌, map, Option, Some, None, Result, IfOk}
 use Rattle.std.specs.Borrow.{Bor}
-use Rattle.isl_base.specs.Data.{Item}
+use Rattle.isl_base.specs.declared.datum.Symbol.TheVariants.{Named}
+use Rattle.isl_base.specs.Data.{Item, item, symbol}
 use Rattle.isl_base.specs.declared.faults.NoMemory.{NoMemory}
 use Rattle.isl_profile.specs.declared.bound.Bound.{Bound}
 use Rattle.isl_profile.specs.declared.spot.Spot.{Spot}
 use Rattle.isl_profile.specs.declared.tables.Tables.{Tables}
 use Rattle.isl_forms.specs.declared.shapes.Pair.{Pair as Written}
 use Rattle.isl_forms.specs.declared.shapes.ClauseParts.{ClauseParts as WrittenClause}
+use Rattle.isl_forms.specs.declared.plan.Written.{Written as WrittenFunction}
+use Rattle.isl_forms.specs.declared.plan.Written.TheVariants as kind
 use Rattle.isl_forms.specs.declared.plan.Part.{Part as WrittenPart}
 use Rattle.isl_forms.specs.declared.plan.Part.TheVariants as written
-use Rattle.isl_forms.specs.declared.plan.Work.{Work}
 use Rattle.isl_forms.specs.declared.plan.Plan.{Plan}
 use Rattle.isl_forms.specs.declared.plan.Plan.TheVariants.{Offends, Whole}
 use Rattle.isl_profile.specs.Shapes.{Pair, ClauseParts}
 use Rattle.isl_profile.specs.Marks.{Grows}
-use Rattle.isl_profile.specs.Nodes.{Around, Part, form, below, inner, bind, parameter, Node, offends, whole}
+use Rattle.isl_profile.specs.Nodes.{Around, Part, form, below, inner, bind, parameter, wrong, function, Written as Defined, initform, accessor, method, Node, offends, whole}
 
 abbrev pub texts : List (Bor (List ℕ)) → List (List ℕ)
 texts ts = map (λ t. t.now) ts
@@ -51,13 +53,20 @@ abbrev pub maybe_clauses : Option (List WrittenClause) → Option (List ClausePa
 maybe_clauses None = None
 maybe_clauses (Some cs) = Some (view_clauses cs)
 
--- parts
+-- parts; a slot's name is a datum where the slot stands
+
+abbrev pub view_function : WrittenFunction → Defined
+view_function (kind.Initform d) = initform d.now
+view_function (kind.Accessor n k p slot) = accessor n k (item p (symbol (Named slot)))
+view_function (kind.Method n has_next ps fs) = method n has_next ps fs.now
 
 abbrev pub view_part : WrittenPart → Part
 view_part (written.Form d) = form d.now
 view_part (written.Below d) = below d.now
 view_part (written.Bind x d) = bind x d.now
 view_part (written.Parameter x) = parameter x
+view_part (written.Wrong p r) = wrong p r
+view_part (written.Function w) = function (view_function w)
 
 abbrev pub view_parts : List WrittenPart → List Part
 view_parts xs = map view_part xs

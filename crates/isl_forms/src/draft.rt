@@ -9,7 +9,7 @@ use crate::here::{Setting, deeper, fits_depth};
 use crate::plan::{Inner, Parts};
 use isl_base::{Datum, Name, Place, Reason};
 use isl_meaning::LiteralRow;
-use isl_profile::{BoundList, Leaf, Making, Spot};
+use isl_profile::{BoundList, Heads, Leaf, Making, NewClass, Spot, Taker};
 
 /// What the tables note of a form before its parts are judged.
 #[derive(Clone, Copy)]
@@ -45,14 +45,37 @@ pub(crate) struct Defined<'a> {
     pub(crate) inner: Inner<'a>,
 }
 
-/// An offence; a literal; a core form that has neither parts nor a site; one at its site; or the definition of a function.
+/// The definition of methods of that name, which stands at that place: the generic function that takes them, the functions
+/// of the methods, and their heads.
+#[derive(Drop)]
+pub(crate) struct DefinedMethods<'a> {
+    pub(crate) place: Place,
+    pub(crate) name: Name,
+    pub(crate) taker: Taker,
+    pub(crate) parts: Parts<'a>,
+    pub(crate) heads: Heads,
+}
+
+/// The definition of a class, whose name the datum is: the functions of its slots, and what is defined.
+#[derive(Drop)]
+pub(crate) struct DefinedClass<'a> {
+    pub(crate) datum: &'a Datum,
+    pub(crate) parts: Parts<'a>,
+    pub(crate) class: NewClass,
+}
+
+/// An offence; a form that asks for a name which the table of names lacks; a literal; a core form that has neither parts nor
+/// a site; one at its site; or the definition of a function, of methods or of a class.
 #[derive(Drop)]
 pub(crate) enum Draft<'a> {
     Offends(Place, Reason),
+    Unnamed,
     Literal(LiteralRow),
     Unsited(Leaf),
     Sited(Sketch<'a>),
     Defines(Defined<'a>),
+    DefinesMethods(DefinedMethods<'a>),
+    DefinesClass(DefinedClass<'a>),
 }
 
 /// An offence.

@@ -4,14 +4,15 @@ ghost use Rattle.std.specs.Prelude.{◌≡◌, ◌+◌, ◌<◌, nat_le};
 ghost use Rattle.isl_profile.specs.RowWords as word;
 
 use isl_base::Place;
-use isl_profile::{BoundList, Spot, Tables};
+use isl_bindings::Bindings;
+use isl_profile::{Spot, Tables};
 use std::alloc::Global;
 
 /// Where a form stands: what is bound there, and its place.
 #[derive(Clone, Copy)]
 pub struct Here<'b> {
     pub alloc: Global,
-    pub bound: &'b BoundList,
+    pub bound: &'b Bindings,
     pub spot: Spot,
     pub place: Place,
 }
@@ -20,7 +21,7 @@ pub struct Here<'b> {
 #[derive(Clone, Copy)]
 pub(crate) struct Setting<'b> {
     pub(crate) alloc: Global,
-    pub(crate) bound: &'b BoundList,
+    pub(crate) bound: &'b Bindings,
     pub(crate) spot: Spot,
     pub(crate) place: Place,
     pub(crate) tables: &'b Tables,

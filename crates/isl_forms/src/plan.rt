@@ -6,18 +6,31 @@ ghost use Rattle.isl_profile.specs.Nodes.{form};
 ghost use Rattle.isl_profile.specs.RowWords.{each_form, each_below, each_inner, each_bound, each_parameter};
 
 use crate::shapes::PairList;
-use isl_base::{Datum, FreshList, ItemList, NoMemory, Place, Reason, Symbol};
-use isl_profile::{BoundList, Made, Spot};
+use isl_base::{Datum, FreshList, ItemList, Name, NoMemory, Place, Reason, Symbol};
+use isl_profile::{Accessor, BoundList, Made, Parameters, Spot};
 use std::alloc::Global;
 
+/// A function of a definition that defines more than one: of an initform; of a slot's option, under the
+/// name of its generic function, with the place and the name of the slot; of a method, under the name of
+/// its generic function, whose body may have a next method or not.
+#[derive(Drop)]
+pub enum Written<'a> {
+    Initform(&'a Datum),
+    Accessor(Name, Accessor, Place, Name),
+    Method(Name, bool, Parameters, &'a [Datum]),
+}
+
 /// A part that stands where the whole stands: a form, a form of a body there, a variable with its
-/// value, or a parameter.
+/// value, or a parameter; an offence behind the parts in front of it; or a function of a definition,
+/// which stands alone.
 #[derive(Drop)]
 pub enum Part<'a> {
     Form(&'a Datum),
     Below(&'a Datum),
     Bind(Symbol, &'a Datum),
     Parameter(Symbol),
+    Wrong(Place, Reason),
+    Function(Written<'a>),
 }
 
 /// Such parts.

@@ -2,7 +2,12 @@
 
 pub(crate) mod bindings;
 pub(crate) mod calls;
+pub(crate) mod classes;
 pub(crate) mod defining;
 pub(crate) mod exits;
 pub(crate) mod forms;
+pub(crate) mod generics;
+pub(crate) mod methods;
+pub(crate) mod slots;
+pub(crate) mod supers;
 pub(crate) mod values;

@@ -214,8 +214,8 @@ pub(crate) fn pairs_in<'a>(
     }
 }
 
-// The variable of a lambda list that a datum is: none of the two words either.
-fn parameter_in(words: ReservedWords, datum: &Datum) -> Option<Symbol>
+/// The variable of a lambda list that a datum is: none of the two words either.
+pub(crate) fn parameter_in(words: ReservedWords, datum: &Datum) -> Option<Symbol>
     ensures { result ≡ shape.parameter_in words (symbol_of datum.now) }
 {
     let symbol = symbol_of(datum)?;
@@ -226,8 +226,8 @@ fn parameter_in(words: ReservedWords, datum: &Datum) -> Option<Symbol>
     }
 }
 
-// Whether a datum is the word in front of a rest variable.
-fn is_rest_word(words: ReservedWords, datum: &Datum) -> bool
+/// Whether a datum is the word in front of a rest variable.
+pub(crate) fn is_rest_word(words: ReservedWords, datum: &Datum) -> bool
     ensures { result ≡ shape.is_rest_word words (symbol_of datum.now) }
 {
     match symbol_of(datum) {
@@ -236,8 +236,8 @@ fn is_rest_word(words: ReservedWords, datum: &Datum) -> bool
     }
 }
 
-// What stands behind that word: one variable.
-fn behind_rest(words: ReservedWords, items: &[Datum]) -> Option<Symbol>
+/// What stands behind that word: one variable.
+pub(crate) fn behind_rest(words: ReservedWords, items: &[Datum]) -> Option<Symbol>
     ensures { shape.rest_alone result ≡ shape.behind_rest words items.now }
 {
     let [item] = items else {

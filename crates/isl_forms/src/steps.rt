@@ -4,6 +4,7 @@ ghost use Rattle.std.specs.Prelude.{◌≡◌, length, IfOk, IfErr};
 ghost use Rattle.isl_base.specs.GoodData.{Good};
 ghost use Rattle.isl_base.specs.Names.{Extends};
 ghost use Rattle.isl_derived.specs.Asked.{list_items};
+ghost use Rattle.isl_forms.specs.Settled.{with_symbols};
 ghost use Rattle.isl_profile.specs.Marks.{Grows};
 ghost use Rattle.isl_profile.specs.Rows as row;
 ghost use Rattle.isl_profile.specs.Promises.{Settles, StepsStop, settled_datum};
@@ -59,7 +60,7 @@ fn class_in_front(names: &Names, tables: &Tables, datum: &Datum) -> Option<Refus
 /// The datum that a form's steps lead to, one after another; none where it is no derived form. It is
 /// refused where a step's form fits no row of the table of derived forms, and where the class of
 /// `(the c x)` is none that is defined earlier. The new symbols of the steps are appended to the
-/// tables, also where a later step stops.
+/// tables, also where a later step stops, and nothing else of them changes.
 pub fn settle(
     alloc: Global,
     names: &mut Names,
@@ -71,6 +72,7 @@ pub fn settle(
     ensures good { IfOk result (λ found. Good (length names.new) (settled_datum found datum.now)) }
     ensures stops { IfErr result (StepsStop names.new tables.old datum.now) }
     ensures names { Extends names.old names.new }
+    ensures kept { tables.new ≡ with_symbols tables.new.fresh tables.old }
     ensures grows { Grows tables.old tables.new }
 {
     let mut found = None;

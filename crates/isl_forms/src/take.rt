@@ -1,16 +1,19 @@
 // What the tables take of a draft: literals, sites, exits, and names that are set.
 
-ghost use Rattle.std.specs.Prelude.{◌≡◌, ◌+◌, ◌<◌, ◌++◌, IfOk, OnOk};
+ghost use Rattle.std.specs.Prelude.{◌≡◌, ◌+◌, ◌<◌, ◌++◌, false, length, IfOk, OnOk};
+ghost use Rattle.isl_base.specs.Data.{item, symbol};
 ghost use Rattle.isl_forms.specs.Drafts.{drawn, noting};
-ghost use Rattle.isl_forms.specs.Views.{at, shown, IsPlan};
+ghost use Rattle.isl_forms.specs.Lacking.{is_unnamed};
+ghost use Rattle.isl_forms.specs.Views.{at, shown, view_parts, IsPlan};
 ghost use Rattle.isl_profile.specs.RowWords as word;
 ghost use Rattle.isl_profile.specs.DefiningRows as row;
+ghost use Rattle.isl_profile.specs.Nodes.{whole};
 ghost use Rattle.isl_profile.specs.Marks.{Grows};
 
-use crate::draft::{Defined, Draft, Note, Sketch};
+use crate::draft::{Defined, DefinedClass, DefinedMethods, Draft, Note, Sketch};
 use crate::here::{Here, fits_depth};
 use crate::plan::{Inner, Parts, Plan, Work};
-use isl_base::{Datum, NoMemory, Reason};
+use isl_base::{Datum, Kind, Name, NoMemory, Place, Reason, Symbol};
 use isl_meaning::{LiteralRow, SiteId};
 use isl_profile::{BoundList, Leaf, Made, Making, Spot, Tables};
 
@@ -34,7 +37,10 @@ fn take_note(tables: &mut Tables, note: Note) -> Result<(), NoMemory>
 {
     match note {
         Note::Nothing => Ok(()),
-        Note::Set(name) => tables.set.push(name),
+        Note::Set(name) => {
+            tables.set.push(name)?;
+            Ok(())
+        }
         Note::Exit => {
             tables.exits = tables.exits.checked_add(1).ok_or(NoMemory)?;
             Ok(())
@@ -105,14 +111,24 @@ fn unsited<'a>(here: Here, tables: &Tables, leaf: Leaf) -> Plan<'a>
     })
 }
 
+// A literal behind the others.
+fn push_literal(tables: &mut Tables, row: LiteralRow) -> Result<Leaf, NoMemory>
+    ensures leaf { IfOk result (λ leaf. leaf ≡ Leaf.Literal (length tables.old.literals)) }
+    ensures ok { OnOk result (tables.new ≡ word.with_literal row tables.old) }
+    ensures grows { Grows tables.old tables.new }
+{
+    let id = tables.literals.len();
+    tables.literals.push(row)?;
+    Ok(Leaf::Literal(id))
+}
+
 // A literal, whose row is kept.
 fn take_literal<'a>(here: Here, tables: &mut Tables, row: LiteralRow) -> Result<Plan<'a>, NoMemory>
     ensures { IsPlan here.entry.bound.now tables.old tables.new
         (word.literal_node (at here.entry.bound.now here.entry.spot) here.entry.place tables.old row) result }
 {
-    let id = tables.literals.len();
-    tables.literals.push(row)?;
-    Ok(unsited(here, tables, Leaf::Literal(id)))
+    let leaf = push_literal(tables, row)?;
+    Ok(unsited(here, tables, leaf))
 }
 
 // The form that a definition of a file stands for: the symbol of its name, whose literal is met first.
@@ -124,10 +140,7 @@ fn named_form(here: Here, tables: &mut Tables, datum: &Datum) -> Result<Leaf, No
     if !here.spot.sited {
         return Ok(Leaf::Nothing);
     }
-    let id = tables.literals.len();
-    let literal = LiteralRow::Datum(datum.copy(here.alloc)?);
-    tables.literals.push(literal)?;
-    Ok(Leaf::Literal(id))
+    push_literal(tables, LiteralRow::Datum(datum.copy(here.alloc)?))
 }
 
 // Where the forms of a definition's body stand: its depth begins anew.
@@ -176,20 +189,90 @@ fn take_definition<'a>(
     }))
 }
 
-/// The plan that a draft is for; after `NoMemory` the tables may have grown.
+// The same of a definition of that name at that place.
+fn symbol_form(here: Here, tables: &mut Tables, place: Place, name: Name) -> Result<Leaf, NoMemory>
+    ensures form { IfOk result (λ form. form ≡ row.named_form here.entry.spot.sited tables.old) }
+    ensures ok { OnOk result (tables.new ≡ row.with_name here.entry.spot.sited (item place (symbol (Symbol.Named name))) tables.old) }
+    ensures grows { Grows tables.old tables.new }
+{
+    if !here.spot.sited {
+        return Ok(Leaf::Nothing);
+    }
+    let datum = Datum::new(place, Kind::Sym(Symbol::Named(name)));
+    push_literal(tables, LiteralRow::Datum(datum))
+}
+
+// A definition whose parts stand where it stands.
+#[tactic(auto, using(crate::proofs::Lists::nothing_bound, crate::proofs::Lists::nothing_inside))]
+fn definition<'a>(here: Here, tables: &Tables, parts: Parts<'a>, making: Making) -> Plan<'a>
+    ensures { shown here.entry.bound.now tables.now result
+        ≡ whole (at here.entry.bound.now here.entry.spot) (at here.entry.bound.now here.entry.spot) tables.now
+        (view_parts parts.entry) (record { site = None; making = making }) }
+{
+    Plan::Whole(Work {
+        outside: here.spot,
+        inside: here.spot,
+        binds: BoundList::new(here.alloc),
+        parts,
+        inner: Inner::new(here.alloc),
+        made: Made { site: None, making },
+    })
+}
+
+// The definition of methods.
+fn take_methods<'a>(
+    here: Here,
+    tables: &mut Tables,
+    defined: DefinedMethods<'a>,
+) -> Result<Plan<'a>, NoMemory>
+    ensures { IsPlan here.entry.bound.now tables.old tables.new
+        (drawn (at here.entry.bound.now here.entry.spot) here.entry.place tables.old (Draft.DefinesMethods defined.entry)) result }
+{
+    let Ok(leaf) = symbol_form(here, tables, defined.place, defined.name) else {
+        drop(defined);
+        return Err(NoMemory);
+    };
+    let first = tables.procedures.len();
+    let making = Making::OfMethods(defined.taker, defined.heads, first, here.spot.sited, leaf);
+    Ok(definition(here, tables, defined.parts, making))
+}
+
+// The definition of a class.
+fn take_class<'a>(
+    here: Here,
+    tables: &mut Tables,
+    defined: DefinedClass<'a>,
+) -> Result<Plan<'a>, NoMemory>
+    ensures { IsPlan here.entry.bound.now tables.old tables.new
+        (drawn (at here.entry.bound.now here.entry.spot) here.entry.place tables.old (Draft.DefinesClass defined.entry)) result }
+{
+    let Ok(leaf) = named_form(here, tables, defined.datum) else {
+        drop(defined);
+        return Err(NoMemory);
+    };
+    let first = tables.procedures.len();
+    let making = Making::OfClass(defined.class, first, here.spot.sited, leaf);
+    Ok(definition(here, tables, defined.parts, making))
+}
+
+/// The plan that a draft is for, which lacks no name; after `NoMemory` the tables may have grown.
 pub(crate) fn take<'a>(
     here: Here,
     tables: &mut Tables,
     draft: Draft<'a>,
 ) -> Result<Plan<'a>, NoMemory>
+    requires { is_unnamed (drawn (at here.bound.now here.spot) here.place tables.old draft) ≡ false }
     ensures { IsPlan here.entry.bound.now tables.old tables.new
         (drawn (at here.entry.bound.now here.entry.spot) here.entry.place tables.old draft.entry) result }
 {
     match draft {
         Draft::Offends(place, reason) => Ok(Plan::Offends(place, reason)),
+        Draft::Unnamed => unreachable!(),
         Draft::Literal(row) => take_literal(here, tables, row),
         Draft::Unsited(leaf) => Ok(unsited(here, tables, leaf)),
         Draft::Sited(sketch) => take_sketch(here, tables, sketch),
         Draft::Defines(defined) => take_definition(here, tables, defined),
+        Draft::DefinesMethods(defined) => take_methods(here, tables, defined),
+        Draft::DefinesClass(defined) => take_class(here, tables, defined),
     }
 }

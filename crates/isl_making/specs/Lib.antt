@@ -1,1 +1,3 @@
 pub mod Sorted
+pub mod Stopping
+pub mod bridge

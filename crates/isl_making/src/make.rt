@@ -2,22 +2,30 @@
 
 ghost use Rattle.std.specs.Prelude.{◌≡◌, IfOk, OnOk, OnErr};
 ghost use Rattle.isl_profile.specs.Makings.{make, at_site, made_form, finished};
+ghost use Rattle.isl_profile.specs.Suits.{Suits};
+ghost use Rattle.isl_making.specs.Stopping.{Leaves};
 
+mod accessors;
 mod captured;
+mod classes;
 mod finish;
 mod lists;
+mod methods;
 mod parts;
 mod queue;
 mod simple;
 mod sort;
 
-use finish::{define_function, finish_one, procedure_found};
+use accessors::accessor_procedure;
+use classes::define_class;
+use finish::{complete_procedure, define_function, finish_one, procedure_found};
 use isl_base::NoMemory;
 use isl_meaning::{Core, CoreForm, SiteId};
 use isl_profile::{FoundList, Made, Making, Tables};
 use lists::{make_clauses, make_dynamics, make_segments};
+use methods::define_methods;
 use parts::{make_block, make_function, make_let};
-use simple::{call_of_local, leaf_form, make_one, make_two, make_with_body};
+use simple::{call_of_local, leaf_form, make_one, make_two, make_with_body, nothing};
 use sort::sort_found;
 use std::alloc::Global;
 
@@ -46,6 +54,16 @@ fn make(alloc: Global, making: Making, found: FoundList) -> Result<Core, NoMemor
         Making::OfBlock(exit) => make_block(alloc, exit, forms),
         Making::OfSegments(exit, lengths) => make_segments(alloc, exit, &lengths, forms),
         Making::OfFunctionNamed(_, _, _, _, leaf) => Ok(leaf_form(alloc, leaf)),
+        Making::OfProcedure(_, _, _) => Ok(nothing(alloc)),
+        Making::OfAccessor(_, _, _, _) => Ok(nothing(alloc)),
+        Making::OfMethods(_, heads, _, _, leaf) => {
+            drop(heads);
+            Ok(leaf_form(alloc, leaf))
+        }
+        Making::OfClass(class, _, _, leaf) => {
+            drop(class);
+            Ok(leaf_form(alloc, leaf))
+        }
     }
 }
 
@@ -71,16 +89,18 @@ fn made_form(
     at_site(alloc, site, make(alloc, making, found)?)
 }
 
-/// The core form, of which counts from now on what it defines. After `NoMemory` nothing counts.
+/// The core form, of which counts from now on what it defines, once that suits the tables. After `NoMemory` nothing
+/// counts, but for some of the classes, generic functions and methods that it defines.
 pub fn complete(
     alloc: Global,
     made: Made,
     found: FoundList,
     tables: &mut Tables,
 ) -> Result<Core, NoMemory>
+    requires { Suits made.making tables.old }
     ensures form { IfOk result (λ core. core ≡ made_form made found) }
     ensures ok { OnOk result (tables.new ≡ finished made found tables.old) }
-    ensures err { OnErr result (tables.new ≡ tables.old) }
+    ensures err { OnErr result (Leaves made.making tables.old tables.new) }
 {
     let site = made.site;
     match made.making {
@@ -94,7 +114,7 @@ pub fn complete(
         }
         Making::OfFunctionNamed(name, required, rest, of_file, leaf) => {
             let core = at_site(alloc, site, leaf_form(alloc, leaf))?;
-            let Ok(procedure) = procedure_found(alloc, name, required, rest, found) else {
+            let Ok(procedure) = procedure_found(alloc, Some(name), required, rest, found) else {
                 drop(core);
                 return Err(NoMemory);
             };
@@ -103,6 +123,27 @@ pub fn complete(
                 return Err(NoMemory);
             };
             Ok(core)
+        }
+        Making::OfProcedure(name, required, rest) => {
+            let procedure = procedure_found(alloc, name, required, rest, found)?;
+            complete_procedure(alloc, site, procedure, tables)
+        }
+        Making::OfAccessor(name, kind, var, literal) => {
+            drop(found);
+            let procedure = accessor_procedure(alloc, name, kind, var, literal)?;
+            complete_procedure(alloc, site, procedure, tables)
+        }
+        Making::OfMethods(taker, heads, first, of_file, leaf) => {
+            drop(found);
+            define_methods(alloc, taker, heads, first, of_file, tables)?;
+            at_site(alloc, site, leaf_form(alloc, leaf))
+        }
+        Making::OfClass(class, first, of_file, leaf) => {
+            drop(found);
+            let outcome = define_class(alloc, &class, first, of_file, tables);
+            drop(class);
+            outcome?;
+            at_site(alloc, site, leaf_form(alloc, leaf))
         }
         making => made_form(alloc, site, making, found),
     }

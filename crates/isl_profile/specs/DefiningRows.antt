@@ -15,9 +15,10 @@ use Rattle.isl_profile.specs.declared.making.Leaf.TheVariants.{Literal, Nothing}
 use Rattle.isl_profile.specs.declared.making.One.TheVariants.{DefineGlobal, DefineDynamic}
 use Rattle.isl_profile.specs.declared.making.Making.TheVariants.{OfFunctionNamed}
 use Rattle.isl_profile.specs.declared.parameters.Parameters.{Parameters}
-use Rattle.isl_profile.specs.Nodes.{Around, Node, offends, whole, Part}
-use Rattle.isl_profile.specs.Shapes.{symbol_of, name_of, parameters_in, all_symbols}
-use Rattle.isl_profile.specs.RowWords.{alone, within_depth, with_literal, each_inner, each_parameter, bad_shape, bad_binding}
+use Rattle.isl_profile.specs.Nodes.{Around, Node, offends}
+use Rattle.isl_profile.specs.Shapes.{symbol_of, name_of, parameters_in}
+use Rattle.isl_profile.specs.RowWords.{within_depth, with_literal, bad_shape, bad_binding}
+use Rattle.isl_profile.specs.FunctionNodes.{body_alone, function_parts}
 use Rattle.isl_profile.specs.ValueRows.{one_part}
 
 -- the name that a definition gives: a symbol with a name
@@ -104,16 +105,10 @@ abbrev pub named_form : Bool → Tables → Leaf
 named_form true s = Literal (length s.literals)
 named_form false s = Nothing
 
-abbrev pub function_parts : Parameters → List Item → List Part
-function_parts ps fs = each_parameter (all_symbols ps) ++ each_inner fs
-
 abbrev pub defun_of : Around → Tables → Name → Item → List Item → Parameters → Node
 defun_of a s n d fs ps =
-    whole (alone false a) (alone false a) (with_name a.spot.sited d s) (function_parts ps fs)
-    (record {
-      site = None;
-      making = OfFunctionNamed n (length ps.required) (is_some ps.rest) a.spot.sited (named_form a.spot.sited s);
-    })
+    body_alone false a (with_name a.spot.sited d s) (function_parts ps fs)
+    (OfFunctionNamed n (length ps.required) (is_some ps.rest) a.spot.sited (named_form a.spot.sited s))
 
 abbrev pub defun_with : Around → Tables → Name → Item → Item → List Item → Option Parameters → Node
 defun_with a s n d l fs None = bad_binding l

@@ -10,9 +10,10 @@ use Rattle.isl_profile.specs.declared.making.Found.{Found}
 use Rattle.isl_profile.specs.declared.making.Made.{Made}
 use Rattle.isl_profile.specs.declared.making.Leaf.TheVariants.{Nothing}
 use Rattle.isl_profile.specs.declared.making.Making.TheVariants.{Ready}
-use Rattle.isl_profile.specs.Nodes.{Around, Part, form, below, inner, bind, parameter, Node, offends, steps, whole, Ending, refused, Standing, Verdict, stands, ended, behind, recorded}
+use Rattle.isl_profile.specs.Nodes.{Around, Part, form, below, inner, bind, parameter, wrong, function, Node, offends, steps, whole, Ending, refused, Standing, Verdict, stands, ended, behind, recorded}
 use Rattle.isl_profile.specs.Makings.{made_form, finished}
 use Rattle.isl_profile.specs.RowWords.{deeper}
+use Rattle.isl_profile.specs.FunctionNodes.{function_node}
 use Rattle.isl_profile.specs.Rows.{node}
 
 abbrev pub with_fresh : ℕ → Tables → Tables
@@ -29,6 +30,8 @@ subject names o i s (below d) = node names (deeper 1 o) s d
 subject names o i s (inner d) = node names i s d
 subject names o i s (bind x d) = node names o (with_variable s) d
 subject names o i s (parameter x) = whole o i (with_variable s) [] (record { site = None; making = Ready Nothing })
+subject names o i s (wrong p r) = offends p r
+subject names o i s (function w) = function_node o s w
 
 -- what all parts came to
 pub record AllFound : Type 0 where

@@ -30,6 +30,8 @@ use Rattle.isl_profile.specs.ValueRows.{symbol_node, quote_row, setq_row, progn_
 use Rattle.isl_profile.specs.BindingRows.{let_row, dynamic_let_row, lambda_row, with_functions_row}
 use Rattle.isl_profile.specs.ExitRows.{block_row, return_from_row, tagbody_row, go_row}
 use Rattle.isl_profile.specs.DefiningRows.{global_row, defdynamic_row, defun_row}
+use Rattle.isl_profile.specs.GenericRows.{defgeneric_row, defmethod_row}
+use Rattle.isl_profile.specs.ClassRows.{defclass_row}
 use Rattle.isl_profile.specs.CallRows.{all_parts, local_call, named_call}
 
 -- whether the language keeps the name that a symbol has
@@ -92,9 +94,9 @@ special_row names name.Defconstant a s p ds = global_row true a s p ds
 special_row names name.Defdynamic a s p ds = defdynamic_row a s p ds
 special_row names name.Defun a s p ds = defun_row (first_reserved names ds) a s p ds
 special_row names name.Defmacro a s p ds = offends p NotBuilt
-special_row names name.Defclass a s p ds = offends p NotBuilt
-special_row names name.Defgeneric a s p ds = offends p NotBuilt
-special_row names name.Defmethod a s p ds = offends p NotBuilt
+special_row names name.Defclass a s p ds = defclass_row names a s p ds
+special_row names name.Defgeneric a s p ds = defgeneric_row names a s p ds
+special_row names name.Defmethod a s p ds = defmethod_row names a s p ds
 
 -- such a form has no dot
 abbrev pub special_node : List (List ℕ) → Special → Around → Tables → Place → List Item → Tail → Node

@@ -6,5 +6,10 @@ pub mod GoodParts
 pub mod SoundParts
 pub mod SoundForms
 pub mod SoundBinders
+pub mod SoundDefinitions
+pub mod SoundClasses
 pub mod SoundRows
+pub mod LaterNames
+pub mod LaterDefinitions
+pub mod LaterClasses
 pub mod Later

@@ -8,7 +8,7 @@ ghost use Rattle.isl_base.specs.GoodData.{Good};
 ghost use Rattle.isl_profile.specs.declared.making.Found.{Found};
 ghost use Rattle.isl_profile.specs.declared.making.Made.{Made};
 ghost use Rattle.isl_profile.specs.declared.tables.Tables.{Tables};
-ghost use Rattle.isl_profile.specs.Nodes.{Around, Part, Verdict, stands};
+ghost use Rattle.isl_profile.specs.Nodes.{Around, Part, Verdict, stands, Stays};
 ghost use Rattle.isl_profile.specs.Makings.{made_form, finished};
 ghost use Rattle.isl_profile.specs.Rows.{node, plain_node};
 ghost use Rattle.isl_profile.specs.Judged.{Comes};
@@ -26,10 +26,11 @@ pub fn law_one_verdict()
     law_one_step();
 }
 
-/// What a form that is no derived form is, with its parts, stays under every later table of names.
+/// What a form that is no derived form is, with its parts, stays under every later table of names, unless it asks for a
+/// name that the earlier table lacks.
 pub fn law_names_apart()
     ensures { (old new : List (List ℕ)) (a : Around) (s : Tables) (d : Item) → Extends old new → Good (length old) d →
-        plain_node old a s d ≡ plain_node new a s d }
+        Stays (plain_node old a s d) (plain_node new a s d) }
 {}
 
 /// Judging ends: each part of a form is in form with its names in the table, and stands deeper than the

@@ -10,7 +10,10 @@ pub mod spot;
 pub mod tables;
 
 pub use bound::{Bound, BoundList, Target};
-pub use making::{BodyLengths, Found, FoundList, Leaf, Lengths, Made, Making, One, Two, WithBody};
+pub use making::{
+    Accessor, BodyLengths, Found, FoundList, Head, Heads, Leaf, Lengths, Made, Making, NewClass,
+    One, SlotFunction, SlotFunctions, Taker, Two, WithBody,
+};
 pub use parameters::Parameters;
 pub use special::{Special, is_special_name, special_named};
 pub use spot::Spot;

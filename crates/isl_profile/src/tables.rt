@@ -2,6 +2,7 @@
 
 use isl_base::{FreshList, ItemList, Name, NameList, PlaceList};
 use isl_classes::Classes;
+use isl_dispatch::Generics;
 use isl_meaning::{CoreList, ExitVar, FunctionRows, LiteralRows, ProcedureList, Var};
 
 /// The names that no variable has: `t`, and the two words in front of a rest variable.
@@ -30,6 +31,9 @@ pub struct Tables {
     /// The functions that the prelude defined.
     pub prelude: NameList,
     pub classes: Classes,
+    /// The classes that were there when the last definition of the prelude was met, the built-in ones among them.
+    pub prelude_classes: usize,
+    pub generics: Generics,
     pub globals: ItemList<GlobalRow>,
     /// The global variables that a form sets.
     pub set: NameList,

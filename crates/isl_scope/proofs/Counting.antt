@@ -2,6 +2,7 @@
 use Rattle.std.proofs.Common.{◌≡◌, ◌∙◌, ℕ, ◌+◌, ◌≤◌, ◌<◌, min, List, length, drop, ap, sym, arith}
 use Rattle.std.specs.List.{sum_by}
 use Rattle.std.proofs.lemmas.List.Sums.{sum_by-take-drop}
+use Rattle.std.proofs.lemmas.List.{length-map}
 use Rattle.isl_meaning.specs.Counts.{all_nodes}
 use Rattle.isl_meaning.specs.ProgramCounts.{row_nodes, procedure_nodes, class_nodes}
 use Rattle.isl_profile.specs.declared.tables.Tables.{Tables}
@@ -9,6 +10,7 @@ use Rattle.isl_profile.specs.Marks.{StandsFirst, Grows}
 use Rattle.isl_scope.specs.declared.mark.Mark.{Mark}
 use Rattle.isl_scope.specs.Cuts.{mark_of, nodes_behind}
 use Rattle.isl_scope.specs.Scopes.{nodes_of}
+use Rattle.isl_scope.proofs.CutGenerics.{there_enough}
 
 -- a list counts what a list in front of it counts, and what stands behind that
 split : {X : Type 0} (f : X → ℕ) (xs ys : List X) → StandsFirst xs ys → sum_by f ys ≡ sum_by f xs + sum_by f (drop (length xs) ys)
@@ -16,10 +18,11 @@ split f xs ys h = sym (sum_by-take-drop f ys (length xs)) ∙ ap (λ zs. sum_by 
 
 pub grown_nodes : (s t : Tables) → Grows s t → nodes_of t ≡ nodes_of s + nodes_behind (mark_of s) t
 grown_nodes s t g =
-    let classes : sum_by class_nodes t.classes.rows ≡ sum_by class_nodes s.classes.rows = ap (λ h. sum_by class_nodes h.rows) g.classes in
     omega (
       arith,
-      classes,
+      split class_nodes s.classes.rows t.classes.rows g.classes,
+      there_enough s.generics t.generics g.generics,
+      length-map s.generics (λ h. length h.methods),
       split row_nodes s.literals t.literals g.literals,
       split procedure_nodes s.procedures t.procedures g.procedures,
       split all_nodes s.main t.main g.main,

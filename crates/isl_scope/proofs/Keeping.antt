@@ -1,8 +1,8 @@
 -- Tables stay a whole program: in front of all forms, and behind each that is taken.
-use Rattle.std.proofs.Common.{◌≡◌, ℕ, ◌+◌, ◌*◌, ◌≤◌, ◌==◌, min, Bool, true, false, ◌&&◌, not, List, [], ◌∷◌, length, refl, ap, subst, sym, ◌∙◌, arith}
+use Rattle.std.proofs.Common.{◌≡◌, ℕ, ◌+◌, ◌*◌, ◌<◌, ◌≤◌, ◌==◌, nat_lt, min, Bool, true, false, ◌&&◌, not, List, [], ◌∷◌, ◌++◌, length, Result, Ok, Err, OnOk, OnErr, refl, ap, subst, sym, ◌∙◌, arith}
 use Rattle.std.specs.Str.{bytes_eq}
 use Rattle.std.specs.List.{list_all, sum_by}
-use Rattle.std.proofs.lemmas.Bool.{eqb-true}
+use Rattle.std.proofs.lemmas.Bool.{eqb-true, ltb-true, ltb-false, lt-ltb, le-ltb}
 use Rattle.std.proofs.lemmas.List.Sums.{sum_by-cons}
 use Rattle.isl_base.specs.declared.datum.Name.{Name}
 use Rattle.isl_base.specs.declared.origin.Origin.{Origin}
@@ -16,17 +16,26 @@ use Rattle.isl_meaning.specs.declared.program.GenericRow.{GenericRow}
 use Rattle.isl_meaning.specs.declared.program.ProgramRows.{ProgramRows}
 use Rattle.isl_meaning.specs.BuiltIn.{built_in_precedence, built_in_slots}
 use Rattle.isl_meaning.specs.Facts.{is_one, is_plain_slot, is_row, begins_with_built_in, is_whole}
+use Rattle.isl_meaning.specs.Cells.{generic_cells}
+use Rattle.isl_meaning.specs.Form.{Form}
 use Rattle.isl_meaning.specs.ProgramCounts.{slot_nodes, class_nodes}
 use Rattle.isl_classes.specs.InheritedClasses.{Hierarchy}
 use Rattle.isl_classes.specs.InheritedBuiltIn.{AreBuiltIn}
+use Rattle.isl_dispatch.specs.OfClasses.{with_classes}
 use Rattle.isl_profile.specs.declared.tables.Tables.{Tables}
+use Rattle.isl_profile.specs.Marks.{Grows}
+use Rattle.isl_profile.specs.bridge.Growing.{grows_same, grows_at_end}
 use Rattle.isl_profile.specs.Nodes.{Around, Standing, stands}
 use Rattle.isl_profile.specs.Judged.{Comes}
 use Rattle.isl_profile.specs.Rows.{node}
 use Rattle.isl_whole.specs.Between.{WholeBetween, HasNoForm}
 use Rattle.isl_whole.specs.Places.{NothingAround}
 use Rattle.isl_whole.specs.Right.{with_main as with_form}
-use Rattle.isl_scope.specs.Scopes.{rows_of, nodes_of, top, first_tables, Given, IsFirst, IsWhole}
+use Rattle.isl_scope.specs.declared.mark.Mark.{Mark}
+use Rattle.isl_scope.specs.Cells.{FewAt}
+use Rattle.isl_scope.specs.Cuts.{mark_of}
+use Rattle.isl_scope.specs.Scopes.{rows_of, nodes_of, cells_of, most_cells, top, first_tables, Given, IsFirst, IsWhole}
+use Rattle.isl_scope.proofs.CutGenerics.{same_rows, same_generics}
 
 -- what is known of top-level forms
 pub record TopForms : Type 0 where
@@ -119,6 +128,7 @@ nothing_left : (texts : List (List ℕ)) (t : Tables) → t ≡ first_tables t.w
 nothing_left texts t e = record {
   literals = ap (λ (u : Tables). u.literals) e;
   procedures = ap (λ (u : Tables). u.procedures) e;
+  generics = ap (λ (u : Tables). u.generics) e;
   functions = ap (λ (u : Tables). u.functions) e;
   main = ap (λ (u : Tables). u.main) e;
   sites = ap (λ (u : Tables). u.sites) e;
@@ -130,13 +140,17 @@ first_whole law texts t f = law.first texts t f.classes (nothing_left texts t f.
 first_nodes : (t : Tables) → t ≡ first_tables t.words t.classes → nodes_of t ≡ sum_by class_nodes t.classes.rows
 first_nodes t e = ap (λ (u : Tables). nodes_of u) e ∙ omega arith
 
+-- there is no generic function
+first_few : (t : Tables) → t ≡ first_tables t.words t.classes → cells_of t ≤ most_cells
+first_few t e = let none : cells_of t ≡ 0 = ap (λ (u : Tables). cells_of u) e in omega (arith, none)
+
 pub first_is_whole : TopForms → (texts : List (List ℕ)) (t : Tables) (n : ℕ) → IsFirst texts t → n ≡ min (sum_by class_nodes t.classes.rows) 18446744073709551615 →
     (n ≡ nodes_of t) × IsWhole t
 first_is_whole law texts t n f e =
     let between : WholeBetween t = first_whole law texts t f in
-    let small : sum_by class_nodes t.classes.rows ≤ 100000 = built_in_small texts t.classes f.classes between.classes.built_in in
+    let small : sum_by class_nodes t.classes.rows ≤ 100000 = built_in_small texts t.classes f.classes between.classes.begins in
     let nodes : nodes_of t ≡ sum_by class_nodes t.classes.rows = first_nodes t f.nothing_else in
-    (omega (arith, e, small, nodes), record { between = between; small = omega (arith, small, nodes) })
+    (omega (arith, e, small, nodes), record { between = between; small = omega (arith, small, nodes); few = first_few t f.nothing_else })
 
 -- the rows of a program, as they are put together
 
@@ -151,8 +165,65 @@ put_together t cs gs = record {
   sites = t.sites;
 }
 
-pub put_together_whole : (t : Tables) (cs : List ClassRow) (gs : List GenericRow) → cs ≡ t.classes.rows → gs ≡ [] → is_whole (rows_of t) ≡ true →
+pub put_together_whole : (t : Tables) (cs : List ClassRow) (gs : List GenericRow) → cs ≡ t.classes.rows → gs ≡ t.generics → is_whole (rows_of t) ≡ true →
     is_whole (put_together t cs gs) ≡ true
 put_together_whole t cs gs e f h =
-    let classes : is_whole (put_together t cs []) ≡ true = subst (λ ks. is_whole (put_together t ks []) ≡ true) (sym e) h in
+    let classes : is_whole (put_together t cs t.generics) ≡ true = subst (λ ks. is_whole (put_together t ks t.generics) ≡ true) (sym e) h in
     subst (λ hs. is_whole (put_together t cs hs) ≡ true) (sym f) classes
+
+-- a form that defines nothing leaves the cells as few as they were
+pub few_at : (s t : Tables) (mark : Mark) → Grows s t → mark ≡ mark_of s → cells_of s ≤ most_cells → FewAt mark t
+few_at s t mark g m few = record {
+  few = λ classes methods.
+      let rows : t.classes.rows ≡ s.classes.rows = same_rows s.classes.rows t.classes.rows g.classes (classes ∙ ap (λ (k : Mark). k.classes) m) in
+      let generics : t.generics ≡ s.generics = same_generics s.generics t.generics g.generics (methods ∙ ap (λ (k : Mark). k.methods) m) in
+      let same : cells_of t ≡ cells_of s =
+      ap (λ cs. sum_by (generic_cells (with_classes cs)) t.generics) rows ∙ ap (λ gs. sum_by (generic_cells (with_classes s.classes.rows)) gs) generics in
+      omega (arith, same, few);
+}
+
+-- a main form more
+main_grows : (t : Tables) (f : Form) → Grows t (record t { main = t.main ++ f ∷ [] })
+main_grows t f = let g = grows_same t in record {
+  words = g.words;
+  classes = g.classes;
+  slots = g.slots;
+  generics = g.generics;
+  literals = g.literals;
+  procedures = g.procedures;
+  functions = g.functions;
+  prelude = g.prelude;
+  globals = g.globals;
+  set = g.set;
+  dynamics = g.dynamics;
+  sites = g.sites;
+  fresh = g.fresh;
+  main = grows_at_end t.main t.main (f ∷ []) g.main;
+  variables = g.variables;
+  exits = g.exits;
+}
+
+pub pushed_grows : {T E : Type 0} (r : Result T E) (t : Tables) (fs : List Form) (f : Form) → OnOk r (fs ≡ t.main ++ f ∷ []) → OnErr r (fs ≡ t.main) →
+    Grows t (record t { main = fs })
+pushed_grows (Ok x) t fs f ok err = rw ok (main_grows t f)
+pushed_grows (Err x) t fs f ok err = rw err (grows_same t)
+
+-- what is counted up to the limit tells whether it is past it
+
+capped_as : (n m : ℕ) (b : Bool) → n ≡ min m 262145 → nat_lt 262144 m ≡ b → nat_lt 262144 n ≡ nat_lt 262144 m
+capped_as n m true e h = lt-ltb 262144 n (omega (arith, e, ltb-true 262144 m h)) ∙ sym h
+capped_as n m false e h = le-ltb 262144 n (omega (arith, e, ltb-false 262144 m h)) ∙ sym h
+
+pub counted_cells : (t : Tables) (cs : List ClassRow) (n : ℕ) → cs ≡ t.classes.rows → n ≡ min (sum_by (generic_cells (with_classes cs)) t.generics) 262145 →
+    nat_lt 262144 n ≡ nat_lt most_cells (cells_of t)
+counted_cells t cs n e h =
+    let same : n ≡ min (cells_of t) 262145 = h ∙ ap (λ ks. min (sum_by (generic_cells (with_classes ks)) t.generics) 262145) e in
+    capped_as n (cells_of t) (nat_lt 262144 (cells_of t)) same refl
+
+-- the cells are too many, or they are few, as a test says
+
+pub are_many : (t : Tables) (b : Bool) → b ≡ nat_lt most_cells (cells_of t) → b ≡ true → most_cells < cells_of t
+are_many t b e h = ltb-true most_cells (cells_of t) (sym e ∙ h)
+
+pub are_few : (t : Tables) (b : Bool) → b ≡ nat_lt most_cells (cells_of t) → b ≡ false → cells_of t ≤ most_cells
+are_few t b e h = ltb-false most_cells (cells_of t) (sym e ∙ h)

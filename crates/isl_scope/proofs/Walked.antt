@@ -1,29 +1,34 @@
 -- What functions of the walk keep, from one to the one around it.
-use Rattle.std.proofs.Common.{◌≡◌, ℕ, List, ◌++◌, length, take, Result, Ok, Err, refl, ap, subst, sym, ◌∙◌, inl, inr}
+use Rattle.std.proofs.Common.{◌≡◌, ℕ, List, [], ◌∷◌, ◌++◌, length, take, Result, Ok, Err, refl, ap, subst, sym, ◌∙◌, inl, inr}
 use Rattle.std.proofs.Math.Seq.{take-append_seam}
 use Rattle.isl_base.specs.Names.{Extends, Extends-same, Extends-then}
 use Rattle.isl_base.specs.Data.{Item}
 use Rattle.isl_base.specs.declared.datum.Symbol.{Symbol}
+use Rattle.isl_base.specs.declared.place.Place.{Place}
+use Rattle.isl_base.specs.declared.reason.Reason.{Reason}
 use Rattle.isl_base.specs.declared.reason.Stop.{Stop}
 use Rattle.isl_base.specs.declared.reason.Stop.TheVariants.{Refused, NoMemory}
 use Rattle.isl_meaning.specs.Form.{Form}
 use Rattle.isl_profile.specs.declared.bound.Bound.{Bound}
 use Rattle.isl_profile.specs.declared.making.Found.{Found}
+use Rattle.isl_profile.specs.declared.making.Found.TheVariants.{Value}
 use Rattle.isl_profile.specs.declared.making.Made.{Made}
 use Rattle.isl_profile.specs.declared.spot.Spot.{Spot}
 use Rattle.isl_profile.specs.declared.tables.Tables.{Tables}
-use Rattle.isl_profile.specs.Judged.{with_variable}
+use Rattle.isl_profile.specs.FunctionNodes.{function_node}
+use Rattle.isl_profile.specs.Judged.{with_variable, offence}
 use Rattle.isl_profile.specs.Marks.{Grows}
-use Rattle.isl_profile.specs.Nodes.{Around, Part, form, below, bind, parameter}
+use Rattle.isl_profile.specs.Nodes.{Around, Part, Written, form, below, bind, parameter, wrong, function}
 use Rattle.isl_profile.specs.Promises.{FormStops}
 use Rattle.isl_profile.specs.RowWords.{deeper}
 use Rattle.isl_profile.specs.Walks.{PartTaken, PartStops, PartsStop, WholeStops}
 use Rattle.isl_profile.specs.bridge.Growing.{grows_same, grows_then, finish_grows}
 use Rattle.isl_profile.specs.bridge.Turns.{whole_stands, whole_stops}
+use Rattle.isl_making.specs.bridge.Leaving.{leaves_grow}
 use Rattle.isl_forms.specs.Views.{at}
-use Rattle.isl_scope.specs.Walk.{Walked, FormGives, WholeGives, ValueFound, AllFound, KeepsValue, KeepsBinding, TakesParameter, Completes}
+use Rattle.isl_scope.specs.Walk.{Walked, FormGives, WholeGives, NodeGives, NodeStops, ValueFound, AllFound, KeepsValue, KeepsBinding, TakesParameter, Completes}
 use Rattle.isl_scope.proofs.Judging.{err_map, ok_map}
-use Rattle.isl_scope.proofs.Walking.{form_taken, below_taken, bind_taken, parameter_taken, form_stops, below_stops, bind_stops}
+use Rattle.isl_scope.proofs.Walking.{form_taken, below_taken, bind_taken, parameter_taken, form_stops, below_stops, bind_stops, function_stops}
 
 -- what is kept behind steps that keep it too, with what follows from the answer
 pub walked_then :
@@ -50,24 +55,56 @@ pub cut_back :
 cut_back bs b1 b2 b3 b4 cs k p l q r t =
     t ∙ (ap (λ n. take n b3) l ∙ (ap (take (length b1)) (r ∙ q) ∙ (take-append_seam b1 cs ∙ p)))
 
--- a form that is kept behind what was found
+-- a value that is kept behind what was found
+kept_walked :
+    {T : Type 0} (n n1 : List (List ℕ)) (s t : Tables) (bs cs : List Bound) (judged : Result Form Stop) (rs rs2 : List Found) (r : Result T Stop) (P : Form → Type 0) (B : Stop → Type 0) →
+    B NoMemory → Walked n n1 s t bs cs judged P B → KeepsValue judged rs r rs2 →
+    Walked n n1 s t bs cs r (λ _. (f : Form) × P f × (rs2 ≡ rs ++ Value f ∷ [])) B
+kept_walked n n1 s t bs cs judged rs rs2 (Ok x) P B want h k =
+    let w : Walked n n1 s t bs cs (Ok k.0) P B = subst (λ (y : Result Form Stop). Walked n n1 s t bs cs y P B) k.1 h in
+    record { names = h.names; grows = h.grows; bound = w.bound; stands = (k.0, w.stands, k.2); stops = tt }
+kept_walked n n1 s t bs cs judged rs rs2 (Err e) P B want h k = elim k [
+  | inl same ↦
+      let w : Walked n n1 s t bs cs (Err e) P B = subst (λ (y : Result Form Stop). Walked n n1 s t bs cs y P B) same h in
+      record { names = h.names; grows = h.grows; bound = tt; stands = tt; stops = w.stops }
+  | inr wanting ↦ record { names = h.names; grows = h.grows; bound = tt; stands = tt; stops = subst (λ (x : Stop). B x) (sym wanting) want }
+]
+
+-- a form that is kept
 pub value_walked :
     {T : Type 0} (n n1 : List (List ℕ)) (a : Around) (s t : Tables) (d : Item) (bs cs : List Bound) (judged : Result Form Stop) (rs rs2 : List Found) (r : Result T Stop) →
     Walked n n1 s t bs cs judged (FormGives n1 a s d t) (FormStops n1 a s d) → KeepsValue judged rs r rs2 →
     Walked n n1 s t bs cs r (λ _. ValueFound n1 a s d rs t rs2) (FormStops n1 a s d)
-value_walked n n1 a s t d bs cs judged rs rs2 (Ok x) h k =
-    let w : Walked n n1 s t bs cs (Ok k.0) (FormGives n1 a s d t) (FormStops n1 a s d) =
-    subst (λ (y : Result Form Stop). Walked n n1 s t bs cs y (FormGives n1 a s d t) (FormStops n1 a s d)) k.1 h in
-    record { names = h.names; grows = h.grows; bound = w.bound; stands = record { form = k.0; comes = w.stands; found = k.2 }; stops = tt }
-value_walked n n1 a s t d bs cs judged rs rs2 (Err NoMemory) h k =
-    record { names = h.names; grows = h.grows; bound = tt; stands = tt; stops = tt }
-value_walked n n1 a s t d bs cs judged rs rs2 (Err (Refused e)) h k = elim k [
-  | inl same ↦
-      let w : Walked n n1 s t bs cs (Err (Refused e)) (FormGives n1 a s d t) (FormStops n1 a s d) =
-      subst (λ (y : Result Form Stop). Walked n n1 s t bs cs y (FormGives n1 a s d t) (FormStops n1 a s d)) same h in
-      record { names = h.names; grows = h.grows; bound = tt; stands = tt; stops = w.stops }
-  | inr wanting ↦ absurd (cc)
-]
+value_walked n n1 a s t d bs cs judged rs rs2 r h k =
+    walked_as n n1 s t bs cs r _ _ _ _ (kept_walked n n1 s t bs cs judged rs rs2 r (FormGives n1 a s d t) (FormStops n1 a s d) tt h k)
+    (λ x v. record { form = v.0; comes = v.1; found = v.2 })
+    (λ e q. q)
+
+-- a function of a definition
+pub function_walked :
+    {T : Type 0} (n n1 : List (List ℕ)) (o i : Around) (s t : Tables) (f : Written) (bs cs : List Bound) (judged : Result Form Stop) (rs rs2 : List Found) (r : Result T Stop) →
+    Walked n n1 s t bs cs judged (NodeGives n1 (function_node o s f) t) (NodeStops n1 (function_node o s f)) → KeepsValue judged rs r rs2 →
+    Walked n n1 s t bs cs r (λ _. PartTaken n1 o i s (function f) rs i t rs2) (PartStops n1 o i s (function f))
+function_walked n n1 o i s t f bs cs judged rs rs2 r h k =
+    walked_as n n1 s t bs cs r _ _ _ _
+    (kept_walked n n1 s t bs cs judged rs rs2 r (NodeGives n1 (function_node o s f) t) (NodeStops n1 (function_node o s f)) tt h k)
+    (λ x v. record { form = v.0; part = record { under = v.1.under }; found = v.2; around = refl })
+    (λ e q. function_stops n1 o i s f e q)
+
+-- an offence behind the parts in front of it
+pub wrong_walked :
+    {T : Type 0} (n : List (List ℕ)) (o i : Around) (s : Tables) (p : Place) (e : Reason) (bs cs : List Bound) (P : T → Type 0) (r : Result T Stop) →
+    r ≡ Err (Refused (record { place = p; reason = e })) → Walked n n s s bs cs r P (PartStops n o i s (wrong p e))
+wrong_walked n o i s p e bs cs P r same =
+    rw same (
+    record {
+      names = Extends-same n;
+      grows = grows_same s;
+      bound = tt;
+      stands = tt;
+      stops = record { under = λ later y. offence p e };
+    }
+    )
 
 -- a form as the part that it is
 
@@ -156,4 +193,4 @@ whole_walked n n1 o i s t u xs m rs bs cs (Ok x) (Ok f) h k =
     }
     )
 whole_walked n n1 o i s t u xs m rs bs cs (Ok x) (Err e) h k =
-    rw (k.0, k.1) (record { names = h.names; grows = h.grows; bound = tt; stands = tt; stops = tt })
+    rw k.0 (record { names = h.names; grows = grows_then s t u h.grows (leaves_grow m.making t u k.1); bound = tt; stands = tt; stops = tt })

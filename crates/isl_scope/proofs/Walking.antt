@@ -4,6 +4,7 @@ use Rattle.std.proofs.lemmas.List.{drop_all}
 use Rattle.std.specs.Borrow.{Bor}
 use Rattle.isl_base.specs.Names.{Extends, Extends-same, Extends-then}
 use Rattle.isl_base.specs.Data.{Item}
+use Rattle.isl_base.specs.DataParts.{AllOf}
 use Rattle.isl_base.specs.GoodData.{Good, good_stays}
 use Rattle.isl_base.specs.declared.datum.Symbol.{Symbol}
 use Rattle.isl_base.specs.declared.reason.Stop.{Stop}
@@ -16,17 +17,30 @@ use Rattle.isl_profile.specs.declared.making.Found.TheVariants.{Value, Binding, 
 use Rattle.isl_profile.specs.declared.spot.Spot.{Spot}
 use Rattle.isl_profile.specs.declared.tables.Tables.{Tables}
 use Rattle.isl_profile.specs.Makings.{nothing}
-use Rattle.isl_profile.specs.Nodes.{Around, Part, form, below, inner, bind, parameter, stands}
+use Rattle.isl_profile.specs.FunctionNodes.{function_node}
+use Rattle.isl_profile.specs.Nodes.{Around, Part, form, below, inner, bind, parameter, wrong, function, Written, initform, accessor, method, stands}
 use Rattle.isl_profile.specs.Judged.{with_variable, made, ends}
 use Rattle.isl_profile.specs.Promises.{FormComes, FormStops}
 use Rattle.isl_profile.specs.RowWords.{deeper}
-use Rattle.isl_profile.specs.Sound.{weight, SoundPart, AllSound}
+use Rattle.isl_profile.specs.Sound.{weight, SoundFunction, SoundPart, AllSound}
 use Rattle.isl_profile.specs.Marks.{Grows}
 use Rattle.isl_profile.specs.Walks.{PartTaken, PartStops, Through, PartsStop}
 use Rattle.isl_profile.specs.bridge.Growing.{grows_same, grows_then}
 use Rattle.isl_profile.specs.bridge.Turns.{through_none, turn, turn_stops}
 use Rattle.isl_forms.specs.declared.plan.Part.{Part as WrittenPart}
 use Rattle.isl_forms.specs.Views.{at, view_part, view_parts, view_inner}
+use Rattle.isl_scope.specs.Walk.{NodeStops}
+
+-- a function of a definition is sound under a later table of names
+
+forms_stay : (old new : List (List ℕ)) (fs : List Item) → Extends old new → AllOf (Good (length old)) fs → AllOf (Good (length new)) fs
+forms_stay old new [] e h = tt
+forms_stay old new (f ∷ fs) e h = (good_stays old new f e h.0, forms_stay old new fs e h.1)
+
+function_stays : (old new : List (List ℕ)) (w : ℕ) (f : Written) → Extends old new → SoundFunction (length old) w f → SoundFunction (length new) w f
+function_stays old new w (initform d) e h = (good_stays old new d e h.0, h.1)
+function_stays old new w (accessor m k d) e h = h
+function_stays old new w (method m has_next ps fs) e h = (forms_stay old new fs e h.0, h.1)
 
 -- a part is sound under a later table of names, and wherever the spots are the same
 part_stays : (old new : List (List ℕ)) (w : ℕ) (o i o2 i2 : Around) (x : Part) → Extends old new → o2.spot ≡ o.spot → i2.spot ≡ i.spot →
@@ -36,6 +50,8 @@ part_stays old new w o i o2 i2 (below d) e p q h = (good_stays old new d e h.0, 
 part_stays old new w o i o2 i2 (inner d) e p q h = (good_stays old new d e h.0, rw q h.1)
 part_stays old new w o i o2 i2 (bind x d) e p q h = (good_stays old new d e h.0, rw p h.1)
 part_stays old new w o i o2 i2 (parameter x) e p q h = tt
+part_stays old new w o i o2 i2 (wrong at r) e p q h = tt
+part_stays old new w o i o2 i2 (function f) e p q h = function_stays old new w f e h
 
 pub sound_stays : (old new : List (List ℕ)) (w : ℕ) (o i o2 i2 : Around) (xs : List Part) → Extends old new → o2.spot ≡ o.spot → i2.spot ≡ i.spot →
     AllSound (length old) w o i xs → AllSound (length new) w o2 i2 xs
@@ -97,6 +113,11 @@ below_stops names o i s d NoMemory h = tt
 pub inner_stops : (names : List (List ℕ)) (o i : Around) (s : Tables) (d : Item) (stop : Stop) → FormStops names i s d stop → PartStops names o i s (inner d) stop
 inner_stops names o i s d (Refused r) h = record { under = h.under }
 inner_stops names o i s d NoMemory h = tt
+
+pub function_stops : (names : List (List ℕ)) (o i : Around) (s : Tables) (f : Written) (stop : Stop) → NodeStops names (function_node o s f) stop →
+    PartStops names o i s (function f) stop
+function_stops names o i s f (Refused r) h = record { under = h.under }
+function_stops names o i s f NoMemory h = tt
 
 pub bind_stops : (names : List (List ℕ)) (o i : Around) (s : Tables) (x : Symbol) (d : Item) (stop : Stop) → FormStops names o (with_variable s) d stop → PartStops names o i s (bind x d) stop
 bind_stops names o i s x d (Refused r) h = record { under = h.under }

@@ -1,3 +1,4 @@
 pub mod Scopes
 pub mod Cuts
 pub mod Walk
+pub mod Cells

@@ -1,8 +1,8 @@
 -- What the functions of the walk keep, with what they answer.
-use Rattle.std.specs.Prelude.{◌≡◌, ◌⊎◌, List, [], ◌∷◌, ◌++◌, ℕ, Result, Ok, Err, OnOk, IfOk, IfErr, MatchResult}
+use Rattle.std.specs.Prelude.{◌≡◌, ◌⊎◌, None, List, [], ◌∷◌, ◌++◌, ℕ, Result, Ok, Err, OnOk, IfOk, IfErr, MatchResult}
 use Rattle.isl_base.specs.declared.datum.Symbol.{Symbol}
 use Rattle.isl_base.specs.declared.reason.Stop.{Stop}
-use Rattle.isl_base.specs.declared.reason.Stop.TheVariants.{NoMemory}
+use Rattle.isl_base.specs.declared.reason.Stop.TheVariants.{Refused, NoMemory}
 use Rattle.isl_base.specs.Data.{Item}
 use Rattle.isl_base.specs.Names.{Extends}
 use Rattle.isl_meaning.specs.Form.{Form}
@@ -11,13 +11,19 @@ use Rattle.isl_profile.specs.declared.bound.Bound.TheVariants.{Variable}
 use Rattle.isl_profile.specs.declared.making.Found.{Found}
 use Rattle.isl_profile.specs.declared.making.Found.TheVariants.{Value, Binding, Parameter}
 use Rattle.isl_profile.specs.declared.making.Made.{Made}
+use Rattle.isl_profile.specs.declared.making.Making.{Making}
+use Rattle.isl_profile.specs.declared.spot.Spot.{Spot}
 use Rattle.isl_profile.specs.declared.tables.Tables.{Tables}
 use Rattle.isl_profile.specs.Makings.{made_form, finished}
 use Rattle.isl_profile.specs.Marks.{Grows}
-use Rattle.isl_profile.specs.Nodes.{Around, Part, stands}
-use Rattle.isl_profile.specs.Judged.{with_variable}
+use Rattle.isl_profile.specs.FunctionNodes.{function_node}
+use Rattle.isl_profile.specs.Nodes.{Around, Part, Written, Node, whole, refused, Verdict, stands, ended}
+use Rattle.isl_profile.specs.Judged.{with_variable, Comes}
 use Rattle.isl_profile.specs.Promises.{FormComes, PlainComes}
 use Rattle.isl_profile.specs.Walks.{Through, PartsStop, WholeComes}
+use Rattle.isl_forms.specs.declared.plan.Work.{Work}
+use Rattle.isl_forms.specs.Views.{at, view_parts, view_inner}
+use Rattle.isl_making.specs.Stopping.{Leaves}
 
 -- names are only gained and tables only grow; on Ok what is bound is as before and the value is such a one, else the stop is
 pub record Walked {T : Type 0} (old new : List (List ℕ)) (s t : Tables) (before after : List Bound) (result : Result T Stop) (Stands : T → Type 0) (Stops : Stop → Type 0) : Type 0 where
@@ -37,6 +43,34 @@ PlainGives names a s d t f = PlainComes names a s d (stands (record { form = f; 
 
 abbrev pub WholeGives : List (List ℕ) → Around → Around → Tables → List Part → Made → Tables → Form → Type 0
 WholeGives names o i s xs m t f = WholeComes names o i s xs m (stands (record { form = f; tables = t }))
+
+-- a node, under a table of names and every later one
+pub record NodeComes (names : List (List ℕ)) (x : Node) (v : Verdict) : Type 0 where
+  pub under : (later : List (List ℕ)) → Extends names later → Comes later x v
+
+abbrev pub NodeGives : List (List ℕ) → Node → Tables → Form → Type 0
+NodeGives names x t f = NodeComes names x (stands (record { form = f; tables = t }))
+
+abbrev pub NodeStops : List (List ℕ) → Node → Stop → Type 0
+NodeStops names x (Refused r) = NodeComes names x (ended (refused r.place r.reason))
+NodeStops names x NoMemory = Unit {0}
+
+-- the node that work is, where these things are bound, and with these tables
+abbrev pub node_of : List Bound → Tables → Work → Node
+node_of bound t w =
+    whole (at bound w.outside) (at (bound ++ w.binds) w.inside) t (view_parts w.parts ++ view_inner w.inner) w.made
+
+-- work that stands there, without a site, and binds nothing itself
+pub record StandsAlone (spot : Spot) (xs : List Part) (m : Making) (w : Work) : Type 0 where
+  pub outside : w.outside ≡ spot
+  pub inside : w.inside ≡ spot
+  pub binds : w.binds ≡ []
+  pub parts : view_parts w.parts ++ view_inner w.inner ≡ xs
+  pub made : w.made ≡ record { site = None; making = m }
+
+-- the work of a function of a definition, which stands there, with what it has taken of the tables
+pub record IsWorkOf (spot : Spot) (s t : Tables) (f : Written) (w : Work) : Type 0 where
+  pub node : (bound : List Bound) → node_of bound t w ≡ function_node (at bound spot) s f
 
 -- a form is found behind the others
 pub record ValueFound (names : List (List ℕ)) (a : Around) (s : Tables) (d : Item) (rs : List Found) (t : Tables) (rs2 : List Found) : Type 0 where
@@ -86,8 +120,9 @@ TakesParameter x s cs rs result t cs2 rs2 =
     (λ _. (t ≡ with_variable s) × (cs2 ≡ cs ++ Variable x s.variables ∷ []) × (rs2 ≡ rs ++ Parameter s.variables ∷ []))
     (λ stop. stop ≡ NoMemory)
 
--- the core form is made of what was found, or the walk has stopped, or memory was wanting
+-- the core form is made of what was found, or the walk has stopped, or memory was wanting and the tables may have more of what
+-- is defined
 abbrev pub Completes : {T : Type 0} → Result T Stop → Made → List Found → Tables → Result Form Stop → Tables → Type 0
 Completes (Err stop) m rs s result t = (result ≡ Err stop) × (t ≡ s)
 Completes (Ok x) m rs s result t =
-    MatchResult result (λ f. (f ≡ made_form m rs) × (t ≡ finished m rs s)) (λ stop. (stop ≡ NoMemory) × (t ≡ s))
+    MatchResult result (λ f. (f ≡ made_form m rs) × (t ≡ finished m rs s)) (λ stop. (stop ≡ NoMemory) × Leaves m.making s t)

@@ -6,6 +6,7 @@ ghost use Rattle.isl_scope.specs.Scopes.{AreWords, first_tables};
 
 use isl_base::{FreshList, ItemList, Name, NameList, Names, NoMemory, PlaceList};
 use isl_classes::Classes;
+use isl_dispatch::Generics;
 use isl_meaning::{CoreList, FunctionRows, LiteralRows, ProcedureList};
 use isl_profile::{ReservedWords, Tables};
 use std::alloc::Global;
@@ -44,7 +45,9 @@ pub(crate) fn first_tables(alloc: Global, words: ReservedWords, classes: Classes
         procedures: ProcedureList::new(alloc),
         functions: FunctionRows::new(alloc),
         prelude: NameList::new(alloc),
+        prelude_classes: classes.rows().len(),
         classes,
+        generics: Generics::new(alloc),
         globals: ItemList::new(alloc),
         set: NameList::new(alloc),
         dynamics: NameList::new(alloc),

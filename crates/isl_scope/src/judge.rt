@@ -4,15 +4,20 @@ ghost use Rattle.std.specs.Prelude.{◌≡◌, ◌++◌, [], length};
 ghost use Rattle.isl_base.specs.GoodData.{Good};
 ghost use Rattle.isl_profile.specs.Promises.{FormStops, PlainStops};
 ghost use Rattle.isl_profile.specs.Walks.{PartTaken, PartStops, PartsStop, WholeStops};
-ghost use Rattle.isl_profile.specs.Sound.{weight, SoundPart, AllSound};
-ghost use Rattle.isl_forms.specs.Views.{at, view_part, view_parts, view_inner};
-ghost use Rattle.isl_scope.specs.Walk.{Walked, FormGives, PlainGives, WholeGives, ValueFound, AllFound, PartsFound, PartsEnded, InnerFound, InnerEnded};
+ghost use Rattle.isl_profile.specs.FunctionNodes.{function_node};
+ghost use Rattle.isl_profile.specs.Sound.{weight, SoundFunction, SoundPart, AllSound};
+ghost use Rattle.isl_whole.specs.Known.{KnownTables, MakesSuited};
+ghost use Rattle.isl_forms.specs.Views.{at, view_part, view_parts, view_inner, view_function};
+ghost use Rattle.isl_scope.specs.Walk.{Walked, FormGives, PlainGives, WholeGives, NodeGives, NodeStops, ValueFound, AllFound, PartsFound, PartsEnded, InnerFound, InnerEnded};
 
+use crate::functions::{above_body, function_work};
 use crate::keep::{complete_found, keep_binding, keep_value, take_parameter, take_variable};
 use isl_base::{Datum, Names, Refusal, Stop};
-use isl_forms::{Here, Inner, Part, Parts, Plan, Work, deeper, plain_plan, settle};
+use isl_bindings::Bindings;
+use isl_forms::{Here, Inner, Part, Parts, Plan, Work, Written, deeper, plain_plan, settle};
 use isl_meaning::Core;
 use isl_profile::{BoundList, FoundList, Spot, Tables};
+use isl_whole::laws::{law_known, law_suits};
 use std::alloc::Global;
 
 // Where the parts of a form stand.
@@ -29,10 +34,11 @@ pub(crate) fn judge(
     alloc: Global,
     names: &mut Names,
     tables: &mut Tables,
-    bound: &mut BoundList,
+    bound: &mut Bindings,
     spot: Spot,
     datum: &Datum,
 ) -> Result<Core, Stop>
+    requires known { KnownTables tables.old }
     requires good { Good (length names.old) datum.now }
     ensures { Walked names.old names.new tables.old tables.new bound.old bound.new result
         (FormGives names.new (at bound.old spot) tables.old datum.now tables.new)
@@ -54,15 +60,17 @@ fn judge_plain(
     alloc: Global,
     names: &mut Names,
     tables: &mut Tables,
-    bound: &mut BoundList,
+    bound: &mut Bindings,
     spot: Spot,
     datum: &Datum,
 ) -> Result<Core, Stop>
+    requires known { KnownTables tables.old }
     requires good { Good (length names.old) datum.now }
     ensures { Walked names.old names.new tables.old tables.new bound.old bound.new result
         (PlainGives names.new (at bound.old spot) tables.old datum.now tables.new)
         (PlainStops names.new (at bound.old spot) tables.old datum.now) }
 {
+    law_suits();
     let here = Here {
         alloc,
         bound,
@@ -84,10 +92,11 @@ fn carry_out<'a>(
     alloc: Global,
     names: &mut Names,
     tables: &mut Tables,
-    bound: &mut BoundList,
+    bound: &mut Bindings,
     spot: Spot,
     work: Work<'a>,
 ) -> Result<Core, Stop>
+    requires suited { MakesSuited (at bound.old work.outside) (at (bound.old ++ work.binds) work.inside) tables.old (view_parts work.parts ++ view_inner work.inner) work.made }
     requires sound { AllSound (length names.old) (weight spot) (at bound.old work.outside) (at (bound.old ++ work.binds) work.inside) (view_parts work.parts ++ view_inner work.inner) }
     ensures { Walked names.old names.new tables.old tables.new bound.old bound.new result
         (WholeGives names.new (at bound.old work.entry.outside) (at (bound.old ++ work.entry.binds) work.entry.inside) tables.old
@@ -95,6 +104,7 @@ fn carry_out<'a>(
         (WholeStops names.new (at bound.old work.entry.outside) (at (bound.old ++ work.entry.binds) work.entry.inside) tables.old
         (view_parts work.entry.parts ++ view_inner work.entry.inner) work.entry.made) }
 {
+    law_suits();
     let spots = Spots {
         outside: work.outside,
         inside: work.inside,
@@ -124,7 +134,7 @@ fn judge_all(
     alloc: Global,
     names: &mut Names,
     tables: &mut Tables,
-    bound: &mut BoundList,
+    bound: &mut Bindings,
     spot: Spot,
     spots: Spots,
     parts: &Parts,
@@ -132,12 +142,14 @@ fn judge_all(
     binds: BoundList,
     found: &mut FoundList,
 ) -> Result<(), Stop>
+    requires known { KnownTables tables.old }
     requires sound { AllSound (length names.old) (weight spot) (at bound.old spots.outside) (at (bound.old ++ binds) spots.inside) (view_parts parts.now ++ view_inner inner.now) }
     requires none { found.old ≡ [] }
     ensures { Walked names.old names.new tables.old tables.new bound.old bound.new result
         (λ _. AllFound names.new (at bound.old spots.outside) (at (bound.old ++ binds) spots.inside) tables.old (view_parts parts.now ++ view_inner inner.now) found.new tables.new)
         (PartsStop names.new (at bound.old spots.outside) (at (bound.old ++ binds) spots.inside) tables.old (view_parts parts.now ++ view_inner inner.now)) }
 {
+    law_known();
     let mut binds = binds;
     judge_parts(
         alloc, names, tables, bound, spot, spots, parts, &mut binds, found,
@@ -157,13 +169,14 @@ fn judge_part(
     alloc: Global,
     names: &mut Names,
     tables: &mut Tables,
-    bound: &mut BoundList,
+    bound: &mut Bindings,
     spot: Spot,
     spots: Spots,
     part: &Part,
     binds: &mut BoundList,
     found: &mut FoundList,
 ) -> Result<(), Stop>
+    requires known { KnownTables tables.old }
     requires sound { SoundPart (length names.old) (weight spot) (at bound.old spots.outside) (at (bound.old ++ binds.old) spots.inside) (view_part part.now) }
     ensures { Walked names.old names.new tables.old tables.new bound.old bound.new result
         (λ _. PartTaken names.new (at bound.old spots.outside) (at (bound.old ++ binds.old) spots.inside) tables.old (view_part part.now)
@@ -186,7 +199,39 @@ fn judge_part(
             keep_binding(*symbol, variable, form, binds, found)
         }
         Part::Parameter(symbol) => take_parameter(tables, *symbol, binds, found),
+        Part::Wrong(place, reason) => Err(Stop::Refused(Refusal {
+            place: *place,
+            reason: *reason,
+        })),
+        Part::Function(written) => {
+            let form = judge_function(alloc, names, tables, bound, spot, spots.outside, written);
+            keep_value(form, found)
+        }
     }
+}
+
+// Judges a function of a definition that stands there: its body stands alone.
+#[cycle(judge)]
+fn judge_function(
+    alloc: Global,
+    names: &mut Names,
+    tables: &mut Tables,
+    bound: &mut Bindings,
+    spot: Spot,
+    outside: Spot,
+    written: &Written,
+) -> Result<Core, Stop>
+    requires known { KnownTables tables.old }
+    requires sound { SoundFunction (length names.old) (weight spot) (view_function written.now) }
+    ensures { Walked names.old names.new tables.old tables.new bound.old bound.new result
+        (NodeGives names.new (function_node (at bound.old outside) tables.old (view_function written.now)) tables.new)
+        (NodeStops names.new (function_node (at bound.old outside) tables.old (view_function written.now))) }
+{
+    law_suits();
+    let Ok(work) = function_work(alloc, tables, outside, written) else {
+        return Err(Stop::NoMemory);
+    };
+    carry_out(alloc, names, tables, bound, above_body(spot), work)
 }
 
 // Judges the parts that stand where the whole stands, in front of others.
@@ -195,13 +240,14 @@ fn judge_parts(
     alloc: Global,
     names: &mut Names,
     tables: &mut Tables,
-    bound: &mut BoundList,
+    bound: &mut Bindings,
     spot: Spot,
     spots: Spots,
     parts: &Parts,
     binds: &mut BoundList,
     found: &mut FoundList,
 ) -> Result<(), Stop>
+    requires known { KnownTables tables.old }
     requires sound { AllSound (length names.old) (weight spot) (at bound.old spots.outside) (at (bound.old ++ binds.old) spots.inside) (view_parts parts.now) }
     requires none { found.old ≡ [] }
     ensures { Walked names.old names.new tables.old tables.new bound.old bound.new result
@@ -209,6 +255,7 @@ fn judge_parts(
         found.new (at (bound.old ++ binds.new) spots.inside) tables.new)
         (PartsEnded names.new (at bound.old spots.outside) (at (bound.old ++ binds.old) spots.inside) tables.old (view_parts parts.now)) }
 {
+    law_known();
     for part in parts.as_slice() {
         judge_part(alloc, names, tables, bound, spot, spots, part, binds, found)?;
     }
@@ -221,17 +268,19 @@ fn judge_inner(
     alloc: Global,
     names: &mut Names,
     tables: &mut Tables,
-    bound: &mut BoundList,
+    bound: &mut Bindings,
     spot: Spot,
     spots: Spots,
     inner: &Inner,
     found: &mut FoundList,
 ) -> Result<(), Stop>
+    requires known { KnownTables tables.old }
     requires sound { AllSound (length names.old) (weight spot) (at bound.old spots.outside) (at bound.old spots.inside) (view_inner inner.now) }
     ensures { Walked names.old names.new tables.old tables.new bound.old bound.new result
         (λ _. InnerFound names.old names.new (at bound.old spots.inside) tables.old (view_inner inner.now) found.old found.new tables.new)
         (InnerEnded names.old names.new (at bound.old spots.inside) tables.old (view_inner inner.now) found.old) }
 {
+    law_known();
     for datum in inner.as_slice() {
         judge_value(alloc, names, tables, bound, spots.inside, datum, found)?;
     }
@@ -244,11 +293,12 @@ fn judge_value(
     alloc: Global,
     names: &mut Names,
     tables: &mut Tables,
-    bound: &mut BoundList,
+    bound: &mut Bindings,
     spot: Spot,
     datum: &Datum,
     found: &mut FoundList,
 ) -> Result<(), Stop>
+    requires known { KnownTables tables.old }
     requires good { Good (length names.old) datum.now }
     ensures { Walked names.old names.new tables.old tables.new bound.old bound.new result
         (λ _. ValueFound names.new (at bound.old spot) tables.old datum.now found.old tables.new found.new)

@@ -3,6 +3,7 @@
 ghost use Rattle.std.specs.Prelude.{◌≡◌, OnOk, IfOk};
 ghost use Rattle.isl_profile.specs.Judged.{with_variable};
 ghost use Rattle.isl_profile.specs.Marks.{Grows};
+ghost use Rattle.isl_profile.specs.Suits.{Suits};
 ghost use Rattle.isl_scope.specs.Walk.{Completes, KeepsBinding, KeepsValue, TakesParameter};
 
 use isl_base::{NoMemory, Stop, Symbol};
@@ -18,7 +19,10 @@ pub(crate) fn take_variable(tables: &mut Tables) -> Result<Var, NoMemory>
     ensures grows { Grows tables.old tables.new }
 {
     let variable = tables.variables;
-    tables.variables = variable.checked_add(1).ok_or(NoMemory)?;
+    let Some(behind) = variable.checked_add(1) else {
+        return Err(NoMemory);
+    };
+    tables.variables = behind;
     Ok(variable)
 }
 
@@ -73,6 +77,7 @@ pub(crate) fn complete_found(
     found: FoundList,
     tables: &mut Tables,
 ) -> Result<Core, Stop>
+    requires suits { OnOk walked (Suits made.making tables.old) }
     ensures { Completes walked made found tables.old result tables.new }
 {
     match walked {

@@ -1,8 +1,10 @@
 // Judging top-level forms: the profile's verdict on each, with what it gives.
 #![tactic(auto)]
 
+mod cells;
 mod counts;
 mod first;
+mod functions;
 mod judge;
 mod keep;
 mod mark;

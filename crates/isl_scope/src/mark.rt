@@ -1,18 +1,26 @@
 // The way back after a stop: what was added to the tables is cut off again.
 
-ghost use Rattle.std.specs.Prelude.{◌≡◌};
-ghost use Rattle.isl_scope.specs.Cuts.{mark_of, ReachesMark, cut_to};
+ghost use Rattle.std.specs.Prelude.{◌≡◌, ◌≤◌, length, map, IfOk};
+ghost use Rattle.isl_meaning.specs.Objects.{built_in_classes};
+ghost use Rattle.isl_scope.specs.Cuts.{mark_of, method_counts, ReachesMark, ReachMethods, cut_generics, cut_to};
 
+use isl_base::NoMemory;
+use isl_dispatch::Generics;
 use isl_meaning::{ExitVar, Var};
-use isl_profile::Tables;
+use isl_profile::{Lengths, Tables};
+use std::alloc::Global;
 
 /// How long the lists of the tables were, and the numbers that came next.
-#[derive(Clone, Copy)]
+#[derive(Drop)]
 pub(crate) struct Mark {
     pub(crate) literals: usize,
     pub(crate) procedures: usize,
     pub(crate) functions: usize,
     pub(crate) prelude: usize,
+    pub(crate) classes: usize,
+    pub(crate) prelude_classes: usize,
+    /// How many methods each generic function had.
+    pub(crate) methods: Lengths,
     pub(crate) globals: usize,
     pub(crate) set: usize,
     pub(crate) dynamics: usize,
@@ -23,15 +31,30 @@ pub(crate) struct Mark {
     pub(crate) exits: ExitVar,
 }
 
-/// Where the tables stand.
-pub(crate) fn mark_of(tables: &Tables) -> Mark
-    ensures { result ≡ mark_of tables.now }
+/// How many methods each generic function has.
+pub(crate) fn method_counts(alloc: Global, generics: &Generics) -> Result<Lengths, NoMemory>
+    ensures { IfOk result (λ counts. counts ≡ method_counts generics.now) }
 {
-    Mark {
+    let mut counts = Lengths::new(alloc);
+    for generic in generics.rows().as_slice() {
+        counts.push(generic.methods.len())?;
+    }
+    Ok(counts)
+}
+
+/// Where the tables stand.
+pub(crate) fn mark_of(alloc: Global, tables: &Tables) -> Result<Mark, NoMemory>
+    ensures { IfOk result (λ mark. mark ≡ mark_of tables.now) }
+{
+    let methods = method_counts(alloc, &tables.generics)?;
+    Ok(Mark {
         literals: tables.literals.len(),
         procedures: tables.procedures.len(),
         functions: tables.functions.len(),
         prelude: tables.prelude.len(),
+        classes: tables.classes.rows().len(),
+        prelude_classes: tables.prelude_classes,
+        methods,
         globals: tables.globals.len(),
         set: tables.set.len(),
         dynamics: tables.dynamics.len(),
@@ -40,18 +63,36 @@ pub(crate) fn mark_of(tables: &Tables) -> Mark
         main: tables.main.len(),
         variables: tables.variables,
         exits: tables.exits,
+    })
+}
+
+// Cuts generic functions and their methods back to so many.
+fn cut_generics(generics: &mut Generics, methods: &Lengths)
+    requires { ReachMethods methods.now generics.old }
+    ensures { generics.new ≡ cut_generics methods.now generics.old }
+{
+    generics.cut(methods.len());
+    for at in 0..methods.len() {
+        let Some(len) = methods.get(at) else {
+            unreachable!()
+        };
+        generics.cut_methods(at, *len);
     }
 }
 
 /// Cuts the tables back to where they stood; takes no memory.
-pub(crate) fn cut_to(tables: &mut Tables, mark: Mark)
-    requires { ReachesMark mark tables.old }
-    ensures { tables.new ≡ cut_to mark tables.old }
+pub(crate) fn cut_to(tables: &mut Tables, mark: &Mark)
+    requires built_in { built_in_classes ≤ mark.now.classes }
+    requires reaches { ReachesMark mark.now tables.old }
+    ensures { tables.new ≡ cut_to mark.now tables.old }
 {
     tables.literals.cut(mark.literals);
     tables.procedures.cut(mark.procedures);
     tables.functions.cut(mark.functions);
     tables.prelude.cut(mark.prelude);
+    tables.classes.cut(mark.classes);
+    tables.prelude_classes = mark.prelude_classes;
+    cut_generics(&mut tables.generics, &mark.methods);
     tables.globals.cut(mark.globals);
     tables.set.cut(mark.set);
     tables.dynamics.cut(mark.dynamics);

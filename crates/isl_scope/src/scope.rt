@@ -2,19 +2,24 @@
 
 ghost use Rattle.std.specs.Prelude.{◌≡◌, length, OnOk, OnErr, IfOk, IfErr};
 ghost use Rattle.isl_base.specs.GoodData.{Good};
+ghost use Rattle.isl_base.specs.Data.{place_of};
 ghost use Rattle.isl_base.specs.Names.{Extends};
 ghost use Rattle.isl_profile.specs.Marks.{Grows};
+ghost use Rattle.isl_whole.specs.Definitions.{SoundTables};
+ghost use Rattle.isl_scope.specs.Cuts.{mark_of};
 ghost use Rattle.isl_scope.specs.Scopes.{top_spot, with_main, rows_of, nodes_of, IsWhole, Given, IsTaken, IsStopped, IsFirst};
 
+use crate::cells::has_too_many_cells;
 use crate::counts::with_added;
 use crate::first::{first_tables, reserved_words};
 use crate::judge::judge;
-use crate::mark::{cut_to, mark_of};
+use crate::mark::{Mark, cut_to, mark_of};
 use isl_base::{Datum, Names, NoMemory, Origin, Reason, Refusal, Stop};
+use isl_bindings::Bindings;
 use isl_classes::Classes;
-use isl_meaning::{Core, GenericRows, Program, ProgramRows, class_list_nodes};
-use isl_profile::{BoundList, Spot, Tables};
-use isl_whole::laws::{law_programs, law_top_forms};
+use isl_meaning::{Core, Program, ProgramRows, class_list_nodes};
+use isl_profile::{Spot, Tables};
+use isl_whole::laws::{law_programs, law_suits, law_top_forms};
 use std::alloc::Global;
 use std::marker::Model;
 
@@ -87,27 +92,41 @@ fn judge_top(
     origin: Origin,
 ) -> Result<(), Stop>
     requires good { Good (length names.old) datum.now }
+    requires sound { SoundTables tables.old }
     ensures given { OnOk result (Given names.new origin tables.old datum.now tables.new) }
     ensures stop { IfErr result (IsStopped names.new origin tables.old datum.now) }
     ensures names { Extends names.old names.new }
     ensures grows { Grows tables.old tables.new }
 {
-    let mut bound = BoundList::new(alloc);
+    law_suits();
+    let mut bound = Bindings::new(alloc);
     let form = judge(alloc, names, tables, &mut bound, top_spot(origin), datum)?;
     add_main(origin, form, tables)?;
     Ok(())
 }
 
-// The same, with the nodes of the program then, which are within their limit.
+// A form that is too large, as a whole.
+fn too_large(datum: &Datum, reason: Reason) -> Stop
+    ensures { result ≡ Stop.Refused (record { place = place_of datum.now; reason = reason }) }
+{
+    Stop::Refused(Refusal {
+        place: datum.place,
+        reason,
+    })
+}
+
+// The same, with the nodes of the program then, which are within their limit, as its cells are.
 fn take_form(
     alloc: Global,
     names: &mut Names,
     tables: &mut Tables,
+    mark: &Mark,
     nodes: u64,
     datum: &Datum,
     origin: Origin,
 ) -> Result<u64, Stop>
     requires good { Good (length names.old) datum.now }
+    requires mark { mark.now ≡ mark_of tables.old }
     requires nodes { nodes ≡ nodes_of tables.old }
     requires whole { IsWhole tables.old }
     ensures taken { OnOk result (IsTaken names.new origin tables.old datum.now tables.new) }
@@ -118,14 +137,13 @@ fn take_form(
     ensures grows { Grows tables.old tables.new }
 {
     law_top_forms();
-    let mark = mark_of(tables);
     judge_top(alloc, names, tables, datum, origin)?;
     let nodes = with_added(tables, mark, nodes);
     if nodes > MOST_NODES {
-        return Err(Stop::Refused(Refusal {
-            place: datum.place,
-            reason: Reason::ProgramTooLarge,
-        }));
+        return Err(too_large(datum, Reason::ProgramTooLarge));
+    }
+    if has_too_many_cells(alloc, tables, mark)? {
+        return Err(too_large(datum, Reason::DispatchTooLarge));
     }
     Ok(nodes)
 }
@@ -151,9 +169,9 @@ impl Scope {
 
     /// Judges a top-level form of the prelude or of a file, and takes what it defines
     /// (ISO/IEC 13816:2007, 11 and 12). It is refused by its first offence in preorder, with the place
-    /// and the lowest reason there; else by `ProgramTooLarge` at the form where the program has more than
-    /// 100,000 nodes with it. The scope is unchanged after a stop; the table of names keeps its names
-    /// and may have gained some. Condition: the datum is in form, and its names are in the table.
+    /// and the lowest reason there; else, at the form, by `ProgramTooLarge` where the program has more than 100,000
+    /// nodes with it, and by `DispatchTooLarge` where its dispatch tables have more than 262,144 cells with it. The
+    /// scope is unchanged after a stop; the table of names keeps its names and may have gained some. Condition: the datum is in form, and its names are in the table.
     pub fn form(&mut self, names: &mut Names, datum: &Datum, origin: Origin) -> Result<(), Stop>
         requires good { Good (length names.old) datum.now }
         ensures taken { OnOk result (IsTaken names.new origin self.old datum.now self.new) }
@@ -161,11 +179,12 @@ impl Scope {
         ensures unchanged { OnErr result (self.new ≡ self.old) }
         ensures names { Extends names.old names.new }
     {
-        let mark = mark_of(&self.tables);
+        let mark = mark_of(self.alloc, &self.tables)?;
         match take_form(
             self.alloc,
             names,
             &mut self.tables,
+            &mark,
             self.nodes,
             datum,
             origin,
@@ -175,7 +194,7 @@ impl Scope {
                 Ok(())
             }
             Err(stop) => {
-                cut_to(&mut self.tables, mark);
+                cut_to(&mut self.tables, &mark);
                 Err(stop)
             }
         }
@@ -191,7 +210,7 @@ impl Scope {
             literals: tables.literals,
             procedures: tables.procedures,
             classes: tables.classes.into_rows(),
-            generics: GenericRows::new(self.alloc),
+            generics: tables.generics.into_rows(),
             functions: tables.functions,
             main: tables.main,
             sites: tables.sites,

@@ -1,5 +1,6 @@
 // Files, and what is told of them.
 
+use crate::definitions::put_definitions;
 use crate::programs::put_program;
 use isl_base::Stop;
 use isl_checker::is_whole;
@@ -18,6 +19,8 @@ pub enum Told {
     Wholeness,
     /// The program.
     Program,
+    /// The program, and behind it the classes, generic functions and functions that it defines.
+    Definitions,
     /// The place of each site.
     Sites,
 }
@@ -65,6 +68,10 @@ fn put_whole(got: &mut Answer, told: Told, whole: &Whole) -> Option<()> {
         Told::Counts => put_counts(got, rows),
         Told::Wholeness => put_wholeness(got, rows)?,
         Told::Program => put_program(got, &whole.names, rows)?,
+        Told::Definitions => {
+            put_program(got, &whole.names, rows)?;
+            put_definitions(got, &whole.names, rows)?;
+        }
         Told::Sites => put_sites(got, rows),
     }
     Some(())

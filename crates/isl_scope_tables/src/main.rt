@@ -1,6 +1,7 @@
 // Puts the rows of the tables of files to the call that reads a file.
 #![tactic(auto)]
 
+mod definitions;
 mod files;
 mod forms;
 mod primitives;
@@ -16,5 +17,6 @@ fn main(rt: HostRuntime) -> io::Result<()> {
     put_table(&rt, "core_forms.txt", &Files(Told::Program))?;
     put_table(&rt, "sites.txt", &Files(Told::Sites))?;
     put_table(&rt, "files.txt", &Preludes(Told::Counts))?;
-    put_table(&rt, "programs.txt", &Preludes(Told::Program))
+    put_table(&rt, "programs.txt", &Preludes(Told::Program))?;
+    put_table(&rt, "definitions.txt", &Preludes(Told::Definitions))
 }

@@ -1,6 +1,6 @@
--- What a node has to say so that what it comes to is right: its parts are good and stand at good places, and what is made of
+-- Nodes that say so, put together: tests, nodes without parts, forms at their sites, lists of parts.
 -- right forms is right.
-use Rattle.std.proofs.Common.{◌≡◌, ◌+◌, ◌≤◌, ℕ, nat_le, Bool, true, false, List, [], ◌∷◌, ◌++◌, length, Option, Some, None, if◌then◌else◌, refl, sym, subst, ◌∙◌, arith}
+use Rattle.std.proofs.Common.{◌≡◌, ◌+◌, ◌≤◌, ℕ, nat_le, Bool, true, false, List, [], ◌∷◌, ◌++◌, length, if◌then◌else◌, refl, sym, ap, subst, ◌∙◌, arith}
 use Rattle.std.proofs.lemmas.Bool.{leb-true}
 use Rattle.std.proofs.lemmas.List.{length-append}
 use Rattle.isl_base.specs.declared.place.Place.{Place}
@@ -12,112 +12,33 @@ use Rattle.isl_base.specs.GoodData.{Good}
 use Rattle.isl_meaning.specs.declared.program.LiteralRow.{LiteralRow}
 use Rattle.isl_meaning.specs.declared.scope.LexicalScope.{LexicalScope}
 use Rattle.isl_meaning.specs.Form.{Form}
-use Rattle.isl_meaning.specs.Subforms.{Each}
 use Rattle.isl_meaning.specs.Counts.{all_nodes}
 use Rattle.isl_meaning.specs.Facts.{literal_fits}
-use Rattle.isl_meaning.specs.Standing.{with_bound}
-use Rattle.isl_profile.specs.declared.spot.Spot.{Spot}
 use Rattle.isl_profile.specs.declared.tables.Tables.{Tables}
 use Rattle.isl_profile.specs.declared.making.Found.{Found}
-use Rattle.isl_profile.specs.declared.making.Made.{Made}
 use Rattle.isl_profile.specs.declared.making.Leaf.{Leaf}
 use Rattle.isl_profile.specs.declared.making.Leaf.TheVariants.{Literal}
 use Rattle.isl_profile.specs.declared.making.Making.{Making}
 use Rattle.isl_profile.specs.declared.making.Making.TheVariants.{Ready}
-use Rattle.isl_profile.specs.Nodes.{Around, Part, form, below, inner, bind, parameter, Node, offends, steps, whole}
-use Rattle.isl_profile.specs.Makings.{leaf_form, make, at_site, made_form, finish, finished}
+use Rattle.isl_profile.specs.Nodes.{Around, Part, Node, offends}
+use Rattle.isl_profile.specs.Makings.{leaf_form, make, at_site, finish}
 use Rattle.isl_profile.specs.Shapes.{Pair}
 use Rattle.isl_profile.specs.RowWords.{deeper, with_site_if, site_if, within_depth, made_of, made_at_once, unsited, with_literal, literal_node, each_form, each_below, each_inner, each_bound, each_parameter}
 use Rattle.isl_profile.specs.bridge.GoodParts.{GoodPairs}
-use Rattle.isl_whole.specs.Definitions.{Definitions, defined, rows_of, Later, WholeDefinitions}
+use Rattle.isl_whole.specs.Definitions.{Definitions, defined, rows_of, Later, SoundDefinitions}
 use Rattle.isl_whole.specs.Numbers.{Numbered}
-use Rattle.isl_whole.specs.Places.{scope_of, GoodAround}
+use Rattle.isl_whole.specs.Places.{scope_of, NothingAround, GoodAround}
 use Rattle.isl_whole.specs.Right.{RightIn, RightAt, Behind, Counted}
 use Rattle.isl_whole.proofs.Forms.{each_more, right_sited}
-use Rattle.isl_whole.proofs.Definitions.{Entered, later_same, later_then, entered_same, entered_then, entered_site, entered_literal, behind_same, counted_same, counted_then, counted_more}
+use Rattle.isl_whole.proofs.Definitions.{undefined_then, each_stands_same, Entered, later_same, later_then, entered_same, entered_then, entered_site, entered_literal, counted_same, counted_then, counted_more}
+use Rattle.isl_whole.proofs.Procedures.{MadeFrom, Same, AllOrdinary}
 use Rattle.isl_whole.proofs.Nodes.{found_nodes, site_nodes}
 use Rattle.isl_whole.proofs.Numbers.{AllNumbered, OwnNumbers, make_numbered, site_numbered, all_numbered_wider}
 use Rattle.isl_whole.proofs.FoundNodes.{none_found}
 use Rattle.isl_whole.proofs.Good.{good_later, good_deeper}
-use Rattle.isl_whole.proofs.Matches.{new_variables, Spots, AllMatch}
+use Rattle.isl_whole.proofs.Matches.{new_variables}
 use Rattle.isl_whole.proofs.Made.{made_literal}
-
--- where the parts of a form were found
-abbrev pub spots : Definitions → Around → Around → List Found → Spots
-spots g o i rs = record {
-  defined = g;
-  outside = scope_of o;
-  depth = o.spot.depth;
-  inside = with_bound (new_variables rs) (scope_of i);
-  inner_depth = i.spot.depth;
-}
-
--- what all parts came to
-pub record AllCame (o i : Around) (g : Definitions) (xs : List Part) (rs : List Found) (h : Definitions) : Type 0 where
-  pub whole : WholeDefinitions h
-  pub later : Later g h
-  pub main : h.main ≡ g.main
-  pub functions : o.spot.top ≡ false → i.spot.top ≡ false → h.functions ≡ g.functions
-  pub newer : Each (λ v. g.variables ≤ v) (new_variables rs)
-  pub match : AllMatch (spots h o i rs) xs rs
-
--- data are good, and variables are bound below top level
-abbrev pub AptPart : ℕ → Around → Part → Type 0
-AptPart n i (form d) = Good n d
-AptPart n i (below d) = Good n d
-AptPart n i (inner d) = Good n d
-AptPart n i (bind x d) = Good n d × (i.spot.top ≡ false)
-AptPart n i (parameter x) = i.spot.top ≡ false
-
-abbrev pub AllApt : ℕ → Around → List Part → Type 0
-AllApt n i [] = Unit {0}
-AllApt n i (x ∷ xs) = AptPart n i x × AllApt n i xs
-
--- what a form has to be: right at a place, or anything
-abbrev pub Wanted : Option Around → Definitions → Form → Type 0
-Wanted None h f = Unit {0}
-Wanted (Some a) h f = RightAt h a f
-
-abbrev pub wanted_nodes : Option Around → Form → ℕ
-wanted_nodes None f = 0
-wanted_nodes (Some a) f = all_nodes f
-
--- a node, where what it comes to has to be so, and what it began with
-pub record AptSteps (Q : Option Around) (spot : Spot) (n : ℕ) (g : Definitions) (a : Around) (s : Tables) (d : Item) : Type 0 where
-  pub entered : Entered g (defined s)
-  pub good : GoodAround (defined s) a
-  pub datum : Good n d
-  pub wanted : Some a ≡ Q
-  pub same_spot : a.spot ≡ spot
-  pub start : Counted spot.sited g (defined s) 0
-
-pub record AptWhole (Q : Option Around) (spot : Spot) (n : ℕ) (g : Definitions) (o i : Around) (s : Tables) (xs : List Part) (m : Made) : Type 0 where
-  pub entered : Entered g (defined s)
-  pub outside : GoodAround (defined s) o
-  pub inside : GoodAround (defined s) i
-  pub low : spot.top ≡ false → (o.spot.top ≡ false) × (i.spot.top ≡ false)
-  pub sited : (o.spot.sited ≡ spot.sited) × (i.spot.sited ≡ spot.sited)
-  pub parts : AllApt n i xs
-  pub right : (t : Tables) (rs : List Found) → AllCame o i (defined s) xs rs (defined t) → Wanted Q (defined (finished m rs t)) (made_form m rs)
-  pub ends : (t : Tables) (rs : List Found) → AllCame o i (defined s) xs rs (defined t) → Behind spot.top (defined t) (defined (finished m rs t))
-  pub counted : (t : Tables) (rs : List Found) → AllCame o i (defined s) xs rs (defined t) → Counted spot.sited (defined s) (defined t) (found_nodes rs)
-      → Counted spot.sited g (defined (finished m rs t)) (wanted_nodes Q (made_form m rs))
-  pub numbered : (t : Tables) (rs : List Found) → AllCame o i (defined s) xs rs (defined t) → AllNumbered (defined s) (defined t) rs
-      → Numbered g (defined (finished m rs t)) (made_form m rs)
-
-abbrev pub Apt : Option Around → Spot → ℕ → Definitions → Node → Type 0
-Apt Q spot n g (offends p r) = Unit {0}
-Apt Q spot n g (steps a s d) = AptSteps Q spot n g a s d
-Apt Q spot n g (whole o i s xs m) = AptWhole Q spot n g o i s xs m
-
--- the node of a datum at a place, beside these tables
-abbrev pub AptAt : ℕ → Around → Tables → Node → Type 0
-AptAt n a s x = Apt (Some a) a.spot n (defined s) x
-
--- a good place beside whole tables
-pub record Stage (a : Around) (s : Tables) : Type 0 where
-  pub good : GoodAround (defined s) a
-  pub whole : WholeDefinitions (defined s)
+use Rattle.isl_whole.proofs.Wanted.{spots, AllCame, AllApt, all_ordinary, counted_nodes, counted_at_most, came_leaves, AptAt, Stage}
 
 -- tests
 
@@ -140,14 +61,14 @@ apt_unsited n a s p t x b e start num r = apt_within n a s 1 p _ (λ l. record {
   entered = e;
   outside = good_later (defined s) (defined t) a e.later b.good;
   inside = good_later (defined s) (defined t) a e.later b.good;
-  low = λ k. (k, k);
+  level = b.good.top;
   sited = (refl, refl);
   parts = tt;
   right = λ u rs c. r (defined u) c.later l;
-  ends = λ u rs c. behind_same a.spot.top (defined u) c.whole;
+  leaves = λ u rs c. came_leaves a.spot.top a a (defined t) [] rs (defined u) (λ k. (k, k)) tt c;
   counted = λ u rs c k.
-      counted_more a.spot.sited (defined s) (defined u) (0 + found_nodes rs) (all_nodes (leaf_form x)) (omega (arith, none_found (spots (defined u) a a rs) rs c.match))
-      (counted_then a.spot.sited (defined s) (defined t) (defined u) 0 (found_nodes rs) start k);
+      counted_more a.spot.sited (defined s) (defined u) (0 + 0) (all_nodes (leaf_form x)) (omega arith)
+      (counted_then a.spot.sited (defined s) (defined t) (defined u) 0 0 start k);
   numbered = λ u rs c k. num (defined s) (defined u);
 })
 
@@ -164,6 +85,7 @@ pub record MadeParts (n : ℕ) (a : Around) (s : Tables) (i : Around) (t : Table
   pub inside : GoodAround (defined t) i
   pub low : a.spot.top ≡ false → i.spot.top ≡ false
   pub sited : i.spot.sited ≡ a.spot.sited
+  pub ordinary : AllOrdinary xs
   pub start : Counted a.spot.sited (defined s) (defined t) 0
   pub parts : AllApt n i xs
   pub right : (u : Tables) (rs : List Found) → AllCame (deeper 1 a) i (defined t) xs rs (defined u) → RightAt (defined u) a (make k rs)
@@ -173,7 +95,7 @@ pub record MadeParts (n : ℕ) (a : Around) (s : Tables) (i : Around) (t : Table
       → OwnNumbers (defined s) (defined u) k rs
 
 -- with its site
-site_entered : (b : Bool) (p : Place) (t : Tables) → WholeDefinitions (defined t) → Entered (defined t) (defined (with_site_if b p t))
+site_entered : (b : Bool) (p : Place) (t : Tables) → SoundDefinitions (defined t) → Entered (defined t) (defined (with_site_if b p t))
 site_entered true p t w = entered_site (defined t) p w
 site_entered false p t w = entered_same (defined t) w
 
@@ -182,7 +104,10 @@ came_earlier o i g h xs rs k e c = record {
   whole = c.whole;
   later = later_then g h k e.later c.later;
   main = c.main ∙ e.main;
-  functions = λ x y. c.functions x y ∙ e.functions;
+  same = λ l. let s : Same h k = c.same l in record { classes = s.classes ∙ e.same.classes; generics = s.generics ∙ e.same.generics; functions = s.functions ∙ e.same.functions };
+  made = λ l. subst (λ (n : ℕ). MadeFrom n xs k.procedures) (ap length e.same.procedures) (c.made l);
+  undefined = λ p l. undefined_then g h k e.same (c.undefined p l);
+  stand = λ p s. c.stand p (each_stands_same g h e.same s);
   newer = each_more (λ v. h.variables ≤ v) (λ v. g.variables ≤ v) (λ v l. omega (arith, l, e.later.variables)) (new_variables rs) c.newer;
   match = c.match;
 }
@@ -205,6 +130,14 @@ made_counted : (b : Bool) (g h k u : Definitions) (m n : ℕ) → m + 1 ≤ n �
 made_counted b g h k u m n l c d e =
     counted_more b g u (0 + 1 + m) n (omega (arith, l)) (counted_then b g k u (0 + 1) m (counted_then b g h k 0 1 c d) e)
 
+-- where the parts stand at top level, the form does
+at_level : (g : Definitions) (a i : Around) → (a.spot.top ≡ false → i.spot.top ≡ false) → GoodAround g a → i.spot.top ≡ true → NothingAround (deeper 1 a)
+at_level g a i low good e = by_top a.spot.top refl
+  where
+    by_top : (b : Bool) → a.spot.top ≡ b → NothingAround (deeper 1 a)
+    by_top true k = let n : NothingAround a = good.top k in record { bound = n.bound; method = n.method }
+    by_top false k = let l : i.spot.top ≡ false = low k in absurd (cc (l, e))
+
 pub apt_made : (n : ℕ) (a : Around) (s : Tables) (i : Around) (p : Place) (t : Tables) (xs : List Part) (k : Making) → Stage a s → MadeParts n a s i t xs k
     → AptAt n a s (made_of a i p t xs k)
 apt_made n a s i p t xs k2 b m =
@@ -215,20 +148,22 @@ apt_made n a s i p t xs k2 b m =
       entered = all;
       outside = good_later (defined s) (defined t2) (deeper 1 a) all.later (good_deeper (defined s) 1 a b.good);
       inside = good_later (defined t) (defined t2) i e.later m.inside;
-      low = λ l. (refl, m.low l);
+      level = λ e. at_level (defined s) a i m.low b.good e;
       sited = (refl, m.sited);
       parts = m.parts;
       right = λ u rs c.
           subst (λ (h : Definitions). RightAt h a (at_site (site_if a.spot.sited (length t.sites)) (make k2 rs))) (sym (m.ends u rs))
           (at_its_site a.spot.sited p t (defined u) (scope_of a) a.spot.depth (make k2 rs) c.later
           (m.right u rs (came_earlier (deeper 1 a) i (defined t) (defined t2) xs rs (defined u) e c)));
-      ends = λ u rs c. subst (Behind a.spot.top (defined u)) (sym (m.ends u rs)) (behind_same a.spot.top (defined u) c.whole);
+      leaves = λ u rs c.
+          subst (Behind a.spot.top (defined t2)) (sym (m.ends u rs))
+          (came_leaves a.spot.top (deeper 1 a) i (defined t2) xs rs (defined u) (λ l. (refl, m.low l)) m.ordinary c);
       counted = λ u rs c k.
           let here : found_nodes rs + 1 ≤ all_nodes (make k2 rs) =
           m.nodes u rs (came_earlier (deeper 1 a) i (defined t) (defined t2) xs rs (defined u) e c) in
           subst (λ (h : Definitions). Counted a.spot.sited (defined s) h (all_nodes (at_site (site_if a.spot.sited (length t.sites)) (make k2 rs)))) (sym (m.ends u rs))
-          (made_counted a.spot.sited (defined s) (defined t) (defined t2) (defined u) (found_nodes rs) _
-          (omega (arith, here, with_site_nodes a.spot.sited (length t.sites) (make k2 rs))) m.start (site_counted a.spot.sited p t) k);
+          (made_counted a.spot.sited (defined s) (defined t) (defined t2) (defined u) (counted_nodes xs rs) _
+          (omega (arith, here, counted_at_most xs rs, with_site_nodes a.spot.sited (length t.sites) (make k2 rs))) m.start (site_counted a.spot.sited p t) k);
       numbered = λ u rs c k.
           let found : AllNumbered (defined s) (defined u) rs =
           all_numbered_wider (defined t2) (defined s) (defined u) (defined u) rs all.later (later_same (defined u)) k in
@@ -250,6 +185,7 @@ plain_parts n a s xs k b x r e m own = record {
   inside = good_deeper (defined s) 1 a b.good;
   low = λ l. refl;
   sited = refl;
+  ordinary = all_ordinary n (deeper 1 a) xs refl x;
   start = counted_same a.spot.sited (defined s);
   parts = x;
   right = r;

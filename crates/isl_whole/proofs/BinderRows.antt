@@ -35,7 +35,9 @@ use Rattle.isl_whole.proofs.Good.{good_deeper, good_functions, MaybeFunctions, a
 use Rattle.isl_whole.proofs.Captured.{IsCaptured, is_captured}
 use Rattle.isl_whole.proofs.Matches.{new_variables, AllMatch, BoundMatch, bound_match, ParametersMatch, parameters_match, DynamicsMatch, dynamics_match}
 use Rattle.isl_whole.proofs.Made.{made_let, made_dynamic_let, made_lambda, made_body}
-use Rattle.isl_whole.proofs.Apt.{spots, AllCame, AllApt, AptAt, Stage, apt_within, apt_made, plain_parts, both_apt, below_apt, inner_apt, bound_apt, parameters_apt}
+use Rattle.isl_whole.proofs.Wanted.{spots, AllCame, AllApt, AptAt, Stage, all_ordinary}
+use Rattle.isl_whole.proofs.Apt.{apt_within, apt_made, plain_parts, both_apt, below_apt, inner_apt, bound_apt, parameters_apt}
+use Rattle.isl_whole.proofs.Procedures.{inner_ordinary}
 use Rattle.isl_whole.proofs.Found.{found_inner, parameters_are, symbols_counted}
 use Rattle.isl_whole.proofs.ExitRows.{two_deeper}
 
@@ -57,6 +59,8 @@ apt_let_as n a s p bs fs (Some qs) b g k l = apt_made n a s (deeper 2 a) p s (ea
   inside = good_deeper (defined s) 2 a b.good;
   low = λ e. refl;
   sited = refl;
+  ordinary = all_ordinary n (deeper 2 a) (each_bound qs ++ each_inner fs) refl
+      (both_apt n (deeper 2 a) (each_bound qs) (each_inner fs) (bound_apt n (deeper 2 a) qs refl k) (inner_apt n (deeper 2 a) fs g));
   start = counted_same a.spot.sited (defined s);
   parts = both_apt n (deeper 2 a) (each_bound qs) (each_inner fs) (bound_apt n (deeper 2 a) qs refl k) (inner_apt n (deeper 2 a) fs g);
   right = λ u rs c. found_let (defined u) a qs fs rs l c.match;
@@ -161,6 +165,7 @@ apt_lambda_as n a s p d fs (Some ps) b g l = apt_made n a s (deeper 2 a) p s (ea
   inside = good_deeper (defined s) 2 a b.good;
   low = λ e. refl;
   sited = refl;
+  ordinary = all_ordinary n (deeper 2 a) (each_parameter (all_symbols ps) ++ each_inner fs) refl (function_apt n (deeper 2 a) ps fs refl g);
   start = counted_same a.spot.sited (defined s);
   parts = function_apt n (deeper 2 a) ps fs refl g;
   right = λ u rs c. found_lambda (defined s) (defined u) a ps fs rs l b.good c;
@@ -192,6 +197,7 @@ apt_functions_as n a s p fs false (Some bs) b g f =
       inside = good_functions (defined s) bs (deeper 1 a) refl f (good_deeper (defined s) 1 a b.good);
       low = λ e. refl;
       sited = refl;
+      ordinary = inner_ordinary fs;
       start = counted_same a.spot.sited (defined s);
       parts = inner_apt n i fs g;
       right = λ u rs c.

@@ -34,7 +34,8 @@ use Rattle.isl_whole.proofs.Nodes.{nodes_in, found_nodes, call_nodes, call_value
 use Rattle.isl_whole.proofs.Numbers.{OwnNumbers}
 use Rattle.isl_whole.proofs.FoundNodes.{forms_plain, forms_counted, enough_nodes}
 use Rattle.isl_whole.proofs.Made.{made_two, made_call, made_call_value, made_prim, made_local_call}
-use Rattle.isl_whole.proofs.Apt.{spots, AptAt, Stage, apt_within, apt_made, plain_parts, forms_apt}
+use Rattle.isl_whole.proofs.Wanted.{spots, AptAt, Stage}
+use Rattle.isl_whole.proofs.Apt.{apt_within, apt_made, plain_parts, forms_apt}
 
 -- a call of so many parts, as it is made
 pub data IsCall : Making → ℕ → Type 0 where

@@ -1,12 +1,12 @@
 -- The built-in classes are such as a program has to have.
-use Rattle.std.proofs.Common.{◌≡◌, ◌+◌, ◌≤◌, ◌<◌, ℕ, suc, nat_lt, Bool, true, false, not, List, [], ◌∷◌, ◌++◌, length, map, take, filter, flat_map, slice_get, is_some, Option, Some, None, if◌then◌else◌, refl, sym, ap, subst, ◌∙◌, arith}
+use Rattle.std.proofs.Common.{◌≡◌, ◌+◌, ◌≤◌, ◌<◌, ℕ, zero, suc, nat_lt, Bool, true, false, not, List, [], ◌∷◌, ◌++◌, length, map, take, filter, flat_map, slice_get, is_some, Option, Some, None, if◌then◌else◌, refl, sym, ap, subst, ◌∙◌, arith}
 use Rattle.std.specs.Str.{bytes_eq}
 use Rattle.std.specs.Prelude.{All}
 use Rattle.std.specs.List.{list_all}
 use Rattle.std.proofs.lemmas.Bool.{lt-ltb, le-leb, eqb-true, eq-eqb}
 use Rattle.std.proofs.lemmas.List.Elements.{All-head, All-tail}
 use Rattle.std.proofs.lemmas.Option.{slice_get_within}
-use Rattle.std.proofs.lemmas.Bool.{and_from}
+use Rattle.std.proofs.lemmas.Bool.{and_from, and_parts}
 use Rattle.isl_base.specs.declared.datum.Name.{Name}
 use Rattle.isl_meaning.specs.declared.program.ClassRow.{ClassRow}
 use Rattle.isl_meaning.specs.declared.program.SlotRow.{SlotRow}
@@ -17,7 +17,11 @@ use Rattle.isl_meaning.specs.bridge.Prefixes.{of_prefix}
 use Rattle.isl_classes.specs.InheritedSlots.{same_name, without_name, each_first, of_name, last_initform, slot_of, slots_of, names_of, united, slots_said_by, own_slots, said_by}
 use Rattle.isl_classes.specs.InheritedClasses.{Hierarchy, IsRow, IsBuiltIn}
 use Rattle.isl_classes.specs.InheritedBuiltIn.{own_initarg, SaysSlots, AreBuiltIn, built_in_own}
-use Rattle.isl_whole.specs.Classes.{is_simple, SimpleClasses}
+use Rattle.isl_meaning.specs.declared.program.ProgramRows.{ProgramRows}
+use Rattle.isl_meaning.specs.Facts.{initform_fits, class_fits}
+use Rattle.isl_profile.specs.Marks.{StandsFirst}
+use Rattle.isl_whole.specs.Definitions.{Definitions, rows_of, slot_fits, initform_takes_nothing, WholeClasses}
+use Rattle.isl_whole.specs.Classes.{BeginsBuiltIn}
 use Rattle.isl_whole.proofs.Forms.{each_more}
 use Rattle.isl_whole.proofs.Places.{each_append}
 use Rattle.isl_whole.proofs.Captured.{each_kept}
@@ -31,16 +35,16 @@ own_said : (ns : List Name) → Each IsOwn (map own_initarg ns)
 own_said [] = tt
 own_said (n ∷ ns) = (record { initargs = refl; initform = refl }, own_said ns)
 
-own_slots_said : (own : List (List SlotRow)) → ((c : ℕ) (slots : List SlotRow) → slice_get own c ≡ Some slots → Each IsOwn slots) → (c : ℕ) → Each IsOwn (own_slots own c)
-own_slots_said own h c = by_slots (slice_get own c) refl
+own_slots_said : (P : SlotRow → Type 0) (own : List (List SlotRow)) → ((c : ℕ) (slots : List SlotRow) → slice_get own c ≡ Some slots → Each P slots) → (c : ℕ) → Each P (own_slots own c)
+own_slots_said P own h c = by_slots (slice_get own c) refl
   where
-    by_slots : (o : Option (List SlotRow)) → slice_get own c ≡ o → Each IsOwn (slots_said_by o)
+    by_slots : (o : Option (List SlotRow)) → slice_get own c ≡ o → Each P (slots_said_by o)
     by_slots None e = tt
     by_slots (Some slots) e = h c slots e
 
-all_said : (own : List (List SlotRow)) → ((c : ℕ) (slots : List SlotRow) → slice_get own c ≡ Some slots → Each IsOwn slots) → (cs : List ℕ) → Each IsOwn (said_by own cs)
-all_said own h [] = tt
-all_said own h (c ∷ cs) = each_append IsOwn (said_by own cs) (own_slots own c) (all_said own h cs) (own_slots_said own h c)
+all_said : (P : SlotRow → Type 0) (own : List (List SlotRow)) → ((c : ℕ) (slots : List SlotRow) → slice_get own c ≡ Some slots → Each P slots) → (cs : List ℕ) → Each P (said_by own cs)
+all_said P own h [] = tt
+all_said P own h (c ∷ cs) = each_append P (said_by own cs) (own_slots own c) (all_said P own h cs) (own_slots_said P own h c)
 
 -- the slots that are united of such are plain
 
@@ -141,7 +145,7 @@ row_plain texts h b c row e =
     let r : IsRow (take c h.rows) (take (c + 1) h.own) c row = b.hierarchy.classes.right c row e in
     ap (list_all is_plain_slot) r.slots
     ∙ united_plain (said_by (take (c + 1) h.own) row.precedence)
-    (all_said (take (c + 1) h.own)
+    (all_said IsOwn (take (c + 1) h.own)
     (λ d slots k.
     let s : SaysSlots texts (built_in_own d) slots = b.named.own d slots (of_prefix (c + 1) h.own d slots k).1 in
     subst (Each IsOwn) (sym s.slots_are) (own_said (names_of slots)))
@@ -189,20 +193,98 @@ begins (c ∷ cs) (p ∷ ps) (n ∷ ns) l r =
       plain = λ k row e. r.plain (suc k) row e;
     }))
 
-pub built_in_simple : (texts : List (List ℕ)) (h : Hierarchy) → AreBuiltIn texts h → SimpleClasses h.rows
-built_in_simple texts h b =
+pub built_in_begin : (texts : List (List ℕ)) (h : Hierarchy) → AreBuiltIn texts h → BeginsBuiltIn h.rows
+built_in_begin texts h b =
     let all : length h.rows ≡ 34 = b.number in
     let is : (c : ℕ) (row : ClassRow) → slice_get h.rows c ≡ Some row → IsBuiltIn c row =
     λ c row e. b.hierarchy.built_in c row (let l : c < length h.rows = slice_get_within h.rows c row e in omega (arith, l, all)) e in
     record {
-      built_in = begins h.rows built_in_precedence built_in_slots all (record {
+      begins = begins h.rows built_in_precedence built_in_slots all (record {
         precedence = λ c row e. (is c row e).precedence;
         count = λ c row e. (is c row e).count;
         concrete = λ c row e. (is c row e).concrete;
         plain = row_plain texts h b;
       });
-      simple = rows_all (is_simple h.rows) h.rows (λ c row e.
-          let r : IsRow (take c h.rows) (take (c + 1) h.own) c row = b.hierarchy.classes.right c row e in
-          and_from _ _ (and_from _ _ (line_below (length h.rows) row.precedence c r.in_range (slice_get_within h.rows c row e)) (row_plain texts h b c row e))
-          (le-leb (length row.slots) 64 r.few));
     }
+
+-- they are so with more behind them
+begin_still : (cs ds : List ClassRow) (ps : List (List ℕ)) (ns : List ℕ) → StandsFirst cs ds → begins_with_built_in cs ps ns ≡ true → begins_with_built_in ds ps ns ≡ true
+begin_still cs ds [] ns e h = refl
+begin_still [] ds (p ∷ ps) ns e h = absurd (cc h)
+begin_still (c ∷ cs) ds (p ∷ ps) [] e h = absurd (cc h)
+begin_still (c ∷ cs) [] (p ∷ ps) (n ∷ ns) e h = absurd (cc e)
+begin_still (c ∷ cs) (d ∷ ds) (p ∷ ps) (n ∷ ns) e h =
+    let same : d ≡ c = cc e in
+    let rest : take (length cs) ds ≡ cs = cc e in
+    let k : (is_row c p n ≡ true) × (begins_with_built_in cs ps ns ≡ true) = and_parts _ _ h in
+    and_from _ _ (ap (λ x. is_row x p n) same ∙ k.0) (begin_still cs ds ps ns rest k.1)
+
+pub begins_later : (cs ds : List ClassRow) → StandsFirst cs ds → BeginsBuiltIn cs → BeginsBuiltIn ds
+begins_later cs ds e b = record { begins = begin_still cs ds built_in_precedence built_in_slots e b.begins }
+
+-- what the built-in classes say of slots fits: they have no initforms
+
+slots_all : (p : List SlotRow → Bool) (own : List (List SlotRow)) → ((c : ℕ) (slots : List SlotRow) → slice_get own c ≡ Some slots → p slots ≡ true) → list_all p own ≡ true
+slots_all p [] h = refl
+slots_all p (s ∷ own) h = and_from _ _ (h 0 s refl) (slots_all p own (λ k slots e. h (suc k) slots e))
+
+own_fit : (g : Definitions) (ns : List Name) → list_all (slot_fits g) (map own_initarg ns) ≡ true
+own_fit g [] = refl
+own_fit g (n ∷ ns) = own_fit g ns
+
+pub built_in_slots_fit : (g : Definitions) (texts : List (List ℕ)) (h : Hierarchy) → AreBuiltIn texts h → list_all (λ slots. list_all (slot_fits g) slots) h.own ≡ true
+built_in_slots_fit g texts h b =
+    slots_all (λ slots. list_all (slot_fits g) slots) h.own (λ c slots e.
+    let s : SaysSlots texts (built_in_own c) slots = b.named.own c slots e in
+    ap (list_all (slot_fits g)) s.slots_are ∙ own_fit g (names_of slots))
+
+-- a class fits where what its classes say of slots does
+
+abbrev FitsThere : ProgramRows → SlotRow → Type 0
+FitsThere r s = initform_fits r s.initform ≡ true
+
+last_fits : (r : ProgramRows) (ss : List SlotRow) → Each (FitsThere r) ss → initform_fits r (last_initform ss) ≡ true
+last_fits r [] e = refl
+last_fits r (s ∷ ss) e = by_test (is_some (last_initform ss)) (last_initform ss) (last_fits r ss e.1)
+  where
+    by_test : (b : Bool) (o : Option ℕ) → initform_fits r o ≡ true → initform_fits r (if b then o else s.initform) ≡ true
+    by_test true o h = h
+    by_test false o h = e.0
+
+united_fits : (r : ProgramRows) (said : List SlotRow) (ns : List Name) → Each (FitsThere r) said → list_all (λ s. initform_fits r s.initform) (slots_of said ns) ≡ true
+united_fits r said [] e = refl
+united_fits r said (n ∷ ns) e =
+    and_from _ _ (last_fits r (of_name n said) (each_kept (FitsThere r) (λ s. same_name n s.name) said e)) (united_fits r said ns e)
+
+all_united_fit : (r : ProgramRows) (said : List SlotRow) → Each (FitsThere r) said → list_all (λ s. initform_fits r s.initform) (united said) ≡ true
+unfolding united
+all_united_fit r said e = united_fits r said (each_first (names_of said)) e
+
+each_of_all : (g : Definitions) (slots : List SlotRow) → list_all (slot_fits g) slots ≡ true → Each (FitsThere (rows_of g)) slots
+each_of_all g [] h = tt
+each_of_all g (s ∷ ss) h =
+    let k : (slot_fits g s ≡ true) × (list_all (slot_fits g) ss ≡ true) = and_parts _ _ h in
+    ((and_parts (initform_fits (rows_of g) s.initform) (initform_takes_nothing g.procedures s.initform) k.0).0, each_of_all g ss k.1)
+
+own_of_all : (g : Definitions) (own : List (List SlotRow)) (c : ℕ) (slots : List SlotRow) → list_all (λ slots. list_all (slot_fits g) slots) own ≡ true
+    → slice_get own c ≡ Some slots → list_all (slot_fits g) slots ≡ true
+own_of_all g [] c slots h e = absurd (cc e)
+own_of_all g (s ∷ own) zero slots h e =
+    let k : (list_all (slot_fits g) s ≡ true) × (list_all (λ slots. list_all (slot_fits g) slots) own ≡ true) = and_parts _ _ h in
+    let same : s ≡ slots = cc e in
+    ap (list_all (slot_fits g)) (sym same) ∙ k.0
+own_of_all g (s ∷ own) (suc c) slots h e =
+    let k : (list_all (slot_fits g) s ≡ true) × (list_all (λ slots. list_all (slot_fits g) slots) own ≡ true) = and_parts _ _ h in
+    own_of_all g own c slots k.1 e
+
+pub classes_fit : (g : Definitions) → WholeClasses g → list_all (class_fits (rows_of g)) g.classes.rows ≡ true
+classes_fit g w = rows_all (class_fits (rows_of g)) g.classes.rows (λ c row e.
+    let h : Hierarchy = g.classes in
+    let r : IsRow (take c h.rows) (take (c + 1) h.own) c row = w.hierarchy.classes.right c row e in
+    and_from _ _
+    (and_from _ _ (line_below (length h.rows) row.precedence c r.in_range (slice_get_within h.rows c row e))
+    (ap (list_all (λ s. initform_fits (rows_of g) s.initform)) r.slots
+    ∙ all_united_fit (rows_of g) (said_by (take (c + 1) h.own) row.precedence)
+    (all_said (FitsThere (rows_of g)) (take (c + 1) h.own)
+    (λ d slots k. each_of_all g slots (own_of_all g h.own d slots w.slots (of_prefix (c + 1) h.own d slots k).1)) row.precedence)))
+    (le-leb (length row.slots) 64 r.few))

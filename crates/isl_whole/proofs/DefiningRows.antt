@@ -1,56 +1,58 @@
 -- The rows of forms that define are apt: a function is there under a name of its own, with a procedure that stands alone.
-use Rattle.std.proofs.Common.{◌≡◌, ◌+◌, ◌==◌, ◌≤◌, ℕ, Bool, true, false, not, ◌&&◌, ◌||◌, List, [], ◌∷◌, ◌++◌, take, drop, length, Option, Some, None, is_some, refl, sym, ap, subst, ◌∙◌, arith, append-nil}
-use Rattle.std.specs.List.{list_any, sum_by}
-use Rattle.std.proofs.lemmas.List.Sums.{sum_by_push}
-use Rattle.std.proofs.lemmas.Bool.{eqb-false, ne_eqb, le-leb}
+use Rattle.std.proofs.Common.{◌≡◌, ◌+◌, ◌==◌, ◌≤◌, ⊎_elim, ℕ, Bool, true, false, not, ◌&&◌, ◌||◌, List, [], ◌∷◌, ◌++◌, length, Option, Some, None, is_some, refl, sym, ap, subst, ◌∙◌, arith}
+use Rattle.std.specs.List.{list_any, list_all}
+use Rattle.std.proofs.lemmas.Bool.{eqb-false, ne_eqb}
 use Rattle.std.proofs.lemmas.List.{length-append}
-use Rattle.std.proofs.lemmas.Bool.{and_parts, and_from, not-true, or_parts}
+use Rattle.std.proofs.lemmas.Bool.{and_parts, and_from, not-true, or_parts, or_right}
 use Rattle.isl_base.specs.declared.place.Place.{Place}
 use Rattle.isl_base.specs.declared.datum.Name.{Name}
 use Rattle.isl_base.specs.Data.{Item}
-use Rattle.isl_base.specs.DataFormed.{formed_tells}
+use Rattle.isl_base.specs.DataFormed.{is_formed, formed_tells}
 use Rattle.isl_base.specs.DataParts.{AllOf}
 use Rattle.isl_base.specs.GoodData.{Good}
+use Rattle.isl_base.specs.Names.{slice_get-behind, slice_get-push}
+use Rattle.isl_meaning.specs.declared.program.GenericRow.{GenericRow}
 use Rattle.isl_meaning.specs.declared.program.FunctionRow.{FunctionRow}
 use Rattle.isl_meaning.specs.declared.program.Callee.{Callee}
 use Rattle.isl_meaning.specs.declared.program.Callee.TheVariants as callee
 use Rattle.isl_meaning.specs.declared.program.LiteralRow.TheVariants as row
 use Rattle.isl_meaning.specs.declared.program.Procedure.{Procedure}
 use Rattle.isl_meaning.specs.declared.scope.LexicalScope.{LexicalScope}
-use Rattle.isl_meaning.specs.Form.{parameters}
-use Rattle.isl_meaning.specs.Counts.{depth}
 use Rattle.isl_meaning.specs.Lookup.{all_differ}
-use Rattle.isl_meaning.specs.Standing.{alone as alone_in, with_bound, stands}
-use Rattle.isl_meaning.specs.Facts.{same_name}
+use Rattle.isl_meaning.specs.Standing.{is_alone}
+use Rattle.isl_meaning.specs.Facts.{same_name, callee_fits}
 use Rattle.isl_meaning.specs.ProgramCounts.{procedure_nodes}
 use Rattle.isl_profile.specs.declared.tables.Tables.{Tables}
 use Rattle.isl_profile.specs.declared.parameters.Parameters.{Parameters}
-use Rattle.isl_profile.specs.declared.making.Found.{Found}
 use Rattle.isl_profile.specs.declared.making.One.TheVariants.{DefineGlobal, DefineDynamic}
-use Rattle.isl_profile.specs.Nodes.{Around, Node}
-use Rattle.isl_profile.specs.Makings.{leaf_form, forms_found, variables_found, body_of, rest_found, procedure_found}
+use Rattle.isl_profile.specs.Nodes.{Around, Part, Node}
+use Rattle.isl_profile.specs.Makings.{leaf_form, forms_found, procedure_found}
 use Rattle.isl_profile.specs.Shapes.{symbol_of, parameters_in, all_symbols}
 use Rattle.isl_profile.specs.RowWords.{each_parameter, each_inner, alone}
-use Rattle.isl_profile.specs.DefiningRows.{function_parts, named, is_that, has_global, has_dynamic, is_set, is_of_prelude, has_function, is_taken, is_truth, is_reserved, defining_offence, unless_offending, global_as, global_row, defdynamic_as, defdynamic_row, with_name, named_form, defun_of, defun_with, defun_as, defun_row}
-use Rattle.isl_whole.specs.Definitions.{Definitions, defined, Later, IsThere, procedure_fits, WholeDefinitions}
-use Rattle.isl_whole.specs.Places.{variables_around, exits_around, scope_of, NothingAround}
+use Rattle.isl_profile.specs.FunctionNodes.{function_parts}
+use Rattle.isl_profile.specs.DefiningRows.{named, is_that, has_global, has_dynamic, is_set, is_of_prelude, has_function, is_taken, is_truth, is_reserved, defining_offence, unless_offending, global_as, global_row, defdynamic_as, defdynamic_row, with_name, named_form, defun_of, defun_with, defun_as, defun_row}
+use Rattle.isl_whole.specs.Definitions.{Definitions, defined, rows_of, Later, Undefined, has_function as has_row, SoundDefinitions, EachStands}
+use Rattle.isl_whole.specs.Places.{scope_of}
 use Rattle.isl_whole.specs.Right.{RightIn, Counted}
-use Rattle.isl_whole.proofs.Forms.{each_more}
-use Rattle.isl_whole.proofs.Definitions.{Entered, entered_same, entered_literal, later_then, literals_later, procedures_later, mains_later, all_push, counted_same, counted_then}
+use Rattle.isl_whole.proofs.Tests.{all_more}
+use Rattle.isl_whole.proofs.Definitions.{Entered, entered_same, entered_literal, later_then, literals_later, procedures_later, own_later, generics_later, functions_later, callee_fits_later, mains_later, each_stands_same, all_push, counted_same, counted_then}
+use Rattle.isl_whole.proofs.Procedures.{all_low}
+use Rattle.isl_whole.proofs.Functions.{FitsAlone, fits_at_most, one_more, later_procedure, sound_procedure, procedure_counted, found_procedure}
 use Rattle.isl_whole.proofs.Nodes.{nodes_in, found_nodes, body_nodes}
 use Rattle.isl_whole.specs.Numbers.{Numbered}
 use Rattle.isl_whole.proofs.FoundNodes.{both_plain, inner_plain, parameters_plain, forms_counted}
-use Rattle.isl_whole.proofs.Good.{good_later, good_alone, scope_with}
-use Rattle.isl_whole.proofs.Places.{each_append}
-use Rattle.isl_whole.proofs.Matches.{new_variables, ParametersMatch, parameters_match}
+use Rattle.isl_whole.proofs.Good.{good_later, good_alone}
+use Rattle.isl_whole.proofs.Places.{any_front}
+use Rattle.isl_whole.proofs.Matches.{parameters_match}
 use Rattle.isl_whole.proofs.Made.{made_body, made_literal}
-use Rattle.isl_whole.proofs.Apt.{spots, AptAt, Stage, apt_if, apt_within}
+use Rattle.isl_whole.proofs.Wanted.{spots, AptAt, Stage, all_ordinary, counted_nodes, counted_at_most}
+use Rattle.isl_whole.proofs.Apt.{apt_if, apt_within}
 use Rattle.isl_whole.proofs.ValueRows.{apt_one}
 use Rattle.isl_whole.proofs.BinderRows.{found_parameters, function_apt}
 
 -- where nothing offends
 
-where_no_offence : (n : ℕ) (a : Around) (s : Tables) (p : Place) (top taken reserved : Bool) (x : Node) → (top ≡ true → taken ≡ false → reserved ≡ false → AptAt n a s x)
+pub where_no_offence : (n : ℕ) (a : Around) (s : Tables) (p : Place) (top taken reserved : Bool) (x : Node) → (top ≡ true → taken ≡ false → reserved ≡ false → AptAt n a s x)
     → AptAt n a s (unless_offending p (defining_offence top taken reserved) x)
 where_no_offence n a s p top true reserved x h = tt
 where_no_offence n a s p false false reserved x h = tt
@@ -85,7 +87,7 @@ apt_defdynamic n a s p (d ∷ x ∷ e ∷ ds) b g = tt
 
 -- no function has the name before
 
-fresh_name : (sited has prelude truth kept : Bool) → (has && not (sited && prelude)) ≡ false → (truth || (sited && (kept || prelude))) ≡ false → has ≡ false
+pub fresh_name : (sited has prelude truth kept : Bool) → (has && not (sited && prelude)) ≡ false → (truth || (sited && (kept || prelude))) ≡ false → has ≡ false
 fresh_name sited false prelude truth kept h k = refl
 fresh_name false true prelude truth kept h k = absurd (cc h)
 fresh_name true true false truth kept h k = absurd (cc h)
@@ -93,7 +95,7 @@ fresh_name true true true true kept h k = absurd (cc k)
 fresh_name true true true false true h k = absurd (cc k)
 fresh_name true true true false false h k = absurd (cc k)
 
-other_way : (m n : ℕ) → (m == n) ≡ false → (n == m) ≡ false
+pub other_way : (m n : ℕ) → (m == n) ≡ false → (n == m) ≡ false
 other_way m n h = ne_eqb n m (λ e. eqb-false m n h (sym e))
 
 none_more : (f y : FunctionRow) (fs : List FunctionRow) → list_any (same_name f) fs ≡ false → same_name f y ≡ false → list_any (same_name f) (fs ++ y ∷ []) ≡ false
@@ -104,7 +106,7 @@ none_more f y (x ∷ xs) h k = by_test (same_name f x) (list_any (same_name f) x
     by_test true o u g h = absurd (cc h)
     by_test false o u g h = g h
 
-one_name_more : (name : Name) (c : Callee) (fs : List FunctionRow) → all_differ same_name fs ≡ true → list_any (λ f. is_that name f.name) fs ≡ false
+pub one_name_more : (name : Name) (c : Callee) (fs : List FunctionRow) → all_differ same_name fs ≡ true → list_any (λ f. is_that name f.name) fs ≡ false
     → all_differ same_name (fs ++ (record { name = name; callee = c }) ∷ []) ≡ true
 one_name_more name c [] h k = refl
 one_name_more name c (f ∷ fs) h k =
@@ -116,80 +118,84 @@ one_name_more name c (f ∷ fs) h k =
 
 -- with a function
 
-abbrev one_more : Definitions → Name → Procedure → Definitions
-one_more g name p = record g {
-  procedures = g.procedures ++ p ∷ [];
-  functions = g.functions ++ (record { name = name; callee = callee.Procedure (length g.procedures) }) ∷ [];
-}
+abbrev pub with_row : Definitions → FunctionRow → Definitions
+with_row g f = record g { functions = g.functions ++ f ∷ [] }
 
-later_function : (g : Definitions) (name : Name) (p : Procedure) → Later g (one_more g name p)
-later_function g name p = record {
+pub later_row : (g : Definitions) (f : FunctionRow) → Later g (with_row g f)
+later_row g f = record {
   literals = omega arith;
-  procedures = omega (arith, length-append g.procedures (p ∷ []));
+  procedures = omega arith;
+  kept = λ i q e. e;
+  classes = omega arith;
+  generics = omega arith;
   sites = omega arith;
   variables = omega arith;
   exits = omega arith;
-  classes = refl;
 }
 
-still_there : (g : Definitions) (p : Procedure) (c : Callee) → IsThere g.procedures c → IsThere (g.procedures ++ p ∷ []) c
-still_there g p (callee.Procedure i) h = omega (arith, h, length-append g.procedures (p ∷ []))
-still_there g p (callee.Generic i) h = h
+-- names of functions are names of more functions
+pub named_more : (fs : List FunctionRow) (f : FunctionRow) (gs : List GenericRow) → list_all (has_row fs) gs ≡ true → list_all (has_row (fs ++ f ∷ [])) gs ≡ true
+named_more fs f gs h = all_more (has_row fs) (has_row (fs ++ f ∷ [])) (λ g e. any_front (λ (k : FunctionRow). g.name.0 == k.name.0) fs (f ∷ []) e) gs h
 
--- literals, procedures and main forms fit under rows that have as many literals and sites
-whole_function : (g : Definitions) (name : Name) (p : Procedure) → WholeDefinitions g → procedure_fits g p ≡ true → list_any (λ f. is_that name f.name) g.functions ≡ false
-    → WholeDefinitions (one_more g name p)
-whole_function g name p w f k =
-    let h : Definitions = one_more g name p in
+pub sound_row : (g : Definitions) (name : Name) (c : Callee) → SoundDefinitions g → callee_fits (rows_of g) c ≡ true → list_any (λ f. is_that name f.name) g.functions ≡ false
+    → SoundDefinitions (with_row g (record { name = name; callee = c }))
+sound_row g name c w e k =
+    let f : FunctionRow = record { name = name; callee = c } in
+    let h : Definitions = with_row g f in
+    let l : Later g h = later_row g f in
     record {
-      literals = literals_later g h (later_function g name p) g.literals w.literals;
-      procedures = procedures_later g h (later_function g name p) (g.procedures ++ p ∷ []) (all_push (procedure_fits g) g.procedures p w.procedures f);
-      functions = each_append (λ f. IsThere h.procedures f.callee) g.functions _
-          (each_more (λ f. IsThere g.procedures f.callee) (λ f. IsThere h.procedures f.callee) (λ f e. still_there g p f.callee e) g.functions w.functions)
-          (omega (arith, length-append g.procedures (p ∷ [])), tt);
-      names = one_name_more name (callee.Procedure (length g.procedures)) g.functions w.names k;
-      main = mains_later g h (later_function g name p) g.main w.main;
+      literals = literals_later g h l g.literals w.literals;
+      procedures = procedures_later g h l g.procedures w.procedures;
+      classes = record { hierarchy = w.classes.hierarchy; slots = own_later g h l g.classes.own w.classes.slots };
+      generics = record {
+        fit = generics_later g h l g.generics w.generics.fit;
+        names = w.generics.names;
+        named = named_more g.functions f g.generics w.generics.named;
+      };
+      functions = all_push (λ f. callee_fits (rows_of h) f.callee) g.functions f (functions_later g h l g.functions w.functions) (callee_fits_later g h l c e);
+      names = one_name_more name c g.functions w.names k;
+      main = mains_later g h l g.main w.main;
     }
 
--- a definition leaves such tables
+-- the function of a procedure more
 
-found_function : (h : Definitions) (a : Around) (name : Name) (ps : Parameters) (fs : List Item) (rs : List Found) → NothingAround a
-    → ParametersMatch (spots h (alone false a) (alone false a) rs) (length (all_symbols ps)) rs
-    → parameters (take (length ps.required) (variables_found rs)) (rest_found (is_some ps.rest) (drop (length ps.required) (variables_found rs))) ≡ new_variables rs
-    → procedure_fits h (procedure_found name (length ps.required) (is_some ps.rest) rs) ≡ true
-found_function h a name ps fs rs nothing m e =
-    let t : LexicalScope = with_bound (new_variables rs) (scope_of (alone false a)) in
-    let u : LexicalScope = alone_in (parameters (take (length ps.required) (variables_found rs)) (rest_found (is_some ps.rest) (drop (length ps.required) (variables_found rs)))) false in
-    let body : RightIn h t 0 (body_of (forms_found rs)) = made_body h t 0 (forms_found rs) (omega arith) m.forms in
-    let same : t ≡ u =
-    ap (λ bs. scope_with (new_variables rs ++ variables_around bs) (exits_around bs) false) nothing.bound
-    ∙ ap (λ vs. scope_with vs [] false) (append-nil (new_variables rs) ∙ sym e) in
-    and_from _ _ (and_from _ _ body.fits (le-leb (depth (body_of (forms_found rs))) 1000 (omega (arith, body.deep))))
-    (subst (λ (v : LexicalScope). stands v (body_of (forms_found rs)) ≡ true) same body.stands)
+abbrev with_both : Definitions → Name → Procedure → Definitions
+with_both g name p = with_row (one_more g p) (record { name = name; callee = callee.Procedure (length g.procedures) })
+
+later_function : (g : Definitions) (name : Name) (p : Procedure) → Later g (with_both g name p)
+later_function g name p = later_then g (one_more g p) (with_both g name p) (later_procedure g p) (later_row (one_more g p) _)
+
+whole_function : (g : Definitions) (name : Name) (p : Procedure) → SoundDefinitions g → FitsAlone g false p → list_any (λ f. is_that name f.name) g.functions ≡ false
+    → SoundDefinitions (with_both g name p)
+whole_function g name p w f k =
+    sound_row (one_more g p) name (callee.Procedure (length g.procedures)) (sound_procedure g p w (fits_at_most g false p f))
+    (ap (is_alone false) (slice_get-behind g.procedures p) ∙ f.alone) k
+
+stands_with : (g : Definitions) (name : Name) (p : Procedure) → is_alone false (Some p) ≡ true → EachStands g → EachStands (with_both g name p)
+stands_with g name p a s = record {
+  stands = λ i q e.
+      ⊎_elim (λ front. s.stands i q front) (λ last. or_right _ _ (ap (λ r. is_alone false (Some r)) (sym last.1) ∙ a)) (slice_get-push g.procedures p i q e);
+}
 
 -- the name of a file's function is a literal
-name_entered : (n : ℕ) (sited : Bool) (d : Item) (s : Tables) → WholeDefinitions (defined s) → Good n d → Entered (defined s) (defined (with_name sited d s))
-name_entered n true d s w g = entered_literal (defined s) (row.Datum d) w (formed_tells d g.formed)
-name_entered n false d s w g = entered_same (defined s) w
+pub name_entered : (sited : Bool) (d : Item) (s : Tables) → SoundDefinitions (defined s) → is_formed d ≡ true → Entered (defined s) (defined (with_name sited d s))
+name_entered true d s w g = entered_literal (defined s) (row.Datum d) w g
+name_entered false d s w g = entered_same (defined s) w
 
-name_right : (sited : Bool) (d : Item) (s : Tables) (h : Definitions) (t : LexicalScope) (k : ℕ) → k + 1 ≤ 1000 → Later (defined (with_name sited d s)) h
+pub name_right : (sited : Bool) (d : Item) (s : Tables) (h : Definitions) (t : LexicalScope) (k : ℕ) → k + 1 ≤ 1000 → Later (defined (with_name sited d s)) h
     → RightIn h t k (leaf_form (named_form sited s))
 name_right true d s h t k l e = made_literal h t k (length s.literals) l (omega (arith, e.literals, length-append s.literals (row.Datum d ∷ [])))
 name_right false d s h t k l e = made_body h t k [] l tt
 
-procedures_then : (ps : List Procedure) (p : Procedure) → sum_by procedure_nodes (ps ++ p ∷ []) ≡ sum_by procedure_nodes ps + procedure_nodes p
-procedures_then ps p = sum_by_push procedure_nodes ps p
-
 -- the sites of a body are counted by its procedure
-function_counted : (b : Bool) (x g : Definitions) (name : Name) (p : Procedure) (n k : ℕ) → n ≤ procedure_nodes p → Counted b x g n → Counted b x (one_more g name p) k
-function_counted true x g name p n k l c = record { sites = omega (arith, c.sites, l, procedures_then g.procedures p) }
-function_counted false x g name p n k l c = record { sites = omega (arith, c.sites, procedures_then g.procedures p) }
+function_counted : (b : Bool) (x g : Definitions) (name : Name) (p : Procedure) (n k : ℕ) → n ≤ procedure_nodes p → Counted b x g n → Counted b x (with_both g name p) k
+function_counted b x g name p n k l c = let r : Counted b x (one_more g p) k = procedure_counted b x g p n k l c in record { sites = r.sites }
 
-name_counted : (b sited : Bool) (d : Item) (s : Tables) → Counted b (defined s) (defined (with_name sited d s)) 0
+pub name_counted : (b sited : Bool) (d : Item) (s : Tables) → Counted b (defined s) (defined (with_name sited d s)) 0
 name_counted b true d s = record { sites = (counted_same b (defined s)).sites }
 name_counted b false d s = record { sites = (counted_same b (defined s)).sites }
 
-name_numbered : (sited : Bool) (s : Tables) (h k : Definitions) → Numbered h k (leaf_form (named_form sited s))
+pub name_numbered : (sited : Bool) (s : Tables) (h k : Definitions) → Numbered h k (leaf_form (named_form sited s))
 name_numbered true s h k = record { numbers = refl }
 name_numbered false s h k = record { numbers = refl }
 
@@ -198,35 +204,38 @@ apt_defun_of : (n : ℕ) (a : Around) (s : Tables) (name : Name) (d : Item) (fs 
 apt_defun_of n a s name d fs ps b h g top fresh l =
     let i : Around = alone false a in
     let t : Tables = with_name a.spot.sited d s in
-    let e : Entered (defined s) (defined t) = name_entered n a.spot.sited d s b.whole h in
+    let xs : List Part = function_parts ps fs in
+    let e : Entered (defined s) (defined t) = name_entered a.spot.sited d s b.whole (formed_tells d h.formed) in
     record {
       entered = e;
-      outside = good_later (defined s) (defined t) i e.later (good_alone (defined s) a b.good);
-      inside = good_later (defined s) (defined t) i e.later (good_alone (defined s) a b.good);
-      low = λ k. (refl, refl);
+      outside = good_later (defined s) (defined t) i e.later (good_alone (defined s) false a b.good);
+      inside = good_later (defined s) (defined t) i e.later (good_alone (defined s) false a b.good);
+      level = λ k. absurd (cc k);
       sited = (refl, refl);
       parts = function_apt n i ps fs refl g;
-      right = λ u rs c. name_right a.spot.sited d s _ (scope_of a) a.spot.depth l (later_then (defined t) (defined u) _ c.later (later_function (defined u) name _));
-      ends = λ u rs c.
-          let p : Procedure = procedure_found name (length ps.required) (is_some ps.rest) rs in
-          let fits : procedure_fits (defined u) p ≡ true =
-          found_function (defined u) a name ps fs rs (b.good.top top) (parameters_match (spots (defined u) i i rs) (all_symbols ps) fs rs c.match)
+      right = λ u rs c. name_right a.spot.sited d s _ (scope_of a) a.spot.depth l (later_then (defined t) (defined u) (with_both (defined u) name _) c.later (later_function (defined u) name _));
+      leaves = λ u rs c.
+          let p : Procedure = procedure_found (Some name) (length ps.required) (is_some ps.rest) rs in
+          let fits : FitsAlone (defined u) false p =
+          found_procedure (defined u) a false (Some name) ps rs (b.good.top top) (parameters_match (spots (defined u) i i rs) (all_symbols ps) fs rs c.match)
           (found_parameters (defined u) i i ps fs rs c.match) in
-          let same : u.functions ≡ s.functions = c.functions refl refl ∙ e.functions in
+          let parts : Undefined (defined t) (defined u) = c.undefined (all_ordinary n i xs refl (function_apt n i ps fs refl g)) (all_low false false xs refl refl) in
+          let same : u.functions ≡ s.functions = parts.functions ∙ e.same.functions in
           record {
-            later = later_function (defined u) name p;
-            whole = whole_function (defined u) name p c.whole fits
+            later = later_then (defined t) (defined u) (with_both (defined u) name p) c.later (later_function (defined u) name p);
+            sound = whole_function (defined u) name p c.whole fits
                 (subst (λ (fs : List FunctionRow). list_any (λ f. is_that name f.name) fs ≡ false) (sym same) fresh);
-            main = refl;
+            main = c.main;
             inside = λ k. absurd (cc (top, k));
+            stand = λ k. stands_with (defined u) name p fits.alone (each_stands_same (defined t) (defined u) parts k);
           };
       counted = λ u rs c k.
-          let p : Procedure = procedure_found name (length ps.required) (is_some ps.rest) rs in
+          let p : Procedure = procedure_found (Some name) (length ps.required) (is_some ps.rest) rs in
           let forms : found_nodes rs ≡ nodes_in (forms_found rs) =
           forms_counted (spots (defined u) i i rs) (function_parts ps fs) rs c.match
           (both_plain (each_parameter (all_symbols ps)) (each_inner fs) (parameters_plain (all_symbols ps)) (inner_plain fs)) in
-          function_counted a.spot.sited (defined s) (defined u) name p (0 + found_nodes rs) _ (omega (arith, forms, body_nodes (forms_found rs)))
-          (counted_then a.spot.sited (defined s) (defined t) (defined u) 0 (found_nodes rs) (name_counted a.spot.sited a.spot.sited d s) k);
+          function_counted a.spot.sited (defined s) (defined u) name p (0 + counted_nodes xs rs) _ (omega (arith, counted_at_most xs rs, forms, body_nodes (forms_found rs)))
+          (counted_then a.spot.sited (defined s) (defined t) (defined u) 0 (counted_nodes xs rs) (name_counted a.spot.sited a.spot.sited d s) k);
       numbered = λ u rs c m. name_numbered a.spot.sited s _ _;
     }
 

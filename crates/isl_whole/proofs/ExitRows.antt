@@ -35,7 +35,9 @@ use Rattle.isl_whole.proofs.FoundNodes.{inner_plain, forms_counted, inner_as_man
 use Rattle.isl_whole.proofs.Good.{good_deeper, good_block, good_tags, block_scope, tags_scope}
 use Rattle.isl_whole.proofs.Places.{block_there, tag_there}
 use Rattle.isl_whole.proofs.Made.{made_block, made_tagbody, made_go}
-use Rattle.isl_whole.proofs.Apt.{spots, AptAt, Stage, apt_if, apt_within, apt_made, apt_at_once, inner_apt}
+use Rattle.isl_whole.proofs.Wanted.{spots, AptAt, Stage}
+use Rattle.isl_whole.proofs.Apt.{apt_if, apt_within, apt_made, apt_at_once, inner_apt}
+use Rattle.isl_whole.proofs.Procedures.{inner_ordinary}
 use Rattle.isl_whole.proofs.Found.{found_inner}
 use Rattle.isl_whole.proofs.ValueRows.{apt_one}
 
@@ -61,6 +63,7 @@ apt_block_as n a s p (Some x) fs b g =
       inside = good_block (defined s) x (deeper 2 a) refl (good_deeper (defined s) 2 a b.good);
       low = λ k. refl;
       sited = refl;
+      ordinary = inner_ordinary fs;
       start = record { sites = (counted_same a.spot.sited (defined s)).sites };
       parts = inner_apt n i fs g;
       right = λ u rs c.
@@ -119,6 +122,7 @@ apt_tagbody n a s p ds b g =
       inside = good_tags (defined s) (tags_in ds) (deeper 2 a) refl (good_deeper (defined s) 2 a b.good);
       low = λ k. refl;
       sited = refl;
+      ordinary = inner_ordinary (forms_in ds);
       start = record { sites = (counted_same a.spot.sited (defined s)).sites };
       parts = inner_apt n i (forms_in ds) (good_forms n ds g);
       right = λ u rs c.

@@ -24,7 +24,7 @@ use Rattle.isl_whole.specs.Places.{scope_of}
 use Rattle.isl_whole.specs.Right.{RightIn, RightAt}
 use Rattle.isl_whole.proofs.Matches.{new_variables, Spots, RightOutside, RightBelow, AllMatch, taken_front, dropped_front, below_match, inner_match, BodyThen, body_then}
 use Rattle.isl_whole.proofs.Made.{OneStands, made_one, made_two, made_with_body, made_body}
-use Rattle.isl_whole.proofs.Apt.{spots}
+use Rattle.isl_whole.proofs.Wanted.{spots}
 
 -- one form, two, and a form with a body
 

@@ -10,7 +10,7 @@ use Rattle.isl_profile.specs.declared.making.Found.TheVariants.{Value, Binding, 
 use Rattle.isl_profile.specs.declared.making.One.{One}
 use Rattle.isl_profile.specs.declared.making.Two.{Two}
 use Rattle.isl_profile.specs.declared.making.WithBody.{WithBody}
-use Rattle.isl_profile.specs.Nodes.{Part, form, below, inner, bind, parameter}
+use Rattle.isl_profile.specs.Nodes.{Part, form, below, inner, bind, parameter, wrong, function}
 use Rattle.isl_profile.specs.Makings.{forms_found, make_one, make_two, make_with_body, make_clauses}
 use Rattle.isl_profile.specs.Shapes.{Pair, ClauseParts, symbol_of, forms_in, form_unless, lengths_in, one_longer, before}
 use Rattle.isl_profile.specs.RowWords.{each_form, each_below, each_inner, each_parameter}
@@ -28,6 +28,8 @@ IsPlain (below d) = Unit {0}
 IsPlain (inner d) = Unit {0}
 IsPlain (bind x d) = ⊥
 IsPlain (parameter x) = Unit {0}
+IsPlain (wrong p r) = ⊥
+IsPlain (function w) = ⊥
 
 abbrev pub AllPlain : List Part → Type 0
 AllPlain xs = Each IsPlain xs
@@ -73,6 +75,8 @@ forms_counted p (below d ∷ xs) (Binding v f ∷ rs) m a = absurd m.0
 forms_counted p (inner d ∷ xs) (Binding v f ∷ rs) m a = absurd m.0
 forms_counted p (bind x d ∷ xs) (Binding v f ∷ rs) m a = absurd a.0
 forms_counted p (parameter x ∷ xs) (Binding v f ∷ rs) m a = absurd m.0
+forms_counted p (wrong q k ∷ xs) (Binding v f ∷ rs) m a = absurd m.0
+forms_counted p (function w ∷ xs) (Binding v f ∷ rs) m a = absurd m.0
 
 -- no part, one, two, and one with a body
 

@@ -40,8 +40,8 @@ good_at_top g a o = record {
   top = λ e. let n : NothingAround a = o.top e in record { bound = n.bound; method = n.method };
 }
 
-pub good_alone : (g : Definitions) (a : Around) → GoodAround g a → GoodAround g (alone false a)
-good_alone g a o = record { variables = o.variables; exits = o.exits; functions = o.functions; top = λ e. absurd (cc e) }
+pub good_alone : (g : Definitions) (has_next : Bool) (a : Around) → GoodAround g a → GoodAround g (alone has_next a)
+good_alone g has_next a o = record { variables = o.variables; exits = o.exits; functions = o.functions; top = λ e. absurd (cc e) }
 
 -- with one more bound, below top level
 

@@ -2,13 +2,15 @@
 use Rattle.std.proofs.Common.{◌+◌, ℕ, List, arith}
 use Rattle.isl_profile.specs.declared.tables.Tables.{Tables}
 use Rattle.isl_profile.specs.declared.making.Made.{Made}
-use Rattle.isl_profile.specs.Nodes.{Around, Part, form, below, inner, bind, parameter, Node, offends, steps, whole, Standing, Verdict, stands as comes_to, ended, behind, recorded}
+use Rattle.isl_profile.specs.Nodes.{Around, Part, form, below, inner, bind, parameter, wrong, function, Node, offends, unnamed, steps, whole, Standing, Verdict, stands as comes_to, ended, behind, recorded}
 use Rattle.isl_profile.specs.RowWords.{deeper}
 use Rattle.isl_profile.specs.Rows.{node}
 use Rattle.isl_profile.specs.Judged.{with_fresh, with_variable, subject, Verdicts, all_stand, one_ended, in_front, made_verdict, Comes, offence, step, made, Goes, ends, goes, stops}
 use Rattle.isl_profile.specs.Marks.{Grows}
 use Rattle.isl_profile.specs.bridge.Growing.{grows_then, grows_same, finish_grows}
-use Rattle.isl_whole.proofs.Growing.{grows_fresh, grows_numbers, Begins, begins_node}
+use Rattle.isl_whole.proofs.Starting.{grows_fresh, grows_numbers, Begins}
+use Rattle.isl_whole.proofs.StartingDefinitions.{begins_function_node}
+use Rattle.isl_whole.proofs.Growing.{begins_node}
 
 abbrev pub GrowsTo : Tables → Verdict → Type 0
 GrowsTo s (comes_to m) = Grows s m.tables
@@ -32,6 +34,7 @@ more_grows s x m (one_ended e) g h = tt
 
 begins_from : (s t : Tables) (x : Node) → Grows s t → Begins t x → Begins s x
 begins_from s t (offends p r) g h = tt
+begins_from s t unnamed g h = tt
 begins_from s t (steps a u d) g h = grows_then s t u g h
 begins_from s t (whole o i u xs m) g h = grows_then s t u g h
 
@@ -44,6 +47,8 @@ begins_part names o i s (below d) = begins_node names s (deeper 1 o) d
 begins_part names o i s (inner d) = begins_node names s i d
 begins_part names o i s (bind x d) = begins_from s (with_variable s) _ (grows_variable s) (begins_node names (with_variable s) o d)
 begins_part names o i s (parameter x) = grows_variable s
+begins_part names o i s (wrong p r) = tt
+begins_part names o i s (function w) = begins_function_node s o w
 
 mutual
   pub node_grows : (names : List (List ℕ)) (x : Node) (v : Verdict) → Comes names x v → (s : Tables) → Begins s x → GrowsTo s v

@@ -9,7 +9,7 @@ use Rattle.isl_meaning.specs.Subforms.{Each, value_list, dynamic_value_list}
 use Rattle.isl_meaning.specs.Mentions.{variables_bound}
 use Rattle.isl_profile.specs.declared.making.Found.{Found}
 use Rattle.isl_profile.specs.declared.making.Found.TheVariants.{Value, Binding, Parameter}
-use Rattle.isl_profile.specs.Nodes.{Part, form, below, inner, bind, parameter}
+use Rattle.isl_profile.specs.Nodes.{Part, form, below, inner, bind, parameter, wrong, function}
 use Rattle.isl_profile.specs.Makings.{forms_found, variables_found, bindings_found, make_dynamics, behind_dynamics}
 use Rattle.isl_profile.specs.Shapes.{Pair}
 use Rattle.isl_profile.specs.RowWords.{each_form, each_below, each_inner, each_bound, each_parameter}
@@ -62,6 +62,10 @@ Matches p (bind x d) (Parameter v) = ⊥
 Matches p (parameter x) (Value f) = ⊥
 Matches p (parameter x) (Binding v f) = ⊥
 Matches p (parameter x) (Parameter v) = Unit {0}
+Matches p (wrong q r) f = ⊥
+Matches p (function w) (Value f) = Unit {0}
+Matches p (function w) (Binding v f) = ⊥
+Matches p (function w) (Parameter v) = ⊥
 
 abbrev pub AllMatch : Spots → List Part → List Found → Type 0
 AllMatch p [] [] = Unit {0}
@@ -87,6 +91,10 @@ match_within p s (bind x d) (Parameter v) w h = h
 match_within p s (parameter x) (Value f) w h = h
 match_within p s (parameter x) (Binding v f) w h = h
 match_within p s (parameter x) (Parameter v) w h = h
+match_within p s (wrong q k) r w h = absurd h
+match_within p s (function x) (Value f) w h = h
+match_within p s (function x) (Binding v f) w h = h
+match_within p s (function x) (Parameter v) w h = h
 
 pub all_match_within : (p : Spots) (s : LexicalScope) (xs : List Part) (rs : List Found) → Within p.inside s → AllMatch p xs rs → AllMatch (record p { inside = s }) xs rs
 all_match_within p s [] [] w h = tt

@@ -16,7 +16,7 @@ use Rattle.isl_profile.specs.declared.making.Two.TheVariants.{Applying, Throwing
 use Rattle.isl_profile.specs.declared.making.WithBody.{WithBody}
 use Rattle.isl_profile.specs.declared.making.WithBody.TheVariants.{Repeating, Catching, Unwinding, Handling}
 use Rattle.isl_profile.specs.declared.making.Making.{Making}
-use Rattle.isl_profile.specs.declared.making.Making.TheVariants.{Ready, OfOne, OfTwo, OfBody, InSequence, CallOf, CallOfValue, CallOfLocal, CallOfPrimitive, OfClauses, OfVariables, OfDynamics, OfFunction, OfBlock, OfSegments, OfFunctionNamed}
+use Rattle.isl_profile.specs.declared.making.Making.TheVariants.{Ready, OfOne, OfTwo, OfBody, InSequence, CallOf, CallOfValue, CallOfLocal, CallOfPrimitive, OfClauses, OfVariables, OfDynamics, OfFunction, OfBlock, OfSegments, OfFunctionNamed, OfProcedure, OfAccessor, OfMethods, OfClass}
 use Rattle.isl_profile.specs.Makings.{leaf_form, forms_found, variables_found, bindings_found, body_of, make_one, make_two, make_with_body, make_clauses, make_segments, make_dynamics, behind_dynamics, rest_found, make, at_site}
 use Rattle.isl_whole.specs.Definitions.{Definitions, Later}
 use Rattle.isl_whole.specs.Numbers.{is_from, numbers_fit, Numbered}
@@ -69,6 +69,8 @@ pub record AllNumbered (g h : Definitions) (rs : List Found) : Type 0 where
 abbrev pub OwnNumbers : Definitions → Definitions → Making → List Found → Type 0
 OwnNumbers g h (Ready l) rs = Numbered g h (leaf_form l)
 OwnNumbers g h (OfFunctionNamed name n rest of_file l) rs = Numbered g h (leaf_form l)
+OwnNumbers g h (OfMethods t hs p of_file l) rs = Numbered g h (leaf_form l)
+OwnNumbers g h (OfClass c p of_file l) rs = Numbered g h (leaf_form l)
 OwnNumbers g h OfVariables rs = list_all (is_from g.variables h.variables) (variables_bound (bindings_found rs)) ≡ true
 OwnNumbers g h (OfFunction n rest parts) rs =
     list_all (is_from g.variables h.variables) (parameters (take n (variables_found rs)) (rest_found rest (drop n (variables_found rs)))) ≡ true
@@ -144,6 +146,10 @@ make_numbered g h (OfFunction n rest parts) rs a o =
 make_numbered g h (OfBlock x) rs a o = numbered_whole g h _ (and_from _ _ o refl) tt (body_numbered g h (forms_found rs) a.forms, tt)
 make_numbered g h (OfSegments x ns) rs a o = numbered_whole g h _ (and_from _ _ o refl) tt (segments_numbered g h ns (forms_found rs) a.forms)
 make_numbered g h (OfFunctionNamed name n rest of_file l) rs a o = o
+make_numbered g h (OfProcedure name n rest) rs a o = record { numbers = refl }
+make_numbered g h (OfAccessor name k v l) rs a o = record { numbers = refl }
+make_numbered g h (OfMethods t hs p of_file l) rs a o = o
+make_numbered g h (OfClass c p of_file l) rs a o = o
 
 pub site_numbered : (g h : Definitions) (site : Option ℕ) (f : Form) → Numbered g h f → Numbered g h (at_site site f)
 site_numbered g h None f n = n

@@ -42,7 +42,9 @@ use Rattle.isl_whole.proofs.FoundNodes.{inner_plain, clauses_plain, forms_counte
 use Rattle.isl_whole.proofs.Good.{good_at_top}
 use Rattle.isl_whole.proofs.Places.{variable_there, function_there}
 use Rattle.isl_whole.proofs.Made.{OneStands, made_local, made_clauses, made_body}
-use Rattle.isl_whole.proofs.Apt.{spots, AllApt, AptAt, Stage, apt_if, apt_within, apt_unsited, apt_literal, apt_made, plain_parts, apt_at_once, both_apt, below_apt, inner_apt}
+use Rattle.isl_whole.proofs.Wanted.{spots, AllApt, AptAt, Stage}
+use Rattle.isl_whole.proofs.Apt.{apt_if, apt_within, apt_unsited, apt_literal, apt_made, plain_parts, apt_at_once, both_apt, below_apt, inner_apt}
+use Rattle.isl_whole.proofs.Procedures.{inner_ordinary}
 use Rattle.isl_whole.proofs.Found.{found_one, one_ends, found_two, found_with_body, found_inner, found_clauses}
 
 -- a symbol
@@ -115,6 +117,7 @@ apt_progn n a s p ds b g = apt_within n a s 1 p _ (λ l. apt_made n a s (deeper_
   inside = good_at_top (defined s) a b.good;
   low = λ k. k;
   sited = refl;
+  ordinary = inner_ordinary ds;
   start = counted_same a.spot.sited (defined s);
   parts = inner_apt n (deeper_at_top a) ds g;
   right = λ u rs c. made_body (defined u) (scope_of a) a.spot.depth _ l (found_inner (defined u) (deeper 1 a) (deeper_at_top a) ds rs c.match);
@@ -233,7 +236,7 @@ apt_method n l a s p [] b o = apt_in_method n l a s p a.spot.in_method b refl o
 apt_method n l a s p (d ∷ ds) b o = tt
 
 -- a class that was found is there
-class_there : (rows : List ClassRow) (name : Name) (c : ℕ) → class_named rows name ≡ Some c → nat_lt c (length rows) ≡ true
+pub class_there : (rows : List ClassRow) (name : Name) (c : ℕ) → class_named rows name ≡ Some c → nat_lt c (length rows) ≡ true
 class_there [] name c h = absurd (cc h)
 class_there (r ∷ rs) name c h = by_test (same_name name r.name) (class_named rs name) (class_there rs name) h
   where

@@ -2,17 +2,18 @@
 use Rattle.std.specs.Prelude.{◌≡◌, []}
 use Rattle.isl_profile.specs.declared.tables.Tables.{Tables}
 use Rattle.isl_whole.specs.Definitions.{defined, WholeTables, FewSites}
-use Rattle.isl_whole.specs.Classes.{SimpleClasses}
+use Rattle.isl_whole.specs.Classes.{BeginsBuiltIn}
 
 pub record WholeBetween (t : Tables) : Type 0 where
   pub whole : WholeTables t
-  pub classes : SimpleClasses t.classes.rows
+  pub classes : BeginsBuiltIn t.classes.rows
   pub sites : FewSites (defined t)
 
 -- tables in which no form has left anything
 pub record HasNoForm (t : Tables) : Type 0 where
   pub literals : t.literals ≡ []
   pub procedures : t.procedures ≡ []
+  pub generics : t.generics ≡ []
   pub functions : t.functions ≡ []
   pub main : t.main ≡ []
   pub sites : t.sites ≡ []

@@ -5,3 +5,5 @@ pub mod Right
 pub mod Classes
 pub mod Between
 pub mod Numbers
+pub mod Below
+pub mod Known

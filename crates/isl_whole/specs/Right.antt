@@ -1,4 +1,4 @@
--- What a datum has to come to: a form that stands there, fits, and is not too deep; with tables behind it that are whole.
+-- What a datum has to come to: a form that stands there, fits, and is not too deep; with tables behind it that are sound.
 use Rattle.std.specs.Prelude.{◌≡◌, ℕ, ◌+◌, ◌≤◌, Bool, true, false, if◌then◌else◌, length, [], ◌∷◌, ◌++◌}
 use Rattle.isl_meaning.specs.declared.scope.LexicalScope.{LexicalScope}
 use Rattle.isl_meaning.specs.Form.{Form}
@@ -8,7 +8,7 @@ use Rattle.isl_meaning.specs.Counts.{depth, all_nodes}
 use Rattle.isl_profile.specs.Marks.{Grows}
 use Rattle.isl_profile.specs.Nodes.{Around, Standing}
 use Rattle.isl_profile.specs.declared.tables.Tables.{Tables}
-use Rattle.isl_whole.specs.Definitions.{Definitions, defined, rows_of, Later, procedure_count, WholeDefinitions}
+use Rattle.isl_whole.specs.Definitions.{Definitions, defined, rows_of, Later, Undefined, procedure_count, SoundDefinitions, EachStands}
 use Rattle.isl_whole.specs.Numbers.{Numbered}
 use Rattle.isl_whole.specs.Places.{scope_of}
 
@@ -21,19 +21,20 @@ pub record RightIn (g : Definitions) (s : LexicalScope) (n : ℕ) (f : Form) : T
 abbrev pub RightAt : Definitions → Around → Form → Type 0
 RightAt g a f = RightIn g (scope_of a) a.spot.depth f
 
--- what later tables have kept, and below top level nothing is defined
+-- what later tables have kept: they are sound, each procedure stands where all did, and below top level nothing is defined
 pub record Behind (top : Bool) (g h : Definitions) : Type 0 where
   pub later : Later g h
-  pub whole : WholeDefinitions h
+  pub sound : SoundDefinitions h
+  pub stand : EachStands g → EachStands h
   pub main : h.main ≡ g.main
-  pub inside : top ≡ false → h.functions ≡ g.functions
+  pub inside : top ≡ false → Undefined g h
 
 -- the sites are more by no more than these nodes and those of new procedures, and where forms have no sites by no more
 -- than those of new procedures
 pub record Counted (sited : Bool) (g h : Definitions) (n : ℕ) : Type 0 where
   pub sites : length h.sites + procedure_count g ≤ length g.sites + (if sited then n else 0) + procedure_count h
 
--- a datum came to a form that is right there, and to whole tables
+-- a datum came to a form that is right there, and to sound tables
 pub record Came (a : Around) (s : Tables) (m : Standing) : Type 0 where
   pub right : RightAt (defined m.tables) a m.form
   pub behind : Behind a.spot.top (defined s) (defined m.tables)

@@ -94,7 +94,11 @@ put id = prim PutChar (forms (prim StandardOutput no_form ∷ literal id ∷ [])
 abbrev pub body : List Form → Form
 body fs = sequence (forms fs)
 
--- what a program does, with an empty input, so many levels and so many words
+-- what is said of a program, of names, so many levels and so many words, with an empty input: its ending, and what it prints
+abbrev pub Doing : Type 1
+Doing = List (List ℕ) → ProgramRows → ℕ → Limit → Ending → List ℕ → Type 0
+
+-- that its meaning ends so and prints that
 pub record Does (names : List (List ℕ)) (program : ProgramRows) (k : ℕ) (limit : Limit) (ending : Ending) (printed : List ℕ) : Type 0 where
   pub ends : ending_of (meaning names program [] k limit).end (meaning names program [] k limit).store ≡ ending
   pub prints : (meaning names program [] k limit).printed ≡ printed

@@ -12,7 +12,7 @@ use Rattle.isl_meaning.specs.model.View.{forms}
 use Rattle.isl_meaning.specs.Values.{integer, nil}
 use Rattle.isl_meaning.specs.State.{words, unlimited}
 use Rattle.isl_meaning.specs.Meaning.{with_value, for_words, meaning}
-use Rattle.isl_worked.specs.ByHand.{name, a_number, a_char, a_lambda, a_procedure, a_function, a_class, built_in_rows, a_program, put, body, Does}
+use Rattle.isl_worked.specs.ByHand.{name, a_number, a_char, a_lambda, a_procedure, a_function, a_class, built_in_rows, a_program, put, body, Doing}
 
 -- (defclass <a> () ()) (defclass <b> (<a>) ()) (defgeneric g (x)), and methods of g that put a character each:
 -- for <a> a primary one, 1, one before, 3, and one after, 5; for <b> a primary one, 2, and then the next
@@ -43,8 +43,8 @@ methods_in_order = record (a_program
     }
 
 -- around, before the most specific first, primary, after the least specific first: (432156)
-abbrev pub MethodsInOrder : Type 0
-MethodsInOrder = Does ((103 ∷ []) ∷ []) methods_in_order 4 unlimited (with_value nil) (40 ∷ 52 ∷ 51 ∷ 50 ∷ 49 ∷ 53 ∷ 54 ∷ 41 ∷ [])
+abbrev pub MethodsInOrder : Doing → Type 0
+MethodsInOrder does = does ((103 ∷ []) ∷ []) methods_in_order 4 unlimited (with_value nil) (40 ∷ 52 ∷ 51 ∷ 50 ∷ 49 ∷ 53 ∷ 54 ∷ 41 ∷ [])
 
 -- (defdynamic d 1) (defun f () (dynamic d)) (- (* 10 (dynamic-let ((d 2)) (f))) (f))
 abbrev pub seen_through_a_call : ProgramRows
@@ -56,8 +56,8 @@ seen_through_a_call = a_program (a_number 1 ∷ a_number 2 ∷ a_number 10 ∷ [
     ∷ call 1 (forms []) ∷ [])) ∷ [])
 
 -- a dynamic binding is seen through a call, and ends with its form
-abbrev pub SeenThroughACall : Type 0
-SeenThroughACall = Does ((100 ∷ []) ∷ (102 ∷ []) ∷ []) seen_through_a_call 1 unlimited (with_value (integer (pos 19))) []
+abbrev pub SeenThroughACall : Doing → Type 0
+SeenThroughACall does = does ((100 ∷ []) ∷ (102 ∷ []) ∷ []) seen_through_a_call 1 unlimited (with_value (integer (pos 19))) []
 
 -- ((lambda (x) x) 1)
 abbrev pub one_application : ProgramRows
@@ -78,8 +78,8 @@ abbrev pub one_cons : ProgramRows
 one_cons = a_program (a_number 1 ∷ []) [] [] (prim Cons (forms (literal 0 ∷ literal 0 ∷ [])) ∷ [])
 
 -- with 95 words the main form does not fit, with 97 the cons does not
-abbrev pub FullAtTheForm : Type 0
-FullAtTheForm = Does [] one_cons 0 (words 95) (for_words 96 95) []
+abbrev pub FullAtTheForm : Doing → Type 0
+FullAtTheForm does = does [] one_cons 0 (words 95) (for_words 96 95) []
 
-abbrev pub FullAtTheCons : Type 0
-FullAtTheCons = Does [] one_cons 0 (words 97) (for_words 2 1) []
+abbrev pub FullAtTheCons : Doing → Type 0
+FullAtTheCons does = does [] one_cons 0 (words 97) (for_words 2 1) []

@@ -8,7 +8,7 @@ use Rattle.isl_meaning.specs.model.View.{forms}
 use Rattle.isl_meaning.specs.Values.{integer}
 use Rattle.isl_meaning.specs.State.{unlimited}
 use Rattle.isl_meaning.specs.Meaning.{with_value, by_class, for_levels}
-use Rattle.isl_worked.specs.ByHand.{a_number, a_char, a_symbol, a_nil, a_lambda, a_procedure, a_function, a_program, put, body, site_at, Does}
+use Rattle.isl_worked.specs.ByHand.{a_number, a_char, a_symbol, a_nil, a_lambda, a_procedure, a_function, a_program, put, body, site_at, Doing}
 
 -- (block b (unwind-protect (unwind-protect (return-from b 1) (format-char (standard-output) #\a))
 --     (format-char (standard-output) #\b)))
@@ -17,8 +17,8 @@ inner_first = a_program (a_number 1 ∷ a_char 97 ∷ a_char 98 ∷ []) [] []
     (block 0 (body (unwind (unwind (return_from 0 (literal 0)) (body (put 1 ∷ []))) (body (put 2 ∷ [])) ∷ [])) ∷ [])
 
 -- cleanups run innermost first: it prints ab
-abbrev pub InnerFirst : Type 0
-InnerFirst = Does [] inner_first 0 unlimited (with_value (integer (pos 1))) (97 ∷ 98 ∷ [])
+abbrev pub InnerFirst : Doing → Type 0
+InnerFirst does = does [] inner_first 0 unlimited (with_value (integer (pos 1))) (97 ∷ 98 ∷ [])
 
 -- (catch 'a (catch 'b (unwind-protect (throw 'a 1) (throw 'b 2)))), the second `throw` at site 1
 abbrev pub inner_catch : ProgramRows
@@ -27,8 +27,8 @@ inner_catch = a_program (a_symbol 0 ∷ a_symbol 1 ∷ a_number 1 ∷ a_number 2
     unwind (throw (literal 0) (literal 2)) (body (sited 1 (throw (literal 1) (literal 3)) ∷ [])) ∷ [])) ∷ [])) ∷ [])
 
 -- an exit inside the pending one is no longer valid: a control error
-abbrev pub InnerCatch : Type 0
-InnerCatch = Does ((97 ∷ []) ∷ (98 ∷ []) ∷ []) inner_catch 0 unlimited (by_class 22 (site_at 1)) []
+abbrev pub InnerCatch : Doing → Type 0
+InnerCatch does = does ((97 ∷ []) ∷ (98 ∷ []) ∷ []) inner_catch 0 unlimited (by_class 22 (site_at 1)) []
 
 -- (catch 'a (catch 'b (unwind-protect (throw 'b 3) (throw 'a 4))))
 abbrev pub outer_catch : ProgramRows
@@ -37,8 +37,8 @@ outer_catch = a_program (a_symbol 0 ∷ a_symbol 1 ∷ a_number 3 ∷ a_number 4
     unwind (throw (literal 1) (literal 2)) (body (throw (literal 0) (literal 3) ∷ [])) ∷ [])) ∷ [])) ∷ [])
 
 -- a cleanup may transfer to an exit outside the pending one, and then that transfer takes its place
-abbrev pub OuterCatch : Type 0
-OuterCatch = Does ((97 ∷ []) ∷ (98 ∷ []) ∷ []) outer_catch 0 unlimited (with_value (integer (pos 4))) []
+abbrev pub OuterCatch : Doing → Type 0
+OuterCatch does = does ((97 ∷ []) ∷ (98 ∷ []) ∷ []) outer_catch 0 unlimited (with_value (integer (pos 4))) []
 
 -- (let ((f nil) (n 0))
 --   (tagbody top (setq n (+ n 1))
@@ -60,12 +60,12 @@ earlier_turn = a_program (a_nil ∷ a_number 0 ∷ a_number 1 ∷ a_char 120 ∷
     ∷ local 1 ∷ [])) ∷ [])
 
 -- `go` from a function that an earlier turn made leads on: all turns have one exit
-abbrev pub EarlierTurn : Type 0
-EarlierTurn = Does [] earlier_turn 2 unlimited (with_value (integer (pos 2))) []
+abbrev pub EarlierTurn : Doing → Type 0
+EarlierTurn does = does [] earlier_turn 2 unlimited (with_value (integer (pos 2))) []
 
 -- with one level less the second turn has none for the function
-abbrev pub TooFewLevels : Type 0
-TooFewLevels = Does [] earlier_turn 1 unlimited for_levels []
+abbrev pub TooFewLevels : Doing → Type 0
+TooFewLevels does = does [] earlier_turn 1 unlimited for_levels []
 
 -- (defun f (k) (block b (if (= k 0) (lambda () (return-from b 1)) (funcall g))))
 -- (defglobal g (f 0)) (f 1), the `return-from` at site 1
@@ -79,8 +79,8 @@ stale_exit = a_program (a_number 0 ∷ a_number 1 ∷ a_symbol 2 ∷ [])
     (def_global 1 (call 0 (forms (literal 0 ∷ []))) ∷ call 0 (forms (literal 1 ∷ [])) ∷ [])
 
 -- an exit that has ended is not the one of a later entry: a control error
-abbrev pub StaleExit : Type 0
-StaleExit = Does ((102 ∷ []) ∷ (103 ∷ []) ∷ (116 ∷ []) ∷ []) stale_exit 3 unlimited (by_class 22 (site_at 1)) []
+abbrev pub StaleExit : Doing → Type 0
+StaleExit does = does ((102 ∷ []) ∷ (103 ∷ []) ∷ (116 ∷ []) ∷ []) stale_exit 3 unlimited (by_class 22 (site_at 1)) []
 
 -- (defglobal c 0)
 -- (defun u (n) (if (= n 0) (throw 'k 1) (unwind-protect (u (- n 1)) (setq c (+ c 1)))))
@@ -96,5 +96,5 @@ many_cleanups = a_program (a_number 0 ∷ a_number 1 ∷ a_number 100 ∷ a_symb
     (def_global 0 (literal 0) ∷ catch_form (literal 3) (body (call 1 (forms (literal 2 ∷ [])) ∷ [])) ∷ global 0 ∷ [])
 
 -- each of a hundred cleanups runs once
-abbrev pub ManyCleanups : Type 0
-ManyCleanups = Does ((99 ∷ []) ∷ (117 ∷ []) ∷ (107 ∷ []) ∷ (116 ∷ []) ∷ []) many_cleanups 101 unlimited (with_value (integer (pos 100))) []
+abbrev pub ManyCleanups : Doing → Type 0
+ManyCleanups does = does ((99 ∷ []) ∷ (117 ∷ []) ∷ (107 ∷ []) ∷ (116 ∷ []) ∷ []) many_cleanups 101 unlimited (with_value (integer (pos 100))) []

@@ -1,5 +1,6 @@
 // Worked programs: what some programs that are written out do, as the contracts of functions that do nothing.
 
+ghost use Rattle.isl_worked.specs.ByHand.{Does};
 ghost use Rattle.isl_worked.specs.Exits.{InnerFirst, InnerCatch, OuterCatch, EarlierTurn, TooFewLevels, StaleExit, ManyCleanups};
 ghost use Rattle.isl_worked.specs.Conditions.{WithoutItself, Continued, NotContinuable, Returning, CleanupRuns, NoCatchLeft, Replaced, HandlerFails};
 ghost use Rattle.isl_worked.specs.Calls.{MethodsInOrder, SeenThroughACall, OneApplication, FullAtTheForm, FullAtTheCons};
@@ -8,34 +9,34 @@ ghost use Rattle.isl_worked.specs.Programs.{WorkedAreWhole, TooFewArguments, GoO
 
 /// Programs of transfers and cleanups do what their comments in `specs/Exits.antt` say.
 pub fn worked_exits()
-    ensures inner_first { InnerFirst }
-    ensures inner_catch { InnerCatch }
-    ensures outer_catch { OuterCatch }
-    ensures earlier_turn { EarlierTurn }
-    ensures too_few_levels { TooFewLevels }
-    ensures stale_exit { StaleExit }
-    ensures many_cleanups { ManyCleanups }
+    ensures inner_first { InnerFirst Does }
+    ensures inner_catch { InnerCatch Does }
+    ensures outer_catch { OuterCatch Does }
+    ensures earlier_turn { EarlierTurn Does }
+    ensures too_few_levels { TooFewLevels Does }
+    ensures stale_exit { StaleExit Does }
+    ensures many_cleanups { ManyCleanups Does }
 {}
 
 /// Programs of conditions and handlers do what their comments in `specs/Conditions.antt` say.
 pub fn worked_conditions()
-    ensures without_itself { WithoutItself }
-    ensures continued { Continued }
-    ensures not_continuable { NotContinuable }
-    ensures returning { Returning }
-    ensures cleanup_runs { CleanupRuns }
-    ensures no_catch_left { NoCatchLeft }
-    ensures replaced { Replaced }
-    ensures handler_fails { HandlerFails }
+    ensures without_itself { WithoutItself Does }
+    ensures continued { Continued Does }
+    ensures not_continuable { NotContinuable Does }
+    ensures returning { Returning Does }
+    ensures cleanup_runs { CleanupRuns Does }
+    ensures no_catch_left { NoCatchLeft Does }
+    ensures replaced { Replaced Does }
+    ensures handler_fails { HandlerFails Does }
 {}
 
 /// Programs of methods, dynamic variables and charges do what their comments in `specs/Calls.antt` say.
 pub fn worked_calls()
-    ensures methods_in_order { MethodsInOrder }
-    ensures seen_through_a_call { SeenThroughACall }
+    ensures methods_in_order { MethodsInOrder Does }
+    ensures seen_through_a_call { SeenThroughACall Does }
     ensures one_application { OneApplication }
-    ensures full_at_the_form { FullAtTheForm }
-    ensures full_at_the_cons { FullAtTheCons }
+    ensures full_at_the_form { FullAtTheForm Does }
+    ensures full_at_the_cons { FullAtTheCons Does }
 {}
 
 /// The worked programs are whole ones, and programs with a name out of its place, in procedures that
@@ -62,24 +63,24 @@ pub fn worked_programs()
 /// Programs of literals, data, variables and arguments do what their comments in
 /// `specs/Data.antt` say.
 pub fn worked_data()
-    ensures dotted_list { DottedList }
-    ensures string_in_a_vector { StringInAVector }
-    ensures changed_literal { ChangedLiteral }
-    ensures rest_list { RestList }
-    ensures applied { Applied }
-    ensures applied_to_a_dotted_list { AppliedToADottedList }
-    ensures too_many_arguments { TooManyArguments }
-    ensures floors { Floors }
-    ensures overflow { Overflow }
-    ensures no_function { NoFunction }
-    ensures no_value { NoValue }
-    ensures counting { Counting }
+    ensures dotted_list { DottedList Does }
+    ensures string_in_a_vector { StringInAVector Does }
+    ensures changed_literal { ChangedLiteral Does }
+    ensures rest_list { RestList Does }
+    ensures applied { Applied Does }
+    ensures applied_to_a_dotted_list { AppliedToADottedList Does }
+    ensures too_many_arguments { TooManyArguments Does }
+    ensures floors { Floors Does }
+    ensures overflow { Overflow Does }
+    ensures no_function { NoFunction Does }
+    ensures no_value { NoValue Does }
+    ensures counting { Counting Does }
     ensures counting_words { CountingWords }
-    ensures set_binding { SetBinding }
-    ensures slot_places { SlotPlaces }
-    ensures slot_initarg { SlotInitarg }
-    ensures slot_form { SlotForm }
-    ensures unbound_slot { UnboundSlot }
-    ensures set_slot { SetSlot }
+    ensures set_binding { SetBinding Does }
+    ensures slot_places { SlotPlaces Does }
+    ensures slot_initarg { SlotInitarg Does }
+    ensures slot_form { SlotForm Does }
+    ensures unbound_slot { UnboundSlot Does }
+    ensures set_slot { SetSlot Does }
     ensures two_bytes { TwoBytes }
 {}

@@ -15,7 +15,7 @@ use Rattle.isl_profile.specs.Nodes.{Around, Verdict}
 use Rattle.isl_profile.specs.Promises.{FormComes}
 use Rattle.isl_reader.specs.bridge.LaterReads.{next_later}
 use Rattle.isl_reader.specs.bridge.GoodReads.{next_good}
-use Rattle.isl_scope.specs.Scopes.{Given, IsTaken, IsTooLarge, IsStopped}
+use Rattle.isl_scope.specs.Scopes.{Given, IsTaken, IsTooLarge, HasManyCells, IsRefusedWhole, IsStopped}
 use Rattle.isl_files.specs.declared.mode.Mode.{Mode}
 use Rattle.isl_files.specs.Shown.{first_text, head_text, not_shown, is_among, stays, IsPrinting, IsForm, runs, not_last, last_stays, last_shown}
 use Rattle.isl_files.specs.Verdicts.{FormTaken, FormRefused, Judgement, Judges, at_end, form_taken, form_refused, text_stops}
@@ -66,15 +66,23 @@ given_later : (old new : List (List ℕ)) (origin : Origin) (s : Tables) (d : It
 given_later old new origin s d t e g = record { form = g.form; found = g.found; comes = comes_later old new _ s d _ e g.comes; now = g.now }
 
 taken_later : (old new : List (List ℕ)) (origin : Origin) (s : Tables) (d : Item) (t : Tables) → Extends old new → IsTaken old origin s d t → IsTaken new origin s d t
-taken_later old new origin s d t e g = record { given = given_later old new origin s d t e g.given; small = g.small }
+taken_later old new origin s d t e g = record { given = given_later old new origin s d t e g.given; small = g.small; few = g.few }
 
 large_later : (old new : List (List ℕ)) (origin : Origin) (s : Tables) (d : Item) → Extends old new → IsTooLarge old origin s d → IsTooLarge new origin s d
 large_later old new origin s d e g = record { tables = g.tables; given = given_later old new origin s d g.tables e g.given; large = g.large }
 
+many_later : (old new : List (List ℕ)) (origin : Origin) (s : Tables) (d : Item) → Extends old new → HasManyCells old origin s d → HasManyCells new origin s d
+many_later old new origin s d e g = record { tables = g.tables; given = given_later old new origin s d g.tables e g.given; small = g.small; many = g.many }
+
+whole_later : (old new : List (List ℕ)) (origin : Origin) (s : Tables) (d : Item) (r : Refusal) → Extends old new →
+    IsRefusedWhole old origin s d r → IsRefusedWhole new origin s d r
+whole_later old new origin s d r e h =
+    ⊎_elim (λ l. inl (large_later old new origin s d e l.0, l.1)) (λ m. inr (many_later old new origin s d e m.0, m.1)) h
+
 stopped_later : (old new : List (List ℕ)) (origin : Origin) (s : Tables) (d : Item) (r : Refusal) → Extends old new →
     IsStopped old origin s d (Refused r) → IsStopped new origin s d (Refused r)
 stopped_later old new origin s d r e h =
-    ⊎_elim (λ c. inl (comes_later old new _ s d _ e c)) (λ l. inr (large_later old new origin s d e l.0, l.1)) h
+    ⊎_elim (λ c. inl (comes_later old new _ s d _ e c)) (λ w. inr (whole_later old new origin s d r e w)) h
 
 pub form_taken_later : (old new : List (List ℕ)) (origin : Origin) (mode : Mode) (s : Tables) (d : Item) (after : List ℕ) (t : Tables) → Extends old new →
     Good (length old) d → FormTaken old origin mode s d after t → FormTaken new origin mode s d after t

@@ -19,7 +19,7 @@ use Rattle.isl_reader.specs.Characters.{place_behind}
 use Rattle.isl_reader.specs.Gaps.{Gap}
 use Rattle.isl_reader.specs.Reads.{ReadsNext}
 use Rattle.isl_reader.specs.Stops.{Stops, StopsFirst}
-use Rattle.isl_scope.specs.Scopes.{top, with_main, rows_of, nodes_of, most_nodes, Given, IsTaken, IsStopped}
+use Rattle.isl_scope.specs.Scopes.{top, with_main, rows_of, nodes_of, most_nodes, cells_of, most_cells, Given, IsTaken, IsTooLarge, HasManyCells, IsRefusedWhole, IsStopped}
 use Rattle.isl_files.specs.declared.mode.Mode.{Mode}
 use Rattle.isl_files.specs.declared.mode.Mode.TheVariants.{Run}
 use Rattle.isl_files.specs.Shown.{printing_at, IsPrinting, IsForm, runs, not_last, last_stays, last_shown}
@@ -90,12 +90,43 @@ given_or_ended names origin s d t r once g c =
 small_or_large : (t u : Tables) → t ≡ u → nodes_of t ≤ most_nodes → most_nodes < nodes_of u → ⊥
 small_or_large t u e h k = let same : nodes_of t ≡ nodes_of u = ap nodes_of e in omega arith
 
+few_or_many : (t u : Tables) → t ≡ u → cells_of t ≤ most_cells → most_cells < cells_of u → ⊥
+few_or_many t u e h k = let same : cells_of t ≡ cells_of u = ap cells_of e in omega arith
+
+taken_or_whole : (names : List (List ℕ)) (origin : Origin) (s : Tables) (d : Item) (t : Tables) (r : Refusal) → Once names → IsTaken names origin s d t →
+    IsRefusedWhole names origin s d r → ⊥
+taken_or_whole names origin s d t r once g h =
+    ⊎_elim
+    (λ l. small_or_large t l.0.tables (same_given names origin s d t l.0.tables once g.given l.0.given) g.small l.0.large)
+    (λ m. few_or_many t m.0.tables (same_given names origin s d t m.0.tables once g.given m.0.given) g.few m.0.many)
+    h
+
+ended_or_whole : (names : List (List ℕ)) (origin : Origin) (s : Tables) (d : Item) (q r : Refusal) → Once names →
+    FormComes names (top origin) s d (ended (refused_at q.place q.reason)) → IsRefusedWhole names origin s d r → ⊥
+ended_or_whole names origin s d q r once c h =
+    ⊎_elim
+    (λ l. given_or_ended names origin s d l.0.tables q once l.0.given c)
+    (λ m. given_or_ended names origin s d m.0.tables q once m.0.given c)
+    h
+
+large_or_many : (names : List (List ℕ)) (origin : Origin) (s : Tables) (d : Item) → Once names → IsTooLarge names origin s d → HasManyCells names origin s d → ⊥
+large_or_many names origin s d once l m =
+    small_or_large m.tables l.tables (same_given names origin s d m.tables l.tables once m.given l.given) m.small l.large
+
+same_whole : (names : List (List ℕ)) (origin : Origin) (s : Tables) (d : Item) (q r : Refusal) → Once names → IsRefusedWhole names origin s d q →
+    IsRefusedWhole names origin s d r → q ≡ r
+same_whole names origin s d q r once g h =
+    ⊎_elim
+    (λ l. ⊎_elim (λ k. l.1 ∙ sym k.1) (λ m. absurd (large_or_many names origin s d once l.0 m.0)) h)
+    (λ m. ⊎_elim (λ l. absurd (large_or_many names origin s d once l.0 m.0)) (λ k. m.1 ∙ sym k.1) h)
+    g
+
 taken_or_stopped : (names : List (List ℕ)) (origin : Origin) (s : Tables) (d : Item) (t : Tables) (r : Refusal) → Once names → IsTaken names origin s d t →
     IsStopped names origin s d (Refused r) → ⊥
 taken_or_stopped names origin s d t r once g h =
     ⊎_elim
     (λ c. given_or_ended names origin s d t r once g.given c)
-    (λ l. small_or_large t l.0.tables (same_given names origin s d t l.0.tables once g.given l.0.given) g.small l.0.large)
+    (λ w. taken_or_whole names origin s d t r once g w)
     h
 
 same_refusal : (q r : Refusal) → q.place ≡ r.place → q.reason ≡ r.reason → q ≡ r
@@ -117,11 +148,11 @@ same_stopped names origin s d q r once g h =
     ⊎_elim
     (λ b. ⊎_elim
     (λ c. same_ended names (top origin) s d q r once b c)
-    (λ l. absurd (given_or_ended names origin s d l.0.tables q once l.0.given b))
+    (λ w. absurd (ended_or_whole names origin s d q r once b w))
     h)
-    (λ l. ⊎_elim
-    (λ c. absurd (given_or_ended names origin s d l.0.tables r once l.0.given c))
-    (λ k. l.1 ∙ sym k.1)
+    (λ w. ⊎_elim
+    (λ c. absurd (ended_or_whole names origin s d r q once c w))
+    (λ v. same_whole names origin s d q r once w v)
     h)
     g
 

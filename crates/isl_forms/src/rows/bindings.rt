@@ -8,7 +8,7 @@ ghost use Rattle.isl_profile.specs.Shapes.{symbol_of, pairs_in, parameters_in};
 ghost use Rattle.isl_forms.specs.Drafts.{around, Draws};
 ghost use Rattle.isl_forms.specs.Views.{view_parts, view_pairs};
 
-use crate::bound::{parts_around, variable_of};
+use crate::bound::parts_around;
 use crate::draft::{Bindings, Draft, Note, made_of, made_plain, made_within, offence};
 use crate::here::{Setting, deeper, fits_depth};
 use crate::plan::{Parts, bound_parts, inner_forms, push_below, push_form, push_parameters};
@@ -144,7 +144,7 @@ fn functions_of(here: Setting, pairs: &PairList) -> Result<Option<BoundList>, No
         let Some(symbol) = symbol_of(pair.datum) else {
             return Ok(None);
         };
-        let Some(variable) = variable_of(here.bound, symbol) else {
+        let Some(variable) = here.bound.variable_of(symbol) else {
             return Ok(None);
         };
         functions.push(Bound::Function(pair.name, variable))?;

@@ -16,14 +16,14 @@ use crate::shapes::{name_of, parameters_in, symbol_of};
 use isl_base::{Datum, Name, NameList, NoMemory, Reason};
 use isl_profile::{One, Parameters, Tables};
 
-// The name that a definition gives: a symbol with a name.
-fn named(datum: &Datum) -> Option<Name>
+/// The name that a definition gives: a symbol with a name.
+pub(crate) fn named(datum: &Datum) -> Option<Name>
     ensures { result ≡ row.named (symbol_of datum.now) }
 {
     name_of(symbol_of(datum)?)
 }
 
-fn has_name(names: &NameList, name: Name) -> bool
+pub(crate) fn has_name(names: &NameList, name: Name) -> bool
     ensures { result ≡ list_any (row.is_that name) names.now }
 {
     for other in names.as_slice() {
@@ -45,7 +45,7 @@ fn has_global(tables: &Tables, name: Name) -> bool
     false
 }
 
-fn has_function(tables: &Tables, name: Name) -> bool
+pub(crate) fn has_function(tables: &Tables, name: Name) -> bool
     ensures { result ≡ row.has_function tables.now name }
 {
     for function in tables.functions.as_slice() {
@@ -56,22 +56,22 @@ fn has_function(tables: &Tables, name: Name) -> bool
     false
 }
 
-// A name is taken by what the same text defined before.
-fn is_taken(of_file: bool, tables: &Tables, name: Name) -> bool
+/// A name is taken by what the same text defined before.
+pub(crate) fn is_taken(of_file: bool, tables: &Tables, name: Name) -> bool
     ensures { result ≡ row.is_taken of_file tables.now name }
 {
     has_function(tables, name) && !(of_file && has_name(&tables.prelude, name))
 }
 
-// Nothing of a file is defined under the name `t`.
-fn is_truth(here: Setting, name: Name) -> bool
+/// Nothing of a file is defined under the name `t`.
+pub(crate) fn is_truth(here: Setting, name: Name) -> bool
     ensures { result ≡ row.is_truth (around here.entry) here.entry.tables.now name }
 {
     here.spot.sited && name.0 == here.tables.words.truth.0
 }
 
-// The lowest of the reasons that all definitions share, where the name is taken, and where it is reserved.
-fn defining_offence(here: Setting, taken: bool, reserved: bool) -> Option<Reason>
+/// The lowest of the reasons that all definitions share, where the name is taken, and where it is reserved.
+pub(crate) fn defining_offence(here: Setting, taken: bool, reserved: bool) -> Option<Reason>
     ensures { result ≡ row.defining_offence here.entry.spot.top taken reserved }
 {
     if taken {
@@ -153,8 +153,8 @@ fn defun_with<'a>(
     }))
 }
 
-// A name is reserved where the language keeps it, where it is `t`, and where the prelude has a function of it.
-fn is_reserved(here: Setting, kept: bool, name: Name) -> bool
+/// A name is reserved where the language keeps it, where it is `t`, and where the prelude has a function of it.
+pub(crate) fn is_reserved(here: Setting, kept: bool, name: Name) -> bool
     ensures { result ≡ row.is_reserved kept (around here.entry) here.entry.tables.now name }
 {
     is_truth(here, name) || (here.spot.sited && (kept || has_name(&here.tables.prelude, name)))

@@ -10,7 +10,6 @@ ghost use Rattle.isl_profile.specs.Shapes.{symbol_of};
 ghost use Rattle.isl_forms.specs.Drafts.{around, shows, Draws};
 ghost use Rattle.isl_forms.specs.Views.{view_inner};
 
-use crate::bound::{block_of, tag_of};
 use crate::draft::{Bindings, Draft, Note, made_at_once, made_of, offence};
 use crate::here::{Setting, deeper, fits_depth};
 use crate::plan::{Inner, Parts, inner_forms};
@@ -94,7 +93,7 @@ pub(crate) fn return_from_draft<'a>(
     let Some(symbol) = symbol_of(name) else {
         return Ok(offence(here.place, Reason::BadShape));
     };
-    match block_of(here.bound, symbol) {
+    match here.bound.block_of(symbol) {
         Some(exit) => one_part(here, One::ReturnTo(exit), datum),
         None => Ok(no_such(here, Reason::UnknownBlock, symbol)),
     }
@@ -129,7 +128,7 @@ fn go_to<'a>(here: Setting, symbol: Symbol) -> Result<Draft<'a>, NoMemory>
     ensures { Draws here.entry
         (row.go_to (around here.entry) here.entry.tables.now here.entry.place symbol (tag_of here.entry.bound.now symbol)) result }
 {
-    let Some(target) = tag_of(here.bound, symbol) else {
+    let Some(target) = here.bound.tag_of(symbol) else {
         return Ok(no_such(here, Reason::UnknownTag, symbol));
     };
     let Ok(segment) = u32::try_from(target.segment) else {

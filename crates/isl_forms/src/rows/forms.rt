@@ -1,10 +1,12 @@
 // What each datum is where it stands: the text of a list's head decides on the row.
 
-ghost use Rattle.std.specs.Prelude.{◌≡◌, ◌||◌, Some, None, IfOk, MatchOption};
+ghost use Rattle.std.specs.Prelude.{◌≡◌, ◌||◌, length, Some, None, IfOk, MatchOption};
 ghost use Rattle.std.specs.List.{list_any};
 ghost use Rattle.isl_base.specs.model.DataView.{tail_of};
 ghost use Rattle.isl_base.specs.DataNames.{symbol_text, text_of};
 ghost use Rattle.isl_base.specs.Data.{place_of};
+ghost use Rattle.isl_base.specs.GoodData.{Good};
+ghost use Rattle.isl_base.specs.Names.{Extends};
 ghost use Rattle.isl_derived.specs.Asked.{list_items, is_word};
 ghost use Rattle.isl_meaning.specs.declared.program.LiteralRow.TheVariants as literal;
 ghost use Rattle.isl_profile.specs.Words as kept;
@@ -16,19 +18,22 @@ ghost use Rattle.isl_forms.specs.Drafts.{around, drawn, Draws};
 ghost use Rattle.isl_forms.specs.Views.{at, shown, texts};
 ghost use Rattle.isl_profile.specs.Marks.{Grows};
 
-use crate::bound::function_of;
 use crate::draft::{Draft, offence};
 use crate::here::{Here, Setting};
 use crate::plan::Plan;
 use crate::primitives::{is_among, is_direct_name, is_own_name};
 use crate::rows::bindings::{dynamic_let_draft, lambda_draft, let_draft, with_functions_draft};
 use crate::rows::calls::{local_call_draft, named_call_draft, value_call_draft};
+use crate::rows::classes::defclass_draft;
 use crate::rows::defining::{defdynamic_draft, defun_draft, global_draft};
 use crate::rows::exits::{block_draft, go_draft, return_from_draft, tagbody_draft};
+use crate::rows::generics::defgeneric_draft;
+use crate::rows::methods::defmethod_draft;
 use crate::rows::values::{
     body_draft, class_draft, cond_draft, dynamic_draft, function_draft, method_draft, progn_draft,
     quote_draft, set_dynamic_draft, setq_draft, symbol_draft, two_draft,
 };
+use crate::setters::add_setters;
 use crate::shapes::{list_items, symbol_of};
 use crate::take::take;
 use isl_base::{Datum, Kind, Names, NoMemory, Reason, Symbol};
@@ -36,8 +41,8 @@ use isl_derived::is_derived_name;
 use isl_meaning::LiteralRow;
 use isl_profile::{Leaf, Special, Tables, Two, WithBody, is_special_name, special_named};
 
-// The name of a symbol, where a text names it.
-fn symbol_text<'n>(names: &'n Names, symbol: Symbol) -> Option<&'n [u8]>
+/// The name of a symbol, where a text names it.
+pub(crate) fn symbol_text<'n>(names: &'n Names, symbol: Symbol) -> Option<&'n [u8]>
     ensures { MatchOption result (symbol_text names.now symbol ≡ None) (λ text. symbol_text names.now symbol ≡ Some text.now) }
 {
     match symbol {
@@ -130,6 +135,13 @@ fn is_step_function(text: &[u8]) -> bool
     is_among(text, step_functions())
 }
 
+/// Whether no definition of a file may have that name.
+pub(crate) fn is_reserved_name(text: &[u8]) -> bool
+    ensures { result ≡ kept.is_reserved_text text.now }
+{
+    is_of_language(text) || is_direct_name(text)
+}
+
 // Whether no definition of a file may have the name of the first of these.
 fn first_reserved(names: &Names, items: &[Datum]) -> bool
     ensures { result ≡ row.first_reserved names.now items.now }
@@ -138,7 +150,7 @@ fn first_reserved(names: &Names, items: &[Datum]) -> bool
         return false;
     };
     match text_of(names, first) {
-        Some(text) => is_of_language(text) || is_direct_name(text),
+        Some(text) => is_reserved_name(text),
         None => false,
     }
 }
@@ -222,9 +234,9 @@ fn special_draft<'a>(
         Special::Defdynamic => defdynamic_draft(here, items),
         Special::Defun => defun_draft(here, first_reserved(names, items), items),
         Special::Defmacro => Ok(offence(here.place, Reason::NotBuilt)),
-        Special::Defclass => Ok(offence(here.place, Reason::NotBuilt)),
-        Special::Defgeneric => Ok(offence(here.place, Reason::NotBuilt)),
-        Special::Defmethod => Ok(offence(here.place, Reason::NotBuilt)),
+        Special::Defclass => defclass_draft(here, names, items),
+        Special::Defgeneric => defgeneric_draft(here, names, items),
+        Special::Defmethod => defmethod_draft(here, names, items),
     }
 }
 
@@ -277,7 +289,7 @@ fn headed_draft<'a>(
     if tail.is_some() {
         return Ok(offence(here.place, Reason::NotAForm));
     }
-    match function_of(here.bound, symbol) {
+    match here.bound.function_of(symbol) {
         Some(variable) => local_call_draft(here, variable, items),
         None => call_symbol(here, names, symbol, items),
     }
@@ -385,19 +397,22 @@ fn plain_draft<'a>(
     datum_draft(setting, names, datum)
 }
 
-/// What a datum at that place that is no derived form is there.
-#[tactic(auto, using(isl_profile::specs::bridge::Growing::grows_same))]
+/// What a datum at that place that is no derived form is there. The names `(setf s)` that it asks for are added to the
+/// names.
 pub fn plain_plan<'a>(
     here: Here,
     tables: &mut Tables,
-    names: &Names,
+    names: &mut Names,
     datum: &'a Datum,
 ) -> Result<Plan<'a>, NoMemory>
-    requires { here.place ≡ place_of datum.now }
+    requires place { here.place ≡ place_of datum.now }
+    requires good { Good (length names.old) datum.now }
     ensures plan { IfOk result (λ plan. shown here.entry.bound.now tables.new plan
-        ≡ row.plain_node names.now (at here.entry.bound.now here.entry.spot) tables.old datum.now) }
+        ≡ row.plain_node names.new (at here.entry.bound.now here.entry.spot) tables.old datum.now) }
+    ensures names { Extends names.old names.new }
     ensures grows { Grows tables.old tables.new }
 {
+    add_setters(here.alloc, names, datum)?;
     let draft = plain_draft(here, tables, names, datum)?;
     take(here, tables, draft)
 }

@@ -9,7 +9,6 @@ ghost use Rattle.isl_profile.specs.Shapes.{symbol_of};
 ghost use Rattle.isl_forms.specs.Drafts.{around, Draws};
 ghost use Rattle.isl_forms.specs.Views.{view_parts, view_clauses};
 
-use crate::bound::{function_of, variable_of};
 use crate::draft::{Draft, Note, made_at_once, made_plain, made_within, offence};
 use crate::here::{Setting, deeper_at_top, fits_depth};
 use crate::plan::{Parts, inner_forms, one_form, push_below, push_form};
@@ -38,7 +37,7 @@ pub(crate) fn symbol_draft<'a>(here: Setting, symbol: Symbol) -> Result<Draft<'a
         let datum = Datum::new(here.place, Kind::Sym(symbol));
         return Ok(Draft::Literal(LiteralRow::Datum(datum)));
     }
-    match variable_of(here.bound, symbol) {
+    match here.bound.variable_of(symbol) {
         Some(variable) => Ok(Draft::Unsited(Leaf::Local(variable))),
         None => free_symbol(here, symbol),
     }
@@ -103,7 +102,7 @@ fn set_symbol<'a>(here: Setting, symbol: Symbol, datum: &'a Datum) -> Result<Dra
     if is_true(here.tables.words, symbol) {
         return Ok(offence(here.place, Reason::ConstantSet));
     }
-    match variable_of(here.bound, symbol) {
+    match here.bound.variable_of(symbol) {
         Some(variable) => one_part(here, One::SetVariable(variable), datum),
         None => set_free(here, symbol, datum),
     }
@@ -291,7 +290,7 @@ fn function_symbol<'a>(here: Setting, symbol: Symbol) -> Result<Draft<'a>, NoMem
     ensures { Draws here.entry
         (row.function_as (around here.entry) here.entry.tables.now here.entry.place symbol (function_of here.entry.bound.now symbol)) result }
 {
-    match function_of(here.bound, symbol) {
+    match here.bound.function_of(symbol) {
         Some(variable) => Ok(Draft::Unsited(Leaf::Local(variable))),
         None => match symbol {
             Symbol::Named(name) => Ok(Draft::Literal(LiteralRow::Function(name))),

@@ -1,14 +1,23 @@
 // What counts once a core form is made: the definition that it stands for.
 
-ghost use Rattle.std.specs.Prelude.{◌≡◌, ◌∷◌, [], ◌++◌, Some, IfOk, OnOk, OnErr};
-ghost use Rattle.isl_profile.specs.Makings.{with_global, with_dynamic, prelude_with, with_function, procedure_found, finish_one};
+ghost use Rattle.std.specs.Prelude.{◌≡◌, ◌+◌, ◌∷◌, [], ◌++◌, Some, IfOk, OnOk, OnErr};
+ghost use Rattle.isl_profile.specs.Makings.{nothing, at_site, with_global, with_dynamic, with_procedure, prelude_with, with_callee, with_function, procedure_found, finish_one};
 
+use crate::make::at_site;
 use crate::make::parts::split_variables;
+use crate::make::simple::nothing;
 use crate::make::sort::sort_found;
 use isl_base::{Name, NameList, NoMemory};
-use isl_meaning::{Callee, Core, FunctionRow, Procedure};
+use isl_meaning::{Callee, Core, FunctionRow, Procedure, SiteId};
 use isl_profile::{FoundList, GlobalRow, One, Tables};
 use std::alloc::Global;
+
+/// The next number, where there is one.
+pub(crate) fn one_more(number: usize) -> Result<usize, NoMemory>
+    ensures { IfOk result (λ next. next ≡ number + 1) }
+{
+    number.checked_add(1).ok_or(NoMemory)
+}
 
 /// A variable that was defined counts.
 pub(crate) fn finish_one(one: One, tables: &mut Tables) -> Result<(), NoMemory>
@@ -22,10 +31,10 @@ pub(crate) fn finish_one(one: One, tables: &mut Tables) -> Result<(), NoMemory>
     }
 }
 
-/// The procedure of a function of that name.
+/// The procedure of a function, of that name or of none.
 pub(crate) fn procedure_found(
     alloc: Global,
-    name: Name,
+    name: Option<Name>,
     required: usize,
     rest: bool,
     found: FoundList,
@@ -35,11 +44,33 @@ pub(crate) fn procedure_found(
     let sorted = sort_found(alloc, found)?;
     let variables = split_variables(sorted.variables, required, rest);
     Ok(Procedure {
-        name: Some(name),
+        name,
         required: variables.required,
         rest: variables.rest,
         body: Core::sequence(sorted.forms),
     })
+}
+
+/// The procedure counts; no forms stand for it.
+pub(crate) fn complete_procedure(
+    alloc: Global,
+    site: Option<SiteId>,
+    procedure: Procedure,
+    tables: &mut Tables,
+) -> Result<Core, NoMemory>
+    ensures form { IfOk result (λ core. core ≡ at_site site nothing) }
+    ensures ok { OnOk result (tables.new ≡ with_procedure procedure tables.old) }
+    ensures err { OnErr result (tables.new ≡ tables.old) }
+{
+    let Ok(core) = at_site(alloc, site, nothing(alloc)) else {
+        drop(procedure);
+        return Err(NoMemory);
+    };
+    let Ok(()) = tables.procedures.push(procedure) else {
+        drop(core);
+        return Err(NoMemory);
+    };
+    Ok(core)
 }
 
 // A function of the prelude is noted as one.
@@ -53,6 +84,25 @@ fn note_prelude(of_file: bool, name: Name, prelude: &mut NameList) -> Result<(),
     prelude.push(name)
 }
 
+/// The name calls that from now on.
+pub(crate) fn add_callee(
+    name: Name,
+    callee: Callee,
+    of_file: bool,
+    tables: &mut Tables,
+) -> Result<(), NoMemory>
+    ensures ok { OnOk result (tables.new ≡ with_callee name callee of_file tables.old) }
+    ensures err { OnErr result (tables.new ≡ tables.old) }
+{
+    let functions = tables.functions.len();
+    tables.functions.push(FunctionRow { name, callee })?;
+    if note_prelude(of_file, name, &mut tables.prelude).is_err() {
+        tables.functions.cut(functions);
+        return Err(NoMemory);
+    }
+    Ok(())
+}
+
 /// The function counts, with its procedure.
 pub(crate) fn define_function(
     name: Name,
@@ -64,16 +114,9 @@ pub(crate) fn define_function(
     ensures err { OnErr result (tables.new ≡ tables.old) }
 {
     let procedures = tables.procedures.len();
-    let functions = tables.functions.len();
-    let callee = Callee::Procedure(procedures);
     tables.procedures.push(procedure)?;
-    if tables.functions.push(FunctionRow { name, callee }).is_err() {
+    if add_callee(name, Callee::Procedure(procedures), of_file, tables).is_err() {
         tables.procedures.cut(procedures);
-        return Err(NoMemory);
-    }
-    if note_prelude(of_file, name, &mut tables.prelude).is_err() {
-        tables.procedures.cut(procedures);
-        tables.functions.cut(functions);
         return Err(NoMemory);
     }
     Ok(())

@@ -5,6 +5,7 @@ ghost use Rattle.isl_meaning.specs.Form.{local, call_value, form_and};
 ghost use Rattle.isl_meaning.specs.model.View as view;
 ghost use Rattle.isl_profile.specs.Makings.{nothing, leaf_form, one_of, two_of, with_body_of, make_one, make_two, make_with_body};
 
+use crate::make::accessors::variable_and;
 use crate::make::parts::boxed;
 use crate::make::queue::FormQueue;
 use isl_base::NoMemory;
@@ -12,8 +13,8 @@ use isl_meaning::{Core, CoreForm, CoreList, Var};
 use isl_profile::{Leaf, One, Two, WithBody};
 use std::alloc::Global;
 
-// No forms.
-fn nothing(alloc: Global) -> Core
+/// No forms.
+pub(crate) fn nothing(alloc: Global) -> Core
     ensures { result ≡ nothing }
 {
     Core::sequence(CoreList::new(alloc))
@@ -132,8 +133,5 @@ pub(crate) fn make_with_body(
 pub(crate) fn call_of_local(alloc: Global, var: Var, forms: CoreList) -> Result<Core, NoMemory>
     ensures { IfOk result (λ core. core ≡ call_value (form_and (local var) (view.forms forms))) }
 {
-    let mut list = CoreList::new(alloc);
-    list.push(Core::new(CoreForm::Local(var)))?;
-    list.append_list(forms)?;
-    Ok(Core::new(CoreForm::CallValue(list)))
+    Ok(Core::new(CoreForm::CallValue(variable_and(alloc, var, forms)?)))
 }

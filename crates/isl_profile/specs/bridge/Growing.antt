@@ -1,5 +1,6 @@
 -- Tables that grow: twice, not at all, by what is added to their lists, and by what counts once a form is made.
-use Rattle.std.proofs.Common.{◌≡◌, ◌≤◌, ℕ, Bool, true, false, List, [], ◌∷◌, ◌++◌, Option, Some, None, take, length, refl, ap, ◌∙◌, arith}
+use Rattle.std.proofs.Common.{◌≡◌, ◌≤◌, ◌+◌, ℕ, Bool, true, false, List, [], ◌∷◌, ◌++◌, Option, Some, None, take, length, refl, ap, ◌∙◌, arith}
+use Rattle.std.specs.Prelude.{zero, suc}
 use Rattle.std.proofs.lemmas.List.{length-take, take-append-le}
 use Rattle.std.proofs.Math.Seq.{take-length}
 use Rattle.isl_base.specs.declared.place.Place.{Place}
@@ -7,17 +8,32 @@ use Rattle.isl_base.specs.declared.datum.Name.{Name}
 use Rattle.isl_base.specs.declared.datum.Symbol.{Symbol}
 use Rattle.isl_meaning.specs.declared.program.LiteralRow.{LiteralRow}
 use Rattle.isl_meaning.specs.declared.program.FunctionRow.{FunctionRow}
+use Rattle.isl_meaning.specs.declared.program.Callee.{Callee}
 use Rattle.isl_meaning.specs.declared.program.Callee.TheVariants as callee
+use Rattle.isl_meaning.specs.declared.program.ClassRow.{ClassRow}
+use Rattle.isl_meaning.specs.declared.program.SlotRow.{SlotRow}
+use Rattle.isl_meaning.specs.declared.program.GenericRow.{GenericRow}
+use Rattle.isl_meaning.specs.declared.program.MethodRow.{MethodRow}
+use Rattle.isl_classes.specs.Given.{given}
+use Rattle.isl_classes.specs.InheritedClasses.{Hierarchy, GivenSlot, with_class}
+use Rattle.isl_dispatch.specs.Methods.{new_row, with_method}
 use Rattle.isl_meaning.specs.declared.program.Procedure.{Procedure}
 use Rattle.isl_profile.specs.declared.tables.Tables.{Tables}
 use Rattle.isl_profile.specs.declared.tables.GlobalRow.{GlobalRow}
 use Rattle.isl_profile.specs.declared.making.Found.{Found}
 use Rattle.isl_profile.specs.declared.making.One.{One}
 use Rattle.isl_profile.specs.declared.making.Making.{Making}
-use Rattle.isl_profile.specs.declared.making.Making.TheVariants.{OfOne, OfFunctionNamed}
+use Rattle.isl_profile.specs.declared.making.Making.TheVariants.{OfOne, OfFunctionNamed, OfProcedure, OfAccessor, OfMethods, OfClass}
 use Rattle.isl_profile.specs.declared.making.One.TheVariants.{DefineGlobal, DefineDynamic}
-use Rattle.isl_profile.specs.Makings.{with_function, procedure_found, finish_one, finish}
-use Rattle.isl_profile.specs.Marks.{StandsFirst, Grows}
+use Rattle.isl_profile.specs.declared.making.Accessor.{Accessor}
+use Rattle.isl_profile.specs.declared.making.Head.{Head}
+use Rattle.isl_profile.specs.declared.making.Taker.{Taker}
+use Rattle.isl_profile.specs.declared.making.Taker.TheVariants.{New, There}
+use Rattle.isl_profile.specs.declared.making.SlotFunction.{SlotFunction}
+use Rattle.isl_profile.specs.declared.making.SlotFunction.TheVariants.{Initform, Method}
+use Rattle.isl_profile.specs.declared.making.NewClass.{NewClass}
+use Rattle.isl_profile.specs.Makings.{with_procedure, with_callee, procedure_found, accessor_procedure, with_generic, with_method_at, with_methods, finish_methods, generic_named, arguments_of, accessor_head, with_accessor_in, with_slot_function, with_slot_functions, with_new_class, finish_one, finish}
+use Rattle.isl_profile.specs.Marks.{StandsFirst, HasMore, AreThere, Grows}
 
 pub first_then : {X : Type 0} (xs ys zs : List X) → StandsFirst xs ys → StandsFirst ys zs → StandsFirst xs zs
 first_then [] ys zs h k = refl
@@ -31,10 +47,34 @@ first_then (x ∷ xs) (y ∷ ys) (z ∷ zs) h k =
     let e : take (length xs) zs ≡ xs = first_then xs ys zs b d in
     cc
 
+-- generic functions that are there, with more methods
+
+more_then : (g h k : GenericRow) → HasMore g h → HasMore h k → HasMore g k
+more_then g h k a b =
+    (b.0 ∙ a.0, b.1 ∙ a.1, b.2 ∙ a.2, first_then g.methods h.methods k.methods a.3 b.3)
+
+there_then : (gs hs ks : List GenericRow) → AreThere gs hs → AreThere hs ks → AreThere gs ks
+there_then [] hs ks a b = tt
+there_then (g ∷ gs) [] ks a b = absurd a
+there_then (g ∷ gs) (h ∷ hs) [] a b = absurd b
+there_then (g ∷ gs) (h ∷ hs) (k ∷ ks) a b = (more_then g h k a.0 b.0, there_then gs hs ks a.1 b.1)
+
+-- the same generic functions
+pub there_same : (gs : List GenericRow) → AreThere gs gs
+there_same [] = tt
+there_same (g ∷ gs) = ((refl, refl, refl, take-length g.methods), there_same gs)
+
+there_with : (gs hs more : List GenericRow) → AreThere gs hs → AreThere gs (hs ++ more)
+there_with [] hs more a = tt
+there_with (g ∷ gs) [] more a = absurd a
+there_with (g ∷ gs) (h ∷ hs) more a = (a.0, there_with gs hs more a.1)
+
 pub grows_then : (s t u : Tables) → Grows s t → Grows t u → Grows s u
 grows_then s t u g h = record {
   words = h.words ∙ g.words;
-  classes = h.classes ∙ g.classes;
+  classes = first_then _ _ _ g.classes h.classes;
+  slots = first_then _ _ _ g.slots h.slots;
+  generics = there_then _ _ _ g.generics h.generics;
   literals = first_then _ _ _ g.literals h.literals;
   procedures = first_then _ _ _ g.procedures h.procedures;
   functions = first_then _ _ _ g.functions h.functions;
@@ -52,7 +92,9 @@ grows_then s t u g h = record {
 pub grows_same : (t : Tables) → Grows t t
 grows_same t = record {
   words = refl;
-  classes = refl;
+  classes = take-length t.classes.rows;
+  slots = take-length t.classes.own;
+  generics = there_same t.generics;
   literals = take-length t.literals;
   procedures = take-length t.procedures;
   functions = take-length t.functions;
@@ -120,6 +162,8 @@ pub grows_with : (s t : Tables) (a : Added) (variables exits : ℕ) → t.variab
 grows_with s t a variables exits v e g = record {
   words = g.words;
   classes = g.classes;
+  slots = g.slots;
+  generics = g.generics;
   literals = first_with s.literals t.literals a.literals g.literals;
   procedures = first_with s.procedures t.procedures a.procedures g.procedures;
   functions = first_with s.functions t.functions a.functions g.functions;
@@ -137,11 +181,97 @@ grows_with s t a variables exits v e g = record {
 pub grows_by : (s t : Tables) (a : Added) → Grows s t → Grows s (with_added a t.variables t.exits t)
 grows_by s t a g = grows_with s t a t.variables t.exits (omega arith) (omega arith) g
 
-with_function_grows : (mark s : Tables) (name : Name) (p : Procedure) (of_file : Bool) → Grows mark s → Grows mark (with_function name p of_file s)
-with_function_grows mark s name p true g =
-    grows_by mark s (record nothing_added { procedures = Some (p ∷ []); functions = Some ((record { name = name; callee = callee.Procedure (length s.procedures) }) ∷ []) }) g
-with_function_grows mark s name p false g =
-    grows_by mark s (record nothing_added { procedures = Some (p ∷ []); functions = Some ((record { name = name; callee = callee.Procedure (length s.procedures) }) ∷ []); prelude = Some (name ∷ []) }) g
+with_procedure_grows : (mark s : Tables) (p : Procedure) → Grows mark s → Grows mark (with_procedure p s)
+with_procedure_grows mark s p g = grows_by mark s (record nothing_added { procedures = Some (p ∷ []) }) g
+
+with_callee_grows : (mark s : Tables) (name : Name) (c : Callee) (of_file : Bool) → Grows mark s → Grows mark (with_callee name c of_file s)
+with_callee_grows mark s name c true g =
+    grows_by mark s (record nothing_added { functions = Some ((record { name = name; callee = c }) ∷ []) }) g
+with_callee_grows mark s name c false g =
+    grows_by mark s (record nothing_added { functions = Some ((record { name = name; callee = c }) ∷ []); prelude = Some (name ∷ []) }) g
+
+-- what is changed of classes and generic functions
+
+grows_in : (mark s : Tables) (h : Hierarchy) (n : ℕ) (gs : List GenericRow) → Grows mark s → StandsFirst mark.classes.rows h.rows → StandsFirst mark.classes.own h.own
+    → AreThere mark.generics gs → Grows mark (record s { classes = h; prelude_classes = n; generics = gs })
+grows_in mark s h n gs g rows own there = record {
+  words = g.words;
+  classes = rows;
+  slots = own;
+  generics = there;
+  literals = g.literals;
+  procedures = g.procedures;
+  functions = g.functions;
+  prelude = g.prelude;
+  globals = g.globals;
+  set = g.set;
+  dynamics = g.dynamics;
+  sites = g.sites;
+  fresh = g.fresh;
+  main = g.main;
+  variables = g.variables;
+  exits = g.exits;
+}
+
+grows_generics : (mark s : Tables) (gs : List GenericRow) → Grows mark s → AreThere mark.generics gs → Grows mark (record s { generics = gs })
+grows_generics mark s gs g there = grows_in mark s s.classes s.prelude_classes gs g g.classes g.slots there
+
+pub with_generic_grows : (mark s : Tables) (n : Name) (required : ℕ) (rest of_file : Bool) → Grows mark s → Grows mark (with_generic n required rest of_file s)
+with_generic_grows mark s n required rest of_file g =
+    with_callee_grows mark _ n (callee.Generic (length s.generics)) of_file
+    (grows_generics mark s (s.generics ++ new_row n required rest ∷ []) g (there_with mark.generics s.generics _ g.generics))
+
+method_more : (g h : GenericRow) (m : MethodRow) → HasMore g h → HasMore g (record h { methods = h.methods ++ m ∷ [] })
+method_more g h m a = (a.0, a.1, a.2, grows_at_end g.methods h.methods (m ∷ []) a.3)
+
+method_there : (gs hs : List GenericRow) (i : ℕ) (m : MethodRow) → AreThere gs hs → AreThere gs (with_method hs i m)
+method_there [] hs i m a = tt
+method_there (g ∷ gs) [] i m a = absurd a
+method_there (g ∷ gs) (h ∷ hs) zero m a = (method_more g h m a.0, a.1)
+method_there (g ∷ gs) (h ∷ hs) (suc i) m a = (a.0, method_there gs hs i m a.1)
+
+pub with_method_grows : (mark s : Tables) (i : ℕ) (h : Head) (p : ℕ) → Grows mark s → Grows mark (with_method_at i h p s)
+with_method_grows mark s i h p g = grows_generics mark s _ g (method_there mark.generics s.generics i _ g.generics)
+
+with_methods_grows : (mark s : Tables) (i : ℕ) (hs : List Head) (p : ℕ) → Grows mark s → Grows mark (with_methods i hs p s)
+with_methods_grows mark s i [] p g = g
+with_methods_grows mark s i (h ∷ hs) p g =
+    with_methods_grows mark (with_method_at i h p s) i hs (p + 1) (with_method_grows mark s i h p g)
+
+methods_grow : (mark s : Tables) (t : Taker) (hs : List Head) (p : ℕ) (of_file : Bool) → Grows mark s → Grows mark (finish_methods t hs p of_file s)
+methods_grow mark s (New n required rest) hs p of_file g =
+    with_methods_grows mark _ (length s.generics) hs p (with_generic_grows mark s n required rest of_file g)
+methods_grow mark s (There i) hs p of_file g = with_methods_grows mark s i hs p g
+
+accessor_grows : (mark s : Tables) (i : Option ℕ) (n : Name) (k : Accessor) (c p : ℕ) (of_file : Bool) → Grows mark s → Grows mark (with_accessor_in i n k c p of_file s)
+accessor_grows mark s (Some i) n k c p of_file g = with_method_grows mark s i (accessor_head k c) p g
+accessor_grows mark s None n k c p of_file g =
+    with_method_grows mark _ (length s.generics) (accessor_head k c) p (with_generic_grows mark s n (arguments_of k) false of_file g)
+
+pub slot_function_grows : (mark s : Tables) (x : SlotFunction) (c p : ℕ) (of_file : Bool) → Grows mark s → Grows mark (with_slot_function x c p of_file s)
+slot_function_grows mark s Initform c p of_file g = g
+slot_function_grows mark s (Method n k) c p of_file g = accessor_grows mark s (generic_named s.generics n) n k c p of_file g
+
+slot_functions_grow : (mark s : Tables) (xs : List SlotFunction) (c p : ℕ) (of_file : Bool) → Grows mark s → Grows mark (with_slot_functions xs c p of_file s)
+slot_functions_grow mark s [] c p of_file g = g
+slot_functions_grow mark s (x ∷ xs) c p of_file g =
+    slot_functions_grow mark (with_slot_function x c p of_file s) xs c (p + 1) of_file (slot_function_grows mark s x c p of_file g)
+
+rows_with : (xs : List ClassRow) (h : Hierarchy) (name : Name) (supers : List ℕ) (slots : List GivenSlot) (a : Bool) → StandsFirst xs h.rows
+    → StandsFirst xs (with_class h name supers slots a).rows
+unfolding with_class
+rows_with xs h name supers slots a e = grows_at_end xs h.rows _ e
+
+own_with : (xs : List (List SlotRow)) (h : Hierarchy) (name : Name) (supers : List ℕ) (slots : List GivenSlot) (a : Bool) → StandsFirst xs h.own
+    → StandsFirst xs (with_class h name supers slots a).own
+unfolding with_class
+own_with xs h name supers slots a e = grows_at_end xs h.own _ e
+
+pub class_grows : (mark s : Tables) (c : NewClass) (of_file : Bool) → Grows mark s → Grows mark (with_new_class c of_file s)
+class_grows mark s c of_file g =
+    grows_in mark s (with_class s.classes c.name c.supers (given c.slots) c.abstract_class) _ s.generics g
+    (rows_with mark.classes.rows s.classes c.name c.supers (given c.slots) c.abstract_class g.classes)
+    (own_with mark.classes.own s.classes c.name c.supers (given c.slots) c.abstract_class g.slots) g.generics
 
 finish_one_grows : (mark s : Tables) (k : One) → Grows mark s → Grows mark (finish_one k s)
 finish_one_grows mark s (DefineGlobal n constant) g =
@@ -153,5 +283,11 @@ finish_one_grows mark s k g = g
 pub finish_grows : (mark s : Tables) (m : Making) (rs : List Found) → Grows mark s → Grows mark (finish m rs s)
 finish_grows mark s (OfOne k) rs g = finish_one_grows mark s k g
 finish_grows mark s (OfFunctionNamed name n rest of_file l) rs g =
-    with_function_grows mark s name (procedure_found name n rest rs) of_file g
+    with_callee_grows mark _ name (callee.Procedure (length s.procedures)) of_file
+    (with_procedure_grows mark s (procedure_found (Some name) n rest rs) g)
+finish_grows mark s (OfProcedure name n rest) rs g = with_procedure_grows mark s (procedure_found name n rest rs) g
+finish_grows mark s (OfAccessor name k v l) rs g = with_procedure_grows mark s (accessor_procedure name k v l) g
+finish_grows mark s (OfMethods t hs p of_file l) rs g = methods_grow mark s t hs p of_file g
+finish_grows mark s (OfClass c p of_file l) rs g =
+    slot_functions_grow mark _ c.functions (length s.classes.rows) p of_file (class_grows mark s c of_file g)
 finish_grows mark s m rs g = g

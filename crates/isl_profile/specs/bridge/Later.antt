@@ -1,5 +1,5 @@
--- The node of a datum that is no derived form stays the same under every later table of names.
-use Rattle.std.proofs.Common.{◌≡◌, List, [], ◌∷◌, length, refl, ap, ◌∙◌}
+-- The node of a datum that is no derived form stays the same under every later table of names, unless the earlier one lacks a name.
+use Rattle.std.proofs.Common.{◌≡◌, List, [], ◌∷◌, inr, length, refl, ap, subst, ◌∙◌}
 use Rattle.std.specs.Prelude.{ℕ, Bool, ◌||◌, Option, Some, None, if◌then◌else◌}
 use Rattle.isl_base.specs.declared.place.Place.{Place}
 use Rattle.isl_base.specs.declared.datum.Symbol.{Symbol}
@@ -14,17 +14,16 @@ use Rattle.isl_profile.specs.declared.special.Special.{Special}
 use Rattle.isl_profile.specs.declared.special.Special.TheVariants as name
 use Rattle.isl_profile.specs.declared.tables.Tables.{Tables}
 use Rattle.isl_profile.specs.Names.{function_of}
-use Rattle.isl_profile.specs.Nodes.{Around, offends}
+use Rattle.isl_profile.specs.Nodes.{Around, offends, Stays}
 use Rattle.isl_profile.specs.BindingRows.{with_functions_row}
 use Rattle.isl_profile.specs.DefiningRows.{defun_row}
 use Rattle.isl_profile.specs.CallRows.{all_parts}
 use Rattle.isl_base.specs.declared.reason.Reason.TheVariants.{NotAForm}
 use Rattle.isl_profile.specs.Rows.{kept_text, reserved_text, first_reserved, first_kept, some_kept, functions_kept, special_row, special_node, without_dot, call_as, special_of, headed_as, headed, is_lambda_name, is_lambda_items, is_lambda, headed_by_form, list_node, plain_node}
+use Rattle.isl_profile.specs.bridge.LaterNames.{same_text}
+use Rattle.isl_profile.specs.bridge.LaterDefinitions.{defgeneric_later, defmethod_later}
+use Rattle.isl_profile.specs.bridge.LaterClasses.{defclass_later}
 use Rattle.isl_profile.specs.bridge.GoodParts.{MaybeGood, good_parts, good_list}
-
--- the name of a datum and of a symbol
-same_text : (old new : List (List ℕ)) (d : Item) → Extends old new → Good (length old) d → text_of old d ≡ text_of new d
-same_text old new d e g = text_same old new e d g.named
 
 -- whether names are kept by the language
 
@@ -69,37 +68,40 @@ lambda_later old new (item p nil) e g = refl
 
 -- the rows, by what stands behind the name
 row_later : (old new : List (List ℕ)) (x : Special) (a : Around) (s : Tables) (p : Place) (ds : List Item) → Extends old new →
-    AllOf (Good (length old)) ds → special_row old x a s p ds ≡ special_row new x a s p ds
-row_later old new name.WithFunctions a s p ds e g = ap (λ kept. with_functions_row kept a s p ds) (same_functions old new ds e g)
-row_later old new name.Defun a s p ds e g = ap (λ kept. defun_row kept a s p ds) (same_reserved old new ds e g)
-row_later old new x a s p ds e g = refl
+    AllOf (Good (length old)) ds → Stays (special_row old x a s p ds) (special_row new x a s p ds)
+row_later old new name.WithFunctions a s p ds e g = inr (ap (λ kept. with_functions_row kept a s p ds) (same_functions old new ds e g))
+row_later old new name.Defun a s p ds e g = inr (ap (λ kept. defun_row kept a s p ds) (same_reserved old new ds e g))
+row_later old new name.Defclass a s p ds e g = defclass_later old new a s p ds e g
+row_later old new name.Defgeneric a s p ds e g = defgeneric_later old new a s p ds e g
+row_later old new name.Defmethod a s p ds e g = defmethod_later old new a s p ds e g
+row_later old new x a s p ds e g = inr refl
 
 special_later : (old new : List (List ℕ)) (x : Special) (a : Around) (s : Tables) (p : Place) (ds : List Item) (t : Tail) → Extends old new →
-    AllOf (Good (length old)) ds → special_node old x a s p ds t ≡ special_node new x a s p ds t
+    AllOf (Good (length old)) ds → Stays (special_node old x a s p ds t) (special_node new x a s p ds t)
 special_later old new x a s p ds no_tail e g = row_later old new x a s p ds e g
-special_later old new x a s p ds (dotted d) e g = refl
+special_later old new x a s p ds (dotted d) e g = inr refl
 
 headed_as_later : (old new : List (List ℕ)) (x : Symbol) (name : Option Special) (a : Around) (s : Tables) (p : Place) (ds : List Item) (t : Tail) →
     Extends old new → AllOf (Good (length old)) ds → symbol_text old x ≡ symbol_text new x →
-    headed_as old x name a s p ds t ≡ headed_as new x name a s p ds t
+    Stays (headed_as old x name a s p ds t) (headed_as new x name a s p ds t)
 headed_as_later old new x None a s p ds t e g same =
-    ap (λ text. without_dot p t (call_as x text (function_of a.bound x) a s p ds)) same
+    inr (ap (λ text. without_dot p t (call_as x text (function_of a.bound x) a s p ds)) same)
 headed_as_later old new x (Some special) a s p ds t e g same = special_later old new special a s p ds t e g
 
 headed_later : (old new : List (List ℕ)) (x : Symbol) (a : Around) (s : Tables) (p : Place) (ds : List Item) (t : Tail) → Extends old new →
-    AllOf (Good (length old)) ds → symbol_text old x ≡ symbol_text new x → headed old x a s p ds t ≡ headed new x a s p ds t
+    AllOf (Good (length old)) ds → symbol_text old x ≡ symbol_text new x → Stays (headed old x a s p ds t) (headed new x a s p ds t)
 headed_later old new x a s p ds t e g same =
-    headed_as_later old new x (special_of (symbol_text old x)) a s p ds t e g same
-    ∙ ap (λ text. headed_as new x (special_of text) a s p ds t) same
+    subst (λ (text : Option (List ℕ)). Stays (headed old x a s p ds t) (headed_as new x (special_of text) a s p ds t)) same
+    (headed_as_later old new x (special_of (symbol_text old x)) a s p ds t e g same)
 
 by_form_later : (old new : List (List ℕ)) (h : Item) (a : Around) (s : Tables) (p : Place) (ds : List Item) (t : Tail) → Extends old new →
-    Good (length old) h → headed_by_form old h a s p ds t ≡ headed_by_form new h a s p ds t
+    Good (length old) h → Stays (headed_by_form old h a s p ds t) (headed_by_form new h a s p ds t)
 by_form_later old new h a s p ds t e g =
-    ap (λ (b : Bool). if b then without_dot p t (all_parts CallOfValue a s p (h ∷ ds)) else offends p NotAForm) (lambda_later old new h e g)
+    inr (ap (λ (b : Bool). if b then without_dot p t (all_parts CallOfValue a s p (h ∷ ds)) else offends p NotAForm) (lambda_later old new h e g))
 
 list_later : (old new : List (List ℕ)) (a : Around) (s : Tables) (p : Place) (ds : List Item) (t : Tail) → Extends old new →
-    AllOf (Good (length old)) ds → list_node old a s p ds t ≡ list_node new a s p ds t
-list_later old new a s p [] t e g = refl
+    AllOf (Good (length old)) ds → Stays (list_node old a s p ds t) (list_node new a s p ds t)
+list_later old new a s p [] t e g = inr refl
 list_later old new a s p (item q (symbol x) ∷ ds) t e g = headed_later old new x a s p ds t e g.1 (same_text old new (item q (symbol x)) e g.0)
 list_later old new a s p (item q (integer n) ∷ ds) t e g = by_form_later old new (item q (integer n)) a s p ds t e g.0
 list_later old new a s p (item q (character c) ∷ ds) t e g = by_form_later old new (item q (character c)) a s p ds t e g.0
@@ -108,12 +110,12 @@ list_later old new a s p (item q (vector es) ∷ ds) t e g = by_form_later old n
 list_later old new a s p (item q nil ∷ ds) t e g = by_form_later old new (item q nil) a s p ds t e g.0
 list_later old new a s p (item q (list es u) ∷ ds) t e g = by_form_later old new (item q (list es u)) a s p ds t e g.0
 
--- a node is the same under every later table
-pub plain_later : (old new : List (List ℕ)) (a : Around) (s : Tables) (d : Item) → Extends old new → Good (length old) d → plain_node old a s d ≡ plain_node new a s d
+-- a node stays under every later table
+pub plain_later : (old new : List (List ℕ)) (a : Around) (s : Tables) (d : Item) → Extends old new → Good (length old) d → Stays (plain_node old a s d) (plain_node new a s d)
 plain_later old new a s (item p (list ds t)) e g = list_later old new a s p (items_list ds) t e (good_list (length old) p ds t g)
-plain_later old new a s (item p (symbol x)) e g = refl
-plain_later old new a s (item p (integer n)) e g = refl
-plain_later old new a s (item p (character c)) e g = refl
-plain_later old new a s (item p (string bytes)) e g = refl
-plain_later old new a s (item p (vector ds)) e g = refl
-plain_later old new a s (item p nil) e g = refl
+plain_later old new a s (item p (symbol x)) e g = inr refl
+plain_later old new a s (item p (integer n)) e g = inr refl
+plain_later old new a s (item p (character c)) e g = inr refl
+plain_later old new a s (item p (string bytes)) e g = inr refl
+plain_later old new a s (item p (vector ds)) e g = inr refl
+plain_later old new a s (item p nil) e g = inr refl

@@ -12,7 +12,8 @@ use Rattle.isl_profile.specs.Nodes.{Around, Node}
 use Rattle.isl_profile.specs.Shapes.{Pair, pairs_in, parameters_in, all_symbols, symbol_of}
 use Rattle.isl_profile.specs.RowWords.{alone, deeper, with_all, each_bound, each_inner, each_below, each_parameter}
 use Rattle.isl_profile.specs.BindingRows.{let_as, let_row, names_of, values_of, dynamics_as, dynamic_let_as, dynamic_let_row, lambda_as, lambda_row, functions_of, functions_as, with_functions_as, with_functions_row}
-use Rattle.isl_profile.specs.DefiningRows.{named, has_global, has_dynamic, is_set, is_taken, is_truth, is_reserved, defining_offence, unless_offending, defining, global_as, global_row, defdynamic_as, defdynamic_row, function_parts, defun_with, defun_as, defun_row}
+use Rattle.isl_profile.specs.DefiningRows.{named, has_global, has_dynamic, is_set, is_taken, is_truth, is_reserved, defining_offence, unless_offending, defining, global_as, global_row, defdynamic_as, defdynamic_row, defun_with, defun_as, defun_row}
+use Rattle.isl_profile.specs.FunctionNodes.{function_parts}
 use Rattle.isl_profile.specs.Sound.{weight, AllSound, SoundNode}
 use Rattle.isl_profile.specs.bridge.GoodParts.{GoodPairs, MaybePairs, good_pairs}
 use Rattle.isl_profile.specs.bridge.SoundParts.{weight_deeper, weight_below, weight_alone, sound_if, sound_within, both_sound, below_sound, inner_sound, bound_sound, parameters_sound}
@@ -60,7 +61,7 @@ sound_dynamic_let n a s p (bs ∷ fs) g = sound_dynamic_let_as n a s p bs fs (pa
 -- lambda
 
 -- the variables of a lambda list, and the forms of a body
-sound_variables : (n w : ℕ) (o i : Around) (ps : Parameters) (fs : List Item) → weight i.spot < w → AllOf (Good n) fs → AllSound n w o i (function_parts ps fs)
+pub sound_variables : (n w : ℕ) (o i : Around) (ps : Parameters) (fs : List Item) → weight i.spot < w → AllOf (Good n) fs → AllSound n w o i (function_parts ps fs)
 sound_variables n w o i ps fs h g =
     both_sound n w o i (each_parameter (all_symbols ps)) (each_inner fs) (parameters_sound n w o i (all_symbols ps)) (inner_sound n w o i fs h g)
 
@@ -103,7 +104,7 @@ where_no_offence n w p false false reserved x h = tt
 where_no_offence n w p true false true x h = tt
 where_no_offence n w p true false false x h = h refl
 
-sound_defining : (n w : ℕ) (a : Around) (p : Place) (taken reserved : Bool) (x : Node) → (a.spot.top ≡ true → SoundNode n w x) →
+pub sound_defining : (n w : ℕ) (a : Around) (p : Place) (taken reserved : Bool) (x : Node) → (a.spot.top ≡ true → SoundNode n w x) →
     SoundNode n w (defining a p taken reserved x)
 sound_defining n w a p taken reserved x h = where_no_offence n w p a.spot.top taken reserved x h
 

@@ -24,6 +24,8 @@ use Rattle.isl_profile.specs.Sound.{weight, SoundNode}
 use Rattle.isl_profile.specs.bridge.GoodParts.{good_list}
 use Rattle.isl_profile.specs.bridge.SoundParts.{sound_if, sound_literal}
 use Rattle.isl_profile.specs.bridge.SoundForms.{sound_symbol, sound_quote, sound_setq, sound_progn, sound_cond, sound_two, sound_body, sound_dynamic, sound_set_dynamic, sound_function, sound_method, sound_class, sound_block, sound_return_from, sound_tagbody, sound_go, sound_all_parts, sound_local_call}
+use Rattle.isl_profile.specs.bridge.SoundDefinitions.{sound_defgeneric, sound_defmethod}
+use Rattle.isl_profile.specs.bridge.SoundClasses.{sound_defclass}
 use Rattle.isl_profile.specs.bridge.SoundBinders.{sound_let, sound_dynamic_let, sound_lambda, sound_with_functions, sound_global, sound_defdynamic, sound_defun}
 
 -- special and defining forms
@@ -58,9 +60,9 @@ sound_special names n name.Defconstant a s p ds g = sound_global n true a s p ds
 sound_special names n name.Defdynamic a s p ds g = sound_defdynamic n a s p ds g
 sound_special names n name.Defun a s p ds g = sound_defun n (first_reserved names ds) a s p ds g
 sound_special names n name.Defmacro a s p ds g = tt
-sound_special names n name.Defclass a s p ds g = tt
-sound_special names n name.Defgeneric a s p ds g = tt
-sound_special names n name.Defmethod a s p ds g = tt
+sound_special names n name.Defclass a s p ds g = sound_defclass names n a s p ds g
+sound_special names n name.Defgeneric a s p ds g = sound_defgeneric names n a s p ds g
+sound_special names n name.Defmethod a s p ds g = sound_defmethod names n a s p ds g
 
 sound_special_node : (names : List (List ℕ)) (n : ℕ) (x : Special) (a : Around) (s : Tables) (p : Place) (ds : List Item) (t : Tail) → AllOf (Good n) ds →
     SoundNode n (weight a.spot) (special_node names x a s p ds t)

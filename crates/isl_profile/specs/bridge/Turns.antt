@@ -61,7 +61,7 @@ through_then names more o i s xs rs i2 t ys (Refused r) e h p = record {
       subst (λ v. Goes later o i s xs v) (front_end rs _) (h.under later (Extends-then names more later e f) _ (p.under later f));
 }
 
-front_all : (rs : List Found) (t : Tables) → all_in_front rs (all_stand (record { found = []; tables = t })) ≡ all_stand (record { found = rs; tables = t })
+pub front_all : (rs : List Found) (t : Tables) → all_in_front rs (all_stand (record { found = []; tables = t })) ≡ all_stand (record { found = rs; tables = t })
 front_all [] t = refl
 front_all (r ∷ rs) t = ap (in_front r) (front_all rs t)
 

@@ -3,6 +3,7 @@ use Rattle.std.proofs.Common.{List, ℕ}
 use Rattle.isl_meaning.specs.Meaning.{meaning}
 use Rattle.isl_meaning.specs.State.{Limit}
 use Rattle.isl_closure.specs.FlatMeaning.{flat_meaning}
+use Rattle.isl_closure.specs.FlatExits.{ProgramLeads}
 use Rattle.isl_closure.specs.FlatFits.{ProgramFits}
 use Rattle.isl_closure.specs.FlatStanding.{ProgramStands}
 use Rattle.isl_closure.specs.Flatten.{flat_program}
@@ -28,3 +29,8 @@ pub returns-clause-fits : goal.returns-clause-fits
 returns-clause-fits c =
     let rows = c.args.program.now in
     so_holds ProgramFits (flat_program rows) (c.law_flat_programs.ensures rows c.rows.ensures.whole).1 c.flat_rows.result (of_rows c.flat_rows.result c.rows.result.now c.args.program.now c.rows.ensures.same c.flat_rows.ensures)
+
+pub returns-clause-leads : goal.returns-clause-leads
+returns-clause-leads c =
+    let rows = c.args.program.now in
+    so_holds ProgramLeads (flat_program rows) (c.law_flat_programs.ensures rows c.rows.ensures.whole).2 c.flat_rows.result (of_rows c.flat_rows.result c.rows.result.now c.args.program.now c.rows.ensures.same c.flat_rows.ensures)

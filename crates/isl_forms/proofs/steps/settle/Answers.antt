@@ -1,7 +1,8 @@
 -- Each step leads on, and the last datum is no derived form.
 use Rattle.std.proofs.lemmas.Result.{err_from_is_err_and}
 use Rattle.isl_profile.specs.Promises.{settled_datum}
-use Rattle.isl_forms.proofs.Settling.{no_refusal, led_refused, with_symbols, led_same, led_step, Ended, led_ends, Stopped, led_stops}
+use Rattle.isl_forms.specs.Settled.{with_symbols}
+use Rattle.isl_forms.proofs.Settling.{no_refusal, led_refused, led_same, led_step, Ended, led_ends, Stopped, led_stops}
 use Rattle.isl_forms.proofs.steps.settle.Goals as goal
 
 pub loop-refusal-init : goal.loop-refusal-init
@@ -35,6 +36,9 @@ returns-in-Plain-clause-good c = (ended c).good
 pub returns-in-Plain-clause-names : goal.returns-in-Plain-clause-names
 returns-in-Plain-clause-names c = (ended c).later
 
+pub returns-in-Plain-clause-kept : goal.returns-in-Plain-clause-kept
+returns-in-Plain-clause-kept c = (ended c).kept
+
 pub returns-in-Plain-clause-grows : goal.returns-in-Plain-clause-grows
 returns-in-Plain-clause-grows c = (ended c).grows
 
@@ -52,9 +56,15 @@ returns-in_err-derive-clause-stops c =
 pub returns-in_err-derive-clause-names : goal.returns-in_err-derive-clause-names
 returns-in_err-derive-clause-names c = (stopped c).later
 
+pub returns-in_err-derive-clause-kept : goal.returns-in_err-derive-clause-kept
+returns-in_err-derive-clause-kept c = (stopped c).kept
+
 pub returns-in_err-derive-clause-grows : goal.returns-in_err-derive-clause-grows
 returns-in_err-derive-clause-grows c = (stopped c).grows
 
 pub returns-in-Some-clause-stops : goal.returns-in-Some-clause-stops
 returns-in-Some-clause-stops c =
     led_refused _ _ _ _ c.loop-refusal.tables _ _ _ c.in-Some.refusal c.loop-refusal.invariant c.last_datum-last.ensures c.class_in_front.ensures c.in-Some.is
+
+pub returns-in-Some-clause-kept : goal.returns-in-Some-clause-kept
+returns-in-Some-clause-kept c = c.loop-refusal.invariant.kept

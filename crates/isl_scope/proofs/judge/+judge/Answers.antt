@@ -1,18 +1,21 @@
 -- Each part in its turn.
-use Rattle.std.proofs.Common.{◌<◌, List, ◌++◌, length, refl, ap, subst, sym, ◌∙◌, rules}
+use Rattle.std.proofs.Common.{◌≡◌, ◌<◌, List, ◌++◌, [], length, refl, ap, subst, sym, ◌∙◌, rules}
 use Rattle.std.proofs.lemmas.Result.{err_from_is_err_and}
 use Rattle.isl_base.specs.Names.{Extends-same, Extends-then}
-use Rattle.isl_base.specs.GoodData.{Good}
+use Rattle.isl_base.specs.GoodData.{Good, good_stays}
 use Rattle.isl_profile.specs.declared.bound.Bound.{Bound}
+use Rattle.isl_profile.specs.FunctionNodes.{function_node}
+use Rattle.isl_profile.specs.Rows.{plain_node}
 use Rattle.isl_profile.specs.Promises.{FormStops, Settles, settled_datum}
 use Rattle.isl_profile.specs.Sound.{weight, AllSound}
 use Rattle.isl_profile.specs.Walks.{PartTaken, PartStops, Through}
 use Rattle.isl_profile.specs.bridge.Growing.{grows_then}
-use Rattle.isl_forms.specs.Views.{at, shown, view_part, view_parts, view_inner}
-use Rattle.isl_scope.specs.Walk.{FormGives}
-use Rattle.isl_scope.proofs.Judging.{settled_comes, settled_stops, whole_comes, whole_stop, offends_there, row_sound, bound_there}
-use Rattle.isl_scope.proofs.Walked.{walked_then, cut_back, value_walked, form_walked, below_walked, binding_walked, parameter_walked, whole_walked}
-use Rattle.isl_scope.proofs.Walking.{sound_stays, sound_first, sound_rest, next_part, next_inner, no_parts, no_inner, inner_sound, so_far_turn, so_far_stops, inside_turn, inside_stops}
+use Rattle.isl_whole.specs.Known.{KnownTables, MakesSuited}
+use Rattle.isl_forms.specs.Views.{at, shown, view_part, view_parts, view_inner, view_function}
+use Rattle.isl_scope.specs.Walk.{FormGives, node_of}
+use Rattle.isl_scope.proofs.Judging.{settled_comes, settled_stops, whole_comes, whole_stop, offends_there, row_sound, row_suited, function_weight, work_sound, work_comes, work_stops, bound_there}
+use Rattle.isl_scope.proofs.Walked.{walked_then, cut_back, value_walked, function_walked, wrong_walked, form_walked, below_walked, binding_walked, parameter_walked, whole_walked}
+use Rattle.isl_scope.proofs.Walking.{sound_stays, sound_first, sound_rest, next_part, next_inner, no_parts, no_inner, inner_sound, so_far_none, so_far_turn, so_far_stops, inside_none, inside_turn, inside_stops}
 use Rattle.isl_scope.proofs.judge.+judge.Goals as goal
 
 -- a form, with its steps
@@ -52,30 +55,38 @@ judge-returns-in-Some c c' =
 
 pub judge_plain-carry_out-requires : goal.judge_plain-carry_out-requires
 judge_plain-carry_out-requires c c' =
-    let sound : AllSound (length c'.args.names.now) (weight c'.args.spot) (at c'.args.bound.now c'.in-Whole.work.outside)
+    let row = sym (ap (λ q. shown c'.args.bound.now c'.plain_plan.new.tables q) c'.in-Whole.is) ∙ c'.in-Ok.ensures.plan in
+    let good : Good (length c'.plain_plan.new.names) c'.args.datum.now = good_stays _ _ _ c'.in-Ok.ensures.names c'.requires.good in
+    let sound : AllSound (length c'.plain_plan.new.names) (weight c'.args.spot) (at c'.args.bound.now c'.in-Whole.work.outside)
     (at (c'.args.bound.now ++ c'.in-Whole.work.binds) c'.in-Whole.work.inside) (view_parts c'.in-Whole.work.parts ++ view_inner c'.in-Whole.work.inner) =
-    row_sound c'.args.names.now (at c'.args.bound.now c'.args.spot) c'.args.tables.now c'.args.datum.now
+    row_sound c'.plain_plan.new.names (at c'.args.bound.now c'.args.spot) c'.args.tables.now c'.args.datum.now
     (at c'.args.bound.now c'.in-Whole.work.outside) (at (c'.args.bound.now ++ c'.in-Whole.work.binds) c'.in-Whole.work.inside) c'.plain_plan.new.tables
-    (view_parts c'.in-Whole.work.parts ++ view_inner c'.in-Whole.work.inner) c'.in-Whole.work.made c'.requires.good
-    (sym (ap (λ q. shown c'.args.bound.now c'.plain_plan.new.tables q) c'.in-Whole.is) ∙ c'.in-Ok.ensures.plan) in
+    (view_parts c'.in-Whole.work.parts ++ view_inner c'.in-Whole.work.inner) c'.in-Whole.work.made good row in
+    let suited : MakesSuited (at c'.args.bound.now c'.in-Whole.work.outside) (at (c'.args.bound.now ++ c'.in-Whole.work.binds) c'.in-Whole.work.inside)
+    c'.plain_plan.new.tables (view_parts c'.in-Whole.work.parts ++ view_inner c'.in-Whole.work.inner) c'.in-Whole.work.made =
+    row_suited (plain_node c'.plain_plan.new.names (at c'.args.bound.now c'.args.spot) c'.args.tables.now c'.args.datum.now)
+    (at c'.args.bound.now c'.in-Whole.work.outside) (at (c'.args.bound.now ++ c'.in-Whole.work.binds) c'.in-Whole.work.inside) c'.plain_plan.new.tables
+    (view_parts c'.in-Whole.work.parts ++ view_inner c'.in-Whole.work.inner) c'.in-Whole.work.made row
+    (c'.law_suits.ensures.plain_forms c'.plain_plan.new.names (at c'.args.bound.now c'.args.spot) c'.args.tables.now c'.args.datum.now c'.requires.known) in
     search rules
 
 pub judge_plain-returns-in-Offends : goal.judge_plain-returns-in-Offends
 judge_plain-returns-in-Offends c c' = record {
-  names = Extends-same _;
+  names = c'.in-Ok.ensures.names;
   grows = c'.in-Ok.ensures.grows;
   bound = tt;
   stands = tt;
-  stops = offends_there _ _ _ _ _ _ c'.requires.good
+  stops = offends_there _ _ _ _ _ _ (good_stays _ _ _ c'.in-Ok.ensures.names c'.requires.good)
       (sym (ap (λ q. shown c'.args.bound.now c'.plain_plan.new.tables q) c'.in-Offends.is) ∙ c'.in-Ok.ensures.plan) (Extends-same _);
 }
 
 pub judge_plain-returns-in-Whole : goal.judge_plain-returns-in-Whole
 judge_plain-returns-in-Whole c c' =
     let row = sym (ap (λ q. shown c'.args.bound.now c'.plain_plan.new.tables q) c'.in-Whole.is) ∙ c'.in-Ok.ensures.plan in
-    walked_then _ _ _ _ _ _ _ _ _ _ _ _ _ (Extends-same _) c'.in-Ok.ensures.grows c'.carry_out.ensures
-    (λ f p. whole_comes _ _ _ _ _ _ _ _ _ _ _ c'.requires.good row c'.carry_out.ensures.names p)
-    (λ stop p. whole_stop _ _ _ _ _ _ _ _ _ _ stop c'.requires.good row c'.carry_out.ensures.names p)
+    let good = good_stays _ _ _ c'.in-Ok.ensures.names c'.requires.good in
+    walked_then _ _ _ _ _ _ _ _ _ _ _ _ _ c'.in-Ok.ensures.names c'.in-Ok.ensures.grows c'.carry_out.ensures
+    (λ f p. whole_comes _ _ _ _ _ _ _ _ _ _ _ good row c'.carry_out.ensures.names p)
+    (λ stop p. whole_stop _ _ _ _ _ _ _ _ _ _ stop good row c'.carry_out.ensures.names p)
 
 -- its parts, and the core form
 
@@ -114,6 +125,9 @@ judge_all-judge_inner-requires c c' =
     (view_inner c'.args.inner.now) c'.in_ok-judge_parts.ensures.names refl refl
     (sound_rest (length c'.args.names.now) (weight c'.args.spot) (at c'.args.bound.now c'.args.spots.outside) (at (c'.args.bound.now ++ c'.args.binds) c'.args.spots.inside)
     (view_parts c'.args.parts.now) (view_inner c'.args.inner.now) c'.requires.sound) in
+    let known : KnownTables c'.judge_parts.new.tables =
+    c'.law_known.ensures.walks c'.judge_parts.new.names (at c'.args.bound.now c'.args.spots.outside) (at (c'.args.bound.now ++ c'.args.binds) c'.args.spots.inside)
+    c'.args.tables.now (view_parts c'.args.parts.now ++ []) c'.judge_parts.new.found _ c'.judge_parts.new.tables c'.requires.known (c'.in_ok-judge_parts.ensures.stands []) in
     search rules
 
 pub judge_all-returns-in_err-judge_inner : goal.judge_all-returns-in_err-judge_inner
@@ -157,11 +171,54 @@ pub judge_part-returns-in-Ok : goal.judge_part-returns-in-Ok
 judge_part-returns-in-Ok c c' =
     rw c'.in-Bind.is (binding_walked _ _ _ _ _ _ _ _ _ _ _ _ _ _ _ _ _ _ c'.in-Ok.ensures.ok c'.in-Ok.ensures.variable c'.in-Ok.ensures.grows c'.judge-form.ensures c'.keep_binding.ensures)
 
+pub judge_part-returns-in-Wrong : goal.judge_part-returns-in-Wrong
+judge_part-returns-in-Wrong c c' = rw c'.in-Wrong.is (wrong_walked _ _ _ _ _ _ _ _ _ _ refl)
+
+pub judge_part-returns-in-Function : goal.judge_part-returns-in-Function
+judge_part-returns-in-Function c c' =
+    rw c'.in-Function.is (function_walked _ _ _ _ _ _ _ _ _ _ _ _ _ c'.judge_function-form.ensures c'.keep_value.ensures)
+
 pub judge_part-returns-in-Parameter : goal.judge_part-returns-in-Parameter
 judge_part-returns-in-Parameter c c' =
     rw c'.in-Parameter.is (parameter_walked _ _ _ _ _ _ _ _ _ _ _ _ c'.take_parameter.ensures.grows c'.take_parameter.ensures.taken)
 
+-- a function of a definition
+
+pub judge_function-carry_out-requires : goal.judge_function-carry_out-requires
+judge_function-carry_out-requires c c' =
+    let f = view_function c'.args.written.now in
+    let a = at c'.args.bound.now c'.args.outside in
+    let w = c'.in-Ok.work in
+    let row : node_of c'.args.bound.now c'.function_work.new.tables w ≡ function_node a c'.args.tables.now f = c'.in-Ok.ensures.work.node c'.args.bound.now in
+    let deep : 1001 < weight c'.args.spot = function_weight (length c'.args.names.now) (weight c'.args.spot) f c'.requires.sound in
+    let sound : AllSound (length c'.args.names.now) 1001 (at c'.args.bound.now w.outside) (at (c'.args.bound.now ++ w.binds) w.inside)
+    (view_parts w.parts ++ view_inner w.inner) =
+    work_sound (length c'.args.names.now) (weight c'.args.spot) a c'.args.tables.now f (at c'.args.bound.now w.outside) (at (c'.args.bound.now ++ w.binds) w.inside)
+    c'.function_work.new.tables (view_parts w.parts ++ view_inner w.inner) w.made c'.requires.sound row in
+    let suited : MakesSuited (at c'.args.bound.now w.outside) (at (c'.args.bound.now ++ w.binds) w.inside) c'.function_work.new.tables
+    (view_parts w.parts ++ view_inner w.inner) w.made =
+    row_suited (function_node a c'.args.tables.now f) (at c'.args.bound.now w.outside) (at (c'.args.bound.now ++ w.binds) w.inside) c'.function_work.new.tables
+    (view_parts w.parts ++ view_inner w.inner) w.made row (c'.law_suits.ensures.functions a c'.args.tables.now f c'.requires.known) in
+    rw c'.above_body.ensures (search rules)
+
+pub judge_function-returns : goal.judge_function-returns
+judge_function-returns c c' =
+    let row : node_of c'.args.bound.now c'.function_work.new.tables c'.in-Ok.work
+    ≡ function_node (at c'.args.bound.now c'.args.outside) c'.args.tables.now (view_function c'.args.written.now) = c'.in-Ok.ensures.work.node c'.args.bound.now in
+    walked_then _ _ _ _ _ _ _ _ _ _ _ _ _ (Extends-same _) c'.in-Ok.ensures.grows c'.carry_out.ensures
+    (λ f p. work_comes c'.carry_out.new.names
+    (function_node (at c'.args.bound.now c'.args.outside) c'.args.tables.now (view_function c'.args.written.now))
+    (at c'.args.bound.now c'.in-Ok.work.outside) (at (c'.args.bound.now ++ c'.in-Ok.work.binds) c'.in-Ok.work.inside) c'.function_work.new.tables
+    (view_parts c'.in-Ok.work.parts ++ view_inner c'.in-Ok.work.inner) c'.in-Ok.work.made _ row p)
+    (λ stop p. work_stops c'.carry_out.new.names
+    (function_node (at c'.args.bound.now c'.args.outside) c'.args.tables.now (view_function c'.args.written.now))
+    (at c'.args.bound.now c'.in-Ok.work.outside) (at (c'.args.bound.now ++ c'.in-Ok.work.binds) c'.in-Ok.work.inside) c'.function_work.new.tables
+    (view_parts c'.in-Ok.work.parts ++ view_inner c'.in-Ok.work.inner) c'.in-Ok.work.made stop row p)
+
 -- parts one after another
+
+pub judge_parts-loop-part-init : goal.judge_parts-loop-part-init
+judge_parts-loop-part-init c c' = rw c'.requires.none (refl, so_far_none _ _ _ _ _ _ c'.requires.sound, c'.requires.known)
 
 pub judge_parts-loop-part-preserved : goal.judge_parts-loop-part-preserved
 judge_parts-loop-part-preserved c c' =
@@ -171,6 +228,7 @@ judge_parts-loop-part-preserved c c' =
       c'.in_ok-judge_part.ensures.bound ∙ c'.loop-part.invariant.0,
       so_far_turn _ _ _ _ _ _ _ _ _ _ _ _ _ _ _ _ _ c'.loop-part.invariant.1 (next_part c'.args.parts.now c'.loop-part.part-index c'.part-item.result (search rules) (search rules))
           c'.in_ok-judge_part.ensures.names c'.in_ok-judge_part.ensures.grows refl taken,
+      c'.law_known.ensures.parts _ _ _ _ _ _ _ _ _ c'.loop-part.invariant.2 taken,
     )
 
 pub judge_parts-returns-in_err-judge_part : goal.judge_parts-returns-in_err-judge_part
@@ -203,6 +261,9 @@ judge_parts-returns c c' = record {
 
 -- forms inside one after another
 
+pub judge_inner-loop-datum-init : goal.judge_inner-loop-datum-init
+judge_inner-loop-datum-init c c' = (refl, inside_none _ _ _ _ _ _ _ c'.requires.sound, c'.requires.known)
+
 pub judge_inner-judge_value-requires : goal.judge_inner-judge_value-requires
 judge_inner-judge_value-requires c c' =
     let part : Good (length c'.loop-datum.names) c'.datum-item.result.now × (weight c'.args.spots.inside < weight c'.args.spot) =
@@ -216,8 +277,11 @@ judge_inner-loop-datum-preserved c c' =
     let P : List Bound → Type 0 = λ b. FormGives c'.judge_value.new.names (at b c'.args.spots.inside) c'.loop-datum.tables c'.datum-item.result.now
     c'.judge_value.new.tables value.form in
     let turned = inside_turn _ _ _ _ _ _ _ _ _ _ _ _ _ _ _ _ c'.loop-datum.invariant.1 (next_inner c'.args.inner.now c'.loop-datum.datum-index c'.datum-item.result (search rules) (search rules))
-    c'.in_ok-judge_value.ensures.names c'.in_ok-judge_value.ensures.grows (subst P c'.loop-datum.invariant.0 value.comes) in
-    (c'.in_ok-judge_value.ensures.bound ∙ c'.loop-datum.invariant.0, rw value.found turned)
+    c'.in_ok-judge_value.ensures.names c'.in_ok-judge_value.ensures.grows (subst P c'.loop-datum.invariant.0 value.comes) in (
+      c'.in_ok-judge_value.ensures.bound ∙ c'.loop-datum.invariant.0,
+      rw value.found turned,
+      c'.law_known.ensures.forms _ _ _ _ (record { form = value.form; tables = c'.judge_value.new.tables }) c'.loop-datum.invariant.2 (value.comes.under _ (Extends-same _)),
+    )
 
 pub judge_inner-returns-in_err-judge_value : goal.judge_inner-returns-in_err-judge_value
 judge_inner-returns-in_err-judge_value c c' =

@@ -1,15 +1,10 @@
--- What is left is what is behind the innermost names.
-use Rattle.std.proofs.Common.{ap, ◌∙◌, ◌-◌, length, take, drop, arith, ◌≤◌}
-use Rattle.std.specs.Prelude.{reverse}
-use Rattle.std.proofs.lemmas.List.{length-reverse}
-use Rattle.isl_flatten.proofs.Turns.{without_last}
+-- One name after another is released.
+use Rattle.std.proofs.Common.{ap, ◌∙◌, length, drop, arith}
+use Rattle.std.proofs.lemmas.List.{drop-drop, length-drop}
 use Rattle.isl_flatten.proofs.bindings.Bindings.release.Goals as goal
 
-pub returns : goal.returns
-returns g c =
-    let xs = c.self.inside.entries in
-    let few : c.args.count ≤ length xs = omega (arith, c.requires, ap length c.self.view_is, length-reverse xs) in
-    ap reverse c.cut.ensures
-    ∙ ap (λ n. reverse (take (n - c.args.count) xs)) c.len.ensures
-    ∙ without_last xs c.args.count few
-    ∙ ap (drop c.args.count) c.self.view_is
+pub release_last-requires : goal.release_last-requires
+release_last-requires g c = omega (arith, c.requires, ap length c.loop.invariant, length-drop c.loop.counter c.args.self.now)
+
+pub loop-preserved : goal.loop-preserved
+loop-preserved g c = c.release_last.ensures ∙ ap (drop 1) c.loop.invariant ∙ drop-drop 1 c.loop.counter c.args.self.now

@@ -1,0 +1,2 @@
+-- What proofs of the code need of the definition.
+pub mod Leaving

@@ -1,0 +1,5 @@
+pub mod Words
+pub mod Spelling
+pub mod View
+pub mod Requests
+pub mod NamedValues

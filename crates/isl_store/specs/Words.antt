@@ -1,0 +1,70 @@
+-- What words and objects stand for, where names are the texts of the program's names.
+use Rattle.std.specs.Prelude.{ℕ, suc, List, [], ◌∷◌, ◌++◌, Option, Some, None, map, option_map}
+use Rattle.isl_meaning.specs.Values.{Value, integer, character, symbol, nil, object, named, unnamed}
+use Rattle.isl_meaning.specs.Objects.{Called}
+use Rattle.isl_meaning.specs.Objects as objects
+use Rattle.isl_meaning.specs.Lookup.{text}
+use Rattle.isl_closure.specs.FlatState as flat
+use Rattle.isl_store.specs.declared.word.Word.{Word}
+use Rattle.isl_store.specs.declared.word.Word.TheVariants.{Nil, Integer, Character, Symbol, Unnamed}
+use Rattle.isl_store.specs.declared.word.Word.TheVariants as word
+use Rattle.isl_store.specs.declared.object.Captured.{Captured}
+use Rattle.isl_store.specs.declared.object.Captured.TheVariants as captured
+use Rattle.isl_store.specs.declared.object.Object.{Object}
+use Rattle.isl_store.specs.declared.object.Object.TheVariants.{Cons, Text, Vector, Function, Closure, Generic, Class, InputStream, OutputStream, FreshSymbol}
+use Rattle.isl_store.specs.declared.object.Object.TheVariants as made
+
+abbrev pub value_of_word : List (List ℕ) → Word → Value
+value_of_word names Nil = nil
+value_of_word names (Integer n) = integer n
+value_of_word names (Character c) = character c
+value_of_word names (Symbol n) = symbol (named (text names n.0))
+value_of_word names (Unnamed expansion serial) = symbol (unnamed expansion serial)
+value_of_word names (word.Object i) = object i
+
+abbrev pub values_of : List (List ℕ) → List Word → List Value
+values_of names ws = map (value_of_word names) ws
+
+abbrev pub value_or_none : List (List ℕ) → Option Word → Option Value
+value_or_none names o = option_map (value_of_word names) o
+
+-- the slots of an instance
+abbrev pub slots_of : List (List ℕ) → List (Option Word) → List (Option Value)
+slots_of names os = map (value_or_none names) os
+
+-- an object of the meaning's store; what a function captured stands beside
+abbrev pub object_of : List (List ℕ) → Object → objects.Object
+object_of names (Cons a d) = objects.cons (value_of_word names a) (value_of_word names d)
+object_of names (Text bytes) = objects.string bytes
+object_of names (Vector ws) = objects.vector (values_of names ws)
+object_of names (made.Instance i) = objects.instance i.class (slots_of names i.slots) (value_of_word names i.mark)
+object_of names (Function p) = objects.function p
+object_of names (Closure p cs) = objects.function p
+object_of names (Generic g) = objects.generic_function g
+object_of names (Class c) = objects.class_object c
+object_of names InputStream = objects.input_stream
+object_of names OutputStream = objects.output_stream
+object_of names (FreshSymbol s) = objects.fresh_symbol s
+
+-- what was captured, where the machine keeps those methods
+abbrev pub captured_of : List (List ℕ) → (ℕ → Option Called) → Captured → flat.Captured
+captured_of names methods (captured.Value w) = flat.of_value (value_of_word names w)
+captured_of names methods (captured.Cell i) = flat.of_cell i
+captured_of names methods (captured.Exit e) = flat.of_exit e
+captured_of names methods (captured.Method m) = flat.of_method (methods m)
+
+-- what the function of an object captured, if a form made it
+abbrev pub captured_by : List (List ℕ) → (ℕ → Option Called) → Object → Option (List flat.Captured)
+captured_by names methods (Closure p cs) = Some (map (captured_of names methods) cs)
+captured_by names methods o = None
+
+-- the same under its object's number
+abbrev pub under_its_number : ℕ → Option (List flat.Captured) → List (ℕ × List flat.Captured)
+under_its_number n None = []
+under_its_number n (Some cs) = (n, cs) ∷ []
+
+-- what functions captured, the last one first, where the first object has that number
+abbrev pub captured_from : List (List ℕ) → (ℕ → Option Called) → ℕ → List Object → List (ℕ × List flat.Captured)
+captured_from names methods n [] = []
+captured_from names methods n (o ∷ os) =
+    captured_from names methods (suc n) os ++ under_its_number n (captured_by names methods o)

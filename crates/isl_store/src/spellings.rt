@@ -1,0 +1,86 @@
+// How names are told apart by their numbers.
+
+ghost use Rattle.std.specs.Prelude.{◌≡◌, ◌↔◌, List, [], ℕ, IsTrue};
+ghost use Rattle.std.specs.Str.{bytes_eq};
+ghost use Rattle.isl_meaning.specs.Lookup.{text};
+ghost use Rattle.isl_meaning.specs.Values.{same};
+ghost use Rattle.isl_store.specs.Spelling.{IsSpelling, number_of};
+ghost use Rattle.isl_store.specs.Words.{value_of_word};
+
+use crate::word::Word;
+use isl_base::{Name, Names};
+
+/// What tells the names of a table apart by their numbers: how many there are, and the number that stands for the empty
+/// text, which is also that of all numbers that are not in the table.
+#[derive(Clone, Copy)]
+pub struct Spellings {
+    known: usize,
+    blank: usize,
+}
+
+impl Spellings {
+    #[tactic(auto, using(crate::proofs::Spelt::none_yet, crate::proofs::Spelt::blank_there, crate::proofs::Spelt::blank_elsewhere, crate::proofs::Spelt::found_blank))]
+    /// That of a table.
+    pub fn new(names: &Names) -> Spellings
+        ensures { IsSpelling names.now result }
+    {
+        let known = names.len();
+        let mut blank = known;
+        for number in 0..known {
+            if is_blank(names, number) {
+                blank = number;
+            }
+        }
+        Spellings { known, blank }
+    }
+
+    /// The number by which a name is told apart.
+    pub fn number(self, name: Name) -> usize
+        ensures { result ≡ number_of self name.0 }
+    {
+        if name.0 < self.known {
+            name.0
+        } else {
+            self.blank
+        }
+    }
+
+    #[tactic(auto, using(crate::proofs::Spelt::told))]
+    /// Whether two names have the same text.
+    pub fn same_name(self, name: Name, other: Name) -> bool
+        ensures { (names : List (List ℕ)) → IsSpelling names self → result ≡ bytes_eq (text names name.0) (text names other.0) }
+    {
+        self.number(name) == self.number(other)
+    }
+
+    /// Whether two words are the same value.
+    pub fn same(self, word: Word, other: Word) -> bool
+        ensures { (names : List (List ℕ)) → IsSpelling names self → result ≡ same (value_of_word names word) (value_of_word names other) }
+    {
+        match (word, other) {
+            (Word::Nil, Word::Nil) => true,
+            (Word::Integer(a), Word::Integer(b)) => a == b,
+            (Word::Character(a), Word::Character(b)) => a == b,
+            (Word::Symbol(a), Word::Symbol(b)) => self.same_name(a, b),
+            (
+                Word::Unnamed { expansion, serial },
+                Word::Unnamed {
+                    expansion: other_expansion,
+                    serial: other_serial,
+                },
+            ) => expansion == other_expansion && serial == other_serial,
+            (Word::Object(a), Word::Object(b)) => a == b,
+            _ => false,
+        }
+    }
+}
+
+// Whether the name of that number has the empty text.
+fn is_blank(names: &Names, number: usize) -> bool
+    ensures { IsTrue result ↔ (text names.now number ≡ []) }
+{
+    match names.text(Name(number)) {
+        Some(text) => text.is_empty(),
+        None => true,
+    }
+}
