@@ -10,7 +10,7 @@ ghost use Rattle.isl_drafts.specs.Drafts.{around, Draws};
 ghost use Rattle.isl_drafts.specs.Views.{view_parts};
 ghost use Rattle.isl_written.specs.Views.{view_clauses};
 
-use isl_drafts::draft::{Draft, Note, made_at_once, made_plain, made_within, offence};
+use isl_drafts::draft::{Draft, Note, made_at_once, made_plain, made_within, offence, one_part};
 use isl_drafts::here::{Setting, deeper_at_top, fits_depth};
 use isl_drafts::plan::{Parts, inner_forms, one_form, push_below, push_form};
 use isl_written::shapes::{Clauses, clauses_in, is_true, name_of, symbol_of};
