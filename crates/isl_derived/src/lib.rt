@@ -9,8 +9,9 @@ mod piece;
 mod quotation;
 mod right;
 mod setf;
-mod shape;
+pub mod shape;
 mod table;
 mod template;
 
 pub use one_step::{Step, derive, is_derived_name};
+pub use shape::{is_word, list_items, symbol_text, text_of};

@@ -7,7 +7,7 @@ ghost use Rattle.isl_derived.specs.Asked.{is_word, is_symbol, list_items};
 use isl_base::{Datum, Kind, Names, Symbol};
 
 /// The name of a symbol; none of a fresh one, and of what is no symbol.
-pub(crate) fn text_of<'n>(names: &'n Names, datum: &Datum) -> Option<&'n [u8]>
+pub fn text_of<'n>(names: &'n Names, datum: &Datum) -> Option<&'n [u8]>
     ensures { MatchOption result (text_of names.now datum.now ≡ None) (λ text. text_of names.now datum.now ≡ Some text.now) }
 {
     match &datum.kind {
@@ -21,7 +21,8 @@ pub(crate) fn text_of<'n>(names: &'n Names, datum: &Datum) -> Option<&'n [u8]>
     }
 }
 
-fn symbol_text<'n>(names: &'n Names, symbol: Symbol) -> Option<&'n [u8]>
+/// The name of a symbol, where a text names it.
+pub fn symbol_text<'n>(names: &'n Names, symbol: Symbol) -> Option<&'n [u8]>
     ensures { MatchOption result (symbol_text names.now symbol ≡ None) (λ text. symbol_text names.now symbol ≡ Some text.now) }
 {
     match symbol {
@@ -31,7 +32,7 @@ fn symbol_text<'n>(names: &'n Names, symbol: Symbol) -> Option<&'n [u8]>
 }
 
 /// Whether it is the symbol of that name.
-pub(crate) fn is_word(names: &Names, text: &[u8], datum: &Datum) -> bool
+pub fn is_word(names: &Names, text: &[u8], datum: &Datum) -> bool
     ensures { result ≡ is_word names.now text.now datum.now }
 {
     match text_of(names, datum) {
@@ -55,9 +56,9 @@ pub(crate) fn is_symbol(datum: &Datum) -> bool
     }
 }
 
-#[tactic(auto, using(crate::proofs::Lists::shown_items))]
 /// The items of a list without a dot; nil is the list without items.
-pub(crate) fn list_items<'a>(datum: &'a Datum) -> Option<&'a [Datum]>
+#[tactic(auto, using(crate::proofs::Lists::shown_items))]
+pub fn list_items<'a>(datum: &'a Datum) -> Option<&'a [Datum]>
     ensures { MatchOption result (list_items datum.now ≡ None) (λ items. list_items datum.now ≡ Some items.now) }
 {
     match &datum.kind {

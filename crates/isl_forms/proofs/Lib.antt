@@ -1,13 +1,3 @@
 pub mod Lists
-pub mod Choices
-pub mod Shaping
 pub mod Settling
-pub mod TextNumbers
-pub mod Generics
-pub mod Supers
-pub mod Specialising
-pub mod MoreNames
-pub mod ClassSlots
-pub mod ClassDefining
 pub mod NamedRows
-pub mod AskedNames

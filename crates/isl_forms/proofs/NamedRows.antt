@@ -34,7 +34,8 @@ use Rattle.isl_profile.specs.ClassRows as class
 use Rattle.isl_profile.specs.GivenNames.{GivenName, no_name, unfit, lacking, given, given_name}
 use Rattle.isl_profile.specs.Makings.{generic_named as number_named}
 use Rattle.isl_profile.specs.Rows.{special_row, special_of, headed_as, headed_by, call_as, call_symbol, list_node, is_lambda, plain_node, functions_kept, first_reserved}
-use Rattle.isl_forms.specs.Lacking.{is_unnamed, is_lacking_name, slots_lack, class_lacks, first_lacks, special_in, behind_first, headed_lacks, form_lacks}
+use Rattle.isl_drafts.specs.Drafts.{is_unnamed}
+use Rattle.isl_written.specs.Lacking.{is_lacking_name, slots_lack, class_lacks, first_lacks, special_in, behind_first, headed_lacks, form_lacks}
 
 -- something is said of it
 record Said (x : Node) : Type 0 where

@@ -9,10 +9,9 @@ ghost use Rattle.isl_profile.specs.Marks.{Grows};
 ghost use Rattle.isl_profile.specs.Rows as row;
 ghost use Rattle.isl_profile.specs.Promises.{Settles, StepsStop, settled_datum};
 
-use crate::rows::forms::is_word;
-use crate::shapes::{list_items, symbol_of};
+use isl_written::shapes::symbol_of;
 use isl_base::{Datum, Names, Reason, Refusal, Stop, Symbol};
-use isl_derived::{Step, derive};
+use isl_derived::{Step, derive, is_word, list_items};
 use isl_profile::Tables;
 use std::alloc::Global;
 

@@ -28,7 +28,7 @@ use Rattle.isl_profile.specs.bridge.Later.{plain_later}
 use Rattle.isl_profile.specs.bridge.SoundRows.{sound_node}
 use Rattle.isl_whole.specs.Known.{KnownTables, MakesSuited, SuitsNode}
 use Rattle.isl_forms.specs.Settled.{with_symbols}
-use Rattle.isl_forms.specs.Views.{at}
+use Rattle.isl_drafts.specs.Views.{at}
 use Rattle.isl_scope.specs.Walk.{AllFound, NodeComes, NodeStops}
 
 -- what holds of the error or of the value, with what follows from it

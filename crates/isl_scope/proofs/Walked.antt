@@ -25,7 +25,7 @@ use Rattle.isl_profile.specs.Walks.{PartTaken, PartStops, PartsStop, WholeStops}
 use Rattle.isl_profile.specs.bridge.Growing.{grows_same, grows_then, finish_grows}
 use Rattle.isl_profile.specs.bridge.Turns.{whole_stands, whole_stops}
 use Rattle.isl_making.specs.bridge.Leaving.{leaves_grow}
-use Rattle.isl_forms.specs.Views.{at}
+use Rattle.isl_drafts.specs.Views.{at}
 use Rattle.isl_scope.specs.Walk.{Walked, FormGives, WholeGives, NodeGives, NodeStops, ValueFound, AllFound, KeepsValue, KeepsBinding, TakesParameter, Completes}
 use Rattle.isl_scope.proofs.Judging.{err_map, ok_map}
 use Rattle.isl_scope.proofs.Walking.{form_taken, below_taken, bind_taken, parameter_taken, form_stops, below_stops, bind_stops, function_stops}

@@ -27,8 +27,8 @@ use Rattle.isl_profile.specs.Marks.{Grows}
 use Rattle.isl_profile.specs.Walks.{PartTaken, PartStops, Through, PartsStop}
 use Rattle.isl_profile.specs.bridge.Growing.{grows_same, grows_then}
 use Rattle.isl_profile.specs.bridge.Turns.{through_none, turn, turn_stops}
-use Rattle.isl_forms.specs.declared.plan.Part.{Part as WrittenPart}
-use Rattle.isl_forms.specs.Views.{at, view_part, view_parts, view_inner}
+use Rattle.isl_drafts.specs.declared.plan.Part.{Part as WrittenPart}
+use Rattle.isl_drafts.specs.Views.{at, view_part, view_parts, view_inner}
 use Rattle.isl_scope.specs.Walk.{NodeStops}
 
 -- a function of a definition is sound under a later table of names

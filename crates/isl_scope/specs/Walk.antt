@@ -21,8 +21,8 @@ use Rattle.isl_profile.specs.Nodes.{Around, Part, Written, Node, whole, refused,
 use Rattle.isl_profile.specs.Judged.{with_variable, Comes}
 use Rattle.isl_profile.specs.Promises.{FormComes, PlainComes}
 use Rattle.isl_profile.specs.Walks.{Through, PartsStop, WholeComes}
-use Rattle.isl_forms.specs.declared.plan.Work.{Work}
-use Rattle.isl_forms.specs.Views.{at, view_parts, view_inner}
+use Rattle.isl_drafts.specs.declared.plan.Work.{Work}
+use Rattle.isl_drafts.specs.Views.{at, view_parts, view_inner}
 use Rattle.isl_making.specs.Stopping.{Leaves}
 
 -- names are only gained and tables only grow; on Ok what is bound is as before and the value is such a one, else the stop is

@@ -6,11 +6,11 @@ ghost use Rattle.isl_profile.specs.Marks.{Grows};
 ghost use Rattle.isl_profile.specs.Nodes.{initform, accessor, method};
 ghost use Rattle.isl_profile.specs.RowWords as word;
 ghost use Rattle.isl_profile.specs.Shapes.{all_symbols};
-ghost use Rattle.isl_forms.specs.Views.{view_parts, view_inner, view_function};
+ghost use Rattle.isl_drafts.specs.Views.{view_parts, view_inner, view_function};
 ghost use Rattle.isl_scope.specs.Walk.{IsWorkOf, StandsAlone};
 
 use isl_base::{Datum, FreshList, Kind, Name, NoMemory, Symbol};
-use isl_forms::{Inner, Part, Parts, Work, Written};
+use isl_drafts::{Inner, Part, Parts, Work, Written};
 use isl_meaning::{LiteralRow, Var};
 use isl_profile::{Accessor, BoundList, Made, Making, Parameters, Spot, Tables};
 use std::alloc::Global;

@@ -7,14 +7,15 @@ ghost use Rattle.isl_profile.specs.Walks.{PartTaken, PartStops, PartsStop, Whole
 ghost use Rattle.isl_profile.specs.FunctionNodes.{function_node};
 ghost use Rattle.isl_profile.specs.Sound.{weight, SoundFunction, SoundPart, AllSound};
 ghost use Rattle.isl_whole.specs.Known.{KnownTables, MakesSuited};
-ghost use Rattle.isl_forms.specs.Views.{at, view_part, view_parts, view_inner, view_function};
+ghost use Rattle.isl_drafts.specs.Views.{at, view_part, view_parts, view_inner, view_function};
 ghost use Rattle.isl_scope.specs.Walk.{Walked, FormGives, PlainGives, WholeGives, NodeGives, NodeStops, ValueFound, AllFound, PartsFound, PartsEnded, InnerFound, InnerEnded};
 
 use crate::functions::{above_body, function_work};
 use crate::keep::{complete_found, keep_binding, keep_value, take_parameter, take_variable};
 use isl_base::{Datum, Names, Refusal, Stop};
 use isl_bindings::Bindings;
-use isl_forms::{Here, Inner, Part, Parts, Plan, Work, Written, deeper, plain_plan, settle};
+use isl_drafts::{Here, Inner, Part, Parts, Plan, Work, Written, deeper};
+use isl_forms::{plain_plan, settle};
 use isl_meaning::Core;
 use isl_profile::{BoundList, FoundList, Spot, Tables};
 use isl_whole::laws::{law_known, law_suits};

@@ -1,6 +1,6 @@
 -- The forms that were seen.
 use Rattle.std.proofs.Common.{◌≡◌, take}
-use Rattle.isl_forms.specs.Views.{view_inner}
+use Rattle.isl_drafts.specs.Views.{view_inner}
 use Rattle.isl_profile.specs.RowWords.{each_inner}
 use Rattle.isl_scope.proofs.functions.inner_forms.Given as goal
 

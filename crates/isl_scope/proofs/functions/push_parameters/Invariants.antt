@@ -1,6 +1,6 @@
 -- The parameters that were seen are appended.
 use Rattle.std.proofs.Common.{◌≡◌, ◌++◌, take}
-use Rattle.isl_forms.specs.Views.{view_parts}
+use Rattle.isl_drafts.specs.Views.{view_parts}
 use Rattle.isl_profile.specs.RowWords.{each_parameter}
 use Rattle.isl_scope.proofs.functions.push_parameters.Given as goal
 

@@ -11,7 +11,7 @@ use Rattle.isl_profile.specs.Sound.{weight, AllSound}
 use Rattle.isl_profile.specs.Walks.{PartTaken, PartStops, Through}
 use Rattle.isl_profile.specs.bridge.Growing.{grows_then}
 use Rattle.isl_whole.specs.Known.{KnownTables, MakesSuited}
-use Rattle.isl_forms.specs.Views.{at, shown, view_part, view_parts, view_inner, view_function}
+use Rattle.isl_drafts.specs.Views.{at, shown, view_part, view_parts, view_inner, view_function}
 use Rattle.isl_scope.specs.Walk.{FormGives, node_of}
 use Rattle.isl_scope.proofs.Judging.{settled_comes, settled_stops, whole_comes, whole_stop, offends_there, row_sound, row_suited, function_weight, work_sound, work_comes, work_stops, bound_there}
 use Rattle.isl_scope.proofs.Walked.{walked_then, cut_back, value_walked, function_walked, wrong_walked, form_walked, below_walked, binding_walked, parameter_walked, whole_walked}

@@ -2,7 +2,7 @@
 use Rattle.std.proofs.Common.{◌≡◌, ◌+◌, ◌++◌, ◌*◌, drop}
 use Rattle.isl_profile.specs.Sound.{weight}
 use Rattle.isl_whole.specs.Known.{KnownTables}
-use Rattle.isl_forms.specs.Views.{at, view_parts, view_inner}
+use Rattle.isl_drafts.specs.Views.{at, view_parts, view_inner}
 use Rattle.isl_scope.proofs.Walking.{SoFar, InsideSoFar}
 use Rattle.isl_scope.proofs.judge.+judge.Given as goal
 

@@ -1,0 +1,3 @@
+pub mod Supers
+pub mod ClassSlots
+pub mod ClassDefining

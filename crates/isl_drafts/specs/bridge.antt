@@ -1,0 +1,2 @@
+-- What proofs of rows need beside the definitions.
+pub mod Choices

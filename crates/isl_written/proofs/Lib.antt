@@ -1,0 +1,5 @@
+pub mod Shaping
+pub mod TextNumbers
+pub mod Specialising
+pub mod MoreNames
+pub mod AskedNames

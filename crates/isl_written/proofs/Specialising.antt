@@ -1,0 +1,40 @@
+-- The parameters of a method, a datum at a time.
+use Rattle.std.proofs.Common.{◌≡◌, ◌+◌, ◌++◌, List, [], ◌∷◌, refl, ap, sym, ◌∙◌, drop}
+use Rattle.std.specs.Prelude.{ℕ, Bool, true, false, Option, Some, None, if◌then◌else◌}
+use Rattle.std.proofs.lemmas.List.{append_assoc as assoc}
+use Rattle.isl_base.specs.declared.datum.Symbol.{Symbol}
+use Rattle.isl_base.specs.Data.{Item}
+use Rattle.isl_profile.specs.declared.tables.ReservedWords.{ReservedWords}
+use Rattle.isl_profile.specs.Shapes.{symbol_of, is_rest_word, behind_rest}
+use Rattle.isl_profile.specs.MethodShapes.{Asked, Specialised, Taken, taken_by, with_taken, without_classes, specialised_of}
+use Rattle.isl_written.specs.declared.methods.Asked.{Asked as ReadAsked}
+use Rattle.isl_written.specs.Definitions.{view_asked, view_all_asked}
+use Rattle.isl_written.specs.Behind.{specialised_behind}
+
+more_taken : (xs : List Symbol) (cs : List Asked) (t : Taken) (m : Option Specialised)
+    → specialised_behind (xs ++ t.variable ∷ []) (cs ++ t.class ∷ []) m ≡ specialised_behind xs cs (with_taken (Some t) m)
+more_taken xs cs t None = refl
+more_taken xs cs t (Some m) =
+    let e : (xs ++ t.variable ∷ []) ++ m.parameters.required ≡ xs ++ (t.variable ∷ m.parameters.required) = assoc xs (t.variable ∷ []) m.parameters.required in
+    let f : (cs ++ t.class ∷ []) ++ m.classes ≡ cs ++ (t.class ∷ m.classes) = assoc cs (t.class ∷ []) m.classes in
+    cc (e, f)
+
+by_word : (xs : List Symbol) (cs : List Asked) (t : Taken) (word : Bool) (y : Option Taken) (m rest : Option Specialised) → word ≡ false → y ≡ Some t
+    → specialised_behind (xs ++ t.variable ∷ []) (cs ++ t.class ∷ []) m ≡ specialised_behind xs cs (if word then rest else with_taken y m)
+by_word xs cs t true y m rest e f = absurd (cc)
+by_word xs cs t false None m rest e f = absurd (cc)
+by_word xs cs t false (Some u) m rest e f = let same : u ≡ t = cc in rw same (more_taken xs cs t m)
+
+-- the classes that were read, with one more
+pub one_more : (cs : List ReadAsked) (c : ReadAsked) → view_all_asked (cs ++ c ∷ []) ≡ view_all_asked cs ++ view_asked c ∷ []
+one_more [] c = refl
+one_more (d ∷ cs) c = ap (λ es. view_asked d ∷ es) (one_more cs c)
+
+-- a required parameter more was seen
+pub taken_turn : (w : ReservedWords) (ds : List Item) (i : ℕ) (d : Item) (t : Taken) (xs : List Symbol) (cs : List Asked) (all : Option Specialised)
+    → drop i ds ≡ d ∷ drop (i + 1) ds → is_rest_word w (symbol_of d) ≡ false → taken_by w d (symbol_of d) ≡ Some t
+    → specialised_behind xs cs (specialised_of w (drop i ds)) ≡ all
+    → specialised_behind (xs ++ t.variable ∷ []) (cs ++ t.class ∷ []) (specialised_of w (drop (i + 1) ds)) ≡ all
+taken_turn w ds i d t xs cs all now f g h =
+    by_word xs cs t (is_rest_word w (symbol_of d)) (taken_by w d (symbol_of d)) (specialised_of w (drop (i + 1) ds)) (without_classes (behind_rest w (drop (i + 1) ds))) f g
+    ∙ (ap (λ es. specialised_behind xs cs (specialised_of w es)) (sym now) ∙ h)
