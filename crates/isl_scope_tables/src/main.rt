@@ -13,6 +13,7 @@ use std::io;
 
 fn main(rt: HostRuntime) -> io::Result<()> {
     put_table(&rt, "verdicts.txt", &Files(Told::Taken))?;
+    put_table(&rt, "refusals.txt", &Files(Told::Taken))?;
     put_table(&rt, "checked.txt", &Files(Told::Wholeness))?;
     put_table(&rt, "core_forms.txt", &Files(Told::Program))?;
     put_table(&rt, "sites.txt", &Files(Told::Sites))?;
