@@ -1,3 +1,8 @@
+pub mod SetsOfParts
+pub mod Gathered
+pub mod Walks
+pub mod Keeping
+pub mod Counting
 pub mod MakingLists
 pub mod MakingFound
 pub mod MakingGroups

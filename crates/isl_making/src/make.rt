@@ -1,9 +1,14 @@
 // The core form that is made of what was found of its parts, and what counts once it is made.
 
-ghost use Rattle.std.specs.Prelude.{◌≡◌, IfOk, OnOk, OnErr};
-ghost use Rattle.isl_profile.specs.Makings.{make, at_site, made_form, finished};
+ghost use Rattle.std.specs.Prelude.{◌≡◌, true, IfOk, OnOk, OnErr};
+ghost use Rattle.std.specs.List.{list_any};
+ghost use Rattle.isl_meaning.specs.declared.part.Part.{Part};
+ghost use Rattle.isl_meaning.specs.Mentions.{mentions};
+ghost use Rattle.isl_profile.specs.Makings.{make, leaf_form, forms_found, at_site, made_form, finished};
 ghost use Rattle.isl_profile.specs.Suits.{Suits};
+ghost use Rattle.isl_making.specs.Mentioned.{has, AreParts};
 ghost use Rattle.isl_making.specs.Stopping.{Leaves};
+ghost use Rattle.isl_making.specs.Taken.{Gathers};
 
 mod accessors;
 mod captured;
@@ -15,22 +20,33 @@ mod parts;
 mod queue;
 mod simple;
 mod sort;
+mod taken;
 
+use crate::kept::{Formed, Kept};
+use crate::mentioned::Mentioned;
+use crate::mentioning::{gather, walk};
 use accessors::accessor_procedure;
 use classes::define_class;
 use finish::{complete_procedure, define_function, finish_one, procedure_found};
 use isl_base::NoMemory;
 use isl_meaning::{Core, CoreForm, SiteId};
-use isl_profile::{FoundList, Made, Making, Tables};
+use isl_profile::{FoundList, Leaf, Made, Making, Tables};
 use lists::{make_clauses, make_dynamics, make_segments};
 use methods::define_methods;
 use parts::{make_block, make_function, make_let};
 use simple::{call_of_local, leaf_form, make_one, make_two, make_with_body, nothing};
 use sort::sort_found;
 use std::alloc::Global;
+use taken::{called, count_forms, takes_all};
 
-// The core form, its site aside.
-fn make(alloc: Global, making: Making, found: FoundList) -> Result<Core, NoMemory>
+// The core form, its site aside, of parts of which the forms mention those.
+fn make(
+    alloc: Global,
+    making: Making,
+    found: FoundList,
+    mentioned: &Mentioned,
+) -> Result<Core, NoMemory>
+    requires { AreParts mentioned.now (λ p. list_any (mentions p) (forms_found found)) }
     ensures { IfOk result (λ core. core ≡ make making found) }
 {
     let sorted = sort_found(alloc, found)?;
@@ -49,7 +65,7 @@ fn make(alloc: Global, making: Making, found: FoundList) -> Result<Core, NoMemor
         Making::OfVariables => make_let(alloc, sorted.bindings, forms),
         Making::OfDynamics(names) => make_dynamics(alloc, &names, forms),
         Making::OfFunction(required, rest, around) => {
-            make_function(alloc, required, rest, &around, sorted.variables, forms)
+            make_function(alloc, required, rest, &around, sorted.variables, forms, mentioned)
         }
         Making::OfBlock(exit) => make_block(alloc, exit, forms),
         Making::OfSegments(exit, lengths) => make_segments(alloc, exit, &lengths, forms),
@@ -67,26 +83,59 @@ fn make(alloc: Global, making: Making, found: FoundList) -> Result<Core, NoMemor
     }
 }
 
-// The form at its site, where it has one.
-fn at_site(alloc: Global, site: Option<SiteId>, form: Core) -> Result<Core, NoMemory>
-    ensures { IfOk result (λ core. core ≡ at_site site form) }
+// What a form without its site mentions: known from what its parts mention where it takes just those, else by a walk
+// over it.
+fn mentioned_by(
+    alloc: Global,
+    is_exact: bool,
+    form: &Core,
+    outer: Mentioned,
+    inner: Mentioned,
+) -> Result<Mentioned, NoMemory>
+    requires { is_exact ≡ true → (p : Part) → Gathers p form.now (has outer p) (has inner p) }
+    ensures { IfOk result (λ all. AreParts all (λ p. mentions p form.now)) }
 {
-    match site {
-        None => Ok(form),
-        Some(site) => Core::sited(alloc, site, form),
+    if is_exact {
+        gather(form, outer, inner)
+    } else {
+        walk(alloc, form)
     }
 }
 
-// The core form at its site.
-fn made_form(
+// The form at its site, of what was found of its parts.
+fn form_made(
     alloc: Global,
     site: Option<SiteId>,
     making: Making,
-    found: FoundList,
-) -> Result<Core, NoMemory>
-    ensures { IfOk result (λ core. core ≡ at_site site (make making found)) }
+    kept: Kept,
+) -> Result<Formed, NoMemory>
+    ensures { IfOk result (λ form. form ≡ at_site site (make making kept)) }
 {
-    at_site(alloc, site, make(alloc, making, found)?)
+    let Kept {
+        found,
+        values,
+        bindings,
+    } = kept;
+    let is_exact = takes_all(&making, count_forms(&found), bindings.is_empty());
+    let called = called(&making);
+    let form = make(alloc, making, found, &values)?;
+    let mut inner = values;
+    inner.add_some(called)?;
+    let mentioned = mentioned_by(alloc, is_exact, &form, bindings, inner)?;
+    Formed::new(alloc, site, form, mentioned)
+}
+
+// A form without parts, at its site.
+pub(crate) fn leaf_made(
+    alloc: Global,
+    site: Option<SiteId>,
+    leaf: Leaf,
+) -> Result<Formed, NoMemory>
+    ensures { IfOk result (λ form. form ≡ at_site site (leaf_form leaf)) }
+{
+    let form = leaf_form(alloc, leaf);
+    let mentioned = gather(&form, Mentioned::new(alloc), Mentioned::new(alloc))?;
+    Formed::new(alloc, site, form, mentioned)
 }
 
 /// The core form, of which counts from now on what it defines, once that suits the tables. After `NoMemory` nothing
@@ -94,57 +143,58 @@ fn made_form(
 pub fn complete(
     alloc: Global,
     made: Made,
-    found: FoundList,
+    kept: Kept,
     tables: &mut Tables,
-) -> Result<Core, NoMemory>
+) -> Result<Formed, NoMemory>
     requires { Suits made.making tables.old }
-    ensures form { IfOk result (λ core. core ≡ made_form made found) }
-    ensures ok { OnOk result (tables.new ≡ finished made found tables.old) }
+    ensures form { IfOk result (λ form. form ≡ made_form made kept) }
+    ensures ok { OnOk result (tables.new ≡ finished made kept tables.old) }
     ensures err { OnErr result (Leaves made.making tables.old tables.new) }
 {
     let site = made.site;
     match made.making {
         Making::OfOne(one) => {
-            let core = made_form(alloc, site, Making::OfOne(one), found)?;
+            let form = form_made(alloc, site, Making::OfOne(one), kept)?;
             let Ok(()) = finish_one(one, tables) else {
-                drop(core);
+                drop(form);
                 return Err(NoMemory);
             };
-            Ok(core)
+            Ok(form)
         }
         Making::OfFunctionNamed(name, required, rest, of_file, leaf) => {
-            let core = at_site(alloc, site, leaf_form(alloc, leaf))?;
+            let form = leaf_made(alloc, site, leaf)?;
+            let found = kept.into_found();
             let Ok(procedure) = procedure_found(alloc, Some(name), required, rest, found) else {
-                drop(core);
+                drop(form);
                 return Err(NoMemory);
             };
             let Ok(()) = define_function(name, procedure, of_file, tables) else {
-                drop(core);
+                drop(form);
                 return Err(NoMemory);
             };
-            Ok(core)
+            Ok(form)
         }
         Making::OfProcedure(name, required, rest) => {
-            let procedure = procedure_found(alloc, name, required, rest, found)?;
+            let procedure = procedure_found(alloc, name, required, rest, kept.into_found())?;
             complete_procedure(alloc, site, procedure, tables)
         }
         Making::OfAccessor(name, kind, var, literal) => {
-            drop(found);
+            drop(kept);
             let procedure = accessor_procedure(alloc, name, kind, var, literal)?;
             complete_procedure(alloc, site, procedure, tables)
         }
         Making::OfMethods(taker, heads, first, of_file, leaf) => {
-            drop(found);
+            drop(kept);
             define_methods(alloc, taker, heads, first, of_file, tables)?;
-            at_site(alloc, site, leaf_form(alloc, leaf))
+            leaf_made(alloc, site, leaf)
         }
         Making::OfClass(class, first, of_file, leaf) => {
-            drop(found);
+            drop(kept);
             let outcome = define_class(alloc, &class, first, of_file, tables);
             drop(class);
             outcome?;
-            at_site(alloc, site, leaf_form(alloc, leaf))
+            leaf_made(alloc, site, leaf)
         }
-        making => made_form(alloc, site, making, found),
+        making => form_made(alloc, site, making, kept),
     }
 }

@@ -16,8 +16,8 @@ use isl_base::{Datum, Names, Refusal, Stop};
 use isl_bindings::Bindings;
 use isl_drafts::{Here, Inner, Part, Parts, Plan, Work, Written, deeper};
 use isl_forms::{plain_plan, settle};
-use isl_meaning::Core;
-use isl_profile::{BoundList, FoundList, Spot, Tables};
+use isl_making::{Formed, Kept};
+use isl_profile::{BoundList, Spot, Tables};
 use isl_whole::laws::{law_known, law_suits};
 use std::alloc::Global;
 
@@ -38,7 +38,7 @@ pub(crate) fn judge(
     bound: &mut Bindings,
     spot: Spot,
     datum: &Datum,
-) -> Result<Core, Stop>
+) -> Result<Formed, Stop>
     requires known { KnownTables tables.old }
     requires good { Good (length names.old) datum.now }
     ensures { Walked names.old names.new tables.old tables.new bound.old bound.new result
@@ -64,7 +64,7 @@ fn judge_plain(
     bound: &mut Bindings,
     spot: Spot,
     datum: &Datum,
-) -> Result<Core, Stop>
+) -> Result<Formed, Stop>
     requires known { KnownTables tables.old }
     requires good { Good (length names.old) datum.now }
     ensures { Walked names.old names.new tables.old tables.new bound.old bound.new result
@@ -96,7 +96,7 @@ fn carry_out<'a>(
     bound: &mut Bindings,
     spot: Spot,
     work: Work<'a>,
-) -> Result<Core, Stop>
+) -> Result<Formed, Stop>
     requires suited { MakesSuited (at bound.old work.outside) (at (bound.old ++ work.binds) work.inside) tables.old (view_parts work.parts ++ view_inner work.inner) work.made }
     requires sound { AllSound (length names.old) (weight spot) (at bound.old work.outside) (at (bound.old ++ work.binds) work.inside) (view_parts work.parts ++ view_inner work.inner) }
     ensures { Walked names.old names.new tables.old tables.new bound.old bound.new result
@@ -111,7 +111,7 @@ fn carry_out<'a>(
         inside: work.inside,
     };
     let binds = work.binds;
-    let mut found = FoundList::new(alloc);
+    let mut found = Kept::new(alloc);
     let walked = judge_all(
         alloc,
         names,
@@ -141,7 +141,7 @@ fn judge_all(
     parts: &Parts,
     inner: &Inner,
     binds: BoundList,
-    found: &mut FoundList,
+    found: &mut Kept,
 ) -> Result<(), Stop>
     requires known { KnownTables tables.old }
     requires sound { AllSound (length names.old) (weight spot) (at bound.old spots.outside) (at (bound.old ++ binds) spots.inside) (view_parts parts.now ++ view_inner inner.now) }
@@ -175,7 +175,7 @@ fn judge_part(
     spots: Spots,
     part: &Part,
     binds: &mut BoundList,
-    found: &mut FoundList,
+    found: &mut Kept,
 ) -> Result<(), Stop>
     requires known { KnownTables tables.old }
     requires sound { SoundPart (length names.old) (weight spot) (at bound.old spots.outside) (at (bound.old ++ binds.old) spots.inside) (view_part part.now) }
@@ -221,7 +221,7 @@ fn judge_function(
     spot: Spot,
     outside: Spot,
     written: &Written,
-) -> Result<Core, Stop>
+) -> Result<Formed, Stop>
     requires known { KnownTables tables.old }
     requires sound { SoundFunction (length names.old) (weight spot) (view_function written.now) }
     ensures { Walked names.old names.new tables.old tables.new bound.old bound.new result
@@ -246,7 +246,7 @@ fn judge_parts(
     spots: Spots,
     parts: &Parts,
     binds: &mut BoundList,
-    found: &mut FoundList,
+    found: &mut Kept,
 ) -> Result<(), Stop>
     requires known { KnownTables tables.old }
     requires sound { AllSound (length names.old) (weight spot) (at bound.old spots.outside) (at (bound.old ++ binds.old) spots.inside) (view_parts parts.now) }
@@ -273,7 +273,7 @@ fn judge_inner(
     spot: Spot,
     spots: Spots,
     inner: &Inner,
-    found: &mut FoundList,
+    found: &mut Kept,
 ) -> Result<(), Stop>
     requires known { KnownTables tables.old }
     requires sound { AllSound (length names.old) (weight spot) (at bound.old spots.outside) (at bound.old spots.inside) (view_inner inner.now) }
@@ -297,7 +297,7 @@ fn judge_value(
     bound: &mut Bindings,
     spot: Spot,
     datum: &Datum,
-    found: &mut FoundList,
+    found: &mut Kept,
 ) -> Result<(), Stop>
     requires known { KnownTables tables.old }
     requires good { Good (length names.old) datum.now }

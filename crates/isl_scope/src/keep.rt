@@ -7,9 +7,9 @@ ghost use Rattle.isl_profile.specs.Suits.{Suits};
 ghost use Rattle.isl_scope.specs.Walk.{Completes, KeepsBinding, KeepsValue, TakesParameter};
 
 use isl_base::{NoMemory, Stop, Symbol};
-use isl_making::complete;
-use isl_meaning::{Core, Var};
-use isl_profile::{Bound, BoundList, Found, FoundList, Made, Tables};
+use isl_making::{Formed, Kept, complete};
+use isl_meaning::Var;
+use isl_profile::{Bound, BoundList, Made, Tables};
 use std::alloc::Global;
 
 /// The next variable.
@@ -27,11 +27,11 @@ pub(crate) fn take_variable(tables: &mut Tables) -> Result<Var, NoMemory>
 }
 
 /// A form's value behind what was found, unless the form has stopped.
-pub(crate) fn keep_value(form: Result<Core, Stop>, found: &mut FoundList) -> Result<(), Stop>
+pub(crate) fn keep_value(form: Result<Formed, Stop>, found: &mut Kept) -> Result<(), Stop>
     ensures { KeepsValue form found.old result found.new }
 {
     match form {
-        Ok(form) => Ok(found.push(Found::Value(form))?),
+        Ok(form) => Ok(found.push_value(form)?),
         Err(stop) => Err(stop),
     }
 }
@@ -40,9 +40,9 @@ pub(crate) fn keep_value(form: Result<Core, Stop>, found: &mut FoundList) -> Res
 pub(crate) fn keep_binding(
     symbol: Symbol,
     variable: Var,
-    form: Result<Core, Stop>,
+    form: Result<Formed, Stop>,
     binds: &mut BoundList,
-    found: &mut FoundList,
+    found: &mut Kept,
 ) -> Result<(), Stop>
     ensures { KeepsBinding symbol variable form binds.old found.old result binds.new found.new }
 {
@@ -51,7 +51,7 @@ pub(crate) fn keep_binding(
         drop(form);
         return Err(Stop::NoMemory);
     };
-    Ok(found.push(Found::Binding(variable, form))?)
+    Ok(found.push_binding(variable, form)?)
 }
 
 /// The next variable as a parameter behind what was found, bound from now on.
@@ -59,14 +59,14 @@ pub(crate) fn take_parameter(
     tables: &mut Tables,
     symbol: Symbol,
     binds: &mut BoundList,
-    found: &mut FoundList,
+    found: &mut Kept,
 ) -> Result<(), Stop>
     ensures taken { TakesParameter symbol tables.old binds.old found.old result tables.new binds.new found.new }
     ensures grows { Grows tables.old tables.new }
 {
     let variable = take_variable(tables)?;
     binds.push(Bound::Variable(symbol, variable))?;
-    Ok(found.push(Found::Parameter(variable))?)
+    Ok(found.push_parameter(variable)?)
 }
 
 /// The core form of what was found of its parts, unless the walk over them has stopped.
@@ -74,9 +74,9 @@ pub(crate) fn complete_found(
     alloc: Global,
     walked: Result<(), Stop>,
     made: Made,
-    found: FoundList,
+    found: Kept,
     tables: &mut Tables,
-) -> Result<Core, Stop>
+) -> Result<Formed, Stop>
     requires suits { OnOk walked (Suits made.making tables.old) }
     ensures { Completes walked made found tables.old result tables.new }
 {

@@ -101,7 +101,7 @@ fn judge_top(
     law_suits();
     let mut bound = Bindings::new(alloc);
     let form = judge(alloc, names, tables, &mut bound, top_spot(origin), datum)?;
-    add_main(origin, form, tables)?;
+    add_main(origin, form.into_core(), tables)?;
     Ok(())
 }
 

@@ -3,13 +3,13 @@
 ghost use Rattle.std.specs.Prelude.{◌≡◌, ◌+◌, ◌∷◌, [], ◌++◌, Some, IfOk, OnOk, OnErr};
 ghost use Rattle.isl_profile.specs.Makings.{nothing, at_site, with_global, with_dynamic, with_procedure, prelude_with, with_callee, with_function, procedure_found, finish_one};
 
-use crate::make::at_site;
+use crate::kept::Formed;
+use crate::make::leaf_made;
 use crate::make::parts::split_variables;
-use crate::make::simple::nothing;
 use crate::make::sort::sort_found;
 use isl_base::{Name, NameList, NoMemory};
 use isl_meaning::{Callee, Core, FunctionRow, Procedure, SiteId};
-use isl_profile::{FoundList, GlobalRow, One, Tables};
+use isl_profile::{FoundList, GlobalRow, Leaf, One, Tables};
 use std::alloc::Global;
 
 /// The next number, where there is one.
@@ -57,20 +57,20 @@ pub(crate) fn complete_procedure(
     site: Option<SiteId>,
     procedure: Procedure,
     tables: &mut Tables,
-) -> Result<Core, NoMemory>
-    ensures form { IfOk result (λ core. core ≡ at_site site nothing) }
+) -> Result<Formed, NoMemory>
+    ensures form { IfOk result (λ form. form ≡ at_site site nothing) }
     ensures ok { OnOk result (tables.new ≡ with_procedure procedure tables.old) }
     ensures err { OnErr result (tables.new ≡ tables.old) }
 {
-    let Ok(core) = at_site(alloc, site, nothing(alloc)) else {
+    let Ok(form) = leaf_made(alloc, site, Leaf::Nothing) else {
         drop(procedure);
         return Err(NoMemory);
     };
     let Ok(()) = tables.procedures.push(procedure) else {
-        drop(core);
+        drop(form);
         return Err(NoMemory);
     };
-    Ok(core)
+    Ok(form)
 }
 
 // A function of the prelude is noted as one.

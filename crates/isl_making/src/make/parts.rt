@@ -3,9 +3,13 @@
 ghost use Rattle.std.specs.Prelude.{◌≡◌, take, drop, IfOk};
 ghost use Rattle.isl_meaning.specs.Form.{block, let_form};
 ghost use Rattle.isl_meaning.specs.model.View.{bindings_of};
+ghost use Rattle.std.specs.List.{list_any};
+ghost use Rattle.isl_meaning.specs.Mentions.{mentions};
+ghost use Rattle.isl_making.specs.Mentioned.{AreParts};
 ghost use Rattle.isl_profile.specs.Makings.{body_of, rest_found, make_function};
 
 use crate::make::captured::captured;
+use crate::mentioned::Mentioned;
 use isl_base::NoMemory;
 use isl_meaning::{BindingList, Core, CoreForm, CoreList, ExitVar, PartList, Var, VarList};
 use std::alloc::Global;
@@ -75,6 +79,7 @@ fn rest_variable(variables: &VarList, required: usize, rest: bool) -> Option<Var
 
 /// A function of these variables and that body, which captures what its body mentions of the parts
 /// around it.
+#[tactic(auto, using(crate::proofs::Gathered::body_captures))]
 pub(crate) fn make_function(
     alloc: Global,
     required: usize,
@@ -82,15 +87,16 @@ pub(crate) fn make_function(
     around: &PartList,
     variables: VarList,
     forms: CoreList,
+    mentioned: &Mentioned,
 ) -> Result<Core, NoMemory>
+    requires { AreParts mentioned.now (λ p. list_any (mentions p) forms) }
     ensures { IfOk result (λ core. core ≡ make_function required rest around.now variables (body_of forms)) }
 {
-    let body = Core::sequence(forms);
-    let Ok(parts) = captured(alloc, around, &body) else {
-        drop(body);
+    let Ok(parts) = captured(alloc, around, mentioned) else {
+        drop(forms);
         return Err(NoMemory);
     };
-    let body = boxed(alloc, body)?;
+    let body = boxed(alloc, Core::sequence(forms))?;
     let variables = split_variables(variables, required, rest);
     Ok(Core::new(CoreForm::Lambda(variables.required, variables.rest, body, parts)))
 }

@@ -7,10 +7,10 @@ use Rattle.isl_making.proofs.make.complete.Goals as goal
 
 pub returns-in_ok-define_methods-in-OfMethods-clause-err : goal.returns-in_ok-define_methods-in-OfMethods-clause-err
 returns-in_ok-define_methods-in-OfMethods-clause-err c =
-    let same : c.define_methods.new.tables ≡ finished c.args.made c.args.found c.args.tables.now = search rules in
-    on_err _ (methods_left c.args.made c.args.found _ _ _ _ _ c.args.tables.now c.define_methods.new.tables c.in-OfMethods.is same)
+    let same : c.define_methods.new.tables ≡ finished c.args.made c.args.kept c.args.tables.now = search rules in
+    on_err _ (methods_left c.args.made c.args.kept _ _ _ _ _ c.args.tables.now c.define_methods.new.tables c.in-OfMethods.is same)
 
 pub returns-in_ok-outcome-in-OfClass-clause-err : goal.returns-in_ok-outcome-in-OfClass-clause-err
 returns-in_ok-outcome-in-OfClass-clause-err c =
-    let same : c.define_class-outcome.new.tables ≡ finished c.args.made c.args.found c.args.tables.now = search rules in
-    on_err _ (class_left c.args.made c.args.found _ _ _ _ c.args.tables.now c.define_class-outcome.new.tables c.in-OfClass.is same)
+    let same : c.define_class-outcome.new.tables ≡ finished c.args.made c.args.kept c.args.tables.now = search rules in
+    on_err _ (class_left c.args.made c.args.kept _ _ _ _ c.args.tables.now c.define_class-outcome.new.tables c.in-OfClass.is same)
