@@ -1,0 +1,5 @@
+pub mod Turns
+pub mod Made
+pub mod Data
+pub mod Keys
+pub mod Segments

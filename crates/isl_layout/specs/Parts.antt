@@ -42,7 +42,7 @@ function_recipe f = single (function_object f.callee)
 
 -- only data make objects
 abbrev pub literal_recipe : List (List ℕ) → LiteralRow → Recipe Value
-literal_recipe names (row.Datum d) = laid (lay names d)
+literal_recipe names (row.Datum d) n = laid (lay names d) n
 literal_recipe names (row.Class c) n = ([], nil)
 literal_recipe names (row.Function name) n = ([], nil)
 

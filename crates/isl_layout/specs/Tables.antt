@@ -4,6 +4,7 @@ use Rattle.std.specs.Str.{bytes_eq}
 use Rattle.isl_meaning.specs.declared.program.FunctionRow.{FunctionRow}
 use Rattle.isl_meaning.specs.declared.program.Callee.{Callee}
 use Rattle.isl_meaning.specs.Values.{Value}
+use Rattle.isl_meaning.specs.Objects.{Called}
 use Rattle.isl_meaning.specs.Lookup.{text}
 use Rattle.isl_meaning.specs.Layout.{function_object}
 use Rattle.isl_store.specs.declared.object.Object.{Object}
@@ -64,20 +65,20 @@ pub record IsSet (t : NamedFunctions) (n : ℕ) (f : NamedFunction) (u : NamedFu
   pub spellings : u.spellings ≡ t.spellings
 
 -- so far as rows with these words were noted, by their names
-pub record IsNoting (spellings : Spellings) (rows : List FunctionRow) (words : List Word) (t : NamedFunctions) : Type 0 where
-  pub entries : (names : List (List ℕ)) (n : ℕ) → IsSpelling names spellings → entry_of t n ≡ first_of_text names rows words (text names n)
-  pub spellings : t.spellings ≡ spellings
+pub record IsNoting (by : Spellings) (rows : List FunctionRow) (words : List Word) (t : NamedFunctions) : Type 0 where
+  pub entries : (names : List (List ℕ)) (n : ℕ) → IsSpelling names by → entry_of t n ≡ first_of_text names rows words (text names n)
+  pub spellings : t.spellings ≡ by
 
 -- the object of a function that no form made
 pub record IsFunction (callee : Callee) (o : Object) : Type 0 where
   pub object : (names : List (List ℕ)) → object_of names o ≡ function_object callee
-  pub captured : (names : List (List ℕ)) → captured_by names o ≡ None
+  pub captured : (names : List (List ℕ)) (methods : ℕ → Option Called) → captured_by names methods o ≡ None
 
 -- the functions of all rows are in the store, each with its word, and the table has them by their names
-pub record AreNamed (spellings : Spellings) (rows : List FunctionRow) (old new : Store) (t : NamedFunctions) : Type 0 where
+pub record AreNamed (by : Spellings) (rows : List FunctionRow) (old new : Store) (t : NamedFunctions) : Type 0 where
   pub words : List Word
   pub made : IsMade values_of (λ names. in_turn function_recipe rows) old new words
-  pub found : IsNoting spellings rows words t
+  pub found : IsNoting by rows words t
 
 -- the words of a slot as values
 abbrev pub slot_values : List (List ℕ) → SlotWords → Value × Value

@@ -101,7 +101,7 @@ fn add_functions(
     Ok(words)
 }
 
-fn function_object<'p>(callee: Callee) -> Object<'p>
+fn function_object(callee: Callee) -> Object
     ensures { IsFunction callee result }
 {
     match callee {

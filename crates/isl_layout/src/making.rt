@@ -1,6 +1,7 @@
 // An object, and conses of words.
 
-ghost use Rattle.std.specs.Prelude.{◌≡◌, ℕ, List, None, IfOk};
+ghost use Rattle.std.specs.Prelude.{◌≡◌, ℕ, List, Option, None, IfOk};
+ghost use Rattle.isl_meaning.specs.Objects.{Called};
 ghost use Rattle.isl_store.specs.Words.{value_of_word, values_of, object_of, captured_by};
 ghost use Rattle.isl_layout.specs.Recipes.{IsMade, linked};
 ghost use Rattle.isl_layout.specs.Parts.{single};
@@ -9,8 +10,8 @@ use isl_base::{ItemList, NoMemory};
 use isl_store::{Object, Store, Word};
 
 /// An object more, which has captured nothing.
-pub fn add_object<'p>(store: &mut Store<'p>, object: Object<'p>) -> Result<Word, NoMemory>
-    requires { (names : List (List ℕ)) → captured_by names object ≡ None }
+pub fn add_object(store: &mut Store, object: Object) -> Result<Word, NoMemory>
+    requires { (names : List (List ℕ)) (methods : ℕ → Option Called) → captured_by names methods object ≡ None }
     ensures { IfOk result (λ w. IsMade value_of_word (λ names. single (object_of names object)) store.old store.new w) }
 {
     let number = store.add(object)?;
