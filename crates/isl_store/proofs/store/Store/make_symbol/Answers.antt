@@ -1,4 +1,5 @@
 -- The symbol stands in the store, and its serial is counted.
+use Rattle.std.proofs.Common.{arith}
 use Rattle.isl_store.proofs.Making.{symbol_seen, symbol_fails}
 use Rattle.isl_store.proofs.store.Store.make_symbol.Goals as goal
 
