@@ -25,6 +25,12 @@ items_in_turn names (d ∷ ds) n =
     let first = lay names d n in
     ap (λ (o : List Object × List Value). (first.objects ++ o.0, first.value ∷ o.1)) (items_in_turn names ds (n + length first.objects))
 
+-- a string has no parts
+pub text_made : (bytes : List ℕ) {old new : Store} {w : Word} → IsMade value_of_word (λ names. single (objects.string bytes)) old new w
+    → IsMade value_of_word (λ names. laid (lay_content names (datum.string bytes))) old new w
+text_made bytes {old} {new} {w} p =
+    made_as (record { objects = λ names n same. refl; stands = λ names n same. same ∙ ap object (sym (add-zero n)) }) p
+
 -- a vector is made after its elements
 pub vector_made : (ds : List Item) {old mid new : Store} {ws : List Word} {w : Word}
     → IsMade values_of (λ names. in_turn (λ d. laid (lay names d)) ds) old mid ws

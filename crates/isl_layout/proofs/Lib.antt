@@ -1,5 +1,10 @@
 pub mod Turns
 pub mod Made
 pub mod Data
+pub mod Named
+pub mod SlotParts
+pub mod ClassRange
 pub mod Keys
 pub mod Segments
+pub mod Found
+pub mod Shapes

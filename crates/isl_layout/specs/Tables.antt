@@ -4,7 +4,6 @@ use Rattle.std.specs.Str.{bytes_eq}
 use Rattle.isl_meaning.specs.declared.program.FunctionRow.{FunctionRow}
 use Rattle.isl_meaning.specs.declared.program.Callee.{Callee}
 use Rattle.isl_meaning.specs.Values.{Value}
-use Rattle.isl_meaning.specs.Objects.{Called}
 use Rattle.isl_meaning.specs.Lookup.{text}
 use Rattle.isl_meaning.specs.Layout.{function_object}
 use Rattle.isl_store.specs.declared.object.Object.{Object}
@@ -72,7 +71,7 @@ pub record IsNoting (by : Spellings) (rows : List FunctionRow) (words : List Wor
 -- the object of a function that no form made
 pub record IsFunction (callee : Callee) (o : Object) : Type 0 where
   pub object : (names : List (List ℕ)) → object_of names o ≡ function_object callee
-  pub captured : (names : List (List ℕ)) (methods : ℕ → Option Called) → captured_by names methods o ≡ None
+  pub captured : (names : List (List ℕ)) → captured_by names o ≡ None
 
 -- the functions of all rows are in the store, each with its word, and the table has them by their names
 pub record AreNamed (by : Spellings) (rows : List FunctionRow) (old new : Store) (t : NamedFunctions) : Type 0 where

@@ -22,6 +22,7 @@ pub struct FirstWords {
 }
 
 /// The objects of so many classes and of the streams are made: the streams stand behind the built-in classes.
+#[tactic(auto, using(crate::proofs::ClassRange::first_made))]
 pub fn lay_first(alloc: Global, classes: usize, store: &mut Store) -> Result<FirstWords, NoMemory>
     ensures { IfOk result (λ first. IsMade first_values (λ names. first_recipe classes) store.old store.new first) }
 {
@@ -38,6 +39,7 @@ pub fn lay_first(alloc: Global, classes: usize, store: &mut Store) -> Result<Fir
 }
 
 // The objects of the classes from one on up to another.
+#[tactic(auto, using(crate::proofs::Turns::none_made, crate::proofs::ClassRange::one_class, crate::proofs::ClassRange::all_classes))]
 fn lay_classes(
     alloc: Global,
     from: ClassId,

@@ -24,6 +24,7 @@ pub fn lay_datum(alloc: Global, datum: &Datum, store: &mut Store) -> Result<Word
 }
 
 #[cycle(lay)]
+#[tactic(auto, using(crate::proofs::Made::atom_made))]
 fn lay_kind(alloc: Global, kind: &Kind, store: &mut Store) -> Result<Word, NoMemory>
     ensures { IfOk result (λ w. IsMade value_of_word (λ names. laid (lay_content names (view_content kind.now))) store.old store.new w) }
 {
@@ -55,6 +56,7 @@ fn lay_text(alloc: Global, bytes: &Bytes, store: &mut Store) -> Result<Word, NoM
 }
 
 #[cycle(lay)]
+#[tactic(auto, using(crate::proofs::Data::vector_made))]
 fn lay_vector(alloc: Global, items: &DatumList, store: &mut Store) -> Result<Word, NoMemory>
     ensures { IfOk result (λ w. IsMade value_of_word (λ names. laid (lay_content names (vector (items_of items.now)))) store.old store.new w) }
 {
@@ -63,6 +65,7 @@ fn lay_vector(alloc: Global, items: &DatumList, store: &mut Store) -> Result<Wor
 }
 
 #[cycle(lay)]
+#[tactic(auto, using(isl_base::specs::model::DataSizes::item_in_smaller, crate::proofs::Turns::none_made, crate::proofs::Turns::one_made_at, crate::proofs::Turns::all_made_at))]
 fn lay_items(alloc: Global, items: &DatumList, store: &mut Store) -> Result<Elements, NoMemory>
     ensures { IfOk result (λ ws. IsMade values_of (λ names. in_turn (λ d. laid (lay names d)) items.now) store.old store.new ws) }
 {
@@ -78,6 +81,7 @@ fn lay_items(alloc: Global, items: &DatumList, store: &mut Store) -> Result<Elem
 }
 
 #[cycle(lay)]
+#[tactic(auto, using(crate::proofs::Data::list_made))]
 fn lay_list(
     alloc: Global,
     items: &DatumList,
@@ -92,6 +96,7 @@ fn lay_list(
 }
 
 #[cycle(lay)]
+#[tactic(auto, using(crate::proofs::Made::atom_made))]
 fn lay_tail(alloc: Global, tail: &Option<Box<Datum>>, store: &mut Store) -> Result<Word, NoMemory>
     ensures { IfOk result (λ w. IsMade value_of_word (λ names. laid (lay_tail names (tail_of tail.now))) store.old store.new w) }
 {

@@ -47,6 +47,7 @@ impl NamedFunctions {
         }
     }
 
+    #[tactic(auto, using(crate::proofs::Named::function_set))]
     // A name has that function from now on.
     fn set(&mut self, name: Name, function: NamedFunction) -> Result<(), NoMemory>
         ensures { OnOk result (IsSet self.old name.0 function self.new) }
@@ -57,6 +58,7 @@ impl NamedFunctions {
         Ok(())
     }
 
+    #[tactic(auto, using(crate::proofs::Named::alike_more, crate::proofs::Named::alike_after, crate::proofs::Named::alike_itself))]
     // There is room for a number.
     fn reach(&mut self, number: usize) -> Result<(), NoMemory>
         ensures reached { OnOk result (number < length self.new.entries) }
@@ -83,6 +85,7 @@ pub fn lay_functions(
 }
 
 // The objects of all functions; the word of each.
+#[tactic(auto, using(crate::proofs::Turns::none_made, crate::proofs::Turns::one_made_at, crate::proofs::Turns::all_made_at, crate::proofs::Named::function_added))]
 fn add_functions(
     alloc: Global,
     rows: &FunctionRows,
@@ -101,7 +104,7 @@ fn add_functions(
     Ok(words)
 }
 
-fn function_object(callee: Callee) -> Object
+fn function_object<'p>(callee: Callee) -> Object<'p>
     ensures { IsFunction callee result }
 {
     match callee {
@@ -111,6 +114,7 @@ fn function_object(callee: Callee) -> Object
 }
 
 // The functions with these words, by their names: of rows with the same name the first one counts.
+#[tactic(auto, using(crate::proofs::Named::none_noted, crate::proofs::Named::one_noted, crate::proofs::Named::no_word))]
 fn by_name(
     alloc: Global,
     spellings: Spellings,
@@ -123,7 +127,10 @@ fn by_name(
     let mut at = rows.len();
     while at > 0 {
         at -= 1;
-        if let (Some(row), Some(word)) = (rows.get(at), words.get(at)) {
+        let Some(row) = rows.get(at) else {
+            unreachable!()
+        };
+        if let Some(word) = words.get(at) {
             let function = NamedFunction {
                 callee: row.callee,
                 word: *word,

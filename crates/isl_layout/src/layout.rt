@@ -37,12 +37,12 @@ pub struct Layout {
 
 /// Makes the objects that are there before the first form, and says where they stand. After `NoMemory` some of them may be
 /// in the store.
-pub fn lay_out(
+pub fn lay_out<'p>(
     alloc: Global,
     names: &Names,
     spellings: Spellings,
     program: &FlatProgram,
-    store: &mut Store,
+    store: &mut Store<'p>,
 ) -> Result<Layout, NoMemory>
     requires empty { (ns : List (List ℕ)) (b : Beside) → seen ns store.old b ≡ nothing_seen b }
     requires spelling { IsSpelling names.now spellings }

@@ -12,6 +12,7 @@ use isl_store::{Store, Word};
 use std::alloc::Global;
 
 /// The objects of all literals are made; the word of each.
+#[tactic(auto, using(crate::proofs::Turns::none_made, crate::proofs::Turns::one_made_at, crate::proofs::Turns::all_made_at))]
 pub fn lay_literals(
     alloc: Global,
     rows: &LiteralRows,
@@ -31,6 +32,7 @@ pub fn lay_literals(
 }
 
 // Only a datum makes objects.
+#[tactic(auto, using(crate::proofs::Made::atom_made))]
 fn lay_literal(alloc: Global, row: &LiteralRow, store: &mut Store) -> Result<Word, NoMemory>
     ensures { IfOk result (λ w. IsMade value_of_word (λ names. literal_recipe names row.now) store.old store.new w) }
 {
