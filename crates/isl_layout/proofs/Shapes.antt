@@ -56,6 +56,6 @@ last_laid l n h = rw h.objects (sym h.value)
 pub literal_laid : (names : List (List ℕ)) (program : ProgramRows) (i : ℕ) (d : Item) (n : ℕ)
     → stands_for names program (literal i) ≡ last_of (lay names d n).objects n → (lay names d n).value ≡ literal_value names program i d
 literal_laid names program i d n h = elim (shape names d) [
-  | inl (v, same) ↦ rw (same 0) (ap (λ (l : Laid). l.value) (same n))
+  | inl (v, same) ↦ rw (same 0) (ap (λ (l : Laid). l.value) (same n ∙ sym (same 0)))
   | inr made ↦ rw ((made 0).objects) (sym (h ∙ last_laid (lay names d n) n (made n)))
 ]

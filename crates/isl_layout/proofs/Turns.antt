@@ -65,11 +65,12 @@ all_made {X} {V} {W} {meant} {recipe} {old} {new} {all} {ws} p = record {
 }
 
 -- the same, by the place to which the loop has come
-pub one_made_at : {X V W : Type 0} {meant : List (List ℕ) → W → V} {recipe : List (List ℕ) → X → Recipe V} {old mid new : Store} {all : List X} {x : X} {ws : List W} {w : W}
-    (at : ℕ) → slice_get all at ≡ Some x → IsMaking meant recipe old mid all (drop at all) ws → IsMade meant (λ names. recipe names x) mid new w
-    → IsMaking meant recipe old new all (drop (at + 1) all) (ws ++ w ∷ [])
-one_made_at {X} {V} {W} {meant} {recipe} {old} {mid} {new} {all} {x} {ws} {w} at h p q =
-    one_made (subst (λ xs. IsMaking meant recipe old mid all xs ws) (rest_at all at x h) p) q
+pub one_made_at : {X V W : Type 0} {meant : List (List ℕ) → W → V} {recipe : List (List ℕ) → X → Recipe V} {old mid new : Store} {all : List X} {x : X} {ws us : List W} {w : W}
+    (at : ℕ) → slice_get all at ≡ Some x → us ≡ ws ++ w ∷ [] → IsMaking meant recipe old mid all (drop at all) ws → IsMade meant (λ names. recipe names x) mid new w
+    → IsMaking meant recipe old new all (drop (at + 1) all) us
+one_made_at {X} {V} {W} {meant} {recipe} {old} {mid} {new} {all} {x} {ws} {us} {w} at h e p q =
+    subst (λ vs. IsMaking meant recipe old new all (drop (at + 1) all) vs) (sym e)
+    (one_made (subst (λ xs. IsMaking meant recipe old mid all xs ws) (rest_at all at x h) p) q)
 
 pub all_made_at : {X V W : Type 0} {meant : List (List ℕ) → W → V} {recipe : List (List ℕ) → X → Recipe V} {old new : Store} {all : List X} {ws : List W}
     (at : ℕ) → length all ≤ at → IsMaking meant recipe old new all (drop at all) ws
