@@ -8,3 +8,7 @@ pub mod Keys
 pub mod Segments
 pub mod Found
 pub mod Shapes
+pub mod LiteralPlaces
+pub mod SlotPlaces
+pub mod Whole
+pub mod Standing

@@ -1,11 +1,11 @@
 -- The value of what a datum makes is its last object; a datum that makes none has one value, wherever it is laid.
 use Rattle.std.proofs.Common.{◌≡◌, ℕ, suc, ◌+◌, List, [], ◌∷◌, ◌++◌, length, ◌⊎◌, inl, inr, refl, sym, ◌∙◌, ap, add-zero, arith}
 use Rattle.std.proofs.lemmas.List.{length-append}
-use Rattle.isl_base.specs.Data.{Item, Content, item, integer, character, symbol, string, vector, nil, list, no_item, item_and, Tail, no_tail, dotted}
+use Rattle.isl_base.specs.Data.{Item, Content, item, integer, character, symbol, string, vector, nil, list, items_of, no_item, item_and, Tail, no_tail, dotted}
 use Rattle.isl_meaning.specs.declared.program.ProgramRows.{ProgramRows}
 use Rattle.isl_meaning.specs.Values.{Value, object}
 use Rattle.isl_meaning.specs.Objects.{Object}
-use Rattle.isl_meaning.specs.Literals.{Laid, no_object, after_parts, lay, lay_content, lay_tail}
+use Rattle.isl_meaning.specs.Literals.{Laid, no_object, after_parts, lay, lay_content, lay_list, lay_tail}
 use Rattle.isl_meaning.specs.Layout.{literal, stands_for, literal_value}
 use Rattle.isl_layout.specs.Parts.{last_of}
 
@@ -51,6 +51,12 @@ mutual
 -- its value is the last of its objects, where it makes one
 pub last_laid : (l : Laid) (n : ℕ) → HasObject l n → last_of l.objects n ≡ l.value
 last_laid l n h = rw h.objects (sym h.value)
+
+-- a proper list, which is nil where it has no items
+pub list_last : (names : List (List ℕ)) (ds : List Item) (n : ℕ)
+    → last_of (lay_list names (items_of ds) (lay_tail names no_tail) n).objects n ≡ (lay_list names (items_of ds) (lay_tail names no_tail) n).value
+list_last names [] n = refl
+list_last names (d ∷ ds) n = last_laid (lay_list names (items_of (d ∷ ds)) (lay_tail names no_tail) n) n (has_object n _ _)
 
 -- a literal's value is what it is laid as
 pub literal_laid : (names : List (List ℕ)) (program : ProgramRows) (i : ℕ) (d : Item) (n : ℕ)
