@@ -1,11 +1,10 @@
 -- What stands for classes and for functions of names.
-use Rattle.std.proofs.Common.{◌≡◌, ℕ, zero, suc, ◌+◌, ◌-◌, ◌<◌, ◌≤◌, ◌==◌, Bool, true, false, List, [], ◌∷◌, ◌++◌, length, map, Option, Some, None, refl, sym, ◌∙◌, ap, add-zero, zero-add, arith, eq-eqb}
+use Rattle.std.proofs.Common.{◌≡◌, ℕ, zero, suc, ◌+◌, ◌<◌, ◌≤◌, ◌==◌, Bool, true, false, List, [], ◌∷◌, ◌++◌, length, Some, refl, sym, ◌∙◌, ap, add-zero, zero-add, arith, eq-eqb}
 use Rattle.std.specs.Prelude.{if◌then◌else◌, option_map}
 use Rattle.std.specs.List.{range_with_len}
 use Rattle.std.specs.Str.{bytes_eq}
 use Rattle.std.proofs.lemmas.Bool.{ne_eqb}
 use Rattle.isl_meaning.specs.declared.program.FunctionRow.{FunctionRow}
-use Rattle.isl_meaning.specs.declared.program.Callee.{Callee}
 use Rattle.isl_meaning.specs.Values.{Value, nil, object}
 use Rattle.isl_meaning.specs.Lookup.{text}
 use Rattle.isl_meaning.specs.Literals.{function_row}

@@ -1,8 +1,8 @@
 -- What stands under a key, in objects laid out one after another.
-use Rattle.std.proofs.Common.{◌≡◌, ℕ, zero, suc, ◌+◌, Bool, true, false, List, [], ◌∷◌, ◌++◌, length, map, refl, sym, ◌∙◌, ap, append_assoc, add-zero, arith}
+use Rattle.std.proofs.Common.{◌≡◌, ℕ, suc, ◌+◌, Bool, true, false, List, [], ◌∷◌, ◌++◌, length, map, refl, sym, ◌∙◌, ap, append_assoc, add-zero, arith}
 use Rattle.std.specs.Prelude.{if◌then◌else◌, flat_map}
-use Rattle.std.proofs.lemmas.List.{length-append, length-map, map-append}
-use Rattle.isl_meaning.specs.Values.{Value, nil, object}
+use Rattle.std.proofs.lemmas.List.{length-append}
+use Rattle.isl_meaning.specs.Values.{nil, object}
 use Rattle.isl_meaning.specs.Objects.{Object}
 use Rattle.isl_meaning.specs.Layout.{Key, part, same_key, Keyed, Thing, keyed, laid_out, under_key}
 use Rattle.isl_layout.specs.Parts.{last_of}

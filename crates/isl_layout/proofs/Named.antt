@@ -1,5 +1,5 @@
 -- The functions of names, by the numbers by which names are told apart.
-use Rattle.std.proofs.Common.{◌≡◌, ℕ, ◌+◌, ◌<◌, ◌≤◌, ◌==◌, List, [], ◌∷◌, ◌++◌, length, drop, Option, Some, None, refl, sym, ◌∙◌, ap, subst, arith}
+use Rattle.std.proofs.Common.{◌≡◌, ℕ, ◌+◌, ◌<◌, ◌≤◌, ◌==◌, List, [], ◌∷◌, ◌++◌, length, drop, Some, None, refl, sym, ◌∙◌, ap, subst, arith}
 use Rattle.std.specs.Prelude.{slice_get, slice_set, if◌then◌else◌}
 use Rattle.std.specs.Str.{bytes_eq}
 use Rattle.std.proofs.lemmas.List.{drop_all}
@@ -18,7 +18,7 @@ use Rattle.isl_layout.specs.declared.functions.NamedFunction.{NamedFunction}
 use Rattle.isl_layout.specs.declared.functions.NamedFunctions.{NamedFunctions}
 use Rattle.isl_layout.specs.Recipes.{IsMade}
 use Rattle.isl_layout.specs.Parts.{single, function_recipe}
-use Rattle.isl_layout.specs.Tables.{entry_of, first_of_text, IsAlike, IsSet, IsFunction, IsNoting}
+use Rattle.isl_layout.specs.Tables.{first_of_text, IsAlike, IsSet, IsFunction, IsNoting}
 use Rattle.isl_layout.proofs.Made.{same_recipe}
 
 -- a table with more room

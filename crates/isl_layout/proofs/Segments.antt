@@ -1,5 +1,5 @@
 -- The objects of the things of each kind are those that are made one after another.
-use Rattle.std.proofs.Common.{◌≡◌, ℕ, ◌+◌, List, [], ◌∷◌, ◌++◌, length, map, refl, sym, ◌∙◌, ap, append_assoc, append-nil, arith}
+use Rattle.std.proofs.Common.{◌≡◌, ℕ, ◌+◌, List, [], ◌∷◌, ◌++◌, length, map, refl, sym, ◌∙◌, ap, append_assoc, arith}
 use Rattle.std.specs.Prelude.{flat_map}
 use Rattle.std.proofs.lemmas.List.{length-append, length-map, map-append}
 use Rattle.isl_meaning.specs.declared.program.SlotRow.{SlotRow}
@@ -9,10 +9,10 @@ use Rattle.isl_meaning.specs.declared.program.LiteralRow.TheVariants as row
 use Rattle.isl_meaning.specs.Objects.{Object}
 use Rattle.isl_meaning.specs.Lookup.{numbered}
 use Rattle.isl_meaning.specs.Literals.{lay_content}
-use Rattle.isl_meaning.specs.Layout.{Thing, Key, literal, initargs, initform, keyed, laid_out, literal_objects, initargs_list, initform_objects, slot_things}
+use Rattle.isl_meaning.specs.Layout.{Thing, literal, initargs, initform, keyed, laid_out, literal_objects, initargs_list, initform_objects, slot_things}
 use Rattle.isl_layout.specs.Recipes.{Recipe, in_turn}
 use Rattle.isl_layout.specs.Parts.{literal_recipe, slot_recipe, slots_recipe}
-use Rattle.isl_layout.proofs.Keys.{object_under, keyed_objects, keyed_length, laid_append}
+use Rattle.isl_layout.proofs.Keys.{object_under, keyed_objects, laid_append}
 
 abbrev pub objects_in : List Thing → ℕ → List Object
 objects_in ts n = map object_under (laid_out ts n)

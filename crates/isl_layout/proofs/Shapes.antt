@@ -1,5 +1,5 @@
 -- The value of what a datum makes is its last object; a datum that makes none has one value, wherever it is laid.
-use Rattle.std.proofs.Common.{◌≡◌, ℕ, suc, ◌+◌, List, [], ◌∷◌, ◌++◌, length, ◌⊎◌, inl, inr, refl, sym, ◌∙◌, ap, add-zero, arith}
+use Rattle.std.proofs.Common.{◌≡◌, ℕ, suc, ◌+◌, List, [], ◌∷◌, ◌++◌, length, ◌⊎◌, inl, inr, refl, sym, ◌∙◌, ap, arith}
 use Rattle.std.proofs.lemmas.List.{length-append}
 use Rattle.isl_base.specs.Data.{Item, Content, item, integer, character, symbol, string, vector, nil, list, items_of, no_item, item_and, Tail, no_tail, dotted}
 use Rattle.isl_meaning.specs.declared.program.ProgramRows.{ProgramRows}

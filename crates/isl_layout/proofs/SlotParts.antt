@@ -1,7 +1,7 @@
 -- What a slot makes: the list of its initargs, and then its initform's function.
-use Rattle.std.proofs.Common.{◌≡◌, ℕ, ◌+◌, ◌≤◌, List, [], ◌∷◌, ◌++◌, length, map, take, drop, Option, Some, None, refl, sym, ◌∙◌, ap, add-zero}
+use Rattle.std.proofs.Common.{◌≡◌, ℕ, ◌+◌, List, [], ◌∷◌, ◌++◌, length, take, Some, refl, sym, ◌∙◌, ap, add-zero}
 use Rattle.std.specs.Prelude.{slice_get}
-use Rattle.std.proofs.lemmas.List.{map-append, take_all}
+use Rattle.std.proofs.lemmas.List.{map-append}
 use Rattle.isl_base.specs.declared.datum.Name.{Name}
 use Rattle.isl_base.specs.model.DataRest.{take_at}
 use Rattle.isl_meaning.specs.declared.program.SlotRow.{SlotRow}
@@ -13,11 +13,10 @@ use Rattle.isl_store.specs.declared.store.Store.{Store}
 use Rattle.isl_store.specs.declared.word.Word.{Word}
 use Rattle.isl_store.specs.declared.word.Word.TheVariants.{Symbol}
 use Rattle.isl_store.specs.Words.{value_of_word, values_of}
-use Rattle.isl_layout.specs.declared.slots.SlotWords.{SlotWords}
-use Rattle.isl_layout.specs.Recipes.{Recipe, linked, IsMade}
+use Rattle.isl_layout.specs.Recipes.{linked, IsMade}
 use Rattle.isl_layout.specs.Parts.{single, laid, symbols_of, initform_recipe, slot_recipe}
 use Rattle.isl_layout.specs.Tables.{slot_values}
-use Rattle.isl_layout.proofs.Made.{both_made, made_as, same_recipe}
+use Rattle.isl_layout.proofs.Made.{both_made, made_as}
 use Rattle.isl_layout.proofs.Data.{symbols_linked}
 
 -- one more symbol

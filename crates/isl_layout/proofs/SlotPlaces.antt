@@ -1,8 +1,7 @@
 -- What stands for the initargs and the initforms of slots.
-use Rattle.std.proofs.Common.{◌≡◌, ℕ, zero, suc, ◌+◌, ◌<◌, ◌==◌, Bool, true, false, List, [], ◌∷◌, ◌++◌, length, map, Option, Some, None, refl, sym, ◌∙◌, ap, add-zero, zero-add, arith, eq-eqb}
-use Rattle.std.specs.Prelude.{slice_get, flat_map, ◌&&◌}
+use Rattle.std.proofs.Common.{◌≡◌, ℕ, zero, suc, ◌+◌, ◌<◌, ◌==◌, Bool, true, false, List, [], ◌∷◌, length, map, refl, sym, ◌∙◌, ap, add-zero, zero-add, arith, eq-eqb}
+use Rattle.std.specs.Prelude.{slice_get, ◌&&◌}
 use Rattle.std.proofs.lemmas.Bool.{ne_eqb}
-use Rattle.std.proofs.lemmas.List.{length-append}
 use Rattle.isl_base.specs.Data.{item, symbol}
 use Rattle.isl_base.specs.declared.datum.Symbol.TheVariants.{Named}
 use Rattle.isl_meaning.specs.declared.program.SlotRow.{SlotRow}
@@ -11,13 +10,12 @@ use Rattle.isl_meaning.specs.Values.{Value, nil}
 use Rattle.isl_meaning.specs.Objects.{Object}
 use Rattle.isl_meaning.specs.State.{no_place}
 use Rattle.isl_meaning.specs.Literals.{lay_content}
-use Rattle.isl_meaning.specs.Layout.{Key, Thing, part, initargs, initform, same_key, laid_out, under_key, initargs_list, initform_objects}
-use Rattle.isl_store.specs.declared.word.Word.{Word}
+use Rattle.isl_meaning.specs.Layout.{Key, part, initargs, initform, same_key, laid_out, under_key, initargs_list, initform_objects}
 use Rattle.isl_store.specs.Words.{value_of_word}
 use Rattle.isl_layout.specs.declared.slots.SlotWords.{SlotWords}
 use Rattle.isl_layout.specs.Recipes.{in_turn}
-use Rattle.isl_layout.specs.Parts.{slot_recipe, slots_recipe, last_of}
-use Rattle.isl_layout.specs.Tables.{slot_values, slots_values, slot_at, initargs_or_nil, initform_or_nil}
+use Rattle.isl_layout.specs.Parts.{slot_recipe, slots_recipe}
+use Rattle.isl_layout.specs.Tables.{slots_values, slot_at, initargs_or_nil, initform_or_nil}
 use Rattle.isl_layout.proofs.Keys.{AreOthers, others_append, absent_others, first_thing, later_thing, laid_append, passed_over, none_behind}
 use Rattle.isl_layout.proofs.Segments.{initargs_thing, initform_thing, slots_of, all_slots_of, slot_count, objects_of_slots, as_many}
 use Rattle.isl_layout.proofs.Shapes.{list_last}

@@ -1,5 +1,5 @@
 -- All objects together: what was made kind by kind is the meaning's layout, and each word is what stands under its key.
-use Rattle.std.proofs.Common.{◌≡◌, ℕ, ◌+◌, ◌-◌, ◌<◌, ◌≤◌, List, [], ◌∷◌, ◌++◌, length, map, Option, Some, refl, sym, ◌∙◌, ap, append_assoc, append-nil, zero-add, false, arith, ⊎_elim}
+use Rattle.std.proofs.Common.{◌≡◌, ℕ, ◌+◌, ◌-◌, ◌<◌, ◌≤◌, List, [], ◌∷◌, ◌++◌, length, refl, sym, ◌∙◌, ap, append_assoc, append-nil, zero-add, false, arith, ⊎_elim}
 use Rattle.std.specs.List.{range_with_len}
 use Rattle.std.proofs.lemmas.Bool.{cases_lt}
 use Rattle.std.proofs.lemmas.List.{length-append}
@@ -17,7 +17,7 @@ use Rattle.isl_layout.proofs.Made.{both}
 use Rattle.isl_layout.proofs.Keys.{AreOthers, others_append, others_mapped, others_flat, absent_others, laid_append, passed_over, none_behind, still_found}
 use Rattle.isl_layout.proofs.Segments.{objects_in, objects_append, objects_mapped, objects_of_literals, objects_of_classes, as_many, slots_of_class, all_slots_of}
 use Rattle.isl_layout.proofs.LiteralPlaces.{literals_from}
-use Rattle.isl_layout.proofs.Found.{value_in, value_front, value_back, range_count, range_in, range_found, range_before, range_behind}
+use Rattle.isl_layout.proofs.Found.{value_in, value_front, value_back, range_count, range_in, range_found, range_behind}
 
 -- what stands under a key in the middle, where all before and behind have other keys
 pub middle : (key : Key) (before here behind : List Thing) (n : ℕ) → same_key key part ≡ false → AreOthers key before → AreOthers key behind

@@ -1,7 +1,6 @@
 -- What the parts of a program make: classes, functions of names, literals, and slots.
 use Rattle.std.specs.Prelude.{ℕ, ◌+◌, ◌-◌, List, [], ◌∷◌, ◌++◌, Option, length, map}
 use Rattle.std.specs.List.{range_with_len}
-use Rattle.isl_base.specs.Data as datum
 use Rattle.isl_base.specs.declared.datum.Name.{Name}
 use Rattle.isl_meaning.specs.declared.program.SlotRow.{SlotRow}
 use Rattle.isl_meaning.specs.declared.program.ClassRow.{ClassRow}

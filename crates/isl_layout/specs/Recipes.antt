@@ -5,8 +5,6 @@ use Rattle.isl_meaning.specs.Objects.{Object, cons}
 use Rattle.isl_meaning.specs.State.{State}
 use Rattle.isl_closure.specs.FlatState.{FlatState, on_state}
 use Rattle.isl_store.specs.declared.store.Store.{Store}
-use Rattle.isl_store.specs.declared.word.Word.{Word}
-use Rattle.isl_store.specs.Words.{values_of}
 use Rattle.isl_store.specs.View.{Beside, seen}
 
 -- objects from a number on, and what stands for them

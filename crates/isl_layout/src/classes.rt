@@ -22,7 +22,6 @@ pub struct FirstWords {
 }
 
 /// The objects of so many classes and of the streams are made: the streams stand behind the built-in classes.
-#[tactic(auto, using(crate::proofs::ClassRange::first_made))]
 pub fn lay_first(alloc: Global, classes: usize, store: &mut Store) -> Result<FirstWords, NoMemory>
     ensures { IfOk result (λ first. IsMade first_values (λ names. first_recipe classes) store.old store.new first) }
 {

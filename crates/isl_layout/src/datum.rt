@@ -56,7 +56,6 @@ fn lay_text(alloc: Global, bytes: &Bytes, store: &mut Store) -> Result<Word, NoM
 }
 
 #[cycle(lay)]
-#[tactic(auto, using(crate::proofs::Data::vector_made))]
 fn lay_vector(alloc: Global, items: &DatumList, store: &mut Store) -> Result<Word, NoMemory>
     ensures { IfOk result (λ w. IsMade value_of_word (λ names. laid (lay_content names (vector (items_of items.now)))) store.old store.new w) }
 {
@@ -65,7 +64,7 @@ fn lay_vector(alloc: Global, items: &DatumList, store: &mut Store) -> Result<Wor
 }
 
 #[cycle(lay)]
-#[tactic(auto, using(isl_base::specs::model::DataSizes::item_in_smaller, crate::proofs::Turns::none_made, crate::proofs::Turns::one_made_at, crate::proofs::Turns::all_made_at))]
+#[tactic(auto, using(isl_base::specs::model::DataSizes::item_in_smaller, crate::proofs::Turns::none_made))]
 fn lay_items(alloc: Global, items: &DatumList, store: &mut Store) -> Result<Elements, NoMemory>
     ensures { IfOk result (λ ws. IsMade values_of (λ names. in_turn (λ d. laid (lay names d)) items.now) store.old store.new ws) }
 {
@@ -81,7 +80,6 @@ fn lay_items(alloc: Global, items: &DatumList, store: &mut Store) -> Result<Elem
 }
 
 #[cycle(lay)]
-#[tactic(auto, using(crate::proofs::Data::list_made))]
 fn lay_list(
     alloc: Global,
     items: &DatumList,

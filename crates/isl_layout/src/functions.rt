@@ -47,7 +47,6 @@ impl NamedFunctions {
         }
     }
 
-    #[tactic(auto, using(crate::proofs::Named::function_set))]
     // A name has that function from now on.
     fn set(&mut self, name: Name, function: NamedFunction) -> Result<(), NoMemory>
         ensures { OnOk result (IsSet self.old name.0 function self.new) }
@@ -85,7 +84,7 @@ pub fn lay_functions(
 }
 
 // The objects of all functions; the word of each.
-#[tactic(auto, using(crate::proofs::Turns::none_made, crate::proofs::Turns::one_made_at, crate::proofs::Turns::all_made_at, crate::proofs::Named::function_added))]
+#[tactic(auto, using(crate::proofs::Turns::none_made))]
 fn add_functions(
     alloc: Global,
     rows: &FunctionRows,
@@ -114,7 +113,7 @@ fn function_object<'p>(callee: Callee) -> Object<'p>
 }
 
 // The functions with these words, by their names: of rows with the same name the first one counts.
-#[tactic(auto, using(crate::proofs::Named::none_noted, crate::proofs::Named::one_noted, crate::proofs::Named::no_word))]
+#[tactic(auto, using(crate::proofs::Named::none_noted))]
 fn by_name(
     alloc: Global,
     spellings: Spellings,

@@ -12,7 +12,7 @@ use isl_store::{Store, Word};
 use std::alloc::Global;
 
 /// The objects of all literals are made; the word of each.
-#[tactic(auto, using(crate::proofs::Turns::none_made, crate::proofs::Turns::one_made_at, crate::proofs::Turns::all_made_at))]
+#[tactic(auto, using(crate::proofs::Turns::none_made))]
 pub fn lay_literals(
     alloc: Global,
     rows: &LiteralRows,

@@ -9,7 +9,6 @@ use isl_base::{ItemList, NoMemory};
 use isl_store::{Object, Store, Word};
 
 /// An object more, which has captured nothing.
-#[tactic(auto, using(crate::proofs::Made::object_added))]
 pub fn add_object<'p>(store: &mut Store<'p>, object: Object<'p>) -> Result<Word, NoMemory>
     requires { (names : List (List ℕ)) → captured_by names object ≡ None }
     ensures { IfOk result (λ w. IsMade value_of_word (λ names. single (object_of names object.entry)) store.old store.new w) }
@@ -19,7 +18,7 @@ pub fn add_object<'p>(store: &mut Store<'p>, object: Object<'p>) -> Result<Word,
 }
 
 /// The list of these words, with that end.
-#[tactic(auto, using(crate::proofs::Made::none_linked, crate::proofs::Made::linked_at))]
+#[tactic(auto, using(crate::proofs::Made::none_linked))]
 pub fn add_list(store: &mut Store, words: &ItemList<Word>, end: Word) -> Result<Word, NoMemory>
     ensures { IfOk result (λ w. IsMade value_of_word (λ names. linked (values_of names words.now) (value_of_word names end)) store.old store.new w) }
 {

@@ -24,7 +24,7 @@ pub struct SlotWords {
 pub type SlotWordsList = ItemList<SlotWords>;
 
 /// The objects of the slots of all classes are made; the words of each slot, by its class.
-#[tactic(auto, using(crate::proofs::Turns::none_made, crate::proofs::Turns::one_made_at, crate::proofs::Turns::all_made_at))]
+#[tactic(auto, using(crate::proofs::Turns::none_made))]
 pub fn lay_slots(
     alloc: Global,
     classes: &ClassRows,
@@ -44,7 +44,7 @@ pub fn lay_slots(
 }
 
 // The objects of the slots of a class.
-#[tactic(auto, using(crate::proofs::Turns::none_made, crate::proofs::Turns::one_made_at, crate::proofs::Turns::all_made_at))]
+#[tactic(auto, using(crate::proofs::Turns::none_made))]
 fn lay_slots_of(
     alloc: Global,
     slots: &SlotRows,
@@ -64,7 +64,6 @@ fn lay_slots_of(
 }
 
 // The objects of a slot.
-#[tactic(auto, using(crate::proofs::SlotParts::slot_made))]
 fn lay_slot(alloc: Global, slot: &SlotRow, store: &mut Store) -> Result<SlotWords, NoMemory>
     ensures { IfOk result (λ w. IsMade slot_values (λ names. slot_recipe names slot.now) store.old store.new w) }
 {
@@ -90,7 +89,7 @@ fn symbols(alloc: Global, list: &NameList) -> Result<ItemList<Word>, NoMemory>
 }
 
 // The function of an initform, if there is one.
-#[tactic(auto, using(crate::proofs::SlotParts::initform_added, crate::proofs::Made::atom_made))]
+#[tactic(auto, using(crate::proofs::Made::atom_made))]
 fn lay_initform(initform: Option<ProcedureId>, store: &mut Store) -> Result<Word, NoMemory>
     ensures { IfOk result (λ w. IsMade value_of_word (λ names. initform_recipe initform) store.old store.new w) }
 {

@@ -9,7 +9,7 @@ use Rattle.isl_store.specs.declared.word.Word.{Word}
 use Rattle.isl_store.specs.declared.named_values.NamedValues.{NamedValues}
 use Rattle.isl_store.specs.Words.{value_of_word, value_or_none}
 use Rattle.isl_store.specs.Spelling.{number_of, IsSpelling}
-use Rattle.isl_store.specs.NamedValues.{item_or_none, word_of, Holds, IsAlike}
+use Rattle.isl_store.specs.NamedValues.{word_of, Holds, IsAlike}
 use Rattle.isl_store.specs.bridge.Told.{told}
 use Rattle.isl_store.specs.bridge.Places.{looked_up}
 
