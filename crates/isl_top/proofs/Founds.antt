@@ -75,7 +75,7 @@ was_summed plus_head a b f t h = inl h
 was_summed minus_head a b f t h = inr h
 was_summed head a b f t h = absurd (cc)
 
-was_tested : (h : Head) (a b : Found Form) (f : Form) (t : Tables) → by_test h a b ≡ Some (f, t) → (a ≡ Some (f, t)) ⊎ (b ≡ Some (f, t))
+pub was_tested : (h : Head) (a b : Found Form) (f : Form) (t : Tables) → by_test h a b ≡ Some (f, t) → (a ≡ Some (f, t)) ⊎ (b ≡ Some (f, t))
 was_tested equal_head a b f t h = inl h
 was_tested less_head a b f t h = inr h
 was_tested head a b f t h = absurd (cc)

@@ -25,7 +25,7 @@ use Rattle.isl_top.specs.Verdicts.{DataOf, no_datum, then_datum, BeginsWithProgr
 use Rattle.isl_top.proofs.Founds.{was_and, was_made}
 use Rattle.isl_top.specs.Code.{program_code}
 use Rattle.isl_top.proofs.Sizes.{small}
-use Rattle.isl_top.proofs.Spans.{data-size}
+use Rattle.isl_top.proofs.Spans.{data-weight}
 use Rattle.isl_top.proofs.LaterNames.{data-later}
 use Rattle.isl_top.proofs.LaterForms.{forms-later}
 
@@ -214,10 +214,10 @@ judged-stops names later text old new t fs NoMemory short x j k = tt
 judged-stops names later text old new t fs (Refused r) short x j k =
     judged-stop names text old fs t r.place r.reason short j (k.stops j.fresh)
 
--- the code of an accepted text's program fits the arena of a run
+-- the code of an accepted text's program fits the least arena of a command
 pub accepted-small : (text : Seq ℕ) (program : ProgramRows) → Accepts text program
-    → length (program_code program.literals (forms program.main)) ≤ 4194304
+    → length (program_code program.literals (forms program.main)) ≤ 65536
 accepted-small text program a =
     let b = a.begins in
     small b.names (items_of b.data_before) program (b.are.meant ∙ ap Some a.same)
-    (omega (arith, data-size b.names text b.data_before b.rest b.place b.read, b.short))
+    (omega (arith, data-weight b.names text b.data_before b.rest b.place b.read, b.short))

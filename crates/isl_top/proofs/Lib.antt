@@ -9,6 +9,7 @@ pub mod Founds
 pub mod Mains
 pub mod Simulates
 pub mod Whole
+pub mod Weights
 pub mod Sizes
 pub mod Written
 pub mod Loading
@@ -18,11 +19,13 @@ pub mod Forming
 pub mod Sums
 pub mod Comparing
 pub mod Choosing
-pub mod Steps
+pub mod Numbers
 pub mod Decimals
 pub mod LaterNames
 pub mod LaterForms
 pub mod Spans
 pub mod Judging
 pub mod Ran
+pub mod Checks
 pub mod Ends
+pub mod CommandLine

@@ -9,7 +9,7 @@ use Rattle.rv_machine.specs.State.{State, Counted, start}
 use Rattle.rv_machine.specs.Step.{Result, environment_call, step_of}
 use Rattle.rv_machine.specs.Run.{Moment, Ended, act, stop, run_from, first, Feeds, Outside, IsNoFault, Gave, CutOff}
 use Rattle.isl_meaning.specs.declared.program.ProgramRows.{ProgramRows}
-use Rattle.isl_top.specs.Limits.{usual_arena_words}
+use Rattle.isl_top.specs.Limits.{most_arena_words}
 use Rattle.isl_top.specs.Theorem.{IsPrefixOf, Compiled, the_run, Built, Halts, Spends, GivenAll, GivenPrefix, sent_to}
 
 -- the laws of runs that the machine's crate proves
@@ -18,8 +18,8 @@ pub record Laws : Type 0 where
   pub split : (j k : ℕ) (m : Moment) → (run_from j m).ending ≡ Budget → run_from (j + k) m ≡ run_from k (run_from j m).at
 
 -- an image that is the program's and fits the arena is kept
-pub built : (program : ProgramRows) (image : Image) → Compiled program image.words image.entry → length image.words ≤ usual_arena_words → Built program (Some image)
-built program image compiled fits = record { image = image; is_kept = refl; compiled = compiled; fits = fits }
+pub built : (program : ProgramRows) (image : Image) (arena : ℕ) → Compiled program image.words image.entry → length image.words ≤ arena → Built program (Some image) arena
+built program image arena compiled fits = record { image = image; is_kept = refl; compiled = compiled; fits = fits }
 
 with_prefix : (given given' : Option (List ℕ)) (writes writes' : ℕ) (first whole : List ℕ) → IsPrefixOf first whole → IfSome given' (λ after. Gave given writes first after writes') → IfSome given' (λ after. (f : List ℕ) × IsPrefixOf f whole × Gave given writes f after writes')
 with_prefix given None writes writes' first whole p g = tt
@@ -33,11 +33,11 @@ unfolding run_from
 one_more m e = after_get (step_of m.state) m e
 
 -- an image that is the program's, in a machine at its start
-module _ (program : ProgramRows) (image : Image) (compiled : Compiled program image.words image.entry) (fits : length image.words ≤ usual_arena_words) (state : State) (begin : state ≡ start image.words image.entry usual_arena_words) where
+module _ (program : ProgramRows) (image : Image) (arena : ℕ) (compiled : Compiled program image.words image.entry) (fits : length image.words ≤ arena) (most : arena ≤ most_arena_words) (state : State) (begin : state ≡ start image.words image.entry arena) where
   -- it reads nothing
   pub unread : (n : ℕ) (input : List ℕ) → (run_from n (first state input)).at.gets ≡ 0
   unread n input =
-      let f = compiled usual_arena_words n input fits (omega arith) in
+      let f = compiled arena n input fits most in
       subst (λ s. (run_from n (first s input)).at.gets ≡ 0) (sym begin) f.unread
 
   -- so any input feeds it
@@ -59,17 +59,17 @@ module _ (program : ProgramRows) (image : Image) (compiled : Compiled program im
       absurd (omega arith)
 
   -- the whole run: what was given, how it ended where it halted, and where it was spent
-  pub whole : (steps : ℕ) (given given' : Option (List ℕ)) (writes writes' : ℕ) → ((input : List ℕ) → IfSome given' (λ after. Gave given writes (run_from steps (first state input)).at.printed after writes')) → GivenAll (built program image compiled fits) steps (sent_to given writes given' writes')
+  pub whole : (steps : ℕ) (given given' : Option (List ℕ)) (writes writes' : ℕ) → ((input : List ℕ) → IfSome given' (λ after. Gave given writes (run_from steps (first state input)).at.printed after writes')) → GivenAll (built program image arena compiled fits) steps (sent_to given writes given' writes')
   unfolding built
   whole steps given given' writes writes' g =
       λ input. subst (λ (s : State). IfSome given' (λ after. Gave given writes (run_from steps (first s input)).at.printed after writes')) begin (g input)
 
-  pub halted : (steps word : ℕ) → ((input : List ℕ) → Halt word ≡ (run_from steps (first state input)).ending) → Halts (built program image compiled fits) steps
+  pub halted : (steps word : ℕ) → ((input : List ℕ) → Halt word ≡ (run_from steps (first state input)).ending) → Halts (built program image arena compiled fits) steps
   unfolding built
   halted steps word h =
-      λ input. (compiled usual_arena_words steps input fits (omega arith)).halt word (sym (subst (λ (s : State). Halt word ≡ (run_from steps (first s input)).ending) begin (h input)))
+      λ input. (compiled arena steps input fits most).halt word (sym (subst (λ (s : State). Halt word ≡ (run_from steps (first s input)).ending) begin (h input)))
 
-  pub spent : (steps : ℕ) → ((input : List ℕ) → Budget ≡ (run_from steps (first state input)).ending) → Spends (built program image compiled fits) steps
+  pub spent : (steps : ℕ) → ((input : List ℕ) → Budget ≡ (run_from steps (first state input)).ending) → Spends (built program image arena compiled fits) steps
   unfolding built
   spent steps h =
       λ input. sym (subst (λ (s : State). Budget ≡ (run_from steps (first s input)).ending) begin (h input))
@@ -81,10 +81,10 @@ module _ (program : ProgramRows) (image : Image) (compiled : Compiled program im
       ⊎_elim
       (λ b. no_budget (same ∙ b))
       (λ p. no_halt p.0 (same ∙ p.1))
-      (compiled usual_arena_words steps [] fits (omega arith)).only
+      (compiled arena steps [] fits most).only
 
   -- the prefix that was given where a write cut it off
-  pub cut_off : (laws : Laws) (steps : ℕ) (old new : Counted) (o o' : Outside) (Other : Moment → Type 0) → old.state ≡ state → CutOff 1 steps old new o o' Other → GivenPrefix (built program image compiled fits) steps (sent_to o.given o.writes o'.given o'.writes)
+  pub cut_off : (laws : Laws) (steps : ℕ) (old new : Counted) (o o' : Outside) (Other : Moment → Type 0) → old.state ≡ state → CutOff 1 steps old new o o' Other → GivenPrefix (built program image arena compiled fits) steps (sent_to o.given o.writes o'.given o'.writes)
   unfolding built
   cut_off laws steps old new o o' Other here c =
       λ input.
@@ -92,7 +92,7 @@ module _ (program : ProgramRows) (image : Image) (compiled : Compiled program im
       let stood = c.stands input feeds in
       let p = laws.printed c.turns steps (first old.state input) (omega (arith, c.below)) in
       let whole = subst (λ (s : State). IsPrefixOf (run_from c.turns (first old.state input)).at.printed (run_from steps (first s input)).at.printed) (here ∙ begin) p in
-      with_prefix o.given o'.given o.writes o'.writes (run_from c.turns (first old.state input)).at.printed (the_run image steps input).at.printed whole stood.1.given
+      with_prefix o.given o'.given o.writes o'.writes (run_from c.turns (first old.state input)).at.printed (the_run image arena steps input).at.printed whole stood.1.given
 
   -- what a cut run says of the source where nothing was read
   pub cut_other : (steps : ℕ) (old new : Counted) (o o' : Outside) (Same : Type 0) → old.state ≡ state → CutOff 1 steps old new o o' (λ m. m.gets ≡ 0 → Same) → Same

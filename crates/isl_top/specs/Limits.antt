@@ -12,9 +12,12 @@ longest_program = 4096
 abbrev pub deepest_program : ℕ
 deepest_program = 64
 
--- the words of the arena of every run, and those of the largest one that a machine may have
+-- the words of the arena of a run where no number is given, and the smallest and the largest number; no machine has more
 abbrev pub usual_arena_words : ℕ
 usual_arena_words = 4194304
+
+abbrev pub least_arena_words : ℕ
+least_arena_words = 65536
 
 abbrev pub most_arena_words : ℕ
 most_arena_words = 16777216

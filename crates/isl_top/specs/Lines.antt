@@ -33,6 +33,10 @@ budget_line n = line (codes "budget " ++ decimal n)
 abbrev pub usage_line : List ℕ
 usage_line = line (codes "usage: isl [--steps N] [--arena W] ACTION FILE")
 
+-- what `check` writes to the output of a file that is a program
+abbrev pub ok_line : List ℕ
+ok_line = line (codes "ok")
+
 abbrev pub file_fault_line : List ℕ
 file_fault_line = line (codes "file fault")
 
@@ -69,3 +73,7 @@ number_of NoMemory = 9
 -- a sink that is observed now was observed before, and was given these bytes since
 abbrev pub WasGiven : Option (List ℕ) → List ℕ → Option (List ℕ) → Type 0
 WasGiven given bytes given' = IfSome given' (λ after. (before : List ℕ) × (given ≡ Some before) × (after ≡ before ++ bytes))
+
+-- the same of a front of the bytes alone
+abbrev pub WasGivenFront : Option (List ℕ) → List ℕ → Option (List ℕ) → Type 0
+WasGivenFront given bytes given' = (front rest : List ℕ) × ((front ++ rest ≡ bytes) × WasGiven given front given')

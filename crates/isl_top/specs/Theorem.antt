@@ -1,20 +1,24 @@
 -- The theorem of the top call: what stands after `isl_main` has answered, status by status.
 --
--- It names the words of the command (`Command`), the verdict on a text (`Verdicts`), the meaning of a program (`isl_meaning`), the
--- machine and its runs (`rv_machine`), and the lines of statuses (`Lines`), and nothing of how code is made.
+-- It names the words of the command (`Command`), the verdict on a text to run (`Verdicts`) and on a text to check (`isl_files`), the
+-- meaning of a program (`isl_meaning`), the machine and its runs (`rv_machine`), and the lines of statuses (`Lines`), and
+-- nothing of how code is made.
 use Rattle.std.specs.Prelude.{◌≡◌, ℕ, ◌-◌, ◌≤◌, ◌⊎◌, List, [], ◌++◌, length, Option, Some, None, IfSome}
 use Rattle.isl_base.specs.declared.reason.Refusal.{Refusal}
 use Rattle.rv_machine.specs.declared.image.Image.{Image}
 use Rattle.rv_machine.specs.declared.ending.Ending.TheVariants.{Halt, Budget}
 use Rattle.rv_machine.specs.Run.{Ended, run_of, Gave}
+use Rattle.isl_files.specs.declared.mode.Mode.TheVariants as mode
+use Rattle.isl_files.specs.Verdicts.{Accepts as AcceptsWhole, Refuses as RefusesWhole}
 use Rattle.isl_meaning.specs.declared.program.ProgramRows.{ProgramRows}
 use Rattle.isl_meaning.specs.Counts.{bound}
 use Rattle.isl_meaning.specs.Values.{Value}
 use Rattle.isl_meaning.specs.State.{words, unlimited}
 use Rattle.isl_meaning.specs.Meaning.{Meant, ended_value, meaning}
 use Rattle.isl_top.specs.Command.{Asked, asked}
-use Rattle.isl_top.specs.Limits.{usual_arena_words, most_arena_words}
-use Rattle.isl_top.specs.Lines.{WasGiven, usage_line, refused_line, budget_line}
+use Rattle.isl_top.specs.declared.command.Action.TheVariants.{Run, Check}
+use Rattle.isl_top.specs.Limits.{most_arena_words}
+use Rattle.isl_top.specs.Lines.{WasGiven, WasGivenFront, usage_line, refused_line, budget_line, ok_line}
 use Rattle.isl_top.specs.Loads.{IsTaken}
 use Rattle.isl_top.specs.Represents.{Represents}
 use Rattle.isl_top.specs.Shapes.{names}
@@ -57,26 +61,26 @@ abbrev pub Compiled : ProgramRows → List ℕ → ℕ → Type 0
 Compiled program image entry =
     (arena n : ℕ) (input : List ℕ) → length image ≤ arena → arena ≤ most_arena_words → Faithful program (length image) arena n input (run_of image entry arena input n)
 
--- the image that was kept is the program's, and fits the arena
-pub record Built (program : ProgramRows) (kept : Option Image) : Type 0 where
+-- the image that was kept is the program's, and fits an arena of so many words
+pub record Built (program : ProgramRows) (kept : Option Image) (arena : ℕ) : Type 0 where
   pub image : Image
   pub is_kept : kept ≡ Some image
   pub compiled : Compiled program image.words image.entry
-  pub fits : length image.words ≤ usual_arena_words
+  pub fits : length image.words ≤ arena
 
--- Its run in the arena of a call, whatever the input
+-- Its run in that arena, whatever the input
 
-abbrev pub the_run : Image → ℕ → List ℕ → Ended
-the_run image steps input = run_of image.words image.entry usual_arena_words input steps
+abbrev pub the_run : Image → (arena steps : ℕ) → List ℕ → Ended
+the_run image arena steps input = run_of image.words image.entry arena input steps
 
 -- it halts with the meaning's value and prints what the meaning prints
-abbrev pub Halts : {program : ProgramRows} {kept : Option Image} → Built program kept → ℕ → Type 0
-Halts {program} built steps =
-    (input : List ℕ) → HaltsWith (the_run built.image steps input) (meaning names program input steps unlimited)
+abbrev pub Halts : {program : ProgramRows} {kept : Option Image} {arena : ℕ} → Built program kept arena → ℕ → Type 0
+Halts {program} {kept} {arena} built steps =
+    (input : List ℕ) → HaltsWith (the_run built.image arena steps input) (meaning names program input steps unlimited)
 
 -- it does not end within so many instructions
-abbrev pub Spends : {program : ProgramRows} {kept : Option Image} → Built program kept → ℕ → Type 0
-Spends built steps = (input : List ℕ) → (the_run built.image steps input).ending ≡ Budget
+abbrev pub Spends : {program : ProgramRows} {kept : Option Image} {arena : ℕ} → Built program kept arena → ℕ → Type 0
+Spends {program} {kept} {arena} built steps = (input : List ℕ) → (the_run built.image arena steps input).ending ≡ Budget
 
 -- what an output was given: before a call and after it, where it can be observed, and in how many writes
 pub record Sent : Type 0 where
@@ -94,14 +98,14 @@ sent_to before writes_before after writes_after = record {
 }
 
 -- an output that is observed was given all that the run printed, each byte by a write of its own
-abbrev pub GivenAll : {program : ProgramRows} {kept : Option Image} → Built program kept → ℕ → Sent → Type 0
-GivenAll built steps sent =
-    (input : List ℕ) → IfSome sent.after (λ after. Gave sent.before sent.writes_before (the_run built.image steps input).at.printed after sent.writes_after)
+abbrev pub GivenAll : {program : ProgramRows} {kept : Option Image} {arena : ℕ} → Built program kept arena → ℕ → Sent → Type 0
+GivenAll {program} {kept} {arena} built steps sent =
+    (input : List ℕ) → IfSome sent.after (λ after. Gave sent.before sent.writes_before (the_run built.image arena steps input).at.printed after sent.writes_after)
 
 -- an output that is observed was given a prefix of what the run printed, each byte by a write of its own
-abbrev pub GivenPrefix : {program : ProgramRows} {kept : Option Image} → Built program kept → ℕ → Sent → Type 0
-GivenPrefix built steps sent =
-    (input : List ℕ) → IfSome sent.after (λ after. (first : List ℕ) × IsPrefixOf first (the_run built.image steps input).at.printed × Gave sent.before sent.writes_before first after sent.writes_after)
+abbrev pub GivenPrefix : {program : ProgramRows} {kept : Option Image} {arena : ℕ} → Built program kept arena → ℕ → Sent → Type 0
+GivenPrefix {program} {kept} {arena} built steps sent =
+    (input : List ℕ) → IfSome sent.after (λ after. (first : List ℕ) × IsPrefixOf first (the_run built.image arena steps input).at.printed × Gave sent.before sent.writes_before first after sent.writes_after)
 
 -- The file
 
@@ -117,16 +121,35 @@ pub record Declined (held : Option (List ℕ)) (refusal : Refusal) : Type 0 wher
   pub taken : IsTaken held text
   pub refuses : Refuses text refusal.place refusal.reason
 
--- The statuses. A call has these command words, a shelf that holds these files, where it can be observed, and leaves this image; its
+-- a text is a whole program of the language: the prelude in front of it is empty, and nothing is shown
+pub record IsWhole (text : List ℕ) : Type 0 where
+  pub names : List (List ℕ)
+  pub program : ProgramRows
+  pub accepts : AcceptsWhole [] text mode.Run names program
+
+-- a text that was taken of the file is one
+pub record Passes (held : Option (List ℕ)) : Type 0 where
+  pub text : List ℕ
+  pub taken : IsTaken held text
+  pub whole : IsWhole text
+
+-- a text that was taken of the file is refused so, and is none
+pub record Offends (held : Option (List ℕ)) (refusal : Refusal) : Type 0 where
+  pub text : List ℕ
+  pub taken : IsTaken held text
+  pub refuses : RefusesWhole [] text mode.Run refusal
+
+-- The statuses of `run`. A call has these command words, a shelf that holds these files, where it can be observed, and leaves this image; its
 -- output was sent this, and its error output had these bytes before and has those after it.
 
--- Done: the command names a file that is a program, the run of its image halts, and all that it prints was given
+-- Done: the command names a file to run that is a program, the run of its image halts, and all that it prints was given
 pub record IsDone (words : List (List ℕ)) (holds : List ℕ → Option (List ℕ)) (kept : Option Image) (sent : Sent) (said said' : Option (List ℕ)) : Type 0 where
   pub command : Asked
   pub asked_for : asked words ≡ Some command
+  pub is_run : command.action ≡ Run
   pub program : ProgramRows
   pub accepted : Accepted (holds command.file) program
-  pub built : Built program kept
+  pub built : Built program kept command.arena
   pub halts : Halts built command.steps
   pub printed : GivenAll built command.steps sent
   pub line : WasGiven said [] said'
@@ -135,9 +158,10 @@ pub record IsDone (words : List (List ℕ)) (holds : List ℕ → Option (List �
 pub record IsSpent (words : List (List ℕ)) (holds : List ℕ → Option (List ℕ)) (kept : Option Image) (sent : Sent) : Type 0 where
   pub command : Asked
   pub asked_for : asked words ≡ Some command
+  pub is_run : command.action ≡ Run
   pub program : ProgramRows
   pub accepted : Accepted (holds command.file) program
-  pub built : Built program kept
+  pub built : Built program kept command.arena
   pub spends : Spends built command.steps
   pub printed : GivenAll built command.steps sent
 
@@ -146,10 +170,11 @@ pub record IsBudget (words : List (List ℕ)) (holds : List ℕ → Option (List
   pub spent : IsSpent words holds kept sent
   pub line : WasGiven said (budget_line spent.command.steps) said'
 
--- Refused: the command names a file that is none; the line says where its first offence stands, and which it is
+-- Refused: the command names a file to run that is none; the line says where its first offence stands, and which it is
 pub record IsRefused (words : List (List ℕ)) (holds : List ℕ → Option (List ℕ)) (said said' : Option (List ℕ)) : Type 0 where
   pub command : Asked
   pub asked_for : asked words ≡ Some command
+  pub is_run : command.action ≡ Run
   pub refusal : Refusal
   pub declined : Declined (holds command.file) refusal
   pub line : WasGiven said (refused_line refusal) said'
@@ -158,10 +183,43 @@ pub record IsRefused (words : List (List ℕ)) (holds : List ℕ → Option (Lis
 pub record IsCutOff (words : List (List ℕ)) (holds : List ℕ → Option (List ℕ)) (kept : Option Image) (sent : Sent) : Type 0 where
   pub command : Asked
   pub asked_for : asked words ≡ Some command
+  pub is_run : command.action ≡ Run
   pub program : ProgramRows
   pub accepted : Accepted (holds command.file) program
-  pub built : Built program kept
+  pub built : Built program kept command.arena
   pub printed : GivenPrefix built command.steps sent
+
+-- The statuses of `check`, of which no image is left
+
+-- Done: the command names a file to check that is a whole program, and just the line `ok` was given
+pub record IsChecked (words : List (List ℕ)) (holds : List ℕ → Option (List ℕ)) (kept : Option Image) (sent : Sent) (said said' : Option (List ℕ)) : Type 0 where
+  pub command : Asked
+  pub asked_for : asked words ≡ Some command
+  pub is_check : command.action ≡ Check
+  pub passes : Passes (holds command.file)
+  pub unbuilt : kept ≡ None
+  pub printed : WasGiven sent.before ok_line sent.after
+  pub line : WasGiven said [] said'
+
+-- Refused: the command names a file to check that is none; the line says where its first offence stands, and which it is
+pub record IsCheckedRefused (words : List (List ℕ)) (holds : List ℕ → Option (List ℕ)) (said said' : Option (List ℕ)) : Type 0 where
+  pub command : Asked
+  pub asked_for : asked words ≡ Some command
+  pub is_check : command.action ≡ Check
+  pub refusal : Refusal
+  pub offends : Offends (holds command.file) refusal
+  pub line : WasGiven said (refused_line refusal) said'
+
+-- Write fault of the line `ok`, of which a front was given
+pub record IsCheckedCutOff (words : List (List ℕ)) (holds : List ℕ → Option (List ℕ)) (kept : Option Image) (sent : Sent) : Type 0 where
+  pub command : Asked
+  pub asked_for : asked words ≡ Some command
+  pub is_check : command.action ≡ Check
+  pub passes : Passes (holds command.file)
+  pub unbuilt : kept ≡ None
+  pub printed : WasGivenFront sent.before ok_line sent.after
+
+-- The status of words alone
 
 -- Usage: the words are no command
 pub record IsUsage (words : List (List ℕ)) (said said' : Option (List ℕ)) : Type 0 where

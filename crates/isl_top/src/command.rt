@@ -1,76 +1,133 @@
-// The words of the command line.
+// What the words of the command line ask for.
 
-ghost use Rattle.std.specs.Prelude.{◌≡◌, MatchOption, Some, None};
-ghost use Rattle.isl_top.specs.Command.{asked as asked_of, asked_run as asked_run_of, names_file as names_file_of, steps_in as steps_in_of};
+ghost use Rattle.std.specs.Prelude.{◌≡◌, Some, None, IfOk, MatchOption, map, option_map};
+ghost use Rattle.clap.specs.Walk.{first_of, rows_of};
+ghost use Rattle.clap.specs.Matches.{found_of};
+ghost use Rattle.isl_top.specs.Command.{asked as asked_of, asked_by, asked_for, action_in as action_in_of, parts_of};
 
-use isl_base::Words;
+use crate::command_line::parsed;
+use crate::numbers::{arena_in, steps_in};
+use clap::ArgMatches;
+use isl_base::{NoMemory, Words};
+use std::alloc::Global;
 
-/// What a command asks for: a file, and how many instructions its run may execute.
+/// What is done with a file.
 #[derive(Clone, Copy)]
-pub struct Command<'a> {
-    pub steps: u32,
-    pub file: &'a str,
+pub enum Action {
+    /// It is compiled and run.
+    Run,
+    /// It is judged alone.
+    Check,
 }
 
-// The instructions of a run where no number is given.
-const USUAL_STEPS: u32 = 50_000_000;
+/// What a command asks for: an action, how many instructions a run may execute, the words of its arena,
+/// and a file.
+#[derive(Drop)]
+pub struct Command {
+    pub action: Action,
+    pub steps: u32,
+    pub arena: u32,
+    pub file: String,
+}
 
-/// What the words ask for: `run FILE`, or `--steps N run FILE`; none where they are no such command.
-pub fn asked(words: &Words) -> Option<Command<'_>>
-    ensures { MatchOption result (asked_of words.now ≡ None)
-        (λ c. asked_of words.now ≡ Some (record { steps = c.steps; file = c.file.now })) }
+// The same with the file's name where the words have it.
+#[derive(Clone, Copy)]
+struct Choice<'a> {
+    action: Action,
+    steps: u32,
+    arena: u32,
+    file: &'a str,
+}
+
+/// What the words ask for; none where they are no command, as `Command.antt` says.
+pub fn asked(alloc: Global, words: &Words) -> Result<Option<Command>, NoMemory>
+    ensures { IfOk result (λ o. MatchOption o (asked_of words.now ≡ None)
+        (λ c. asked_of words.now ≡ Some (parts_of c))) }
 {
-    match words.len() {
-        2 => asked_run(Some(USUAL_STEPS), words.get(0)?, words.get(1)?),
-        4 if words.get(0)? == "--steps" => {
-            asked_run(steps_in(words.get(1)?), words.get(2)?, words.get(3)?)
-        }
+    let texts = texts_of(alloc, words)?;
+    let command = asked_in(alloc, texts.as_slice());
+    drop(texts);
+    command
+}
+
+// The words as texts.
+fn texts_of<'a>(alloc: Global, words: &'a Words) -> Result<Vec<&'a str>, NoMemory>
+    ensures { IfOk result (λ texts. map (λ s. s.now) texts.items ≡ words.now) }
+{
+    let mut texts = Vec::new(alloc);
+    while let Some(word) = words.get(texts.len()) {
+        texts.push(word)?;
+    }
+    Ok(texts)
+}
+
+// The same of words that are texts.
+fn asked_in(alloc: Global, words: &[&str]) -> Result<Option<Command>, NoMemory>
+    ensures { IfOk result (λ o. MatchOption o (asked_of (map (λ s. s.now) words.now) ≡ None)
+        (λ c. asked_of (map (λ s. s.now) words.now) ≡ Some (parts_of c))) }
+{
+    let Some(matches) = parsed(alloc, words)? else {
+        return Ok(None);
+    };
+    let command = command_of(alloc, &matches);
+    drop(matches);
+    command
+}
+
+// The command that the arguments make.
+fn command_of(alloc: Global, matches: &ArgMatches<'_>) -> Result<Option<Command>, NoMemory>
+    ensures { IfOk result (λ o. MatchOption o (asked_by (rows_of (found_of matches.now)) ≡ None)
+        (λ c. asked_by (rows_of (found_of matches.now)) ≡ Some (parts_of c))) }
+{
+    let Some(choice) = chosen(
+        action_in(value(matches, "action")),
+        steps_in(value(matches, "steps")),
+        arena_in(value(matches, "arena")),
+        value(matches, "file"),
+    ) else {
+        return Ok(None);
+    };
+    Ok(Some(Command {
+        action: choice.action,
+        steps: choice.steps,
+        arena: choice.arena,
+        file: String::from_str(alloc, choice.file)?,
+    }))
+}
+
+// The value of an argument, where it has one.
+fn value<'a>(matches: &ArgMatches<'a>, name: &str) -> Option<&'a str>
+    ensures { option_map (λ s. s.now) result ≡ first_of name.now (rows_of (found_of matches.now)) }
+{
+    matches.get_str(name)
+}
+
+// The parts of a command, where all are there.
+fn chosen<'a>(
+    action: Option<Action>,
+    steps: Option<u32>,
+    arena: Option<u32>,
+    file: Option<&'a str>,
+) -> Option<Choice<'a>>
+    ensures { MatchOption result (asked_for action steps arena (option_map (λ s. s.now) file) ≡ None)
+        (λ c. asked_for action steps arena (option_map (λ s. s.now) file)
+            ≡ Some (record { action = c.action; steps = c.steps; arena = c.arena; file = c.file.now })) }
+{
+    Some(Choice {
+        action: action?,
+        steps: steps?,
+        arena: arena?,
+        file: file?,
+    })
+}
+
+// The action of that name.
+fn action_in(word: Option<&str>) -> Option<Action>
+    ensures { result ≡ action_in_of (option_map (λ s. s.now) word) }
+{
+    match word? {
+        "run" => Some(Action::Run),
+        "check" => Some(Action::Check),
         _ => None,
     }
-}
-
-// `run FILE` behind a number of instructions.
-fn asked_run<'a>(steps: Option<u32>, action: &str, file: &'a str) -> Option<Command<'a>>
-    ensures { MatchOption result (asked_run_of steps action.now file.now ≡ None)
-        (λ c. asked_run_of steps action.now file.now ≡ Some (record { steps = c.steps; file = c.file.now })) }
-{
-    let steps = steps?;
-    if action == "run" && names_file(file) {
-        Some(Command { steps, file })
-    } else {
-        None
-    }
-}
-
-// A word that is not empty and does not begin with `-`.
-fn names_file(word: &str) -> bool
-    ensures { result ≡ names_file_of word.now }
-{
-    match word.as_bytes().first() {
-        None => false,
-        Some(b) => *b != b'-',
-    }
-}
-
-// The number of one or more decimal digits; none where it is above 4,294,967,295 or the word is
-// anything else.
-#[tactic(auto, using(crate::proofs::Steps::steps))]
-fn steps_in(word: &str) -> Option<u32>
-    ensures { result ≡ steps_in_of word.now }
-{
-    let digits = word.as_bytes();
-    if digits.is_empty() {
-        return None;
-    }
-    let mut sum: u64 = 0;
-    for digit in digits {
-        match *digit {
-            b'0'..=b'9' => sum = sum * 10 + u64::from(*digit - b'0'),
-            _ => return None,
-        }
-        if sum > u64::from(u32::MAX) {
-            return None;
-        }
-    }
-    Some(sum as u32)
 }

@@ -1,8 +1,10 @@
 // The actions of the program: text in, statuses and bytes out.
 #![tactic(auto)]
 
+mod check;
 mod choice;
 pub mod command;
+mod command_line;
 mod comparisons;
 mod emit;
 pub mod first_image;
@@ -12,6 +14,7 @@ pub mod kept;
 pub mod lines;
 pub mod load;
 pub mod main_call;
+mod numbers;
 mod operands;
 mod program;
 mod run;

@@ -3,7 +3,7 @@
 ghost use Rattle.std.specs.Prelude.{◌≡◌, ◌≢◌, ◌≤◌, ◌<◌, List, ℕ, OnOk, OnErr, IsOk, ◌++◌, []};
 ghost use Rattle.std.specs.Fmt.{decimal};
 ghost use Rattle.isl_base.specs.Outside.{Rose};
-ghost use Rattle.isl_top.specs.Lines.{WasGiven, line_of, refused_line, place_text, reason_text, budget_line, status_of};
+ghost use Rattle.isl_top.specs.Lines.{WasGiven, WasGivenFront, line_of, refused_line, place_text, reason_text, budget_line, status_of};
 ghost use Rattle.isl_top.specs.declared.status.Status.TheVariants.{WriteFault};
 
 use crate::status::{Answer, Status};
@@ -112,9 +112,11 @@ fn decimal_in(room: &mut [u8; 10], number: u32) -> &[u8]
     &room[at..]
 }
 
-// Gives the sink all these bytes, in as many writes as it takes.
-fn write_all<E: Sink>(sink: &mut E, bytes: &[u8]) -> Result<(), Failed>
+/// Gives the sink all these bytes, in as many writes as it takes. After `Failed` it was given a front
+/// of them.
+pub(crate) fn write_all<E: Sink>(sink: &mut E, bytes: &[u8]) -> Result<(), Failed>
     ensures given { OnOk result (WasGiven (E.given sink.old) bytes.now (E.given sink.new)) }
+    ensures front { OnErr result (WasGivenFront (E.given sink.old) bytes.now (E.given sink.new)) }
     ensures quiet { bytes.now ≡ [] → IsOk result }
     ensures fault { OnErr result (Rose (E.faults sink.old) (E.faults sink.new)) }
     ensures count { E.faults sink.old ≤ E.faults sink.new }

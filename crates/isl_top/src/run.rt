@@ -1,4 +1,4 @@
-// A program compiled and run.
+// The action `run`: a file compiled and run.
 
 ghost use Rattle.std.specs.Prelude.{◌≡◌, ◌≤◌, None, IfOk, length};
 ghost use Rattle.isl_base.specs.Outside.{Rose};
@@ -7,34 +7,75 @@ ghost use Rattle.rv_machine.specs.State.{start};
 ghost use Rattle.isl_top.specs.Shapes.{IsFirstPath};
 ghost use Rattle.isl_top.specs.Code.{program_code};
 ghost use Rattle.isl_top.specs.Theorem.{sent_to};
-ghost use Rattle.isl_top.specs.Answers.{RunAnswers};
+ghost use Rattle.isl_top.specs.Answers.{RunAnswers, RunFileAnswers};
 
 use crate::first_image::first_build;
 use crate::kept::Kept;
+use crate::load::{LoadStop, load};
+use crate::program::read_program;
 use crate::status::Answer;
-use isl_base::{NoMemory, Sink, Source};
+use isl_base::{NoMemory, Shelf, Sink, Source};
 use isl_meaning::ProgramRows;
 use rv_machine::{Ending, Image, Machine, law_budget, law_split};
 use std::alloc::Global;
 
-// The words of a run's arena.
-const ARENA_WORDS: u32 = 4_194_304;
+/// How many instructions a run may execute, and the words of its arena.
+#[derive(Clone, Copy)]
+pub(crate) struct Bounds {
+    pub steps: u32,
+    pub arena: u32,
+}
 
-/// Compiles the program, keeps its image and runs at most so many instructions of it. Nothing is
-/// read. `WriteFault` only where the count of the sink's faults rose; after `NoMemory` the sink is as
-/// it was.
-pub(crate) fn run<S: Source, O: Sink>(
+/// The file's text read, compiled and run. `WriteFault` only where the count of the sink's faults rose;
+/// nothing is read of the input.
+pub(crate) fn run_file<F: Shelf, S: Source, O: Sink>(
+    alloc: Global,
+    bounds: Bounds,
+    file: &str,
+    shelf: &mut F,
+    input: &mut S,
+    out: &mut O,
+    kept: &mut Kept,
+) -> Answer
+    requires least { 65536 ≤ bounds.arena }
+    requires most { bounds.arena ≤ 16777216 }
+    requires empty { kept.old.image ≡ None }
+    ensures answers { RunFileAnswers result (F.holds shelf.old file.now) kept.new.image bounds.arena bounds.steps
+        (sent_to (O.given out.old) (O.writes out.old) (O.given out.new) (O.writes out.new))
+        (Rose (F.faults shelf.old) (F.faults shelf.new))
+        (Rose (O.faults out.old) (O.faults out.new)) (out.new ≡ out.old) }
+    ensures input { input.new ≡ input.old }
+{
+    let text = match load(alloc, shelf, file) {
+        Ok(text) => text,
+        Err(LoadStop::Failed) => return Answer::FileFault,
+        Err(LoadStop::NoMemory) => return Answer::NoMemory,
+    };
+    match read_program(alloc, text.as_slice()) {
+        Ok(program) => {
+            let answer = run(alloc, &program, bounds, input, out, kept);
+            drop(program);
+            answer
+        }
+        Err(stop) => Answer::of_stop(stop),
+    }
+}
+
+// Compiles the program, keeps its image and runs at most so many instructions of it. Nothing is read.
+// `WriteFault` only where the count of the sink's faults rose; after `NoMemory` the sink is as it was.
+fn run<S: Source, O: Sink>(
     alloc: Global,
     program: &ProgramRows,
-    steps: u32,
+    bounds: Bounds,
     input: &mut S,
     out: &mut O,
     kept: &mut Kept,
 ) -> Answer
     requires first { IsFirstPath program.now }
-    requires small { length (program_code program.now.literals (forms program.now.main)) ≤ 4194304 }
+    requires small { length (program_code program.now.literals (forms program.now.main)) ≤ bounds.arena }
+    requires most { bounds.arena ≤ 16777216 }
     requires empty { kept.old.image ≡ None }
-    ensures answers { RunAnswers result program.now kept.new.image steps
+    ensures answers { RunAnswers result program.now kept.new.image bounds.arena bounds.steps
         (sent_to (O.given out.old) (O.writes out.old) (O.given out.new) (O.writes out.new))
         (Rose (O.faults out.old) (O.faults out.new)) (out.new ≡ out.old) }
     ensures count { O.faults out.old ≤ O.faults out.new }
@@ -45,14 +86,14 @@ pub(crate) fn run<S: Source, O: Sink>(
     let Ok(image) = first_build(alloc, program) else {
         return Answer::NoMemory;
     };
-    let Ok(mut machine) = started(alloc, &image, ARENA_WORDS) else {
+    let Ok(mut machine) = started(alloc, &image, bounds.arena) else {
         return Answer::NoMemory;
     };
-    let ending = machine.run(steps as u64, input, out);
+    let ending = machine.run(bounds.steps as u64, input, out);
     kept.image = Some(image);
     match ending {
         Ending::Halt(_) => Answer::Done,
-        Ending::Budget => Answer::Budget(steps),
+        Ending::Budget => Answer::Budget(bounds.steps),
         Ending::WriteFault => Answer::WriteFault,
         _ => unreachable!(),
     }

@@ -1,14 +1,15 @@
 // The statuses that the program ends with, and what it has to tell of them.
 
 ghost use Rattle.std.specs.Prelude.{◌≡◌};
+ghost use Rattle.isl_top.specs.Answers.{answer_of_stop};
 ghost use Rattle.isl_top.specs.Lines.{number_of, status_of};
 
-use isl_base::Refusal;
+use isl_base::{Refusal, Stop};
 
 /// How a call of the program ended.
 #[derive(Clone, Copy)]
 pub enum Status {
-    /// The program halted, and all that it printed was written.
+    /// The program halted, and all that it printed was written; or the file that was checked is one.
     Done,
     /// The words are no command.
     Usage,
@@ -55,6 +56,16 @@ pub enum Answer {
 }
 
 impl Answer {
+    // The answer of a text that is no program.
+    pub(crate) fn of_stop(stop: Stop) -> Answer
+        ensures { result ≡ answer_of_stop stop }
+    {
+        match stop {
+            Stop::Refused(refusal) => Answer::Refused(refusal),
+            Stop::NoMemory => Answer::NoMemory,
+        }
+    }
+
     /// The status alone.
     pub fn status(self) -> Status
         ensures { result ≡ status_of self }

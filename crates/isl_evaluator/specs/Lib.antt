@@ -1,4 +1,0 @@
-pub mod Chains
-pub mod Frames
-pub mod View
-pub mod Links

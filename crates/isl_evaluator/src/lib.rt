@@ -1,9 +1,0 @@
-// The code of the plain evaluator's machine.
-#![tactic(auto)]
-
-pub mod frame;
-pub mod given;
-pub mod links;
-pub mod machine;
-pub mod situation;
-pub mod slot;

@@ -1,0 +1,33 @@
+-- The answer for a file to run, by the verdict on its text.
+use Rattle.std.proofs.Common.{arith, refl, sym, subst}
+use Rattle.isl_top.specs.Loads.{IsTaken}
+use Rattle.isl_top.proofs.Judging.{accepted-small}
+use Rattle.isl_top.proofs.Ends.{of_run, of_stopped}
+use Rattle.isl_top.proofs.run.run_file.Goals as goal
+
+pub run-answer-requires : goal.run-answer-requires
+run-answer-requires g c = record {
+  small = omega (arith, c.requires.least, accepted-small c.as_slice.result.now c.in-Ok-read_program.program c.in-Ok-read_program.ensures.program);
+  most = c.requires.most;
+  empty = c.requires.empty;
+}
+
+pub returns-in-Ok-read_program-clause-answers : goal.returns-in-Ok-read_program-clause-answers
+returns-in-Ok-read_program-clause-answers g c =
+    of_run c.run-answer.result c.in-Ok-read_program.program _ _ _ _ _ _ _ _
+    (record {
+      text = c.as_slice.result.now;
+      taken = subst (IsTaken (g.F.Shelf.holds c.args.shelf.now c.args.file.now)) (sym c.as_slice.ensures) c.in-Ok.ensures.taken;
+      accepts = c.in-Ok-read_program.ensures.program;
+    })
+    c.run-answer.ensures.answers
+
+pub returns-in-Err-clause-answers : goal.returns-in-Err-clause-answers
+returns-in-Err-clause-answers g c =
+    rw c.of_stop.ensures (
+      of_stopped c.in-Err.stop c.as_slice.result.now _ _ _ _ _ _ _ _
+      (subst (IsTaken (g.F.Shelf.holds c.args.shelf.now c.args.file.now)) (sym c.as_slice.ensures) c.in-Ok.ensures.taken)
+      c.in-Err.ensures.stopped
+      refl
+      c.requires.empty
+    )
