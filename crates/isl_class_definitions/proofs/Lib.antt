@@ -1,3 +1,3 @@
-pub mod Supers
+pub mod KnownSupers
 pub mod ClassSlots
 pub mod ClassDefining

@@ -66,7 +66,7 @@ fn some_twice(names: &[Name]) -> bool
 }
 
 // Whether those that are known go together.
-#[tactic(auto, using(crate::proofs::Supers::known_there))]
+#[tactic(auto, using(crate::proofs::KnownSupers::known_there))]
 fn known_fit(here: Setting, supers: &WrittenSupers) -> Result<bool, NoMemory>
     ensures { IfOk result (λ fit. fit ≡ supers_fit here.entry.tables.now.classes.rows
         (row.known_supers here.entry.tables.now.classes.rows (view_supers supers.now))) }
