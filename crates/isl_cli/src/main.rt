@@ -6,7 +6,7 @@ ghost use Rattle.std.specs.Process.{exit_status};
 ghost use Rattle.isl_top.specs.Command.{asked};
 ghost use Rattle.isl_top.specs.Lines.{WasGiven, line_of, number_of, status_of as status_of_answer};
 ghost use Rattle.isl_top.specs.declared.status.Answer.{Answer as AnswerValue};
-ghost use Rattle.isl_top.specs.declared.status.Status.TheVariants.{Usage, WriteFault};
+ghost use Rattle.isl_top.specs.declared.status.Status.TheVariants.{Usage, WriteFault, NoMemory as WantsMemory};
 
 mod command_words;
 mod fault_count;
@@ -35,7 +35,8 @@ fn main(rt: HostRuntime) -> ExitCode {
 // The status of a call with these words.
 fn status_of<E: Sink>(rt: &HostRuntime, words: &Words, err: &mut E) -> Status
     ensures usage { result ≡ Usage → asked words.now ≡ None }
-    ensures words_first { asked words.now ≡ None → (result ≡ Usage) ⊎ (result ≡ WriteFault) }
+    ensures words_first { asked words.now ≡ None →
+        (result ≡ Usage) ⊎ ((result ≡ WriteFault) ⊎ (result ≡ WantsMemory)) }
     ensures line { result ≢ WriteFault → (answer : AnswerValue) × ((result ≡ status_of_answer answer)
         × WasGiven (E.given err.old) (line_of answer) (E.given err.new)) }
 {

@@ -2,8 +2,6 @@
 use Rattle.std.proofs.Common.{◌≡◌, ◌≢◌, ℕ, List, [], refl, sym, subst, ◌∙◌, ◌⊎◌, inl, inr, Some, None}
 use Rattle.std.specs.Prelude.{Option}
 use Rattle.isl_base.specs.declared.reason.Refusal.{Refusal}
-use Rattle.isl_base.specs.declared.reason.Stop.{Stop}
-use Rattle.isl_base.specs.declared.reason.Stop.TheVariants as stop
 use Rattle.isl_top.specs.declared.status.Status.{Status}
 use Rattle.isl_top.specs.declared.status.Status.TheVariants.{Done, Usage, Refused, Budget, FileFault, WriteFault, NoMemory}
 use Rattle.isl_top.specs.declared.status.Answer.{Answer}
@@ -11,11 +9,9 @@ use Rattle.isl_top.specs.declared.status.Answer.TheVariants as answer
 use Rattle.rv_machine.specs.declared.image.Image.{Image}
 use Rattle.isl_meaning.specs.declared.program.ProgramRows.{ProgramRows}
 use Rattle.isl_top.specs.Command.{Asked, asked}
-use Rattle.isl_top.specs.Loads.{IsTaken}
-use Rattle.isl_top.specs.Answers.{answer_of_stop, RunAnswers, RunFileAnswers, Obeys, was_run, was_check, WordsAnswers, was_usage, was_untold, was_asked}
+use Rattle.isl_top.specs.Answers.{RunAnswers, RunFileAnswers, Obeys, was_run, was_check, WordsAnswers, was_usage, was_untold, was_asked}
 use Rattle.isl_top.specs.Lines.{line_of, status_of, budget_line, refused_line, file_fault_line, no_memory_line, WasGiven}
 use Rattle.isl_top.specs.Theorem.{Sent, Accepted, IsDone, IsSpent, IsBudget, IsRefused, IsCutOff, IsUsage, IsChecked, IsCheckedRefused, IsCheckedCutOff}
-use Rattle.isl_top.specs.Verdicts.{IsStopped}
 
 -- the answer that a status is of
 of_done : (a : Answer) → status_of a ≡ Done → a ≡ answer.Done
@@ -86,6 +82,12 @@ settled FileFault s w = inl (w (λ h. cc))
 settled WriteFault s w = inr refl
 settled NoMemory s w = inl (w (λ h. cc))
 
+first_status : (a : Answer) (r : Status) → (a ≡ answer.Usage) ⊎ (a ≡ answer.NoMemory) → (r ≡ status_of a) ⊎ (r ≡ WriteFault)
+    → (r ≡ Usage) ⊎ ((r ≡ WriteFault) ⊎ (r ≡ NoMemory))
+first_status a r (inl e) (inl k) = inl (k ∙ rw e refl)
+first_status a r (inr e) (inl k) = inr (inr (k ∙ rw e refl))
+first_status a r w (inr k) = inr (inl k)
+
 -- the answer for a file to run whose text is a program is that of the program's run
 pub of_run :
     (a : Answer) (program : ProgramRows) (held : Option (List ℕ)) (kept : Option Image) (arena steps : ℕ) (sent : Sent) (ShelfRises Rises Same : Type 0)
@@ -97,14 +99,6 @@ of_run answer.NoMemory program held kept arena steps sent ShelfRises Rises Same 
 of_run answer.Usage program held kept arena steps sent ShelfRises Rises Same accepted h = h
 of_run (answer.Refused r) program held kept arena steps sent ShelfRises Rises Same accepted h = absurd h
 of_run answer.FileFault program held kept arena steps sent ShelfRises Rises Same accepted h = absurd h
-
--- and where the text is none, that of its stop
-pub of_stopped :
-    (s : Stop) (text : List ℕ) (held : Option (List ℕ)) (kept : Option Image) (arena steps : ℕ) (sent : Sent) (ShelfRises Rises Same : Type 0)
-    → IsTaken held text → IsStopped text s → Same → kept ≡ None → RunFileAnswers (answer_of_stop s) held kept arena steps sent ShelfRises Rises Same
-of_stopped (stop.Refused r) text held kept arena steps sent ShelfRises Rises Same taken refuses same none =
-    (record { text = text; taken = taken; refuses = refuses }, same, none)
-of_stopped stop.NoMemory text held kept arena steps sent ShelfRises Rises Same taken refuses same none = same
 
 -- what the answer to the words says
 module _ {words : List (List ℕ)} {holds : List ℕ → Option (List ℕ)} {kept : Option Image} {sent : Sent} {ShelfRises Rises Same ShelfSame : Type 0} where
@@ -217,12 +211,6 @@ module _ {words : List (List ℕ)} {holds : List ℕ → Option (List ℕ)} {kep
   untouched a (was_usage e none shelf same k) h = (inl e, (shelf, same, k))
   untouched a (was_untold e shelf same k) h = (inr e, (shelf, same, k))
   untouched a (was_asked c is o) h = absurd (cc)
-
-  first_status : (a : Answer) (r : Status) → (a ≡ answer.Usage) ⊎ (a ≡ answer.NoMemory) → (r ≡ status_of a) ⊎ (r ≡ WriteFault)
-      → (r ≡ Usage) ⊎ ((r ≡ WriteFault) ⊎ (r ≡ NoMemory))
-  first_status a r (inl e) (inl k) = inl (k ∙ rw e refl)
-  first_status a r (inr e) (inl k) = inr (inr (k ∙ rw e refl))
-  first_status a r w (inr k) = inr (inl k)
 
   words_first : (a : Answer) (r : Status) → WordsAnswers a words holds kept sent ShelfRises Rises Same ShelfSame → (r ≢ WriteFault → r ≡ status_of a) → asked words ≡ None
       → ((r ≡ Usage) ⊎ ((r ≡ WriteFault) ⊎ (r ≡ NoMemory))) × (ShelfSame × Same × (kept ≡ None))

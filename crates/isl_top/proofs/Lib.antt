@@ -19,7 +19,7 @@ pub mod Forming
 pub mod Sums
 pub mod Comparing
 pub mod Choosing
-pub mod Numbers
+pub mod Digits
 pub mod Decimals
 pub mod LaterNames
 pub mod LaterForms

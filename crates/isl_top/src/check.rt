@@ -1,6 +1,6 @@
 // The action `check`: a file judged as a whole program.
 
-ghost use Rattle.std.specs.Prelude.{◌≡◌, ⊤};
+ghost use Rattle.std.specs.Prelude.{◌≡◌, [], ⊤};
 ghost use Rattle.isl_base.specs.Outside.{Rose};
 ghost use Rattle.isl_files.specs.Verdicts.{Refuses};
 ghost use Rattle.isl_files.specs.declared.mode.Mode.TheVariants as mode;

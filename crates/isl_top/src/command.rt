@@ -109,9 +109,9 @@ fn chosen<'a>(
     arena: Option<u32>,
     file: Option<&'a str>,
 ) -> Option<Choice<'a>>
-    ensures { MatchOption result (asked_for action steps arena (option_map (λ s. s.now) file) ≡ None)
-        (λ c. asked_for action steps arena (option_map (λ s. s.now) file)
-            ≡ Some (record { action = c.action; steps = c.steps; arena = c.arena; file = c.file.now })) }
+    ensures { MatchOption result (asked_for action steps arena (option_map (λ s. s.now) file.entry) ≡ None)
+        (λ c. asked_for action steps arena (option_map (λ s. s.now) file.entry)
+        ≡ Some (record { action = c.action; steps = c.steps; arena = c.arena; file = c.file.now })) }
 {
     Some(Choice {
         action: action?,
@@ -123,7 +123,7 @@ fn chosen<'a>(
 
 // The action of that name.
 fn action_in(word: Option<&str>) -> Option<Action>
-    ensures { result ≡ action_in_of (option_map (λ s. s.now) word) }
+    ensures { result ≡ action_in_of (option_map (λ s. s.now) word.entry) }
 {
     match word? {
         "run" => Some(Action::Run),

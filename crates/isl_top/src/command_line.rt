@@ -1,10 +1,12 @@
 // The command line as `clap` reads it.
 
-ghost use Rattle.std.specs.Prelude.{◌≡◌, ◌≢◌, [], IfOk, MatchOption, map};
-ghost use Rattle.clap.specs.Walk.{rows_of};
+ghost use Rattle.std.specs.Prelude.{◌≡◌, ◌≢◌, [], IfOk, OnOk, MatchOption, false, map};
+ghost use Rattle.clap.specs.Walk.{rows_of, rule_of};
 ghost use Rattle.clap.specs.Simple.{app_of};
 ghost use Rattle.clap.specs.Matches.{found_of};
-ghost use Rattle.isl_top.specs.Command.{isl, refusals, given};
+ghost use Rattle.clap.specs.Values.{kind_of};
+ghost use Rattle.clap.specs.declared.error.kind.ErrorKind.TheVariants.{OutOfMemory};
+ghost use Rattle.isl_top.specs.Command.{isl, bare, option, positional, refusals, given};
 
 use clap::error::ErrorKind;
 use clap::{Arg, ArgMatches, Command, Error};
@@ -18,33 +20,62 @@ pub(crate) fn parsed<'a>(
 ) -> Result<Option<ArgMatches<'a>>, NoMemory>
     ensures { IfOk result (λ o. MatchOption o (refusals (map (λ s. s.now) words.now) ≢ [])
         (λ m. (refusals (map (λ s. s.now) words.now) ≡ [])
-            × (rows_of (found_of m) ≡ given (map (λ s. s.now) words.now)))) }
+        × (rows_of (found_of m) ≡ given (map (λ s. s.now) words.now)))) }
 {
     let command = definition(alloc)?;
     match command.try_get_matches_from(words) {
         Ok(matches) => Ok(Some(matches)),
-        Err(error) if is_memory(&error) => Err(NoMemory),
-        Err(_) => Ok(None),
+        Err(error) => {
+            not_memory(error)?;
+            Ok(None)
+        }
     }
 }
 
-// Whether memory was wanting.
-fn is_memory(error: &Error) -> bool
+// `NoMemory` where memory was wanting.
+fn not_memory(error: Error) -> Result<(), NoMemory>
+    ensures { OnOk result (kind_of error ≢ OutOfMemory) }
 {
-    matches!(error.kind(), ErrorKind::OutOfMemory)
+    match error.kind() {
+        ErrorKind::OutOfMemory => Err(NoMemory),
+        _ => Ok(()),
+    }
 }
 
 // The command `isl [--steps N] [--arena W] ACTION FILE`.
 fn definition<'a>(alloc: Global) -> Result<Command<'a>, NoMemory>
     ensures { IfOk result (λ c. app_of c ≡ isl) }
 {
-    let command = Command::new(alloc, "isl")
+    let command = bare(alloc)
+        .arg(option(alloc, "steps"))?
+        .arg(option(alloc, "arena"))?
+        .arg(positional(alloc, "action"))?
+        .arg(positional(alloc, "file"))?;
+    Ok(command)
+}
+
+// The command before its arguments: no program's name, no help and no version.
+fn bare<'a>(alloc: Global) -> Command<'a>
+    ensures { app_of result ≡ bare }
+{
+    Command::new(alloc, "isl")
         .no_binary_name(true)
         .disable_help_flag(true)
         .disable_version_flag(true)
-        .arg(Arg::new(alloc, "steps").long("steps"))?
-        .arg(Arg::new(alloc, "arena").long("arena"))?
-        .arg(Arg::new(alloc, "action").required(true))?
-        .arg(Arg::new(alloc, "file").required(true))?;
-    Ok(command)
+}
+
+// An option with one value.
+fn option<'a>(alloc: Global, name: &'a str) -> Arg<'a>
+    ensures rule { rule_of result ≡ option name.now }
+    ensures own { result.global ≡ false }
+{
+    Arg::new(alloc, name).long(name)
+}
+
+// A word that has to stand there.
+fn positional<'a>(alloc: Global, name: &'a str) -> Arg<'a>
+    ensures rule { rule_of result ≡ positional name.now }
+    ensures own { result.global ≡ false }
+{
+    Arg::new(alloc, name).required(true)
 }

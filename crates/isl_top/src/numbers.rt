@@ -8,13 +8,15 @@ const USUAL_STEPS: u32 = 50_000_000;
 
 // The words of an arena: where no number is given, the smallest number and the largest.
 const USUAL_ARENA: u32 = 4_194_304;
+
 const LEAST_ARENA: u32 = 65_536;
+
 const MOST_ARENA: u32 = 16_777_216;
 
 /// How many instructions a run may execute, by the value of `--steps`; none where that is no number of
 /// at most 4,294,967,295.
 pub(crate) fn steps_in(word: Option<&str>) -> Option<u32>
-    ensures { result ≡ steps_in_of (option_map (λ s. s.now) word) }
+    ensures { result ≡ steps_in_of (option_map (λ s. s.now) word.entry) }
 {
     match word {
         None => Some(USUAL_STEPS),
@@ -25,7 +27,7 @@ pub(crate) fn steps_in(word: Option<&str>) -> Option<u32>
 /// The words of the arena, by the value of `--arena`; none where that is no number from 65,536 to
 /// 16,777,216.
 pub(crate) fn arena_in(word: Option<&str>) -> Option<u32>
-    ensures { result ≡ arena_in_of (option_map (λ s. s.now) word) }
+    ensures { result ≡ arena_in_of (option_map (λ s. s.now) word.entry) }
 {
     match word {
         None => Some(USUAL_ARENA),
@@ -38,16 +40,12 @@ fn number_in(word: &str, least: u32, most: u32) -> Option<u32>
     ensures { result ≡ number_in_of least most word.now }
 {
     let number = number_up_to(word, most)?;
-    if number < least {
-        None
-    } else {
-        Some(number)
-    }
+    if number < least { None } else { Some(number) }
 }
 
 // The number of one or more decimal digits; none where it is above `most` or the word is anything
 // else.
-#[tactic(auto, using(crate::proofs::Numbers::numbers))]
+#[tactic(auto, using(crate::proofs::Digits::digits))]
 fn number_up_to(word: &str, most: u32) -> Option<u32>
     ensures { result ≡ up_to most (digits_in word.now) }
 {

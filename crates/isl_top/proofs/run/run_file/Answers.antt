@@ -1,16 +1,13 @@
 -- The answer for a file to run, by the verdict on its text.
-use Rattle.std.proofs.Common.{arith, refl, sym, subst}
+use Rattle.std.proofs.Common.{arith, sym, subst}
 use Rattle.isl_top.specs.Loads.{IsTaken}
 use Rattle.isl_top.proofs.Judging.{accepted-small}
-use Rattle.isl_top.proofs.Ends.{of_run, of_stopped}
+use Rattle.isl_top.proofs.Ends.{of_run}
 use Rattle.isl_top.proofs.run.run_file.Goals as goal
 
-pub run-answer-requires : goal.run-answer-requires
-run-answer-requires g c = record {
-  small = omega (arith, c.requires.least, accepted-small c.as_slice.result.now c.in-Ok-read_program.program c.in-Ok-read_program.ensures.program);
-  most = c.requires.most;
-  empty = c.requires.empty;
-}
+pub run-answer-requires-clause-small : goal.run-answer-requires-clause-small
+run-answer-requires-clause-small g c =
+    omega (arith, c.requires.least, accepted-small c.as_slice.result.now c.in-Ok-read_program.program c.in-Ok-read_program.ensures.program)
 
 pub returns-in-Ok-read_program-clause-answers : goal.returns-in-Ok-read_program-clause-answers
 returns-in-Ok-read_program-clause-answers g c =
@@ -21,13 +18,3 @@ returns-in-Ok-read_program-clause-answers g c =
       accepts = c.in-Ok-read_program.ensures.program;
     })
     c.run-answer.ensures.answers
-
-pub returns-in-Err-clause-answers : goal.returns-in-Err-clause-answers
-returns-in-Err-clause-answers g c =
-    rw c.of_stop.ensures (
-      of_stopped c.in-Err.stop c.as_slice.result.now _ _ _ _ _ _ _ _
-      (subst (IsTaken (g.F.Shelf.holds c.args.shelf.now c.args.file.now)) (sym c.as_slice.ensures) c.in-Ok.ensures.taken)
-      c.in-Err.ensures.stopped
-      refl
-      c.requires.empty
-    )

@@ -2,12 +2,12 @@
 use Rattle.std.proofs.Common.{◌≡◌, ℕ, ◌+◌, ◌-◌, ◌*◌, ◌<◌, ◌≤◌, List, [], ◌∷◌, length, get_or, drop, Bool, true, false, Option, Some, None, if◌then◌else◌, refl, arith, add-one, drop-cons}
 use Rattle.std.proofs.lemmas.Bool.{lt-leb, leb-true}
 use Rattle.std.proofs.lemmas.List.{drop_all}
-use Rattle.std.specs.Prelude.{nat_le}
+use Rattle.std.specs.Prelude.{nat_le, codes}
 use Rattle.std.proofs.Common.{subst}
-use Rattle.clap.specs.Walk.{Text}
+use Rattle.clap.specs.Walk.{Text, first_of}
 use Rattle.clap.specs.Kinds.{Kinds}
 use Rattle.isl_top.specs.declared.command.Action.{Action}
-use Rattle.isl_top.specs.Command.{is_digit, decimal_from, up_to, at_least, digits_in, arena_in, Asked, asked_for, asked_by, asked_unless, refusals, given, asked}
+use Rattle.isl_top.specs.Command.{is_digit, decimal_from, up_to, at_least, digits_in, action_in, steps_in, arena_in, Asked, asked_for, asked_by, asked_unless, refusals, given, asked}
 
 -- one digit more of those that are left
 pub decimal_at : (bs : List ℕ) (i n : ℕ) → i < length bs → decimal_from n (drop i bs) ≡ (if is_digit (get_or bs i 0) then decimal_from (n * 10 + (get_or bs i 0 - 48)) (drop (i + 1) bs) else None)
@@ -28,7 +28,7 @@ too_large limit n (b ∷ bs) h =
     chosen (is_digit b) (decimal_from (n * 10 + (b - 48)) bs) limit
     (too_large limit (n * 10 + (b - 48)) bs (omega arith))
 
-pub ruleset numbers = (decimal_at, decimal_end, too_large)
+pub ruleset digits = (decimal_at, decimal_end, too_large)
 
 -- a number that is taken is within its limits
 taken : (b d : Bool) (least most n m : ℕ) → nat_le n most ≡ b → nat_le least n ≡ d → at_least least (if b then Some n else None) ≡ Some m → (least ≤ m) × (m ≤ most)
@@ -65,4 +65,7 @@ unless_within (k ∷ ks) o c e = absurd (cc)
 -- the arena of a command is one that a machine may have, and that every image of the first path fits
 pub asked_within : (words : List Text) (c : Asked) → asked words ≡ Some c → (65536 ≤ c.arena) × (c.arena ≤ 16777216)
 asked_within words c e =
-    for_within _ _ _ _ c (arena_within _) (unless_within (refusals words) (asked_by (given words)) c e)
+    let rows = given words in
+    for_within (action_in (first_of (codes "action") rows)) (steps_in (first_of (codes "steps") rows)) (arena_in (first_of (codes "arena") rows)) (first_of (codes "file") rows) c
+    (arena_within (first_of (codes "arena") rows))
+    (unless_within (refusals words) (asked_by rows) c e)
