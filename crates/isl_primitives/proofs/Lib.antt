@@ -1,0 +1,4 @@
+pub mod Calculating
+pub mod Seeing
+pub mod Indexing
+pub mod Telling

@@ -1,0 +1,112 @@
+-- What primitives that read give.
+use Rattle.std.proofs.Common.{◌≡◌, ℕ, ◌<◌, ◌≤◌, ◌%◌, arith, ℤ, pos, negsuc, List, [], ◌∷◌, length, Option, Some, None, Result, Ok, Err, refl, sym, ◌∙◌, ap}
+use Rattle.std.specs.Prelude.{option_map, slice_get, slice_index_or}
+use Rattle.std.proofs.lemmas.List.{length-map}
+use Rattle.std.proofs.lemmas.Option.{slice_get-map}
+use Rattle.isl_meaning.specs.declared.program.ProgramRows.{ProgramRows}
+use Rattle.isl_meaning.specs.declared.primitive.Primitive.{Primitive}
+use Rattle.isl_meaning.specs.declared.primitive.Primitive.TheVariants as p
+use Rattle.isl_meaning.specs.Values.{Value, integer, nil}
+use Rattle.isl_meaning.specs.State.{State}
+use Rattle.isl_meaning.specs.Classes.{fetch}
+use Rattle.isl_meaning.specs.Primitives.{as_integer, as_character, as_cons, as_string, as_vector, as_instance, as_symbol, by_serial, by_name, byte_of, Spelt, a_slot}
+use Rattle.isl_meaning.specs.Primitives as meaning
+use Rattle.isl_store.specs.declared.word.Word.{Word}
+use Rattle.isl_store.specs.declared.word.Word.TheVariants as word
+use Rattle.isl_store.specs.declared.store.Store.{Store}
+use Rattle.isl_store.specs.declared.object.Instance.{Instance}
+use Rattle.isl_store.specs.Words.{value_of_word, values_of, value_or_none, slots_of}
+use Rattle.isl_store.specs.View.{Beside, state_of}
+use Rattle.isl_primitives.specs.declared.answer.Answer.{Answer}
+use Rattle.isl_primitives.specs.declared.answer.Answer.TheVariants.{Gives, Fails, DomainError}
+use Rattle.isl_primitives.specs.declared.words.Spelt.{Spelt as SpeltWord}
+use Rattle.isl_primitives.specs.declared.words.Spelt.TheVariants as spelt
+use Rattle.isl_primitives.specs.Answers.{told, IsTold, IsCount}
+use Rattle.isl_primitives.specs.Objects.{pair_of, instance_parts, HasCons, HasString, HasVector, HasInstance}
+use Rattle.isl_primitives.specs.Words.{HasSymbol, IsPlace, IsNoPlace}
+use Rattle.isl_primitives.specs.Reading.{IsRead, IsSlotAt, IsNoSlot}
+
+-- what asks for its arguments alone reads
+pub told_read : (which : Primitive) (ws : List Word) (s : Store) (a : Answer) → IsTold which ws a → IsRead which ws s a
+told_read which ws s a x = record { told = λ names rows b. x.told names rows (state_of names s b) }
+
+-- conses
+pub car_there : (s : Store) (w a d : Word)
+    → HasCons s w (Some (a, d))
+    → IsRead p.Car (w ∷ []) s (Gives a)
+car_there s w a d h = record { told = λ names rows b. rw (h.seen names b) refl }
+
+pub cdr_there : (s : Store) (w a d : Word)
+    → HasCons s w (Some (a, d))
+    → IsRead p.Cdr (w ∷ []) s (Gives d)
+cdr_there s w a d h = record { told = λ names rows b. rw (h.seen names b) refl }
+
+pub no_car : (s : Store) (w : Word)
+    → HasCons s w None
+    → IsRead p.Car (w ∷ []) s (DomainError w 9)
+no_car s w h = record { told = λ names rows b. rw (h.seen names b) refl }
+
+pub no_cdr : (s : Store) (w : Word)
+    → HasCons s w None
+    → IsRead p.Cdr (w ∷ []) s (DomainError w 9)
+no_cdr s w h = record { told = λ names rows b. rw (h.seen names b) refl }
+
+-- characters
+pub code_there : (w : Word) (c : ℕ) → ((names : List (List ℕ)) → as_character (value_of_word names w) ≡ Some c) → IsTold p.CharCode (w ∷ []) (Gives (word.Integer (pos c)))
+code_there w c h = record { told = λ names rows z. rw (h names) refl }
+
+pub no_code : (w : Word) → ((names : List (List ℕ)) → as_character (value_of_word names w) ≡ None) → IsTold p.CharCode (w ∷ []) (DomainError w 5)
+no_code w h = record { told = λ names rows z. rw (h names) refl }
+
+pub char_there : (w : Word) (n : ℤ) (c : ℕ) → ((names : List (List ℕ)) → as_integer (value_of_word names w) ≡ Some n) → byte_of n ≡ Some c
+    → IsTold p.CodeChar (w ∷ []) (Gives (word.Character c))
+char_there w n c h e = record { told = λ names rows z. rw (h names, e) refl }
+
+pub no_char : (w : Word) (n : ℤ) → ((names : List (List ℕ)) → as_integer (value_of_word names w) ≡ Some n) → byte_of n ≡ None
+    → IsTold p.CodeChar (w ∷ []) (DomainError w 13)
+no_char w n h e = record { told = λ names rows z. rw (h names, e) refl }
+
+pub no_number : (w : Word) → ((names : List (List ℕ)) → as_integer (value_of_word names w) ≡ None) → IsTold p.CodeChar (w ∷ []) (DomainError w 13)
+no_number w h = record { told = λ names rows z. rw (h names) refl }
+
+-- symbols
+pub serial_there : (s : Store) (w : Word) (n : ℕ)
+    → HasSymbol s w (Some (spelt.Fresh n))
+    → IsRead p.SymbolSerial (w ∷ []) s (Gives (word.Integer (pos (n % 536870912))))
+serial_there s w n h = record { told = λ names rows b. rw (h.seen names b) refl }
+
+pub named_serial : (s : Store) (w : Word) (n : ℕ) → HasSymbol s w (Some (spelt.Named n)) → IsRead p.SymbolSerial (w ∷ []) s (Gives word.Nil)
+named_serial s w n h = record { told = λ names rows b. rw (h.seen names b) refl }
+
+pub truth_serial : (s : Store) (w : Word) → HasSymbol s w (Some spelt.Truth) → IsRead p.SymbolSerial (w ∷ []) s (Gives word.Nil)
+truth_serial s w h = record { told = λ names rows b. rw (h.seen names b) refl }
+
+pub nil_serial : (s : Store) (w : Word) → HasSymbol s w (Some spelt.Nothing) → IsRead p.SymbolSerial (w ∷ []) s (Gives word.Nil)
+nil_serial s w h = record { told = λ names rows b. rw (h.seen names b) refl }
+
+pub no_symbol : (s : Store) (w : Word)
+    → HasSymbol s w None
+    → IsRead p.SymbolSerial (w ∷ []) s (DomainError w 10)
+no_symbol s w h = record { told = λ names rows b. rw (h.seen names b) refl }
+
+-- lengths
+pub count_told : (n : ℕ) (m : ℤ) → m ≡ pos n → IsCount n (Gives (word.Integer m))
+count_told n m e = record { told = λ names z. rw e refl }
+
+pub length_of_string : (s : Store) (w : Word) (bytes : List ℕ) (n : ℕ) (a : Answer) → HasString s w (Some bytes) → n ≡ length bytes → IsCount n a → IsRead p.StringLength (w ∷ []) s a
+length_of_string s w bytes n a h e x = record { told = λ names rows b. rw (h.seen names b, ← e) (sym (x.told names (state_of names s b))) }
+
+pub length_of_vector : (s : Store) (w : Word) (ws : List Word) (n : ℕ) (a : Answer) → HasVector s w (Some ws) → n ≡ length ws → IsCount n a → IsRead p.VectorLength (w ∷ []) s a
+length_of_vector s w ws n a h e x = record { told = λ names rows b. rw (h.seen names b, length-map ws (value_of_word names), ← e) (sym (x.told names (state_of names s b))) }
+
+pub length_of_slots : (s : Store) (w : Word) (i : Instance) (n : ℕ) (a : Answer) → HasInstance s w (Some i) → n ≡ length i.slots → IsCount n a → IsRead p.SlotCount (w ∷ []) s a
+length_of_slots s w i n a h e x = record { told = λ names rows b. rw (h.seen names b, length-map i.slots (value_or_none names), ← e) (sym (x.told names (state_of names s b))) }
+
+pub no_string : (s : Store) (w : Word) → HasString s w None → IsRead p.StringLength (w ∷ []) s (DomainError w 4)
+no_string s w h = record { told = λ names rows b. rw (h.seen names b) refl }
+
+pub no_vector : (s : Store) (w : Word) → HasVector s w None → IsRead p.VectorLength (w ∷ []) s (DomainError w 3)
+no_vector s w h = record { told = λ names rows b. rw (h.seen names b) refl }
+
+pub no_slots : (s : Store) (w : Word) → HasInstance s w None → IsRead p.SlotCount (w ∷ []) s (DomainError w 17)
+no_slots s w h = record { told = λ names rows b. rw (h.seen names b) refl }
