@@ -4,7 +4,6 @@ use Rattle.std.proofs.lemmas.List.{map-append, map-set}
 use Rattle.std.proofs.lemmas.Bool.{ne_eqb}
 use Rattle.std.proofs.lemmas.Bool.Decides.{eqb_tells}
 use Rattle.std.specs.Prelude.{if◌then◌else◌, slice_get, slice_set}
-use Rattle.isl_meaning.specs.Objects.{Called}
 use Rattle.isl_closure.specs.FlatState.{under}
 use Rattle.isl_closure.specs.FlatState as flat
 use Rattle.isl_store.specs.declared.object.Object.{Object}
@@ -43,39 +42,39 @@ under_other i n None h = refl
 under_other i n (Some cs) h = rw h refl
 
 -- nothing stands under a number that is below that of the first object
-pub under_before : (names : List (List ℕ)) (methods : ℕ → Option Called) (i n : ℕ) (os : List Object) → i < n
-    → under i (captured_from names methods n os) ≡ None
-under_before names methods i n [] h = refl
-under_before names methods i n (o ∷ os) h =
-    under_front i (captured_from names methods (suc n) os) (under_its_number n (captured_by names methods o)) (under_other i n (captured_by names methods o) (ne_eqb i n (λ e. omega arith)))
-    ∙ under_before names methods i (suc n) os (omega arith)
+pub under_before : (names : List (List ℕ)) (i n : ℕ) (os : List Object) → i < n
+    → under i (captured_from names n os) ≡ None
+under_before names i n [] h = refl
+under_before names i n (o ∷ os) h =
+    under_front i (captured_from names (suc n) os) (under_its_number n (captured_by names o)) (under_other i n (captured_by names o) (ne_eqb i n (λ e. omega arith)))
+    ∙ under_before names i (suc n) os (omega arith)
 
 -- looking up an object's number is looking at the object
-pub under_at : (names : List (List ℕ)) (methods : ℕ → Option Called) (n k : ℕ) (os : List Object)
-    → under (n + k) (captured_from names methods n os) ≡ captured_in names methods (slice_get os k)
-under_at names methods n k [] = refl
-under_at names methods n zero (o ∷ os) =
+pub under_at : (names : List (List ℕ)) (n k : ℕ) (os : List Object)
+    → under (n + k) (captured_from names n os) ≡ captured_in names (slice_get os k)
+under_at names n k [] = refl
+under_at names n zero (o ∷ os) =
     let same : n + 0 ≡ n = omega arith in
     rw same
-    (under_behind n (captured_from names methods (suc n) os) (under_its_number n (captured_by names methods o)) (under_before names methods n (suc n) os (omega arith))
-    ∙ under_own n (captured_by names methods o))
-under_at names methods n (suc k) (o ∷ os) =
+    (under_behind n (captured_from names (suc n) os) (under_its_number n (captured_by names o)) (under_before names n (suc n) os (omega arith))
+    ∙ under_own n (captured_by names o))
+under_at names n (suc k) (o ∷ os) =
     let same : n + suc k ≡ suc n + k = omega arith in
-    under_front (n + suc k) (captured_from names methods (suc n) os) (under_its_number n (captured_by names methods o)) (under_other (n + suc k) n (captured_by names methods o) (ne_eqb (n + suc k) n (λ e. omega arith)))
-    ∙ ap (λ i. under i (captured_from names methods (suc n) os)) same
-    ∙ under_at names methods (suc n) k os
+    under_front (n + suc k) (captured_from names (suc n) os) (under_its_number n (captured_by names o)) (under_other (n + suc k) n (captured_by names o) (ne_eqb (n + suc k) n (λ e. omega arith)))
+    ∙ ap (λ i. under i (captured_from names (suc n) os)) same
+    ∙ under_at names (suc n) k os
 
 -- an object more
-pub captured_push : (names : List (List ℕ)) (methods : ℕ → Option Called) (n : ℕ) (os : List Object) (o : Object)
-    → captured_from names methods n (os ++ o ∷ []) ≡ under_its_number (n + length os) (captured_by names methods o) ++ captured_from names methods n os
-captured_push names methods n [] o =
+pub captured_push : (names : List (List ℕ)) (n : ℕ) (os : List Object) (o : Object)
+    → captured_from names n (os ++ o ∷ []) ≡ under_its_number (n + length os) (captured_by names o) ++ captured_from names n os
+captured_push names n [] o =
     let same : n + 0 ≡ n = omega arith in
-    rw same (sym (append-nil (under_its_number n (captured_by names methods o))))
-captured_push names methods n (p ∷ ps) o =
+    rw same (sym (append-nil (under_its_number n (captured_by names o))))
+captured_push names n (p ∷ ps) o =
     let same : suc n + length ps ≡ n + suc (length ps) = omega arith in
-    ap (λ cs. cs ++ under_its_number n (captured_by names methods p)) (captured_push names methods (suc n) ps o)
-    ∙ append_assoc (under_its_number (suc n + length ps) (captured_by names methods o)) (captured_from names methods (suc n) ps) (under_its_number n (captured_by names methods p))
-    ∙ ap (λ m. under_its_number m (captured_by names methods o) ++ (captured_from names methods (suc n) ps ++ under_its_number n (captured_by names methods p))) same
+    ap (λ cs. cs ++ under_its_number n (captured_by names p)) (captured_push names (suc n) ps o)
+    ∙ append_assoc (under_its_number (suc n + length ps) (captured_by names o)) (captured_from names (suc n) ps) (under_its_number n (captured_by names p))
+    ∙ ap (λ m. under_its_number m (captured_by names o) ++ (captured_from names (suc n) ps ++ under_its_number n (captured_by names p))) same
 
 -- the objects as the meaning sees them, with one more
 pub mapped_push : {X Y : Type 0} (f : X → Y) (xs : List X) (x : X) → map f (xs ++ x ∷ []) ≡ map f xs ++ f x ∷ []
@@ -86,12 +85,12 @@ pub mapped_set : {X Y : Type 0} (f : X → Y) (xs : List X) (i : ℕ) (x : X) �
 mapped_set f xs i x = map-set f xs i x
 
 -- an object that captured nothing in the place of one that captured nothing
-pub captured_set : (names : List (List ℕ)) (methods : ℕ → Option Called) (n i : ℕ) (os : List Object) (o p : Object)
-    → slice_get os i ≡ Some p → captured_by names methods p ≡ None → captured_by names methods o ≡ None
-    → captured_from names methods n (slice_set os i o) ≡ captured_from names methods n os
-captured_set names methods n i [] o p at was now = refl
-captured_set names methods n zero (q ∷ os) o p at was now =
+pub captured_set : (names : List (List ℕ)) (n i : ℕ) (os : List Object) (o p : Object)
+    → slice_get os i ≡ Some p → captured_by names p ≡ None → captured_by names o ≡ None
+    → captured_from names n (slice_set os i o) ≡ captured_from names n os
+captured_set names n i [] o p at was now = refl
+captured_set names n zero (q ∷ os) o p at was now =
     let same : q ≡ p = cc in
     rw (now, same, was) refl
-captured_set names methods n (suc i) (q ∷ os) o p at was now =
-    ap (λ cs. cs ++ under_its_number n (captured_by names methods q)) (captured_set names methods (suc n) i os o p at was now)
+captured_set names n (suc i) (q ∷ os) o p at was now =
+    ap (λ cs. cs ++ under_its_number n (captured_by names q)) (captured_set names (suc n) i os o p at was now)

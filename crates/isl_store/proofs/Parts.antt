@@ -1,13 +1,14 @@
 -- What a store is seen as once a part of an object is set.
-use Rattle.std.proofs.Common.{◌≡◌, ℕ, ◌<◌, ◌≤◌, List, length, Option, Some, None, get_or, refl, sym, ◌∙◌, ap, arith}
-use Rattle.std.specs.Prelude.{slice_get, slice_set}
+use Rattle.std.proofs.Common.{◌≡◌, ℕ, zero, suc, ◌<◌, ◌≤◌, List, [], ◌∷◌, length, Option, Some, None, get_or, refl, sym, ◌∙◌, ap, arith}
+use Rattle.std.specs.Prelude.{slice_get, slice_set, option_map}
 use Rattle.std.specs.Vec.{with_item}
 use Rattle.std.proofs.lemmas.List.{length-map}
-use Rattle.std.proofs.lemmas.Option.{slice_get_read}
+use Rattle.std.proofs.lemmas.Option.{slice_get_read, slice_get-map, slice_get_past}
 use Rattle.isl_meaning.specs.Values.{Value}
 use Rattle.isl_meaning.specs.Objects as objects
 use Rattle.isl_meaning.specs.Primitives.{as_cons, as_string, as_vector, as_instance, change}
 use Rattle.isl_meaning.specs.Classes.{fetch}
+use Rattle.isl_meaning.specs.Signals.{marked, marked_at}
 use Rattle.isl_closure.specs.FlatState.{on_state}
 use Rattle.isl_store.specs.declared.word.Word.{Word}
 use Rattle.isl_store.specs.declared.word.Word.TheVariants as word
@@ -56,7 +57,7 @@ instance_there names o v h = absurd (cc)
 
 -- the object is another one, at which the meaning changes it
 put_seen : (names : List (List ℕ)) (b : Beside) (s : Store) (w : Word) (i : ℕ) (x o : Object) (to : objects.Object) → Reads s w i x
-    → captured_by names b.methods x ≡ None → captured_by names b.methods o ≡ None → object_of names o ≡ to
+    → captured_by names x ≡ None → captured_by names o ≡ None → object_of names o ≡ to
     → seen names (record s { objects = with_item s.objects i o }) b ≡ on_state (λ y. change (value_of_word names w) to y) (seen names s b)
 put_seen names b s w i x o to r was now e =
     rw (r.number, ← e) (object_set names b s i x o r.there was now)
@@ -156,3 +157,58 @@ no_slot names b s w i x it n at v r is len past h inside =
 pub no_instance : (names : List (List ℕ)) (b : Beside) (s : Store) (w : Word) (i : ℕ) (x : Object) (v : ℕ × List (Option Value) × Value)
     → Reads s w i x → ((it : Instance) → x ≡ made.Instance it → ⊥) → as_instance (fetch (state_of names s b) (value_of_word names w)) ≡ Some v → ⊥
 no_instance names b s w i x v r f h = let p = instance_there names x v (seen_as as_instance names b s w i x v r h) in f p.0 p.1
+
+-- marks
+pub mark_set : (names : List (List ℕ)) (b : Beside) (s : Store) (w : Word) (i : ℕ) (x : Object) (it : Instance) (mark : Word)
+    → Reads s w i x → x ≡ made.Instance it
+    → seen names (record s { objects = with_item s.objects i (made.Instance (record it { mark = mark })) }) b
+    ≡ on_state (λ y. marked (value_of_word names w) (value_of_word names mark) y) (seen names s b)
+mark_set names b s w i x it mark r is =
+    let f : fetch (state_of names s b) (value_of_word names w) ≡ Some (object_of names (made.Instance it)) = fetched_at names b s w i x r.number r.there ∙ ap (λ o. Some (object_of names o)) is in
+    rw (r.number, rw r.number at f) (object_set names b s i x (made.Instance (record it { mark = mark })) r.there (rw is refl) refl)
+
+-- an item in its own place
+pub set_itself : {X : Type 0} (xs : List X) (i : ℕ) (x : X) → slice_get xs i ≡ Some x → slice_set xs i x ≡ xs
+set_itself [] i x h = refl
+set_itself (y ∷ ys) zero x h = ap (λ z. z ∷ ys) (cc)
+set_itself (y ∷ ys) (suc i) x h = ap (λ zs. y ∷ zs) (set_itself ys i x h)
+
+-- what is no instance has no mark
+unmarked : (names : List (List ℕ)) (b : Beside) (s : Store) (i : ℕ) (x : Object) (mark : Word) → ((it : Instance) → x ≡ made.Instance it → ⊥)
+    → seen names s b ≡ on_state (λ y. marked_at (value_of_word names (word.Object i)) (value_of_word names mark) (Some (object_of names x)) y) (seen names s b)
+unmarked names b s i (made.Instance it) mark f = absurd (f it refl)
+unmarked names b s i (Cons a d) mark f = refl
+unmarked names b s i (Text bytes) mark f = refl
+unmarked names b s i (Vector ws) mark f = refl
+unmarked names b s i (Function p) mark f = refl
+unmarked names b s i (Closure p cs) mark f = refl
+unmarked names b s i (Generic g) mark f = refl
+unmarked names b s i (Class c) mark f = refl
+unmarked names b s i InputStream mark f = refl
+unmarked names b s i OutputStream mark f = refl
+unmarked names b s i (FreshSymbol n) mark f = refl
+
+pub no_mark : (names : List (List ℕ)) (b : Beside) (s : Store) (w : Word) (i : ℕ) (x : Object) (mark : Word)
+    → Reads s w i x → ((it : Instance) → x ≡ made.Instance it → ⊥)
+    → seen names (record s { objects = with_item s.objects i x }) b ≡ on_state (λ y. marked (value_of_word names w) (value_of_word names mark) y) (seen names s b)
+no_mark names b s w i x mark r f =
+    let e : slice_get (state_of names s b).store i ≡ Some (object_of names x) = slice_get-map (object_of names) s.objects.items i ∙ ap (option_map (object_of names)) r.there in
+    let same : slice_set s.objects.items i x ≡ s.objects.items = set_itself s.objects.items i x r.there in
+    rw (r.number, same, e) (unmarked names b s i x mark f)
+
+-- a word that is past the objects, and one that is no object
+pub nothing_marked : (names : List (List ℕ)) (b : Beside) (s : Store) (w : Word) (i : ℕ) (mark : Word) → w ≡ word.Object i → length s.objects.items ≤ i
+    → seen names s b ≡ on_state (λ y. marked (value_of_word names w) (value_of_word names mark) y) (seen names s b)
+nothing_marked names b s w i mark e past =
+    let f : slice_get (state_of names s b).store i ≡ None = slice_get-map (object_of names) s.objects.items i ∙ ap (option_map (object_of names)) (slice_get_past s.objects.items i past) in
+    rw (e, f) refl
+
+pub no_object_marked : (names : List (List ℕ)) (b : Beside) (s : Store) (w mark : Word) → ((i : ℕ) → w ≡ word.Object i → ⊥)
+    → seen names s b ≡ on_state (λ y. marked (value_of_word names w) (value_of_word names mark) y) (seen names s b)
+no_object_marked names b s word.Nil mark f = refl
+no_object_marked names b s word.True mark f = refl
+no_object_marked names b s (word.Integer n) mark f = refl
+no_object_marked names b s (word.Character c) mark f = refl
+no_object_marked names b s (word.Symbol n) mark f = refl
+no_object_marked names b s (word.Unnamed x n) mark f = refl
+no_object_marked names b s (word.Object i) mark f = absurd (f i refl)

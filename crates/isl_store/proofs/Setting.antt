@@ -22,10 +22,10 @@ variable_set names b s i w = rw (mapped_set (value_of_word names) s.variables.it
 
 -- an object that captured nothing, in the place of one that captured nothing
 pub object_set : (names : List (List ℕ)) (b : Beside) (s : Store) (i : ℕ) (p o : Object) → slice_get s.objects.items i ≡ Some p
-    → captured_by names b.methods p ≡ None → captured_by names b.methods o ≡ None
+    → captured_by names p ≡ None → captured_by names o ≡ None
     → seen names (record s { objects = with_item s.objects i o }) b ≡ on_state (λ y. changed i (object_of names o) y) (seen names s b)
 object_set names b s i p o at was now =
-    rw (mapped_set (object_of names) s.objects.items i o, captured_set names b.methods 0 i s.objects.items o p at was now) refl
+    rw (mapped_set (object_of names) s.objects.items i o, captured_set names 0 i s.objects.items o p at was now) refl
 
 -- what a word fetches
 pub fetched_at : (names : List (List ℕ)) (b : Beside) (s : Store) (w : Word) (i : ℕ) (o : Object) → w ≡ word.Object i → slice_get s.objects.items i ≡ Some o

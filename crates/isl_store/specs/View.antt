@@ -1,7 +1,6 @@
 -- A store as a state of the meaning.
 use Rattle.std.specs.Prelude.{◌≡◌, ℕ, zero, suc, ◌+◌, ◌^◌, ◌≤◌, List, [], ◌∷◌, ◌++◌, length, map, Option, Some, None, option_map, Result, Ok, Err}
 use Rattle.isl_meaning.specs.Values.{Value, nil, object}
-use Rattle.isl_meaning.specs.Objects.{Called}
 use Rattle.isl_meaning.specs.State.{State, Limit, words, unlimited, full, stored, first_state}
 use Rattle.isl_meaning.specs.State as base
 use Rattle.isl_meaning.specs.Classes.{fetch}
@@ -15,15 +14,14 @@ use Rattle.isl_store.specs.declared.object.Object.{Object}
 use Rattle.isl_store.specs.declared.object.Object.TheVariants.{FreshSymbol}
 use Rattle.isl_store.specs.Words.{value_of_word, values_of, object_of, captured_by, under_its_number, captured_from}
 
--- what stands beside the store: the values of names, the input and the output, the frame of the activation that runs, and the
--- methods' arguments and chains that functions captured
+-- what stands beside the store: the values of names, the input and the output, and the frame of the activation
+-- that runs
 pub record Beside : Type 0 where
   pub globals : List (List ℕ × Value)
   pub dynamics : List (List ℕ × Value)
   pub input : List ℕ
   pub printed : List ℕ
   pub frame : List FrameSlot
-  pub methods : ℕ → Option Called
 
 -- all numbers below that one, the last one first
 abbrev pub falling : ℕ → List ℕ
@@ -51,7 +49,7 @@ abbrev pub seen : List (List ℕ) → Store → Beside → FlatState
 seen names s b = record {
   state = state_of names s b;
   frame = b.frame;
-  captured = captured_from names b.methods 0 s.objects.items;
+  captured = captured_from names 0 s.objects.items;
 }
 
 -- the store has come to be as the meaning says, whatever stands beside it
@@ -91,30 +89,30 @@ abbrev pub requested : Limit → (heap stack : ℕ) → FlatState → FlatEvalua
 requested limit heap stack z = request limit heap stack z (λ entered. gives nil entered)
 
 -- an object more, and what it captured if it is a function that a form made
-abbrev pub placed : List (List ℕ) → (ℕ → Option Called) → Object → FlatState → FlatState
-placed names methods o z = record z {
+abbrev pub placed : List (List ℕ) → Object → FlatState → FlatState
+placed names o z = record z {
   state = stored (object_of names o) z.state;
-  captured = under_its_number (length z.state.store) (captured_by names methods o) ++ z.captured;
+  captured = under_its_number (length z.state.store) (captured_by names o) ++ z.captured;
 }
 
 -- an object of so many words is made: one unit for each word, and so many besides
-abbrev pub built : List (List ℕ) → (ℕ → Option Called) → Limit → (size besides : ℕ) → Object → FlatState → FlatEvaluated
-built names methods limit size besides o z =
+abbrev pub built : List (List ℕ) → Limit → (size besides : ℕ) → Object → FlatState → FlatEvaluated
+built names limit size besides o z =
     request limit size 0 z (λ entered.
-    gives (object (length entered.state.store)) (placed names methods o (on_state (λ y. base.charged (size + besides) y) entered)))
+    gives (object (length entered.state.store)) (placed names o (on_state (λ y. base.charged (size + besides) y) entered)))
 
 -- what the object of a word captured
-abbrev pub captured_in : List (List ℕ) → (ℕ → Option Called) → Option Object → Option (List flat.Captured)
-captured_in names methods None = None
-captured_in names methods (Some o) = captured_by names methods o
+abbrev pub captured_in : List (List ℕ) → Option Object → Option (List flat.Captured)
+captured_in names None = None
+captured_in names (Some o) = captured_by names o
 
 -- what a word fetches: its object, and what that captured if it is a function that a form made
 pub record IsFetched (s : Store) (w : Word) (r : Option Object) : Type 0 where
   pub object : (names : List (List ℕ)) (b : Beside) → fetch (state_of names s b) (value_of_word names w) ≡ option_map (object_of names) r
-  pub captured : (names : List (List ℕ)) (b : Beside) → flat.captured_by (value_of_word names w) (seen names s b) ≡ captured_in names b.methods r
+  pub captured : (names : List (List ℕ)) (b : Beside) → flat.captured_by (value_of_word names w) (seen names s b) ≡ captured_in names r
 
 -- a symbol is made, with the next serial
-abbrev pub symbol_built : List (List ℕ) → (ℕ → Option Called) → Limit → FlatState → FlatEvaluated
-symbol_built names methods limit z =
-    go_on (built names methods limit 2 0 (FreshSymbol z.state.symbols) z) (λ v after.
+abbrev pub symbol_built : List (List ℕ) → Limit → FlatState → FlatEvaluated
+symbol_built names limit z =
+    go_on (built names limit 2 0 (FreshSymbol z.state.symbols) z) (λ v after.
     gives v (on_state (λ (y : State). record y { symbols = y.symbols + 1 }) after))

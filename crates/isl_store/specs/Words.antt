@@ -1,13 +1,16 @@
 -- What words and objects stand for, where names are the texts of the program's names.
-use Rattle.std.specs.Prelude.{ℕ, suc, List, [], ◌∷◌, ◌++◌, Option, Some, None, map, option_map}
-use Rattle.isl_meaning.specs.Values.{Value, integer, character, symbol, nil, object, named, unnamed}
-use Rattle.isl_meaning.specs.Objects.{Called}
+use Rattle.std.specs.Prelude.{ℕ, suc, List, [], ◌∷◌, ◌++◌, Option, Some, None, map, drop, option_map}
+use Rattle.isl_meaning.specs.Values.{Value, integer, character, symbol, nil, t, object, named, unnamed}
 use Rattle.isl_meaning.specs.Objects as objects
 use Rattle.isl_meaning.specs.Lookup.{text}
 use Rattle.isl_closure.specs.FlatState as flat
 use Rattle.isl_store.specs.declared.word.Word.{Word}
-use Rattle.isl_store.specs.declared.word.Word.TheVariants.{Nil, Integer, Character, Symbol, Unnamed}
+use Rattle.isl_store.specs.declared.word.Word.TheVariants.{Nil, True, Integer, Character, Symbol, Unnamed}
 use Rattle.isl_store.specs.declared.word.Word.TheVariants as word
+use Rattle.isl_dispatch.specs.declared.chain.Chain.{Chain}
+use Rattle.isl_store.specs.declared.called.Rest.{Rest}
+use Rattle.isl_store.specs.declared.called.Rest.TheVariants.{Around, Primary}
+use Rattle.isl_store.specs.declared.called.Called.{Called}
 use Rattle.isl_store.specs.declared.object.Captured.{Captured}
 use Rattle.isl_store.specs.declared.object.Captured.TheVariants as captured
 use Rattle.isl_store.specs.declared.object.Object.{Object}
@@ -16,6 +19,7 @@ use Rattle.isl_store.specs.declared.object.Object.TheVariants as made
 
 abbrev pub value_of_word : List (List ℕ) → Word → Value
 value_of_word names Nil = nil
+value_of_word names True = t
 value_of_word names (Integer n) = integer n
 value_of_word names (Character c) = character c
 value_of_word names (Symbol n) = symbol (named (text names n.0))
@@ -46,17 +50,30 @@ object_of names InputStream = objects.input_stream
 object_of names OutputStream = objects.output_stream
 object_of names (FreshSymbol s) = objects.fresh_symbol s
 
--- what was captured, where the machine keeps those methods
-abbrev pub captured_of : List (List ℕ) → (ℕ → Option Called) → Captured → flat.Captured
-captured_of names methods (captured.Value w) = flat.of_value (value_of_word names w)
-captured_of names methods (captured.Cell i) = flat.of_cell i
-captured_of names methods (captured.Exit e) = flat.of_exit e
-captured_of names methods (captured.Method m) = flat.of_method (methods m)
+-- the methods of a call that are still to run
+abbrev pub rest_of : Rest → objects.Chain
+rest_of (Around c passed) = record { around = drop passed c.now.around; before = c.now.before; primary = c.now.primary; after = c.now.after }
+rest_of (Primary c passed) = record { around = []; before = []; primary = drop passed c.now.primary; after = [] }
+
+-- what a method was called with
+abbrev pub called_of : List (List ℕ) → Called → objects.Called
+called_of names c = record { arguments = values_of names c.arguments.value; rest = rest_of c.rest }
+
+abbrev pub called_or_none : List (List ℕ) → Option Called → Option objects.Called
+called_or_none names None = None
+called_or_none names (Some c) = Some (called_of names c)
+
+-- what was captured
+abbrev pub captured_of : List (List ℕ) → Captured → flat.Captured
+captured_of names (captured.Value w) = flat.of_value (value_of_word names w)
+captured_of names (captured.Cell i) = flat.of_cell i
+captured_of names (captured.Exit e) = flat.of_exit e
+captured_of names (captured.Method m) = flat.of_method (called_or_none names m)
 
 -- what the function of an object captured, if a form made it
-abbrev pub captured_by : List (List ℕ) → (ℕ → Option Called) → Object → Option (List flat.Captured)
-captured_by names methods (Closure p cs) = Some (map (captured_of names methods) cs)
-captured_by names methods o = None
+abbrev pub captured_by : List (List ℕ) → Object → Option (List flat.Captured)
+captured_by names (Closure p cs) = Some (map (captured_of names) cs.value)
+captured_by names o = None
 
 -- the same under its object's number
 abbrev pub under_its_number : ℕ → Option (List flat.Captured) → List (ℕ × List flat.Captured)
@@ -64,7 +81,7 @@ under_its_number n None = []
 under_its_number n (Some cs) = (n, cs) ∷ []
 
 -- what functions captured, the last one first, where the first object has that number
-abbrev pub captured_from : List (List ℕ) → (ℕ → Option Called) → ℕ → List Object → List (ℕ × List flat.Captured)
-captured_from names methods n [] = []
-captured_from names methods n (o ∷ os) =
-    captured_from names methods (suc n) os ++ under_its_number n (captured_by names methods o)
+abbrev pub captured_from : List (List ℕ) → ℕ → List Object → List (ℕ × List flat.Captured)
+captured_from names n [] = []
+captured_from names n (o ∷ os) =
+    captured_from names (suc n) os ++ under_its_number n (captured_by names o)

@@ -1,8 +1,10 @@
 // The objects of a run.
 
+use crate::called::Called;
 use crate::word::Word;
 use isl_base::{Bytes, ItemList};
 use isl_meaning::{ClassId, GenericId, ProcedureId};
+use std::rc::Rc;
 
 /// The elements of a vector.
 pub type Elements = ItemList<Word>;
@@ -11,16 +13,16 @@ pub type Elements = ItemList<Word>;
 pub type Slots = ItemList<Option<Word>>;
 
 /// What a function captured, in the order of its procedure.
-pub type CapturedList = ItemList<Captured>;
+pub type CapturedList<'p> = ItemList<Captured<'p>>;
 
 /// What a function captured: a value; a cell, by its number among the variables; an exit, by its number; or the arguments
-/// and the other methods of a method, by the number under which the machine keeps them.
-#[derive(Clone, Copy)]
-pub enum Captured {
+/// and the other methods of a method.
+#[derive(Drop)]
+pub enum Captured<'p> {
     Value(Word),
     Cell(Option<usize>),
     Exit(Option<u64>),
-    Method(usize),
+    Method(Option<Called<'p>>),
 }
 
 /// An instance: its class, its slots, and a condition's mark.
@@ -33,15 +35,15 @@ pub struct Instance {
 
 /// An object.
 #[derive(Drop)]
-pub enum Object {
+pub enum Object<'p> {
     Cons(Word, Word),
     Text(Bytes),
     Vector(Elements),
     Instance(Instance),
     /// The function of a procedure.
     Function(ProcedureId),
-    /// The function of a procedure that a form made, with what it captured.
-    Closure(ProcedureId, CapturedList),
+    /// The function of a procedure that a form made, with what it captured, which its activations share.
+    Closure(ProcedureId, Rc<CapturedList<'p>>),
     Generic(GenericId),
     Class(ClassId),
     InputStream,

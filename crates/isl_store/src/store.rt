@@ -7,6 +7,7 @@ ghost use Rattle.isl_meaning.specs.Lookup.{value_at, set_at};
 ghost use Rattle.isl_meaning.specs.Objects.{cons, string, vector, instance};
 ghost use Rattle.isl_meaning.specs.Primitives.{as_cons, as_string, as_vector, as_instance, change};
 ghost use Rattle.isl_meaning.specs.Classes.{fetch};
+ghost use Rattle.isl_meaning.specs.Signals.{marked};
 ghost use Rattle.isl_closure.specs.FlatState.{gives, on_state, charged, exit_made, with_values};
 ghost use Rattle.isl_closure.specs.FlatState as flat;
 ghost use Rattle.isl_store.specs.Words.{value_of_word, object_of, captured_by};
@@ -30,8 +31,8 @@ pub enum Halt {
 
 /// The store. Contracts see it as a state of the meaning, beside which stands what it has not.
 #[derive(Drop)]
-pub struct Store {
-    objects: Vec<Object>,
+pub struct Store<'p> {
+    objects: Vec<Object<'p>>,
     variables: Vec<Word>,
     exits: u64,
     symbols: u64,
@@ -41,9 +42,9 @@ pub struct Store {
     peak: u64,
 }
 
-impl Store {
+impl<'p> Store<'p> {
     /// The store before the first object; exit 0 is there from the start. Takes no memory.
-    pub fn new(alloc: Global) -> Store
+    pub fn new(alloc: Global) -> Store<'p>
         ensures { (names : List (List ℕ)) (b : Beside) → seen names result b ≡ nothing_seen b }
     {
         Store {
@@ -60,7 +61,7 @@ impl Store {
 
     /// The object of a word, where it is one.
     #[tactic(auto, using(crate::proofs::Making::fetched))]
-    pub fn fetch(&self, word: Word) -> Option<&Object>
+    pub fn fetch(&self, word: Word) -> Option<&Object<'p>>
         ensures { IsFetched self.now word (option_copied result) }
     {
         match word {
@@ -70,7 +71,7 @@ impl Store {
     }
 
     // The object of that number.
-    fn object(&self, number: usize) -> Option<&Object>
+    fn object(&self, number: usize) -> Option<&Object<'p>>
         ensures { option_copied result ≡ slice_get self.now.objects.items number }
     {
         self.objects.get(number)
@@ -120,9 +121,9 @@ impl Store {
         limit: Option<u64>,
         size: u64,
         besides: u64,
-        object: Object,
+        object: Object<'p>,
     ) -> Result<Word, Halt>
-        ensures answer { Answers result value_of_word self.old self.new (λ names b z. built names b.methods (limit_of limit) size besides object z) }
+        ensures answer { Answers result value_of_word self.old self.new (λ names b z. built names (limit_of limit) size besides object.entry z) }
         ensures err { OnErr result (Stays self.old self.new) }
     {
         let peak = match self.admitted(limit, size, 0) {
@@ -146,9 +147,9 @@ impl Store {
 
     /// An object more, and its number; nothing is counted.
     #[tactic(auto, using(crate::proofs::Making::placed_seen, crate::proofs::Making::same_seen, crate::proofs::Making::length_of))]
-    pub fn add(&mut self, object: Object) -> Result<usize, NoMemory>
+    pub fn add(&mut self, object: Object<'p>) -> Result<usize, NoMemory>
         ensures number { IfOk result (λ n. (names : List (List ℕ)) (b : Beside) → n ≡ length (seen names self.old b).state.store) }
-        ensures ok { OnOk result (Becomes self.old self.new (λ names b. placed names b.methods object)) }
+        ensures ok { OnOk result (Becomes self.old self.new (λ names b. placed names object.entry)) }
         ensures err { OnErr result (Stays self.old self.new) }
     {
         let number = self.place(object)?;
@@ -156,8 +157,8 @@ impl Store {
     }
 
     // An object stands behind those that are there; its number.
-    fn place(&mut self, object: Object) -> Result<usize, NoMemory>
-        ensures { MatchResult result (λ n. (n ≡ length self.old.objects.items) × IsPlaced self.old object self.new) (λ _. IsSame self.old self.new) }
+    fn place(&mut self, object: Object<'p>) -> Result<usize, NoMemory>
+        ensures { MatchResult result (λ n. (n ≡ length self.old.objects.items) × IsPlaced self.old object.entry self.new) (λ _. IsSame self.old self.new) }
     {
         let number = self.objects.len();
         match self.objects.push(object) {
@@ -221,16 +222,20 @@ impl Store {
 
     /// A symbol is made, with the next serial.
     pub fn make_symbol(&mut self, limit: Option<u64>) -> Result<Word, Halt>
-        ensures answer { Answers result value_of_word self.old self.new (λ names b z. symbol_built names b.methods (limit_of limit) z) }
+        ensures answer { Answers result value_of_word self.old self.new (λ names b z. symbol_built names (limit_of limit) z) }
         ensures err { OnErr result (Stays self.old self.new) }
     {
         let serial = self.symbols;
         let Some(next) = serial.checked_add(1) else {
             return Err(Halt::Spent);
         };
-        let word = self.make(limit, 2, 0, Object::FreshSymbol(serial))?;
-        self.symbols = next;
-        Ok(word)
+        match self.make(limit, 2, 0, Object::FreshSymbol(serial)) {
+            Ok(word) => {
+                self.symbols = next;
+                Ok(word)
+            }
+            Err(halt) => Err(halt),
+        }
     }
 
     /// How many objects there are.
@@ -316,6 +321,20 @@ impl Store {
                     if at < instance.slots.len() {
                         instance.slots.replace(at, Some(value));
                     }
+                }
+            }
+        }
+    }
+
+    #[tactic(auto, using(crate::proofs::Parts::nothing_marked, crate::proofs::Parts::no_object_marked))]
+    /// The mark of a condition is set, where the word is one.
+    pub fn set_mark(&mut self, word: Word, mark: Word)
+        ensures { Becomes self.old self.new (λ names b z. on_state (λ y. marked (value_of_word names word) (value_of_word names mark) y) z) }
+    {
+        if let Word::Object(number) = word {
+            if number < self.objects.len() {
+                if let Object::Instance(instance) = &mut self.objects[number] {
+                    instance.mark = mark;
                 }
             }
         }

@@ -3,11 +3,12 @@
 use isl_base::Name;
 use std::mem::size_of;
 
-/// A value: nil, an integer of 30 bits, a character, a symbol by its name, a symbol that an expansion made, or an object
-/// by its number in the store.
+/// A value: nil; the symbol `t`; an integer of 30 bits, a character, a symbol by its name, a symbol that an expansion made, or an object
+/// by its number in the store. The symbol `t` may stand as a symbol by its name too.
 #[derive(Clone, Copy)]
 pub enum Word {
     Nil,
+    True,
     Integer(i32),
     Character(u8),
     Symbol(Name),

@@ -1,0 +1,4 @@
+pub mod Chains
+pub mod Frames
+pub mod View
+pub mod Links

@@ -1,0 +1,9 @@
+// The code of the plain evaluator's machine.
+#![tactic(auto)]
+
+pub mod frame;
+pub mod given;
+pub mod links;
+pub mod machine;
+pub mod situation;
+pub mod slot;
