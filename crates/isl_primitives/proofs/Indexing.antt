@@ -56,7 +56,7 @@ index_negative (negsuc j) count e = refl
 
 pub place_there : (w : Word) (n : ℤ) (k count : ℕ) → ((names : List (List ℕ)) → as_integer (value_of_word names w) ≡ Some n)
     → length_of n ≡ Some k → k < count → IsPlace w count k
-place_there w n k count h e below = record { inside = below; seen = record { seen = λ names z next. rw (h names, index_there n k count e below) refl } }
+place_there w n k count h e below = record { inside = below; seen = λ names z next. rw (h names, index_there n k count e below) refl }
 
 pub place_past : (w : Word) (n : ℤ) (k count : ℕ) → ((names : List (List ℕ)) → as_integer (value_of_word names w) ≡ Some n)
     → length_of n ≡ Some k → count ≤ k → IsNoPlace w count (Fails 24)

@@ -1,5 +1,5 @@
 -- What the objects of words are.
-use Rattle.std.proofs.Common.{◌≡◌, ℕ, Bool, true, false, List, Option, Some, None, refl, sym, ◌∙◌, ap}
+use Rattle.std.proofs.Common.{◌≡◌, Global, ℕ, Bool, true, false, List, Option, Some, None, refl, sym, ◌∙◌, ap}
 use Rattle.std.specs.Prelude.{option_map, is_some}
 use Rattle.isl_meaning.specs.Values.{Value, object}
 use Rattle.isl_meaning.specs.Primitives.{as_cons, as_string, as_vector, as_class, as_instance, as_symbol, fresh_in, by_serial, is_function, is_generic}
@@ -9,6 +9,8 @@ use Rattle.isl_store.specs.declared.word.Word.{Word}
 use Rattle.isl_store.specs.declared.word.Word.TheVariants as word
 use Rattle.isl_store.specs.declared.store.Store.{Store}
 use Rattle.isl_store.specs.declared.object.Instance.{Instance}
+use Rattle.std.specs.declared.rc.Rc.{Rc}
+use Rattle.isl_base.specs.declared.lists.ItemList.{ItemList}
 use Rattle.isl_store.specs.declared.object.Captured.{Captured}
 use Rattle.isl_store.specs.declared.object.Object.{Object}
 use Rattle.isl_store.specs.declared.object.Object.TheVariants.{Cons, Text, Vector, Function, Closure, Generic, Class, FreshSymbol}
@@ -110,17 +112,17 @@ fresh_absent s w x = record { seen = λ names b. ap fresh_in (x.object names b) 
 pub procedure_function : (s : Store) (w : Word) (o : Object) (n : ℕ) → IsFetched s w (Some o) → o ≡ Function n → IsOfKind kind.Function s w true
 procedure_function s w o n x e = record { seen = λ names b. ap is_function (x.object names b) ∙ rw e refl }
 
-pub closure_function : (s : Store) (w : Word) (o : Object) (n : ℕ) (cs : List Captured) → IsFetched s w (Some o) → o ≡ Closure n cs → IsOfKind kind.Function s w true
+pub closure_function : (s : Store) (w : Word) (o : Object) (n : ℕ) (cs : Rc (ItemList Captured) Global) → IsFetched s w (Some o) → o ≡ Closure n cs → IsOfKind kind.Function s w true
 closure_function s w o n cs x e = record { seen = λ names b. ap is_function (x.object names b) ∙ rw e refl }
 
 pub generic_is_function : (s : Store) (w : Word) (o : Object) (g : ℕ) → IsFetched s w (Some o) → o ≡ Generic g → IsOfKind kind.Function s w true
 generic_is_function s w o g x e = record { seen = λ names b. ap is_function (x.object names b) ∙ rw e refl }
 
 pub function_else : (s : Store) (w : Word) (o : Object) → IsFetched s w (Some o) → ((n : ℕ) → o ≡ Function n → ⊥)
-    → ((n : ℕ) (cs : List Captured) → o ≡ Closure n cs → ⊥) → ((g : ℕ) → o ≡ Generic g → ⊥) → IsOfKind kind.Function s w false
+    → ((n : ℕ) (cs : Rc (ItemList Captured) Global) → o ≡ Closure n cs → ⊥) → ((g : ℕ) → o ≡ Generic g → ⊥) → IsOfKind kind.Function s w false
 function_else s w o x f g h = record { seen = λ names b. ap is_function (x.object names b) ∙ none names o f g h }
   where
-    none : (names : List (List ℕ)) (o : Object) → ((n : ℕ) → o ≡ Function n → ⊥) → ((n : ℕ) (cs : List Captured) → o ≡ Closure n cs → ⊥) → ((g : ℕ) → o ≡ Generic g → ⊥)
+    none : (names : List (List ℕ)) (o : Object) → ((n : ℕ) → o ≡ Function n → ⊥) → ((n : ℕ) (cs : Rc (ItemList Captured) Global) → o ≡ Closure n cs → ⊥) → ((g : ℕ) → o ≡ Generic g → ⊥)
         → is_function (Some (object_of names o)) ≡ false
     none names (Function n) f g h = absurd (f n refl)
     none names (Closure n cs) f g h = absurd (g n cs refl)
@@ -144,11 +146,11 @@ pub generic_absent : (s : Store) (w : Word) → IsFetched s w None → IsOfKind 
 generic_absent s w x = record { seen = λ names b. ap is_generic (x.object names b) }
 
 -- symbols
-pub fresh_symbol_there : (s : Store) (w : Word) (i n : ℕ) → w ≡ word.Object i → HasFresh s w (Some n) → HasSymbol s w (Some (spelt.Fresh n))
-fresh_symbol_there s w i n e x = record { seen = λ names b. rw e (rw e at (x.seen names b)) }
+pub fresh_symbol_there : (s : Store) (w : Word) (i n : ℕ) → w ≡ word.Object i → HasFresh s (word.Object i) (Some n) → HasSymbol s w (Some (spelt.Fresh n))
+fresh_symbol_there s w i n e x = record { seen = λ names b. rw e (x.seen names b) }
 
-pub no_fresh_symbol : (s : Store) (w : Word) (i : ℕ) → w ≡ word.Object i → HasFresh s w None → HasSymbol s w None
-no_fresh_symbol s w i e x = record { seen = λ names b. rw e (rw e at (x.seen names b)) }
+pub no_fresh_symbol : (s : Store) (w : Word) (i : ℕ) → w ≡ word.Object i → HasFresh s (word.Object i) None → HasSymbol s w None
+no_fresh_symbol s w i e x = record { seen = λ names b. rw e (x.seen names b) }
 
 -- kinds
 some_kept : {X Y : Type 0} (f : X → Y) (o : Option X) → is_some (option_map f o) ≡ is_some o
@@ -158,11 +160,20 @@ some_kept f (Some x) = refl
 pub symbol_kind : (s : Store) (w : Word) (r : Option SpeltWord) → HasSymbol s w r → IsOfKind kind.Symbol s w (is_some r)
 symbol_kind s w r x = record { seen = λ names b. ap is_some (x.seen names b) ∙ some_kept (spelt_of names) r }
 
-pub cons_kind : (s : Store) (w : Word) (r : Option (Word × Word)) → HasCons s w r → IsOfKind kind.Cons s w (is_some r)
-cons_kind s w r x = record { seen = λ names b. ap is_some (x.seen names b) ∙ some_kept _ r }
+pub cons_kind : (s : Store) (w : Word) (r : Word × Word) → HasCons s w (Some r) → IsOfKind kind.Cons s w true
+cons_kind s w r x = record { seen = λ names b. ap is_some (x.seen names b) }
 
-pub string_kind : (s : Store) (w : Word) (r : Option (List ℕ)) → HasString s w r → IsOfKind kind.String s w (is_some r)
+pub no_cons_kind : (s : Store) (w : Word) → HasCons s w None → IsOfKind kind.Cons s w false
+no_cons_kind s w x = record { seen = λ names b. ap is_some (x.seen names b) }
+
+pub string_kind : (s : Store) (w : Word) (r : List ℕ) → HasString s w (Some r) → IsOfKind kind.String s w true
 string_kind s w r x = record { seen = λ names b. ap is_some (x.seen names b) }
 
-pub vector_kind : (s : Store) (w : Word) (r : Option (List Word)) → HasVector s w r → IsOfKind kind.Vector s w (is_some r)
-vector_kind s w r x = record { seen = λ names b. ap is_some (x.seen names b) ∙ some_kept _ r }
+pub no_string_kind : (s : Store) (w : Word) → HasString s w None → IsOfKind kind.String s w false
+no_string_kind s w x = record { seen = λ names b. ap is_some (x.seen names b) }
+
+pub vector_kind : (s : Store) (w : Word) (r : List Word) → HasVector s w (Some r) → IsOfKind kind.Vector s w true
+vector_kind s w r x = record { seen = λ names b. ap is_some (x.seen names b) }
+
+pub no_vector_kind : (s : Store) (w : Word) → HasVector s w None → IsOfKind kind.Vector s w false
+no_vector_kind s w x = record { seen = λ names b. ap is_some (x.seen names b) }

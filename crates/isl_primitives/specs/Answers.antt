@@ -1,11 +1,11 @@
 -- What answers of primitives are in the meaning, and what is left of an answer once objects that it asks for are made.
-use Rattle.std.specs.Prelude.{◌≡◌, ℕ, ◌+◌, ◌^◌, ◌≤◌, pos, List, [], ◌∷◌, Option, Result, Ok, Err}
+use Rattle.std.specs.Prelude.{◌≡◌, ℕ, ◌+◌, ◌^◌, ◌≤◌, pos, Bool, List, [], ◌∷◌, Option, Result, Ok, Err}
 use Rattle.isl_meaning.specs.declared.primitive.Primitive.{Primitive}
 use Rattle.isl_meaning.specs.declared.program.ProgramRows.{ProgramRows}
 use Rattle.isl_meaning.specs.Values.{Value, integer}
 use Rattle.isl_meaning.specs.Objects.{fresh_symbol}
 use Rattle.isl_meaning.specs.State.{State, Limit, full}
-use Rattle.isl_meaning.specs.Primitives.{result, makes, makes_symbol, fails, domain_error, primitive}
+use Rattle.isl_meaning.specs.Primitives.{result, makes, makes_symbol, fails, domain_error, primitive, says}
 use Rattle.isl_meaning.specs.Primitives as meaning
 use Rattle.isl_closure.specs.FlatState.{FlatState, FlatEvaluated, on_state, gives, go_on, make}
 use Rattle.isl_store.specs.declared.word.Word.{Word}
@@ -28,6 +28,10 @@ pub record IsTold (which : Primitive) (arguments : List Word) (a : Answer) : Typ
 -- a count is answered so
 pub record IsCount (n : ℕ) (a : Answer) : Type 0 where
   pub told : (names : List (List ℕ)) (z : State) → told names a z ≡ result (integer (pos n)) z
+
+-- t or nil is answered
+pub record IsSaid (r : Bool) (a : Answer) : Type 0 where
+  pub told : (names : List (List ℕ)) (z : State) → says r z ≡ told names a z
 
 -- what is left of an answer: a value, or Full; a condition of a class with its slots that is to be signalled; or an argument
 -- that is not of the expected class

@@ -4,3 +4,4 @@ pub mod Numbers
 pub mod Objects
 pub mod Words
 pub mod Reading
+pub mod Setting

@@ -1,5 +1,5 @@
 -- What primitives that change nothing answer.
-use Rattle.std.specs.Prelude.{◌≡◌, ℕ, ◌<◌, Bool, List, length, Option, Result, Ok, Err, is_some}
+use Rattle.std.specs.Prelude.{◌≡◌, ℕ, ◌<◌, Bool, List, length, Option, Some, is_some}
 use Rattle.isl_meaning.specs.declared.primitive.Primitive.{Primitive}
 use Rattle.isl_meaning.specs.declared.program.ProgramRows.{ProgramRows}
 use Rattle.isl_meaning.specs.Values.{Value, nil, same}
@@ -16,7 +16,7 @@ use Rattle.isl_primitives.specs.declared.answer.Answer.{Answer}
 use Rattle.isl_primitives.specs.declared.group.Kind.{Kind}
 use Rattle.isl_primitives.specs.declared.group.Kind.TheVariants as kind
 use Rattle.isl_primitives.specs.Answers.{told}
-use Rattle.isl_primitives.specs.Objects.{instance_parts}
+use Rattle.isl_primitives.specs.Objects.{instance_parts, HasInstance}
 
 -- a primitive that reads the store answers so
 pub record IsRead (which : Primitive) (arguments : List Word) (s : Store) (a : Answer) : Type 0 where
@@ -41,6 +41,7 @@ pub record IsOfKind (which : Kind) (s : Store) (w : Word) (r : Bool) : Type 0 wh
 
 -- an instance and a place of its slots
 pub record IsSlotAt (w place : Word) (s : Store) (i : Instance) (at : ℕ) : Type 0 where
+  pub there : HasInstance s w (Some i)
   pub inside : at < length i.slots
   pub seen : (names : List (List ℕ)) (b : Beside) (next : ℕ × List (Option Value) × Value → ℕ → meaning.Answer)
       → a_slot (value_of_word names w) (value_of_word names place) (state_of names s b) next ≡ next (instance_parts names i) at
@@ -49,7 +50,3 @@ pub record IsSlotAt (w place : Word) (s : Store) (i : Instance) (at : ℕ) : Typ
 pub record IsNoSlot (w place : Word) (s : Store) (a : Answer) : Type 0 where
   pub seen : (names : List (List ℕ)) (b : Beside) (next : ℕ × List (Option Value) × Value → ℕ → meaning.Answer)
       → a_slot (value_of_word names w) (value_of_word names place) (state_of names s b) next ≡ told names a (state_of names s b)
-
-abbrev pub IsSlot : Word → Word → Store → Result (Instance × ℕ) Answer → Type 0
-IsSlot w place s (Ok r) = IsSlotAt w place s r.0 r.1
-IsSlot w place s (Err a) = IsNoSlot w place s a

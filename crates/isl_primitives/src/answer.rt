@@ -11,3 +11,19 @@ pub enum Answer {
     Fails(ClassId),
     DomainError(Word, ClassId),
 }
+
+impl Answer {
+    ghost use Rattle.isl_primitives.specs.Answers.{IsSaid};
+
+    /// `t` or nil.
+    #[tactic(auto, using(crate::proofs::Truths::true_said, crate::proofs::Truths::false_said))]
+    pub(crate) fn says(truth: bool) -> Answer
+        ensures { IsSaid truth result }
+    {
+        if truth {
+            Answer::Gives(Word::True)
+        } else {
+            Answer::Gives(Word::Nil)
+        }
+    }
+}

@@ -12,8 +12,8 @@ use crate::words::{character_of, integer_of, symbol_of};
 use isl_store::{Object, Store, Word};
 
 /// Whether a value is of that kind.
-#[tactic(auto, using(crate::proofs::Seeing::symbol_kind, crate::proofs::Seeing::cons_kind, crate::proofs::Seeing::string_kind, crate::proofs::Seeing::vector_kind))]
-pub(crate) fn is_of(store: &Store, which: Kind, word: Word) -> bool
+#[tactic(auto, using(crate::proofs::Seeing::symbol_kind, crate::proofs::Seeing::cons_kind, crate::proofs::Seeing::no_cons_kind, crate::proofs::Seeing::string_kind, crate::proofs::Seeing::no_string_kind, crate::proofs::Seeing::vector_kind, crate::proofs::Seeing::no_vector_kind))]
+pub(crate) fn is_of(store: &Store<'_>, which: Kind, word: Word) -> bool
     ensures { IsOfKind which store.now word result }
 {
     match which {
@@ -21,9 +21,18 @@ pub(crate) fn is_of(store: &Store, which: Kind, word: Word) -> bool
         Kind::Integer => integer_of(word).is_some(),
         Kind::Character => character_of(word).is_some(),
         Kind::Symbol => symbol_of(store, word).is_some(),
-        Kind::Cons => cons_of(store, word).is_some(),
-        Kind::String => string_of(store, word).is_some(),
-        Kind::Vector => vector_of(store, word).is_some(),
+        Kind::Cons => match cons_of(store, word) {
+            Some(_) => true,
+            None => false,
+        },
+        Kind::String => match string_of(store, word) {
+            Some(_) => true,
+            None => false,
+        },
+        Kind::Vector => match vector_of(store, word) {
+            Some(_) => true,
+            None => false,
+        },
         Kind::Function => is_function_there(store, word),
         Kind::Generic => is_generic_there(store, word),
     }
@@ -41,14 +50,14 @@ fn is_nil(word: Word) -> bool
 
 // Whether a value is a function.
 #[tactic(auto, using(crate::proofs::Seeing::procedure_function, crate::proofs::Seeing::closure_function, crate::proofs::Seeing::generic_is_function, crate::proofs::Seeing::function_else, crate::proofs::Seeing::function_absent))]
-fn is_function_there(store: &Store, word: Word) -> bool
+fn is_function_there(store: &Store<'_>, word: Word) -> bool
     ensures { IsOfKind kind.Function store.now word result }
 {
     match store.fetch(word) {
         Some(object) => match object {
-            Object::Function(_) => true,
-            Object::Closure(_, _) => true,
-            Object::Generic(_) => true,
+            Object::Function(_procedure) => true,
+            Object::Closure(_procedure, _captured) => true,
+            Object::Generic(_generic) => true,
             _ => false,
         },
         None => false,
@@ -57,12 +66,12 @@ fn is_function_there(store: &Store, word: Word) -> bool
 
 // Whether a value is a generic function.
 #[tactic(auto, using(crate::proofs::Seeing::generic_there, crate::proofs::Seeing::generic_else, crate::proofs::Seeing::generic_absent))]
-fn is_generic_there(store: &Store, word: Word) -> bool
+fn is_generic_there(store: &Store<'_>, word: Word) -> bool
     ensures { IsOfKind kind.Generic store.now word result }
 {
     match store.fetch(word) {
         Some(object) => match object {
-            Object::Generic(_) => true,
+            Object::Generic(_generic) => true,
             _ => false,
         },
         None => false,

@@ -9,7 +9,7 @@ use isl_store::{Elements, Instance, Object, Store, Word};
 
 /// The parts of a cons.
 #[tactic(auto, using(crate::proofs::Seeing::cons_there, crate::proofs::Seeing::cons_else, crate::proofs::Seeing::cons_absent))]
-pub(crate) fn cons_of(store: &Store, word: Word) -> Option<(Word, Word)>
+pub(crate) fn cons_of(store: &Store<'_>, word: Word) -> Option<(Word, Word)>
     ensures { HasCons store.now word result }
 {
     match store.fetch(word) {
@@ -23,7 +23,7 @@ pub(crate) fn cons_of(store: &Store, word: Word) -> Option<(Word, Word)>
 
 /// The characters of a string.
 #[tactic(auto, using(crate::proofs::Seeing::string_there, crate::proofs::Seeing::string_else, crate::proofs::Seeing::string_absent))]
-pub(crate) fn string_of<'s>(store: &'s Store, word: Word) -> Option<&'s Bytes>
+pub(crate) fn string_of<'s>(store: &'s Store<'_>, word: Word) -> Option<&'s Bytes>
     ensures { HasString store.now word (option_copied result) }
 {
     match store.fetch(word) {
@@ -37,7 +37,7 @@ pub(crate) fn string_of<'s>(store: &'s Store, word: Word) -> Option<&'s Bytes>
 
 /// The elements of a vector.
 #[tactic(auto, using(crate::proofs::Seeing::vector_there, crate::proofs::Seeing::vector_else, crate::proofs::Seeing::vector_absent))]
-pub(crate) fn vector_of<'s>(store: &'s Store, word: Word) -> Option<&'s Elements>
+pub(crate) fn vector_of<'s>(store: &'s Store<'_>, word: Word) -> Option<&'s Elements>
     ensures { HasVector store.now word (option_copied result) }
 {
     match store.fetch(word) {
@@ -51,7 +51,7 @@ pub(crate) fn vector_of<'s>(store: &'s Store, word: Word) -> Option<&'s Elements
 
 /// The class that an object is.
 #[tactic(auto, using(crate::proofs::Seeing::class_there, crate::proofs::Seeing::class_else, crate::proofs::Seeing::class_absent))]
-pub(crate) fn class_object_of(store: &Store, word: Word) -> Option<ClassId>
+pub(crate) fn class_object_of(store: &Store<'_>, word: Word) -> Option<ClassId>
     ensures { HasClass store.now word result }
 {
     match store.fetch(word) {
@@ -65,7 +65,7 @@ pub(crate) fn class_object_of(store: &Store, word: Word) -> Option<ClassId>
 
 /// An instance.
 #[tactic(auto, using(crate::proofs::Seeing::instance_there, crate::proofs::Seeing::instance_else, crate::proofs::Seeing::instance_absent))]
-pub(crate) fn instance_of<'s>(store: &'s Store, word: Word) -> Option<&'s Instance>
+pub(crate) fn instance_of<'s>(store: &'s Store<'_>, word: Word) -> Option<&'s Instance>
     ensures { HasInstance store.now word (option_copied result) }
 {
     match store.fetch(word) {
@@ -79,7 +79,7 @@ pub(crate) fn instance_of<'s>(store: &'s Store, word: Word) -> Option<&'s Instan
 
 /// The serial of a symbol that the program made.
 #[tactic(auto, using(crate::proofs::Seeing::fresh_there, crate::proofs::Seeing::fresh_else, crate::proofs::Seeing::fresh_absent))]
-pub(crate) fn fresh_of(store: &Store, word: Word) -> Option<u64>
+pub(crate) fn fresh_of(store: &Store<'_>, word: Word) -> Option<u64>
     ensures { HasFresh store.now word result }
 {
     match store.fetch(word) {

@@ -16,7 +16,7 @@ use isl_store::{Store, Word};
 
 /// A part of a value.
 #[tactic(auto, using(crate::proofs::Telling::told_read))]
-pub(crate) fn part(store: &Store, which: Part, word: Word) -> Answer
+pub(crate) fn part(store: &Store<'_>, which: Part, word: Word) -> Answer
     ensures { IsRead (part_of which) (word ∷ []) store.now result }
 {
     match which {
@@ -30,7 +30,7 @@ pub(crate) fn part(store: &Store, which: Part, word: Word) -> Answer
 
 // The first part of a cons.
 #[tactic(auto, using(crate::proofs::Telling::car_there, crate::proofs::Telling::no_car))]
-fn car(store: &Store, word: Word) -> Answer
+fn car(store: &Store<'_>, word: Word) -> Answer
     ensures { IsRead p.Car (word ∷ []) store.now result }
 {
     match cons_of(store, word) {
@@ -41,7 +41,7 @@ fn car(store: &Store, word: Word) -> Answer
 
 // The second part of a cons.
 #[tactic(auto, using(crate::proofs::Telling::cdr_there, crate::proofs::Telling::no_cdr))]
-fn cdr(store: &Store, word: Word) -> Answer
+fn cdr(store: &Store<'_>, word: Word) -> Answer
     ensures { IsRead p.Cdr (word ∷ []) store.now result }
 {
     match cons_of(store, word) {
@@ -77,7 +77,7 @@ fn code_char(word: Word) -> Answer
 
 // The serial of a symbol that no text names.
 #[tactic(auto, using(crate::proofs::Telling::serial_there, crate::proofs::Telling::named_serial, crate::proofs::Telling::truth_serial, crate::proofs::Telling::nil_serial, crate::proofs::Telling::no_symbol))]
-fn symbol_serial(store: &Store, word: Word) -> Answer
+fn symbol_serial(store: &Store<'_>, word: Word) -> Answer
     ensures { IsRead p.SymbolSerial (word ∷ []) store.now result }
 {
     match symbol_of(store, word) {
@@ -91,7 +91,7 @@ fn symbol_serial(store: &Store, word: Word) -> Answer
 
 #[tactic(auto, using(crate::proofs::Telling::length_of_string, crate::proofs::Telling::length_of_vector, crate::proofs::Telling::length_of_slots, crate::proofs::Telling::no_string, crate::proofs::Telling::no_vector, crate::proofs::Telling::no_slots))]
 /// How many elements a value has. One that has more than an integer can say is answered as a lack of memory.
-pub(crate) fn length(store: &Store, which: Length, word: Word) -> Result<Answer, NoMemory>
+pub(crate) fn length(store: &Store<'_>, which: Length, word: Word) -> Result<Answer, NoMemory>
     ensures { IfOk result (IsRead (length_primitive_of which) (word ∷ []) store.now) }
 {
     match which {

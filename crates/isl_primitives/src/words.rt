@@ -42,14 +42,15 @@ pub(crate) fn character_of(word: Word) -> Option<u8>
 
 /// The symbol that a word is.
 #[tactic(auto, using(crate::proofs::Seeing::fresh_symbol_there, crate::proofs::Seeing::no_fresh_symbol))]
-pub(crate) fn symbol_of(store: &Store, word: Word) -> Option<Spelt>
+pub(crate) fn symbol_of(store: &Store<'_>, word: Word) -> Option<Spelt>
     ensures { HasSymbol store.now word result }
 {
     match word {
         Word::Symbol(name) => Some(Spelt::Named(name)),
+        Word::True => Some(Spelt::Truth),
         Word::Nil => Some(Spelt::Nothing),
         Word::Unnamed { expansion: _, serial } => Some(Spelt::Fresh(serial)),
-        Word::Object(_) => match fresh_of(store, word) {
+        Word::Object(_number) => match fresh_of(store, word) {
             Some(serial) => Some(Spelt::Fresh(serial)),
             None => None,
         },
