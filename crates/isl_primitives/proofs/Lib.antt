@@ -4,3 +4,6 @@ pub mod Indexing
 pub mod Telling
 pub mod Truths
 pub mod Changing
+pub mod Placing
+pub mod Walking
+pub mod Classed

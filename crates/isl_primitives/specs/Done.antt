@@ -3,7 +3,9 @@ use Rattle.std.specs.Prelude.{◌≡◌, ℕ, ◌+◌, ◌^◌, ◌≤◌, List,
 use Rattle.isl_meaning.specs.declared.primitive.Primitive.{Primitive}
 use Rattle.isl_meaning.specs.declared.program.ProgramRows.{ProgramRows}
 use Rattle.isl_meaning.specs.Values.{Value, object}
+use Rattle.isl_meaning.specs.State.{State}
 use Rattle.isl_meaning.specs.Primitives.{primitive}
+use Rattle.isl_meaning.specs.Primitives as meaning
 use Rattle.isl_closure.specs.FlatState.{FlatState, charged}
 use Rattle.isl_store.specs.declared.word.Word.{Word}
 use Rattle.isl_store.specs.declared.object.Object.{Object}
@@ -13,12 +15,18 @@ use Rattle.isl_store.specs.declared.store.Halt.TheVariants.{NoMemory, Spent, Ful
 use Rattle.isl_store.specs.Words.{value_of_word, values_of}
 use Rattle.isl_store.specs.View.{Beside, state_of, seen, limit_of, placed}
 use Rattle.isl_primitives.specs.declared.answer.Answer.{Answer}
+use Rattle.isl_primitives.specs.declared.answer.Answer.TheVariants.{Gives}
 use Rattle.isl_primitives.specs.Answers.{Comes, carried_out}
 
 -- a primitive comes to that, whatever the program is
 pub record IsDone (limit : Option ℕ) (which : Primitive) (arguments : List Word) (old new : Store) (r : Result Answer Halt) : Type 0 where
   pub comes : (names : List (List ℕ)) (rows : ProgramRows) (b : Beside)
       → Comes names r (seen names new b) (carried_out (limit_of limit) (primitive names rows which (values_of names arguments) (state_of names old b)) (seen names old b))
+
+-- an answer of the meaning is carried out
+pub record Brings (limit : Option ℕ) (answer : List (List ℕ) → State → meaning.Answer) (old new : Store) (r : Result Answer Halt) : Type 0 where
+  pub comes : (names : List (List ℕ)) (b : Beside)
+      → Comes names r (seen names new b) (carried_out (limit_of limit) (answer names (state_of names old b)) (seen names old b))
 
 -- an object whose words were granted stands in the store, under its number
 pub record IsKept (size besides : ℕ) (o : Object) (old new : Store) (w : Word) : Type 0 where
@@ -31,3 +39,8 @@ Keeps size besides o old new (Ok w) = IsKept size besides o old new w
 Keeps size besides o old new (Err (Full asked left)) = ⊥
 Keeps size besides o old new (Err Spent) = (names : List (List ℕ)) (b : Beside) → 2 ^ 64 ≤ (seen names old b).state.units + (size + besides)
 Keeps size besides o old new (Err NoMemory) = Unit {0}
+
+-- what was kept, as an answer
+abbrev pub answer_of : Result Word Halt → Result Answer Halt
+answer_of (Ok w) = Ok (Gives w)
+answer_of (Err h) = Err h

@@ -5,3 +5,6 @@ pub mod Objects
 pub mod Words
 pub mod Reading
 pub mod Setting
+pub mod Done
+pub mod Searching
+pub mod Classing

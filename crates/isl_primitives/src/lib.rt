@@ -3,12 +3,15 @@
 
 pub mod answer;
 mod elements;
+mod classes;
 mod expected;
 pub mod group;
 mod kinds;
+mod making;
 mod numbers;
 mod objects;
 mod parts;
+mod searching;
 mod setting;
 mod words;
 

@@ -1,6 +1,6 @@
 // Words as what they are to be: integers, characters and symbols; and indices.
 
-ghost use Rattle.std.specs.Prelude.{◌≡◌, ℕ, List};
+ghost use Rattle.std.specs.Prelude.{◌≡◌, ◌≤◌, ◌^◌, ℕ, List, IfSome};
 ghost use Rattle.isl_meaning.specs.Primitives.{as_integer, as_character, length_of, byte_of};
 ghost use Rattle.isl_store.specs.Words.{value_of_word};
 ghost use Rattle.isl_primitives.specs.Words.{HasSymbol, IsIndex};
@@ -60,9 +60,10 @@ pub(crate) fn symbol_of(store: &Store<'_>, word: Word) -> Option<Spelt>
 }
 
 /// The number that an integer is, if it is not negative.
-#[tactic(auto, using(crate::proofs::Indexing::natural_is, crate::proofs::Indexing::negative_is))]
+#[tactic(auto, using(crate::proofs::Indexing::natural_is, crate::proofs::Calculating::abs_fits, crate::proofs::Indexing::negative_is))]
 pub(crate) fn natural(number: i32) -> Option<usize>
-    ensures { length_of number ≡ result }
+    ensures value { length_of number ≡ result }
+    ensures small { IfSome result (λ n. n ≤ 2 ^ 31) }
 {
     if number >= 0 {
         Some(number.unsigned_abs() as usize)
