@@ -7,3 +7,5 @@ pub mod Changing
 pub mod Placing
 pub mod Walking
 pub mod Classed
+pub mod Fitting
+pub mod Looking

@@ -16,20 +16,21 @@ use Rattle.isl_store.specs.declared.word.Word.{Word}
 use Rattle.isl_store.specs.declared.word.Word.TheVariants as word
 use Rattle.isl_store.specs.declared.object.Object.{Object}
 use Rattle.isl_store.specs.declared.object.Object.TheVariants.{Cons, Text, Vector}
+use Rattle.isl_store.specs.declared.object.Object.TheVariants as made
 use Rattle.isl_store.specs.declared.store.Store.{Store}
 use Rattle.isl_store.specs.declared.store.Halt.{Halt}
 use Rattle.isl_store.specs.declared.store.Halt.TheVariants.{NoMemory, Spent, Full}
-use Rattle.isl_store.specs.Words.{value_of_word, values_of, object_of, captured_by}
+use Rattle.isl_store.specs.Words.{value_of_word, value_or_none, values_of, object_of, captured_by}
 use Rattle.isl_store.specs.View.{Beside, state_of, seen, limit_of, requested, placed, built, symbol_built, ComesTo}
 use Rattle.isl_primitives.specs.declared.answer.Answer.{Answer}
 use Rattle.isl_primitives.specs.declared.answer.Answer.TheVariants.{Gives, Fails, DomainError}
 use Rattle.isl_primitives.specs.Answers.{told, carried, Carried, evaluated, to_signal, to_signal_domain, state_after, Comes, carried_out, IsTold}
 use Rattle.isl_primitives.specs.Reading.{IsRead}
 use Rattle.isl_primitives.specs.Setting.{IsSet}
-use Rattle.isl_primitives.specs.Done.{IsDone, Brings, IsKept, Keeps, answer_of}
+use Rattle.isl_primitives.specs.Done.{IsDone, Brings, IsKept, Keeps, answer_of, unbound}
 
 -- what was answered, carried out
-carried_told : (names : List (List ℕ)) (limit : Limit) (a : Answer) (z after : FlatState) → after ≡ record z { state = after.state }
+pub carried_told : (names : List (List ℕ)) (limit : Limit) (a : Answer) (z after : FlatState) → after ≡ record z { state = after.state }
     → carried_out limit (told names a after.state) z ≡ carried names a after
 carried_told names limit (Gives w) z after e = ap (λ y. evaluated (gives (value_of_word names w) y)) (sym e)
 carried_told names limit (Fails c) z after e = ap (λ y. to_signal c [] y) (sym e)
@@ -241,3 +242,19 @@ pub text_refused : {T : Type 0} (v : List (List ℕ) → T → Value) (limit : O
     → Brings limit (λ names. makes_string text) s t (Err h)
 text_refused v limit n text s t h len x =
     not_granted v limit (2 + (n + 3) / 4) n (λ names. objects.string text) (λ names. makes_string text) s t h (λ names z. rw len refl) x
+
+-- instances
+pub instance_brought : (limit : Option ℕ) (words class count : ℕ) (slots : List (Option Word)) (s r t : Store) (k : Result Word Halt)
+    → ((names : List (List ℕ)) (b : Beside) → requested (limit_of limit) words 0 (seen names s b) ≡ gives nil (seen names r b))
+    → slots ≡ replicate count None → Keeps words 0 (made.Instance (record { class = class; slots = slots; mark = word.Nil })) r t k
+    → Brings limit (λ names. makes words 0 (unbound class count)) s t (answer_of k)
+instance_brought limit words class count slots s r t k given same x =
+    brought limit words 0 (made.Instance (record { class = class; slots = replicate count None; mark = word.Nil })) (λ names. makes words 0 (unbound class count)) s r t k
+    (λ names z. rw (map_replicate (value_or_none names) count None) refl) (λ names. refl) given
+    (let P : List (Option Word) → Type 0 = λ us. Keeps words 0 (made.Instance (record { class = class; slots = us; mark = word.Nil })) r t k in subst P same x)
+
+pub instance_refused : {T : Type 0} (v : List (List ℕ) → T → Value) (limit : Option ℕ) (words class count : ℕ) (s t : Store) (h : Halt)
+    → ((names : List (List ℕ)) (b : Beside) → ComesTo (Err h) (v names) (seen names t b) (requested (limit_of limit) words 0 (seen names s b)))
+    → Brings limit (λ names. makes words 0 (unbound class count)) s t (Err h)
+instance_refused v limit words class count s t h x =
+    not_granted v limit words 0 (λ names. unbound class count) (λ names. makes words 0 (unbound class count)) s t h (λ names z. refl) x

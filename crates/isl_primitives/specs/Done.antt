@@ -1,8 +1,9 @@
 -- What primitives come to that make an object, or count what they pass.
-use Rattle.std.specs.Prelude.{◌≡◌, ℕ, ◌+◌, ◌^◌, ◌≤◌, List, Option, Result, Ok, Err, length}
+use Rattle.std.specs.Prelude.{◌≡◌, ℕ, ◌+◌, ◌^◌, ◌≤◌, List, Option, None, replicate, Result, Ok, Err, length}
 use Rattle.isl_meaning.specs.declared.primitive.Primitive.{Primitive}
 use Rattle.isl_meaning.specs.declared.program.ProgramRows.{ProgramRows}
-use Rattle.isl_meaning.specs.Values.{Value, object}
+use Rattle.isl_meaning.specs.Values.{Value, object, nil}
+use Rattle.isl_meaning.specs.Objects as objects
 use Rattle.isl_meaning.specs.State.{State}
 use Rattle.isl_meaning.specs.Primitives.{primitive}
 use Rattle.isl_meaning.specs.Primitives as meaning
@@ -44,3 +45,7 @@ Keeps size besides o old new (Err NoMemory) = Unit {0}
 abbrev pub answer_of : Result Word Halt → Result Answer Halt
 answer_of (Ok w) = Ok (Gives w)
 answer_of (Err h) = Err h
+
+-- an instance with so many slots, none of which has a value
+abbrev pub unbound : (class count : ℕ) → objects.Object
+unbound class count = objects.instance class (replicate count None) nil

@@ -8,3 +8,6 @@ pub mod Setting
 pub mod Done
 pub mod Searching
 pub mod Classing
+pub mod Computed
+pub mod Serious
+pub mod Naming

@@ -11,8 +11,12 @@ mod making;
 mod numbers;
 mod objects;
 mod parts;
+pub mod primitives;
 mod searching;
+mod programs;
 mod setting;
 mod words;
 
 pub use answer::Answer;
+pub use classes::class_of;
+pub use primitives::Primitives;

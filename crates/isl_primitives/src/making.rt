@@ -4,13 +4,14 @@ ghost use Rattle.std.specs.Prelude.{◌≡◌, ◌<◌, ◌≤◌, ◌^◌, ◌+
 ghost use Rattle.isl_meaning.specs.Primitives.{makes_string, makes_vector, makes};
 ghost use Rattle.isl_meaning.specs.declared.primitive.Primitive.TheVariants as p;
 ghost use Rattle.isl_store.specs.Words.{value_of_word, values_of, captured_by};
-ghost use Rattle.isl_primitives.specs.Done.{IsDone, Brings, Keeps, answer_of};
+ghost use Rattle.isl_primitives.specs.Done.{IsDone, Brings, Keeps, answer_of, unbound};
 
 use crate::answer::Answer;
 use crate::expected::{CHARACTER, INTEGER};
 use crate::words::{character_of, integer_of, natural};
 use isl_base::{Bytes, ItemList, NoMemory};
-use isl_store::{Halt, Object, Store, Word};
+use isl_meaning::ClassId;
+use isl_store::{Halt, Instance, Object, Store, Word};
 use std::alloc::Global;
 
 /// A new cons.
@@ -184,5 +185,35 @@ pub(crate) fn keep<'p>(
             drop(object);
             Err(Halt::Spent)
         }
+    }
+}
+
+/// A new instance of a class, of so many words and with so many unbound slots.
+#[tactic(auto, using(crate::proofs::Placing::no_memory))]
+pub(crate) fn instance(
+    alloc: Global,
+    store: &mut Store<'_>,
+    limit: Option<u64>,
+    words: u64,
+    class: ClassId,
+    count: usize,
+) -> Result<Answer, Halt>
+    ensures { Brings limit (λ names. makes words 0 (unbound class count)) store.old store.new result }
+{
+    match store.request(limit, words, 0) {
+        Ok(()) => match filled(alloc, count, None) {
+            Ok(slots) => answered(keep(
+                store,
+                words,
+                0,
+                Object::Instance(Instance {
+                    class,
+                    slots,
+                    mark: Word::Nil,
+                }),
+            )),
+            Err(_none) => Err(Halt::NoMemory),
+        },
+        Err(halt) => Err(halt),
     }
 }
