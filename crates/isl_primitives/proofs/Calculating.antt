@@ -1,5 +1,5 @@
 -- Arithmetic on integers of the meaning.
-use Rattle.std.proofs.Common.{◌≡◌, ℕ, zero, suc, ◌+◌, ◌/◌, ◌^◌, ◌≤◌, ◌<◌, arith, lit<, ℤ, pos, negsuc, ◌*ℤ◌, w32, w64, to_z, of_z, List, [], ◌∷◌, Option, Some, None, refl, sym, ◌∙◌, ap}
+use Rattle.std.proofs.Common.{◌≡◌, ℕ, zero, suc, ◌+◌, ◌/◌, ◌^◌, ◌≤◌, ◌<◌, arith, lit<, Bool, ℤ, pos, negsuc, ◌*ℤ◌, w32, w64, to_z, of_z, List, [], ◌∷◌, Option, Some, None, refl, sym, ◌∙◌, ap}
 use Rattle.isl_meaning.specs.declared.program.ProgramRows.{ProgramRows}
 use Rattle.isl_meaning.specs.Values.{Value}
 use Rattle.isl_meaning.specs.State.{State}
@@ -7,7 +7,7 @@ use Rattle.std.specs.Int.RustNames.{unsigned_abs}
 use Rattle.std.proofs.Math.Nat.{div-le_self, mul-le-mul}
 use Rattle.std.proofs.lemmas.Int.{ints, to_z-of_z, fits_signed_mul, unsigned_abs-mul}
 use mir.Val.{SFits}
-use Rattle.isl_meaning.specs.Primitives.{as_integer, of_integers, primitive, domain_error, floor_quotient}
+use Rattle.isl_meaning.specs.Primitives.{as_integer, of_integers, primitive, domain_error, floor_quotient, says}
 use Rattle.isl_meaning.specs.Primitives as meaning
 use Rattle.isl_store.specs.declared.word.Word.{Word}
 use Rattle.isl_store.specs.Words.{value_of_word, values_of}
@@ -15,9 +15,11 @@ use Rattle.isl_primitives.specs.declared.answer.Answer.{Answer}
 use Rattle.isl_primitives.specs.declared.answer.Answer.TheVariants.{Gives, Fails, DomainError}
 use Rattle.isl_primitives.specs.declared.group.Arithmetic.{Arithmetic}
 use Rattle.isl_primitives.specs.declared.group.Arithmetic.TheVariants.{Add, Subtract, Multiply, Divide, Modulo}
-use Rattle.isl_primitives.specs.Groups.{arithmetic_of}
-use Rattle.isl_primitives.specs.Numbers.{calculated}
-use Rattle.isl_primitives.specs.Answers.{told, IsTold}
+use Rattle.isl_primitives.specs.declared.group.Comparison.{Comparison}
+use Rattle.isl_primitives.specs.declared.group.Comparison.TheVariants.{Equal, NotEqual, Less, AtMost, Greater, AtLeast}
+use Rattle.isl_primitives.specs.Groups.{arithmetic_of, comparison_of}
+use Rattle.isl_primitives.specs.Numbers.{calculated, compared}
+use Rattle.isl_primitives.specs.Answers.{told, IsTold, IsSaid}
 
 -- arithmetic wants two integers
 pub on_integers : (names : List (List ℕ)) (rows : ProgramRows) (which : Arithmetic) (vs : List Value) (z : State)
@@ -47,6 +49,37 @@ pub second_none : (which : Arithmetic) (v w : Word) (a : ℤ)
     → IsTold (arithmetic_of which) (v ∷ w ∷ []) (DomainError w 13)
 second_none which v w a first none = record {
   told = λ names rows z. on_integers names rows which (values_of names (v ∷ w ∷ [])) z ∙ rw (first names, none names) refl;
+}
+
+-- so do comparisons
+compared_integers : (names : List (List ℕ)) (rows : ProgramRows) (which : Comparison) (vs : List Value) (z : State)
+    → primitive names rows (comparison_of which) vs z ≡ of_integers (λ a b. says (compared which a b)) vs z
+compared_integers names rows Equal vs z = refl
+compared_integers names rows NotEqual vs z = refl
+compared_integers names rows Less vs z = refl
+compared_integers names rows AtMost vs z = refl
+compared_integers names rows Greater vs z = refl
+compared_integers names rows AtLeast vs z = refl
+
+pub both_compared : (which : Comparison) (v w : Word) (a b : ℤ) (r : Bool) (x : Answer)
+    → ((names : List (List ℕ)) → as_integer (value_of_word names v) ≡ Some a) → ((names : List (List ℕ)) → as_integer (value_of_word names w) ≡ Some b)
+    → r ≡ compared which a b → IsSaid r x → IsTold (comparison_of which) (v ∷ w ∷ []) x
+both_compared which v w a b r x first second same said = record {
+  told = λ names rows z.
+      compared_integers names rows which (values_of names (v ∷ w ∷ [])) z ∙ rw (first names, second names, ← same) (said.told names z);
+}
+
+pub first_uncompared : (which : Comparison) (v w : Word)
+    → ((names : List (List ℕ)) → as_integer (value_of_word names v) ≡ None) → IsTold (comparison_of which) (v ∷ w ∷ []) (DomainError v 13)
+first_uncompared which v w none = record {
+  told = λ names rows z. compared_integers names rows which (values_of names (v ∷ w ∷ [])) z ∙ rw (none names) refl;
+}
+
+pub second_uncompared : (which : Comparison) (v w : Word) (a : ℤ)
+    → ((names : List (List ℕ)) → as_integer (value_of_word names v) ≡ Some a) → ((names : List (List ℕ)) → as_integer (value_of_word names w) ≡ None)
+    → IsTold (comparison_of which) (v ∷ w ∷ []) (DomainError w 13)
+second_uncompared which v w a first none = record {
+  told = λ names rows z. compared_integers names rows which (values_of names (v ∷ w ∷ [])) z ∙ rw (first names, none names) refl;
 }
 
 -- products

@@ -15,6 +15,7 @@ use Rattle.isl_store.specs.declared.store.Store.{Store}
 use Rattle.isl_store.specs.Spelling.{IsSpelling}
 use Rattle.isl_store.specs.Words.{value_of_word}
 use Rattle.isl_store.specs.View.{Beside, state_of}
+use Rattle.isl_layout.specs.Layout.{IsLayout}
 use Rattle.isl_primitives.specs.declared.primitives.Primitives.{Primitives}
 use Rattle.isl_primitives.specs.Serious.{is_serious_row}
 use Rattle.isl_primitives.specs.Classing.{HasClassOf}
@@ -27,11 +28,12 @@ table_at (r ∷ rs) zero = refl
 table_at (r ∷ rs) (suc c) = table_at rs c
 
 pub fitted : (names : List (List ℕ)) (p : Primitives) → p.names.now ≡ names → p.serious.items ≡ map is_serious_row p.program.now.classes
-    → IsSpelling names p.spellings → IsFitted names (tables p.program.now) p
-fitted names p known serious spelling = record {
+    → IsSpelling names p.spellings → IsLayout names (tables p.program.now) p.layout.now → IsFitted names (tables p.program.now) p
+fitted names p known serious spelling layout = record {
   known = known;
   spelling = spelling;
   program = refl;
+  layout = layout;
   serious = λ c. rw serious (table_at p.program.now.classes c);
 }
 

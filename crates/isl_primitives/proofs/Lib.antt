@@ -9,3 +9,5 @@ pub mod Walking
 pub mod Classed
 pub mod Fitting
 pub mod Looking
+pub mod Charging
+pub mod Dispatching

@@ -105,7 +105,7 @@ symbol_form names rows z v (meaning.by_name name) e = rw e refl
 symbol_form names rows z v (meaning.by_serial serial) e = rw e refl
 
 -- an answer that is another one in the meaning's words
-same_answer : (names : List (List ℕ)) (limit : Option ℕ) (s t : Store) (b : Beside) (r : Result Answer Halt) (x y : meaning.Answer) → x ≡ y
+pub same_answer : (names : List (List ℕ)) (limit : Option ℕ) (s t : Store) (b : Beside) (r : Result Answer Halt) (x y : meaning.Answer) → x ≡ y
     → Comes names r (seen names t b) (carried_out (limit_of limit) y (seen names s b)) → Comes names r (seen names t b) (carried_out (limit_of limit) x (seen names s b))
 same_answer names limit s t b r x y e h =
     let P : meaning.Answer → Type 0 = λ u. Comes names r (seen names t b) (carried_out (limit_of limit) u (seen names s b)) in
@@ -136,7 +136,8 @@ open_slots : (p : Primitives) (c : ℕ) (row : ClassRow) (x : Bool) → slice_ge
 open_slots p c row x e a test = record {
   seen = λ names rows f.
       let at : slice_get rows.classes c ≡ Some row = rw (← f.program) e in
-      let can : can_be_made rows c ≡ x = rw (at, a) (test names rows f) in
+      let made : not (is_abstract (slice_get rows.classes c)) ≡ true = rw (at, a) refl in
+      let can : can_be_made rows c ≡ x = ap (λ u. u && (nat_le 34 c || is_below rows c serious_condition_class)) made ∙ test names rows f in
       rw can (rw at refl);
 }
 

@@ -1,4 +1,5 @@
 -- The primitives of the groups.
+use Rattle.std.specs.Prelude.{Bool, true, false}
 use Rattle.isl_meaning.specs.declared.primitive.Primitive.{Primitive}
 use Rattle.isl_meaning.specs.declared.primitive.Primitive.TheVariants as p
 use Rattle.isl_primitives.specs.declared.group.Arithmetic.{Arithmetic}
@@ -11,8 +12,6 @@ use Rattle.isl_primitives.specs.declared.group.Part.{Part}
 use Rattle.isl_primitives.specs.declared.group.Part.TheVariants as part
 use Rattle.isl_primitives.specs.declared.group.Length.{Length}
 use Rattle.isl_primitives.specs.declared.group.Length.TheVariants as length
-use Rattle.isl_primitives.specs.declared.group.OfClass.{OfClass}
-use Rattle.isl_primitives.specs.declared.group.OfClass.TheVariants as of_class
 use Rattle.isl_primitives.specs.declared.group.Element.{Element}
 use Rattle.isl_primitives.specs.declared.group.Element.TheVariants as element
 use Rattle.isl_primitives.specs.declared.group.ElementSet.{ElementSet}
@@ -68,11 +67,6 @@ length_primitive_of length.String = p.StringLength
 length_primitive_of length.Vector = p.VectorLength
 length_primitive_of length.Slots = p.SlotCount
 
-abbrev pub class_primitive_of : OfClass → Primitive
-class_primitive_of of_class.ClassOf = p.ClassOf
-class_primitive_of of_class.ClassName = p.ClassName
-class_primitive_of of_class.Continuable = p.Continuable
-
 abbrev pub element_of : Element → Primitive
 element_of element.CharAt = p.CharAt
 element_of element.VectorRef = p.VectorRef
@@ -98,7 +92,9 @@ abbrev pub one_of : One → Primitive
 one_of (one.Is k) = kind_of k
 one_of (one.Part x) = part_of x
 one_of (one.Length x) = length_primitive_of x
-one_of (one.OfClass x) = class_primitive_of x
+one_of one.ClassOf = p.ClassOf
+one_of one.ClassName = p.ClassName
+one_of one.Continuable = p.Continuable
 one_of one.SymbolName = p.SymbolName
 one_of one.Allocate = p.Allocate
 
@@ -128,3 +124,11 @@ primitive_of (group.One x) = one_of x
 primitive_of (group.Two x) = two_of x
 primitive_of (group.Three x) = element_set_of x
 primitive_of (group.Stream x) = stream_of x
+
+-- whether a primitive reads or writes a stream
+abbrev pub is_streaming : Primitive → Bool
+is_streaming p.PutChar = true
+is_streaming p.IsFreshLine = true
+is_streaming p.GetByte = true
+is_streaming p.PeekByte = true
+is_streaming which = false

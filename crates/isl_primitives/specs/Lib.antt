@@ -11,3 +11,4 @@ pub mod Classing
 pub mod Computed
 pub mod Serious
 pub mod Naming
+pub mod Charging

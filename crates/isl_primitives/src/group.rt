@@ -58,14 +58,6 @@ pub enum Length {
     Slots,
 }
 
-/// What classes say of one value.
-#[derive(Clone, Copy)]
-pub enum OfClass {
-    ClassOf,
-    ClassName,
-    Continuable,
-}
-
 /// Elements of strings, vectors and instances.
 #[derive(Clone, Copy)]
 pub enum Element {
@@ -97,7 +89,9 @@ pub enum One {
     Is(Kind),
     Part(Part),
     Length(Length),
-    OfClass(OfClass),
+    ClassOf,
+    ClassName,
+    Continuable,
     SymbolName,
     Allocate,
 }
@@ -190,8 +184,8 @@ pub fn group_of(which: Primitive) -> Group
         Primitive::SymbolName => Group::One(One::SymbolName),
         Primitive::SymbolSerial => Group::One(One::Part(Part::SymbolSerial)),
         Primitive::Gensym => Group::Zero(Zero::Gensym),
-        Primitive::ClassOf => Group::One(One::OfClass(OfClass::ClassOf)),
-        Primitive::ClassName => Group::One(One::OfClass(OfClass::ClassName)),
+        Primitive::ClassOf => Group::One(One::ClassOf),
+        Primitive::ClassName => Group::One(One::ClassName),
         Primitive::IsSubclass => Group::Two(Two::Search(Search::IsSubclass)),
         Primitive::IsInstance => Group::Two(Two::Search(Search::IsInstance)),
         Primitive::Allocate => Group::One(One::Allocate),
@@ -202,7 +196,7 @@ pub fn group_of(which: Primitive) -> Group
         Primitive::SlotBound => Group::Two(Two::Element(Element::SlotBound)),
         Primitive::SlotInitargs => Group::Two(Two::SlotInitargs),
         Primitive::SlotInitform => Group::Two(Two::SlotInitform),
-        Primitive::Continuable => Group::One(One::OfClass(OfClass::Continuable)),
+        Primitive::Continuable => Group::One(One::Continuable),
         Primitive::StandardInput => Group::Zero(Zero::StandardInput),
         Primitive::StandardOutput => Group::Zero(Zero::StandardOutput),
         Primitive::PutChar => Group::Stream(Stream::PutChar),

@@ -2,6 +2,7 @@
 #![tactic(auto)]
 
 pub mod answer;
+mod compute;
 mod elements;
 mod classes;
 mod expected;
@@ -12,6 +13,7 @@ mod numbers;
 mod objects;
 mod parts;
 pub mod primitives;
+mod searches;
 mod searching;
 mod programs;
 mod setting;
@@ -19,4 +21,5 @@ mod words;
 
 pub use answer::Answer;
 pub use classes::class_of;
+pub use group::{Group, Stream, group_of};
 pub use primitives::Primitives;

@@ -4,7 +4,7 @@ ghost use Rattle.std.specs.Prelude.{◌≡◌, ℕ, ℤ, pos, ◌≤◌, ◌^◌
 ghost use Rattle.std.specs.Int.RustNames.{unsigned_abs};
 ghost use Rattle.isl_meaning.specs.State.{State};
 ghost use Rattle.isl_meaning.specs.Primitives.{integer_result, floor_quotient, floor_remainder};
-ghost use Rattle.isl_primitives.specs.Groups.{arithmetic_of};
+ghost use Rattle.isl_primitives.specs.Groups.{arithmetic_of, comparison_of};
 ghost use Rattle.isl_primitives.specs.Numbers.{calculated, compared};
 ghost use Rattle.isl_primitives.specs.Answers.{told, IsTold};
 
@@ -89,8 +89,22 @@ fn remainder(a: i32, b: i32) -> i64
     i64::from(a) - product(i64::from(b), quotient(a, b))
 }
 
-/// A comparison of two integers.
-pub(crate) fn compare(which: Comparison, a: i32, b: i32) -> bool
+/// A comparison of two values, which are to be integers.
+#[tactic(auto, using(crate::proofs::Calculating::both_compared, crate::proofs::Calculating::first_uncompared, crate::proofs::Calculating::second_uncompared))]
+pub(crate) fn comparison(which: Comparison, word: Word, other: Word) -> Answer
+    ensures { IsTold (comparison_of which) (word ∷ other ∷ []) result }
+{
+    let Some(a) = integer_of(word) else {
+        return Answer::DomainError(word, INTEGER);
+    };
+    let Some(b) = integer_of(other) else {
+        return Answer::DomainError(other, INTEGER);
+    };
+    Answer::says(compare(which, a, b))
+}
+
+// A comparison of two integers.
+fn compare(which: Comparison, a: i32, b: i32) -> bool
     ensures { result ≡ compared which a b }
 {
     match which {

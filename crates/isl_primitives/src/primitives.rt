@@ -7,6 +7,7 @@ ghost use Rattle.isl_meaning.specs.Primitives as described;
 ghost use Rattle.isl_store.specs.Words.{value_of_word};
 ghost use Rattle.isl_store.specs.View.{Beside, state_of};
 ghost use Rattle.isl_store.specs.Spelling.{IsSpelling};
+ghost use Rattle.isl_layout.specs.Layout.{IsLayout};
 ghost use Rattle.isl_closure.specs.FlatNodes.{tables};
 ghost use Rattle.isl_primitives.specs.Serious.{is_serious_row};
 
@@ -15,6 +16,7 @@ use crate::expected::SERIOUS_CONDITION;
 use crate::searching::walk_up;
 use isl_base::{Names, NoMemory};
 use isl_closure::FlatProgram;
+use isl_layout::Layout;
 use isl_meaning::{ClassId, ClassRows};
 use isl_store::{Spellings, Store, Word};
 use std::alloc::Global;
@@ -26,20 +28,22 @@ pub struct Primitives<'p> {
     pub(crate) names: &'p Names,
     pub(crate) spellings: Spellings,
     pub(crate) program: &'p FlatProgram,
+    pub(crate) layout: &'p Layout,
     pub(crate) serious: Vec<bool>,
 }
 
 impl<'p> Primitives<'p> {
     ghost use Rattle.isl_primitives.specs.Computed.{IsFitted, IsSerious};
 
-    /// What primitives see of a program with these names.
+    /// What primitives see of a program with these names, whose objects stand where the layout says.
     pub fn new(
         alloc: Global,
         names: &'p Names,
         spellings: Spellings,
         program: &'p FlatProgram,
+        layout: &'p Layout,
     ) -> Result<Primitives<'p>, NoMemory>
-        ensures { IfOk result (λ p. IsSpelling names.now spellings → IsFitted names.now (tables program.now) p) }
+        ensures { IfOk result (λ p. IsSpelling names.now spellings → IsLayout names.now (tables program.now) layout.now → IsFitted names.now (tables program.now) p) }
     {
         let serious = serious_classes(alloc, &program.classes)?;
         Ok(Primitives {
@@ -47,6 +51,7 @@ impl<'p> Primitives<'p> {
             names,
             spellings,
             program,
+            layout,
             serious,
         })
     }
