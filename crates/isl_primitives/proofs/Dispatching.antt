@@ -1,5 +1,6 @@
 -- All primitives by their groups.
 use Rattle.std.proofs.Common.{◌≡◌, ℕ, Bool, true, false, List, [], ◌∷◌, length, Option, Some, None, Result, Ok, Err, refl, sym, ◌∙◌, ap, subst}
+use Rattle.std.proofs.lemmas.List.{length-map}
 use Rattle.isl_meaning.specs.declared.primitive.Primitive.{Primitive}
 use Rattle.isl_meaning.specs.declared.primitive.Primitive.TheVariants as the
 use Rattle.isl_meaning.specs.declared.program.ProgramRows.{ProgramRows}
@@ -221,6 +222,43 @@ three_nil : (names : List (List ℕ)) (rows : ProgramRows) (x : ElementSet) (vs 
 three_nil names rows element_set.CharAt vs z h = three_wrong _ vs z h
 three_nil names rows element_set.VectorRef vs z h = three_wrong _ vs z h
 three_nil names rows element_set.Slot vs z h = three_wrong _ vs z h
+
+-- so nil is answered
+pub zero_misused : (p : Primitives) (limit : Option ℕ) (x : Zero) (which : Primitive) (ws : List Word) (s : Store) → primitive_of (group.Zero x) ≡ which → (length ws ≡ 0 → ⊥)
+    → IsComputed p limit which ws s s (Ok (Gives word.Nil))
+zero_misused p limit x which ws s e h =
+    let P : Primitive → Type 0 = λ q. IsComputed p limit q ws s s (Ok (Gives word.Nil)) in
+    subst P e
+    (told_computed p limit (zero_of x) ws s (Gives word.Nil) (record {
+      told = λ names rows z. zero_nil names rows x (values_of names ws) z (λ k. h (sym (length-map ws (value_of_word names)) ∙ k));
+    }))
+
+pub one_misused : (p : Primitives) (limit : Option ℕ) (x : One) (which : Primitive) (ws : List Word) (s : Store) → primitive_of (group.One x) ≡ which → (length ws ≡ 1 → ⊥)
+    → IsComputed p limit which ws s s (Ok (Gives word.Nil))
+one_misused p limit x which ws s e h =
+    let P : Primitive → Type 0 = λ q. IsComputed p limit q ws s s (Ok (Gives word.Nil)) in
+    subst P e
+    (told_computed p limit (one_of x) ws s (Gives word.Nil) (record {
+      told = λ names rows z. one_nil names rows x (values_of names ws) z (λ k. h (sym (length-map ws (value_of_word names)) ∙ k));
+    }))
+
+pub two_misused : (p : Primitives) (limit : Option ℕ) (x : Two) (which : Primitive) (ws : List Word) (s : Store) → primitive_of (group.Two x) ≡ which → (length ws ≡ 2 → ⊥)
+    → IsComputed p limit which ws s s (Ok (Gives word.Nil))
+two_misused p limit x which ws s e h =
+    let P : Primitive → Type 0 = λ q. IsComputed p limit q ws s s (Ok (Gives word.Nil)) in
+    subst P e
+    (told_computed p limit (two_of x) ws s (Gives word.Nil) (record {
+      told = λ names rows z. two_nil names rows x (values_of names ws) z (λ k. h (sym (length-map ws (value_of_word names)) ∙ k));
+    }))
+
+pub three_misused : (p : Primitives) (limit : Option ℕ) (x : ElementSet) (which : Primitive) (ws : List Word) (s : Store) → primitive_of (group.Three x) ≡ which → (length ws ≡ 3 → ⊥)
+    → IsComputed p limit which ws s s (Ok (Gives word.Nil))
+three_misused p limit x which ws s e h =
+    let P : Primitive → Type 0 = λ q. IsComputed p limit q ws s s (Ok (Gives word.Nil)) in
+    subst P e
+    (told_computed p limit (element_set_of x) ws s (Gives word.Nil) (record {
+      told = λ names rows z. three_nil names rows x (values_of names ws) z (λ k. h (sym (length-map ws (value_of_word names)) ∙ k));
+    }))
 
 -- groups of the primitive at hand
 pub streaming : (x : Stream) (which : Primitive) → primitive_of (group.Stream x) ≡ which → is_streaming which ≡ false → ⊥

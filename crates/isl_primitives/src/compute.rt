@@ -8,7 +8,7 @@ ghost use Rattle.isl_meaning.specs.declared.primitive.Primitive.TheVariants as t
 use crate::answer::Answer;
 use crate::classes::class_of;
 use crate::elements::{element, slot_in};
-use crate::group::{Group, One, Two, Zero, group_of};
+use crate::group::{ElementSet, Group, One, Two, Zero, group_of};
 use crate::kinds::is_of;
 use crate::making::{cons, gensym, make_string, make_vector};
 use crate::numbers::{arithmetic, comparison};
@@ -45,7 +45,7 @@ impl<'p> Primitives<'p> {
                 _ => Ok(Answer::Gives(Word::Nil)),
             },
             Group::Three(three) => match arguments {
-                [value, word, place] => Ok(set_element(store, three, *value, *word, *place)),
+                [value, word, place] => self.three(store, limit, three, *value, *word, *place),
                 _ => Ok(Answer::Gives(Word::Nil)),
             },
             Group::Stream(_stream) => unreachable!(),
@@ -121,6 +121,22 @@ impl<'p> Primitives<'p> {
             Two::MakeVector => make_vector(self.alloc, store, limit, word, other),
             Two::Search(which) => self.search(store, limit, which, word, other),
         }
+    }
+
+    // A primitive of three arguments.
+    #[tactic(auto, using(crate::proofs::Dispatching::set_computed))]
+    fn three(
+        &self,
+        store: &mut Store<'_>,
+        limit: Option<u64>,
+        three: ElementSet,
+        value: Word,
+        word: Word,
+        place: Word,
+    ) -> Result<Answer, Halt>
+        ensures { IsComputed self.now limit (element_set_of three) (value ∷ word ∷ place ∷ []) store.old store.new result }
+    {
+        Ok(set_element(store, three, value, word, place))
     }
 
     // The class of a value.
