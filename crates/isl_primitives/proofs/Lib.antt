@@ -1,0 +1,13 @@
+pub mod Calculating
+pub mod Seeing
+pub mod Indexing
+pub mod Telling
+pub mod Truths
+pub mod Changing
+pub mod Placing
+pub mod Walking
+pub mod Classed
+pub mod Fitting
+pub mod Looking
+pub mod Charging
+pub mod Dispatching

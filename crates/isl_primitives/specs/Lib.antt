@@ -1,0 +1,14 @@
+pub mod Groups
+pub mod Answers
+pub mod Numbers
+pub mod Objects
+pub mod Words
+pub mod Reading
+pub mod Setting
+pub mod Done
+pub mod Searching
+pub mod Classing
+pub mod Computed
+pub mod Serious
+pub mod Naming
+pub mod Charging

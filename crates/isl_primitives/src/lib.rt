@@ -1,0 +1,25 @@
+// The primitives of the language, over the store.
+#![tactic(auto)]
+
+pub mod answer;
+mod compute;
+mod elements;
+mod classes;
+mod expected;
+pub mod group;
+mod kinds;
+mod making;
+mod numbers;
+mod objects;
+mod parts;
+pub mod primitives;
+mod searches;
+mod searching;
+mod programs;
+mod setting;
+mod words;
+
+pub use answer::Answer;
+pub use classes::class_of;
+pub use group::{Group, Stream, group_of};
+pub use primitives::Primitives;
