@@ -207,16 +207,16 @@ module _ {words : List (List ℕ)} {holds : List ℕ → Option (List ℕ)} {kep
   write_fault answer.NoMemory r ErrRises w e fault quiet = inl (fault e (λ h. cc), no_memory w)
 
   -- where the words are no command, nothing is touched
-  untouched : (a : Answer) → WordsAnswers a words holds kept sent ShelfRises Rises Same ShelfSame → asked words ≡ None → ((a ≡ answer.Usage) ⊎ (a ≡ answer.NoMemory)) × (ShelfSame × Same × (kept ≡ None))
-  untouched a (was_usage e none shelf same k) h = (inl e, (shelf, same, k))
-  untouched a (was_untold e shelf same k) h = (inr e, (shelf, same, k))
+  untouched : (a : Answer) → WordsAnswers a words holds kept sent ShelfRises Rises Same ShelfSame → asked words ≡ None → ((a ≡ answer.Usage) ⊎ (a ≡ answer.NoMemory)) × ShelfSame × Same × (kept ≡ None)
+  untouched a (was_usage e none shelf same k) h = (inl e, shelf, same, k)
+  untouched a (was_untold e shelf same k) h = (inr e, shelf, same, k)
   untouched a (was_asked c is o) h = absurd (cc)
 
   words_first : (a : Answer) (r : Status) → WordsAnswers a words holds kept sent ShelfRises Rises Same ShelfSame → (r ≢ WriteFault → r ≡ status_of a) → asked words ≡ None
-      → ((r ≡ Usage) ⊎ ((r ≡ WriteFault) ⊎ (r ≡ NoMemory))) × (ShelfSame × Same × (kept ≡ None))
+      → ((r ≡ Usage) ⊎ ((r ≡ WriteFault) ⊎ (r ≡ NoMemory))) × ShelfSame × Same × (kept ≡ None)
   words_first a r w written h =
       let u = untouched a w h in
-      (first_status a r u.0 (settled r (status_of a) written), u.1)
+      (first_status a r u.0 (settled r (status_of a) written), u.1, u.2, u.3)
 
 -- a call that answered a and ended with the status r, whose line was written
 pub record Ended (words : List (List ℕ)) (holds : List ℕ → Option (List ℕ)) (kept : Option Image) (sent : Sent) (ShelfRises Rises Same ShelfSame ErrRises : Type 0) (said said' : Option (List ℕ)) (a : Answer) (r : Status) : Type 0 where
@@ -243,7 +243,7 @@ module _ {words : List (List ℕ)} {holds : List ℕ → Option (List ℕ)} {kep
       let h = at answer.Usage (of_usage a (of_status Usage e (λ x. cc))) (no_fault Usage e (λ x. cc)) in
       record { asked_for = usage h.0; line = h.1 }
 
-  pub ends_words_first : asked words ≡ None → ((r ≡ Usage) ⊎ ((r ≡ WriteFault) ⊎ (r ≡ NoMemory))) × (ShelfSame × Same × (kept ≡ None))
+  pub ends_words_first : asked words ≡ None → ((r ≡ Usage) ⊎ ((r ≡ WriteFault) ⊎ (r ≡ NoMemory))) × ShelfSame × Same × (kept ≡ None)
   ends_words_first none = words_first a r c.told c.written none
 
   pub ends_done : r ≡ Done → IsDone words holds kept sent said said' ⊎ IsChecked words holds kept sent said said'
