@@ -1,18 +1,17 @@
 -- Arithmetic on integers of the meaning.
-use Rattle.std.proofs.Common.{◌≡◌, ℕ, zero, suc, ◌+◌, ◌/◌, ◌^◌, ◌≤◌, ◌<◌, arith, lit<, Bool, ℤ, pos, negsuc, ◌*ℤ◌, w32, w64, to_z, of_z, List, [], ◌∷◌, Option, Some, None, refl, sym, ◌∙◌, ap}
+use Rattle.std.proofs.Common.{◌≡◌, ℕ, zero, suc, ◌+◌, ◌^◌, ◌≤◌, arith, lit<, Bool, ℤ, pos, negsuc, ◌*ℤ◌, w32, w64, to_z, of_z, List, [], ◌∷◌, Some, None, refl, ◌∙◌}
 use Rattle.isl_meaning.specs.declared.program.ProgramRows.{ProgramRows}
 use Rattle.isl_meaning.specs.Values.{Value}
 use Rattle.isl_meaning.specs.State.{State}
 use Rattle.std.specs.Int.RustNames.{unsigned_abs}
 use Rattle.std.proofs.Math.Nat.{div-le_self, mul-le-mul}
-use Rattle.std.proofs.lemmas.Int.{ints, to_z-of_z, fits_signed_mul, unsigned_abs-mul}
+use Rattle.std.proofs.lemmas.Int.{to_z-of_z, fits_signed_mul, unsigned_abs-mul}
 use mir.Val.{SFits}
-use Rattle.isl_meaning.specs.Primitives.{as_integer, of_integers, primitive, domain_error, floor_quotient, says}
-use Rattle.isl_meaning.specs.Primitives as meaning
+use Rattle.isl_meaning.specs.Primitives.{as_integer, of_integers, primitive, floor_quotient, says}
 use Rattle.isl_store.specs.declared.word.Word.{Word}
 use Rattle.isl_store.specs.Words.{value_of_word, values_of}
 use Rattle.isl_primitives.specs.declared.answer.Answer.{Answer}
-use Rattle.isl_primitives.specs.declared.answer.Answer.TheVariants.{Gives, Fails, DomainError}
+use Rattle.isl_primitives.specs.declared.answer.Answer.TheVariants.{DomainError}
 use Rattle.isl_primitives.specs.declared.group.Arithmetic.{Arithmetic}
 use Rattle.isl_primitives.specs.declared.group.Arithmetic.TheVariants.{Add, Subtract, Multiply, Divide, Modulo}
 use Rattle.isl_primitives.specs.declared.group.Comparison.{Comparison}

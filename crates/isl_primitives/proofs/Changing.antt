@@ -19,7 +19,7 @@ use Rattle.isl_store.specs.View.{Beside, state_of, seen}
 use Rattle.isl_primitives.specs.declared.answer.Answer.{Answer}
 use Rattle.isl_primitives.specs.declared.answer.Answer.TheVariants.{Gives, DomainError}
 use Rattle.isl_primitives.specs.Answers.{told}
-use Rattle.isl_primitives.specs.Objects.{pair_of, instance_parts, HasCons, HasString, HasVector, HasInstance}
+use Rattle.isl_primitives.specs.Objects.{pair_of, instance_parts, HasCons, HasString, HasVector}
 use Rattle.isl_primitives.specs.Words.{IsPlace, IsNoPlace}
 use Rattle.isl_primitives.specs.Reading.{IsRead, IsSlotAt, IsNoSlot}
 use Rattle.isl_primitives.specs.Setting.{IsSet}
@@ -40,7 +40,7 @@ changed_set which ws s t a f after answer = record {
 
 pub car_is_set : (s t : Store) (v w : Word) (x : Word × Word) → HasCons s w (Some x)
     → ((names : List (List ℕ)) (b : Beside) (c : Value × Value) → as_cons (fetch (seen names s b).state (value_of_word names w)) ≡ Some c
-        → seen names t b ≡ on_state (λ y. change (value_of_word names w) (cons (value_of_word names v) c.1) y) (seen names s b))
+    → seen names t b ≡ on_state (λ y. change (value_of_word names w) (cons (value_of_word names v) c.1) y) (seen names s b))
     → IsSet p.SetCar (v ∷ w ∷ []) s t (Gives v)
 car_is_set s t v w x h after =
     changed_set p.SetCar (v ∷ w ∷ []) s t (Gives v) (λ names y. change (value_of_word names w) (cons (value_of_word names v) (value_of_word names x.1)) y)
@@ -51,7 +51,7 @@ no_car_set s v w h = record { told = λ names rows b. rw (h.seen names b) refl; 
 
 pub cdr_is_set : (s t : Store) (v w : Word) (x : Word × Word) → HasCons s w (Some x)
     → ((names : List (List ℕ)) (b : Beside) (c : Value × Value) → as_cons (fetch (seen names s b).state (value_of_word names w)) ≡ Some c
-        → seen names t b ≡ on_state (λ y. change (value_of_word names w) (cons c.0 (value_of_word names v)) y) (seen names s b))
+    → seen names t b ≡ on_state (λ y. change (value_of_word names w) (cons c.0 (value_of_word names v)) y) (seen names s b))
     → IsSet p.SetCdr (v ∷ w ∷ []) s t (Gives v)
 cdr_is_set s t v w x h after =
     changed_set p.SetCdr (v ∷ w ∷ []) s t (Gives v) (λ names y. change (value_of_word names w) (cons (value_of_word names x.0) (value_of_word names v)) y)
@@ -64,7 +64,7 @@ no_cdr_set s v w h = record { told = λ names rows b. rw (h.seen names b) refl; 
 pub char_is_set : (s t : Store) (v w place : Word) (c n at : ℕ) (bytes : List ℕ) → ((names : List (List ℕ)) → as_character (value_of_word names v) ≡ Some c)
     → HasString s w (Some bytes) → n ≡ length bytes → IsPlace place n at
     → ((names : List (List ℕ)) (b : Beside) (x : List ℕ) → as_string (fetch (seen names s b).state (value_of_word names w)) ≡ Some x → at < length x
-        → seen names t b ≡ on_state (λ y. change (value_of_word names w) (string (slice_set x at c)) y) (seen names s b))
+    → seen names t b ≡ on_state (λ y. change (value_of_word names w) (string (slice_set x at c)) y) (seen names s b))
     → IsSet p.SetCharAt (v ∷ w ∷ place ∷ []) s t (Gives v)
 char_is_set s t v w place c n at bytes k h len x after =
     changed_set p.SetCharAt (v ∷ w ∷ place ∷ []) s t (Gives v) (λ names y. change (value_of_word names w) (string (slice_set bytes at c)) y)
@@ -89,7 +89,7 @@ no_place_set s v w place c n bytes a k h len x = record {
 -- the elements of a vector
 pub element_is_set : (s t : Store) (v w place : Word) (n at : ℕ) (ws : List Word) → HasVector s w (Some ws) → n ≡ length ws → IsPlace place n at
     → ((names : List (List ℕ)) (b : Beside) (x : List Value) → as_vector (fetch (seen names s b).state (value_of_word names w)) ≡ Some x → at < length x
-        → seen names t b ≡ on_state (λ y. change (value_of_word names w) (vector (slice_set x at (value_of_word names v))) y) (seen names s b))
+    → seen names t b ≡ on_state (λ y. change (value_of_word names w) (vector (slice_set x at (value_of_word names v))) y) (seen names s b))
     → IsSet p.SetVectorRef (v ∷ w ∷ place ∷ []) s t (Gives v)
 element_is_set s t v w place n at ws h len x after =
     changed_set p.SetVectorRef (v ∷ w ∷ place ∷ []) s t (Gives v) (λ names y. change (value_of_word names w) (vector (slice_set (values_of names ws) at (value_of_word names v))) y)
@@ -109,7 +109,7 @@ no_element_set s v w place n ws a h len x = record {
 -- the slots of an instance
 pub slot_is_set : (s t : Store) (v w place : Word) (i : Instance) (at : ℕ) → IsSlotAt w place s i at
     → ((names : List (List ℕ)) (b : Beside) (x : ℕ × List (Option Value) × Value) → as_instance (fetch (seen names s b).state (value_of_word names w)) ≡ Some x → at < length x.1
-        → seen names t b ≡ on_state (λ y. change (value_of_word names w) (instance x.0 (slice_set x.1 at (Some (value_of_word names v))) x.2) y) (seen names s b))
+    → seen names t b ≡ on_state (λ y. change (value_of_word names w) (instance x.0 (slice_set x.1 at (Some (value_of_word names v))) x.2) y) (seen names s b))
     → IsSet p.SlotSet (v ∷ w ∷ place ∷ []) s t (Gives v)
 slot_is_set s t v w place i at x after =
     changed_set p.SlotSet (v ∷ w ∷ place ∷ []) s t (Gives v)

@@ -1,36 +1,32 @@
 -- What is passed in a search is counted, and what was found is answered.
-use Rattle.std.proofs.Common.{◌≡◌, ◌≢◌, ◌==◌, ℕ, zero, suc, ◌+◌, ◌<◌, ◌≤◌, ◌^◌, arith, Bool, true, false, not, List, [], ◌∷◌, length, drop, get_or, Option, Some, None, Result, Ok, Err, ℤ, pos, refl, sym, ◌∙◌, ap, subst, zero-add, add-one, drop-cons, cond}
-use Rattle.std.specs.Prelude.{slice_get, if◌then◌else◌, nat_lt, ltb}
+use Rattle.std.proofs.Common.{◌≡◌, ◌==◌, ℕ, ◌+◌, ◌<◌, ◌≤◌, ◌^◌, arith, Bool, true, false, List, [], ◌∷◌, length, drop, get_or, Option, Some, None, Result, Ok, Err, pos, refl, sym, ◌∙◌, ap, subst, zero-add, add-one, drop-cons}
+use Rattle.std.specs.Prelude.{slice_get, if◌then◌else◌, nat_lt}
 use Rattle.std.specs.List.{position_or_len}
 use Rattle.std.specs.Str.{bytes_eq}
-use Rattle.std.specs.Bool.{Decides}
 use Rattle.std.proofs.lemmas.List.{drop_all, get_or_past}
 use Rattle.std.proofs.lemmas.Bool.{lt-ltb, le-ltb}
 use Rattle.std.proofs.lemmas.Bool.Decides.{same_from_decides}
 use Rattle.std.proofs.lemmas.Option.{slice_get_past, get_or_from_slice_get}
 use Rattle.std.proofs.lemmas.Slice.Eq.{bytes_eq-Decides}
 use Rattle.isl_base.specs.declared.datum.Name.{Name}
-use Rattle.isl_meaning.specs.declared.primitive.Primitive.{Primitive}
 use Rattle.isl_meaning.specs.declared.primitive.Primitive.TheVariants as the
 use Rattle.isl_meaning.specs.declared.program.ProgramRows.{ProgramRows}
 use Rattle.isl_meaning.specs.declared.program.ClassRow.{ClassRow}
 use Rattle.isl_meaning.specs.declared.program.SlotRow.{SlotRow}
-use Rattle.isl_meaning.specs.Values.{Value, nil, integer}
+use Rattle.isl_meaning.specs.Values.{nil, integer}
 use Rattle.isl_meaning.specs.State.{State}
 use Rattle.isl_meaning.specs.State as base
-use Rattle.isl_meaning.specs.Lookup.{text, passed, is_in}
+use Rattle.isl_meaning.specs.Lookup.{text, passed}
 use Rattle.isl_meaning.specs.Classes.{is_below, slots, precedence, class_of}
 use Rattle.isl_meaning.specs.Primitives.{primitive, says, is_slot, slot_place, program_error, index_of}
 use Rattle.isl_meaning.specs.Primitives as meaning
-use Rattle.isl_closure.specs.FlatNodes.{tables}
 use Rattle.isl_closure.specs.FlatState.{FlatState, FlatEvaluated, gives, charged}
 use Rattle.isl_store.specs.declared.word.Word.{Word}
 use Rattle.isl_store.specs.declared.word.Word.TheVariants as word
 use Rattle.isl_store.specs.declared.object.Instance.{Instance}
-use Rattle.isl_store.specs.declared.spellings.Spellings.{Spellings}
 use Rattle.isl_store.specs.declared.store.Store.{Store}
 use Rattle.isl_store.specs.declared.store.Halt.{Halt}
-use Rattle.isl_store.specs.declared.store.Halt.TheVariants.{NoMemory, Spent}
+use Rattle.isl_store.specs.declared.store.Halt.TheVariants.{NoMemory}
 use Rattle.isl_store.specs.Spelling.{IsSpelling}
 use Rattle.isl_store.specs.Words.{value_of_word, values_of}
 use Rattle.isl_store.specs.View.{Beside, state_of, seen, limit_of}
@@ -46,7 +42,7 @@ use Rattle.isl_primitives.specs.Words.{HasSymbol, spelt_of}
 use Rattle.isl_primitives.specs.Classing.{HasClassOf}
 use Rattle.isl_primitives.specs.Searching.{IsWalk}
 use Rattle.isl_primitives.specs.Charging.{IsCharged, IsSpent, IsPlaceTold, IsNoPlaceTold}
-use Rattle.isl_primitives.specs.Computed.{IsFitted, IsReadBy, IsComputed, HasWalk, IsNamed, IsSlotPast, IsSlotFound, IsSlotMissing, HasPlace, IsBelow}
+use Rattle.isl_primitives.specs.Computed.{IsFitted, IsComputed, HasWalk, IsNamed, IsSlotPast, IsSlotFound, IsSlotMissing, HasPlace, IsBelow}
 use Rattle.isl_primitives.proofs.Placing.{carried_told}
 use Rattle.isl_primitives.proofs.Looking.{read_computed, same_answer}
 

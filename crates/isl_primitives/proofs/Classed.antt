@@ -1,6 +1,6 @@
 -- The classes of words and objects.
-use Rattle.std.proofs.Common.{◌≡◌, ℕ, ◌<◌, ◌≤◌, Bool, true, false, ℤ, List, Option, Some, None, refl, sym, ◌∙◌, ap}
-use Rattle.std.specs.Prelude.{nat_le, leb}
+use Rattle.std.proofs.Common.{◌≡◌, ℕ, ◌<◌, ◌≤◌, true, false, ℤ, Some, None, refl, ◌∙◌, ap}
+use Rattle.std.specs.Prelude.{leb}
 use Rattle.std.proofs.lemmas.Bool.{le-leb, lt-leb}
 use Rattle.isl_base.specs.declared.datum.Name.{Name}
 use Rattle.isl_meaning.specs.Objects.{class_object}
@@ -9,7 +9,6 @@ use Rattle.isl_store.specs.declared.word.Word.{Word}
 use Rattle.isl_store.specs.declared.word.Word.TheVariants as word
 use Rattle.isl_store.specs.declared.object.Object.{Object}
 use Rattle.isl_store.specs.declared.store.Store.{Store}
-use Rattle.isl_store.specs.Words.{object_of}
 use Rattle.isl_store.specs.View.{IsFetched}
 use Rattle.isl_primitives.specs.Classing.{HasClassOf, IsClassed}
 

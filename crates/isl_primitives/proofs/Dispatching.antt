@@ -1,12 +1,11 @@
 -- All primitives by their groups.
-use Rattle.std.proofs.Common.{◌≡◌, ℕ, Bool, true, false, List, [], ◌∷◌, length, Option, Some, None, Result, Ok, Err, refl, sym, ◌∙◌, ap, subst}
+use Rattle.std.proofs.Common.{◌≡◌, ℕ, Bool, false, List, [], ◌∷◌, length, Option, Result, Ok, Err, refl, sym, ◌∙◌, ap, subst}
 use Rattle.std.proofs.lemmas.List.{length-map}
 use Rattle.isl_meaning.specs.declared.primitive.Primitive.{Primitive}
 use Rattle.isl_meaning.specs.declared.primitive.Primitive.TheVariants as the
 use Rattle.isl_meaning.specs.declared.program.ProgramRows.{ProgramRows}
 use Rattle.isl_meaning.specs.Values.{Value, nil, same}
 use Rattle.isl_meaning.specs.State.{State}
-use Rattle.isl_meaning.specs.Classes.{class_of}
 use Rattle.isl_meaning.specs.Layout.{class_value, initargs_value, initform_value, standard_input, standard_output}
 use Rattle.isl_meaning.specs.Primitives.{primitive, says, of_none, of_one, of_two, of_three}
 use Rattle.isl_meaning.specs.Primitives as meaning
@@ -18,26 +17,20 @@ use Rattle.isl_store.specs.declared.store.Halt.{Halt}
 use Rattle.isl_store.specs.declared.store.Halt.TheVariants.{NoMemory}
 use Rattle.isl_store.specs.Spelling.{IsSpelling}
 use Rattle.isl_store.specs.Words.{value_of_word, values_of}
-use Rattle.isl_store.specs.View.{Beside, state_of, seen}
+use Rattle.isl_store.specs.View.{state_of}
 use Rattle.isl_layout.specs.Layout.{IsLayout}
 use Rattle.isl_primitives.specs.declared.answer.Answer.{Answer}
-use Rattle.isl_primitives.specs.declared.answer.Answer.TheVariants.{Gives, DomainError}
+use Rattle.isl_primitives.specs.declared.answer.Answer.TheVariants.{Gives}
 use Rattle.isl_primitives.specs.declared.primitives.Primitives.{Primitives}
-use Rattle.isl_primitives.specs.declared.group.Arithmetic.{Arithmetic}
 use Rattle.isl_primitives.specs.declared.group.Arithmetic.TheVariants as arithmetic
-use Rattle.isl_primitives.specs.declared.group.Comparison.{Comparison}
 use Rattle.isl_primitives.specs.declared.group.Comparison.TheVariants as comparison
 use Rattle.isl_primitives.specs.declared.group.Kind.{Kind}
 use Rattle.isl_primitives.specs.declared.group.Kind.TheVariants as kind
-use Rattle.isl_primitives.specs.declared.group.Part.{Part}
 use Rattle.isl_primitives.specs.declared.group.Part.TheVariants as part
-use Rattle.isl_primitives.specs.declared.group.Length.{Length}
 use Rattle.isl_primitives.specs.declared.group.Length.TheVariants as lengths
-use Rattle.isl_primitives.specs.declared.group.Element.{Element}
 use Rattle.isl_primitives.specs.declared.group.Element.TheVariants as element
 use Rattle.isl_primitives.specs.declared.group.ElementSet.{ElementSet}
 use Rattle.isl_primitives.specs.declared.group.ElementSet.TheVariants as element_set
-use Rattle.isl_primitives.specs.declared.group.Search.{Search}
 use Rattle.isl_primitives.specs.declared.group.Search.TheVariants as searches
 use Rattle.isl_primitives.specs.declared.group.Zero.{Zero}
 use Rattle.isl_primitives.specs.declared.group.Zero.TheVariants as zeros
@@ -47,15 +40,14 @@ use Rattle.isl_primitives.specs.declared.group.Two.{Two}
 use Rattle.isl_primitives.specs.declared.group.Two.TheVariants as two
 use Rattle.isl_primitives.specs.declared.group.Stream.{Stream}
 use Rattle.isl_primitives.specs.declared.group.Stream.TheVariants as stream
-use Rattle.isl_primitives.specs.declared.group.Group.{Group}
 use Rattle.isl_primitives.specs.declared.group.Group.TheVariants as group
 use Rattle.isl_primitives.specs.Groups.{kind_of, zero_of, one_of, two_of, element_set_of, stream_of, primitive_of, is_streaming}
-use Rattle.isl_primitives.specs.Answers.{told, IsTold, IsSaid}
+use Rattle.isl_primitives.specs.Answers.{IsTold, IsSaid}
 use Rattle.isl_primitives.specs.Reading.{IsRead, is_kind, IsOfKind, IsSlotAt, IsNoSlot}
 use Rattle.isl_primitives.specs.Setting.{IsSet}
 use Rattle.isl_primitives.specs.Done.{IsDone}
 use Rattle.isl_primitives.specs.Classing.{HasClassOf}
-use Rattle.isl_primitives.specs.Computed.{IsFitted, IsReadBy, IsComputed}
+use Rattle.isl_primitives.specs.Computed.{IsReadBy, IsComputed}
 use Rattle.isl_primitives.proofs.Placing.{told_done, read_done, set_done}
 use Rattle.isl_primitives.proofs.Looking as looking
 

@@ -1,6 +1,6 @@
 -- What primitives give that look at the program.
-use Rattle.std.proofs.Common.{◌≡◌, ℕ, arith, ◌<◌, ◌≤◌, Bool, true, false, not, ◌&&◌, ◌||◌, List, [], ◌∷◌, length, replicate, Option, Some, None, Result, Ok, Err, refl, sym, ◌∙◌, ap, subst}
-use Rattle.std.specs.Prelude.{slice_get, slice_index_or, nat_le, leb, if◌then◌else◌}
+use Rattle.std.proofs.Common.{◌≡◌, ℕ, arith, ◌<◌, ◌≤◌, Bool, true, false, not, ◌&&◌, ◌||◌, List, [], ◌∷◌, length, Option, Some, None, Result, Ok, Err, refl, sym, ◌∙◌, ap, subst}
+use Rattle.std.specs.Prelude.{slice_get, nat_le, leb, if◌then◌else◌}
 use Rattle.std.proofs.lemmas.Bool.{le-leb, lt-leb}
 use Rattle.std.proofs.lemmas.Option.{get_or_from_slice_get, slice_get_past}
 use Rattle.std.proofs.lemmas.List.{get_or_past}
@@ -9,15 +9,13 @@ use Rattle.isl_meaning.specs.declared.primitive.Primitive.TheVariants as the
 use Rattle.isl_meaning.specs.declared.primitive.Primitive.{Primitive}
 use Rattle.isl_meaning.specs.declared.program.ProgramRows.{ProgramRows}
 use Rattle.isl_meaning.specs.declared.program.ClassRow.{ClassRow}
-use Rattle.isl_meaning.specs.Values.{Value, nil, symbol, named}
+use Rattle.isl_meaning.specs.Values.{Value}
 use Rattle.isl_meaning.specs.Objects.{serious_condition_class}
-use Rattle.isl_meaning.specs.Objects as objects
 use Rattle.isl_meaning.specs.State.{State}
 use Rattle.isl_meaning.specs.Lookup.{text}
 use Rattle.isl_meaning.specs.Classes.{is_condition, is_below, slots}
 use Rattle.isl_meaning.specs.Primitives.{makes, makes_string, instance_words, can_be_made, is_abstract, class_name, primitive}
 use Rattle.isl_meaning.specs.Primitives as meaning
-use Rattle.isl_closure.specs.FlatNodes.{tables}
 use Rattle.isl_store.specs.declared.word.Word.{Word}
 use Rattle.isl_store.specs.declared.word.Word.TheVariants as word
 use Rattle.isl_store.specs.declared.object.Instance.{Instance}
@@ -31,12 +29,12 @@ use Rattle.isl_primitives.specs.declared.answer.Answer.TheVariants.{Gives, Fails
 use Rattle.isl_primitives.specs.declared.primitives.Primitives.{Primitives}
 use Rattle.isl_primitives.specs.declared.words.Spelt.{Spelt as SpeltWord}
 use Rattle.isl_primitives.specs.declared.words.Spelt.TheVariants as spelt
-use Rattle.isl_primitives.specs.Answers.{told, carried_out, Comes}
+use Rattle.isl_primitives.specs.Answers.{carried_out, Comes}
 use Rattle.isl_primitives.specs.Objects.{HasClass, HasInstance}
 use Rattle.isl_primitives.specs.Words.{HasSymbol, spelt_of}
 use Rattle.isl_primitives.specs.Done.{IsDone, Brings, unbound}
 use Rattle.isl_primitives.specs.Naming.{IsNameOf, IsTextOf, text_of}
-use Rattle.isl_primitives.specs.Computed.{IsFitted, IsReadBy, IsComputed, IsSerious, HasSlots, slots_to_make}
+use Rattle.isl_primitives.specs.Computed.{IsFitted, IsReadBy, IsComputed, IsSerious, HasSlots}
 use Rattle.isl_primitives.proofs.Placing.{carried_told}
 
 -- what is read comes to that

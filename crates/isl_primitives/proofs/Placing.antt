@@ -1,10 +1,9 @@
 -- What primitives come to that make objects.
-use Rattle.std.proofs.Common.{◌≡◌, ℕ, zero, suc, map, ◌+◌, ◌^◌, ◌≤◌, ◌<◌, ◌/◌, arith, Bool, true, false, ℤ, pos, List, [], ◌∷◌, length, replicate, Option, Some, None, Result, Ok, Err, refl, sym, ◌∙◌, ap, subst}
+use Rattle.std.proofs.Common.{◌≡◌, ℕ, zero, suc, map, ◌+◌, ◌^◌, ◌≤◌, ◌/◌, arith, true, false, ℤ, List, [], ◌∷◌, length, replicate, Option, Some, None, Result, Ok, Err, refl, sym, ◌∙◌, ap, subst}
 use Rattle.std.specs.Prelude.{if◌then◌else◌}
 use Rattle.std.proofs.lemmas.List.{length-replicate}
 use Rattle.isl_meaning.specs.declared.primitive.Primitive.{Primitive}
 use Rattle.isl_meaning.specs.declared.primitive.Primitive.TheVariants as p
-use Rattle.isl_meaning.specs.declared.program.ProgramRows.{ProgramRows}
 use Rattle.isl_meaning.specs.Values.{Value, nil, object}
 use Rattle.isl_meaning.specs.State.{State, Limit, has_room, room_left, with_words, full, value, stored}
 use Rattle.isl_meaning.specs.State as base
@@ -20,11 +19,11 @@ use Rattle.isl_store.specs.declared.object.Object.TheVariants as made
 use Rattle.isl_store.specs.declared.store.Store.{Store}
 use Rattle.isl_store.specs.declared.store.Halt.{Halt}
 use Rattle.isl_store.specs.declared.store.Halt.TheVariants.{NoMemory, Spent, Full}
-use Rattle.isl_store.specs.Words.{value_of_word, value_or_none, values_of, object_of, captured_by}
+use Rattle.isl_store.specs.Words.{value_of_word, value_or_none, object_of, captured_by}
 use Rattle.isl_store.specs.View.{Beside, state_of, seen, limit_of, requested, placed, built, symbol_built, ComesTo}
 use Rattle.isl_primitives.specs.declared.answer.Answer.{Answer}
 use Rattle.isl_primitives.specs.declared.answer.Answer.TheVariants.{Gives, Fails, DomainError}
-use Rattle.isl_primitives.specs.Answers.{told, carried, Carried, evaluated, to_signal, to_signal_domain, state_after, Comes, carried_out, IsTold}
+use Rattle.isl_primitives.specs.Answers.{told, carried, evaluated, to_signal, to_signal_domain, Comes, carried_out, IsTold}
 use Rattle.isl_primitives.specs.Reading.{IsRead}
 use Rattle.isl_primitives.specs.Setting.{IsSet}
 use Rattle.isl_primitives.specs.Done.{IsDone, Brings, IsKept, Keeps, answer_of, unbound}
@@ -71,7 +70,7 @@ apart asked left v e = cc
 granted : (limit : Limit) (size : ℕ) (z after : FlatState) (next : FlatState → FlatEvaluated) → requested limit size 0 z ≡ gives nil after → request limit size 0 z next ≡ next after
 granted limit size z after next =
     elim (has_room limit (z.state.heap + z.state.stack + size + 0)) as (λ b. (if b then gives nil (on_state (λ y. with_words size 0 y) z) else record { outcome = full (size + 0) (room_left limit (z.state.heap + z.state.stack)); state = z }) ≡ gives nil after
-        → (if b then next (on_state (λ y. with_words size 0 y) z) else record { outcome = full (size + 0) (room_left limit (z.state.heap + z.state.stack)); state = z }) ≡ next after) [
+    → (if b then next (on_state (λ y. with_words size 0 y) z) else record { outcome = full (size + 0) (room_left limit (z.state.heap + z.state.stack)); state = z }) ≡ next after) [
       | true ↦ λ e. ap (λ (r : FlatEvaluated). next r.state) e
       | false ↦ λ e. absurd (apart (size + 0) (room_left limit (z.state.heap + z.state.stack)) nil (ap (λ (r : FlatEvaluated). r.outcome) e))
     ]
@@ -81,7 +80,7 @@ refused : (limit : Limit) (size asked left : ℕ) (z after : FlatState) (next : 
     → request limit size 0 z next ≡ record { outcome = full asked left; state = after }
 refused limit size asked left z after next =
     elim (has_room limit (z.state.heap + z.state.stack + size + 0)) as (λ b. (if b then gives nil (on_state (λ y. with_words size 0 y) z) else record { outcome = full (size + 0) (room_left limit (z.state.heap + z.state.stack)); state = z }) ≡ record { outcome = full asked left; state = after }
-        → (if b then next (on_state (λ y. with_words size 0 y) z) else record { outcome = full (size + 0) (room_left limit (z.state.heap + z.state.stack)); state = z }) ≡ record { outcome = full asked left; state = after }) [
+    → (if b then next (on_state (λ y. with_words size 0 y) z) else record { outcome = full (size + 0) (room_left limit (z.state.heap + z.state.stack)); state = z }) ≡ record { outcome = full asked left; state = after }) [
       | true ↦ λ e. absurd (apart asked left nil (sym (ap (λ (r : FlatEvaluated). r.outcome) e)))
       | false ↦ λ e. e
     ]
@@ -94,7 +93,7 @@ spent_more : (limit : Limit) (size besides : ℕ) (o : objects.Object) (z : Flat
     → 2 ^ 64 ≤ total (make limit size besides o z (λ v after. gives v after))
 spent_more limit size besides o z =
     elim (has_room limit (z.state.heap + z.state.stack + size + 0)) as (λ b. 2 ^ 64 ≤ total (if b then gives nil (on_state (λ y. with_words size 0 y) z) else record { outcome = full (size + 0) (room_left limit (z.state.heap + z.state.stack)); state = z })
-        → 2 ^ 64 ≤ total (if b then gives (object (length z.state.store)) (on_state (λ y. stored o (base.charged (size + besides) y)) (on_state (λ y. with_words size 0 y) z)) else record { outcome = full (size + 0) (room_left limit (z.state.heap + z.state.stack)); state = z })) [
+    → 2 ^ 64 ≤ total (if b then gives (object (length z.state.store)) (on_state (λ y. stored o (base.charged (size + besides) y)) (on_state (λ y. with_words size 0 y) z)) else record { outcome = full (size + 0) (room_left limit (z.state.heap + z.state.stack)); state = z })) [
       | true ↦ λ h. omega arith
       | false ↦ λ h. h
     ]

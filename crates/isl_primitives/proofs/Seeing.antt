@@ -1,10 +1,7 @@
 -- What the objects of words are.
-use Rattle.std.proofs.Common.{◌≡◌, Global, ℕ, Bool, true, false, List, Option, Some, None, refl, sym, ◌∙◌, ap}
+use Rattle.std.proofs.Common.{◌≡◌, Global, ℕ, true, false, List, Option, Some, None, refl, ◌∙◌, ap}
 use Rattle.std.specs.Prelude.{option_map, is_some}
-use Rattle.isl_meaning.specs.Values.{Value, object}
-use Rattle.isl_meaning.specs.Primitives.{as_cons, as_string, as_vector, as_class, as_instance, as_symbol, fresh_in, by_serial, is_function, is_generic}
-use Rattle.isl_meaning.specs.Classes.{fetch}
-use Rattle.isl_meaning.specs.Objects as objects
+use Rattle.isl_meaning.specs.Primitives.{as_cons, as_string, as_vector, as_class, as_instance, fresh_in, is_function, is_generic}
 use Rattle.isl_store.specs.declared.word.Word.{Word}
 use Rattle.isl_store.specs.declared.word.Word.TheVariants as word
 use Rattle.isl_store.specs.declared.store.Store.{Store}
@@ -15,8 +12,8 @@ use Rattle.isl_store.specs.declared.object.Captured.{Captured}
 use Rattle.isl_store.specs.declared.object.Object.{Object}
 use Rattle.isl_store.specs.declared.object.Object.TheVariants.{Cons, Text, Vector, Function, Closure, Generic, Class, FreshSymbol}
 use Rattle.isl_store.specs.declared.object.Object.TheVariants as made
-use Rattle.isl_store.specs.Words.{value_of_word, object_of}
-use Rattle.isl_store.specs.View.{Beside, state_of, IsFetched}
+use Rattle.isl_store.specs.Words.{object_of}
+use Rattle.isl_store.specs.View.{IsFetched}
 use Rattle.isl_primitives.specs.declared.group.Kind.TheVariants as kind
 use Rattle.isl_primitives.specs.declared.words.Spelt.{Spelt as SpeltWord}
 use Rattle.isl_primitives.specs.declared.words.Spelt.TheVariants as spelt

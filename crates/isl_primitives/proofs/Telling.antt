@@ -1,29 +1,24 @@
 -- What primitives that read give.
-use Rattle.std.proofs.Common.{◌≡◌, ℕ, ◌<◌, ◌≤◌, ◌%◌, arith, Bool, true, false, ℤ, pos, negsuc, List, [], ◌∷◌, length, Option, Some, None, Result, Ok, Err, refl, sym, ◌∙◌, ap}
+use Rattle.std.proofs.Common.{◌≡◌, ℕ, ◌%◌, true, false, ℤ, pos, List, [], ◌∷◌, length, Option, Some, None, refl, sym, ◌∙◌, ap}
 use Rattle.std.specs.Prelude.{option_map, slice_get, slice_index_or}
 use Rattle.std.proofs.lemmas.List.{length-map}
 use Rattle.std.proofs.lemmas.Option.{slice_get-map, get_or_from_slice_get}
 use Rattle.isl_base.specs.declared.datum.Name.{Name}
-use Rattle.isl_meaning.specs.declared.program.ProgramRows.{ProgramRows}
 use Rattle.isl_meaning.specs.declared.primitive.Primitive.{Primitive}
 use Rattle.isl_meaning.specs.declared.primitive.Primitive.TheVariants as p
-use Rattle.isl_meaning.specs.Values.{Value, integer, nil}
-use Rattle.isl_meaning.specs.State.{State}
-use Rattle.isl_meaning.specs.Classes.{fetch}
-use Rattle.isl_meaning.specs.Primitives.{as_integer, as_character, as_cons, as_string, as_vector, as_instance, as_symbol, by_serial, by_name, byte_of, Spelt, a_slot}
-use Rattle.isl_meaning.specs.Primitives as meaning
+use Rattle.isl_meaning.specs.Values.{nil}
+use Rattle.isl_meaning.specs.Primitives.{as_integer, as_character, byte_of}
 use Rattle.isl_store.specs.declared.word.Word.{Word}
 use Rattle.isl_store.specs.declared.word.Word.TheVariants as word
 use Rattle.isl_store.specs.declared.store.Store.{Store}
 use Rattle.isl_store.specs.declared.object.Instance.{Instance}
 use Rattle.isl_store.specs.Words.{value_of_word, values_of, value_or_none, slots_of}
-use Rattle.isl_store.specs.View.{Beside, state_of}
+use Rattle.isl_store.specs.View.{state_of}
 use Rattle.isl_primitives.specs.declared.answer.Answer.{Answer}
 use Rattle.isl_primitives.specs.declared.answer.Answer.TheVariants.{Gives, Fails, DomainError}
-use Rattle.isl_primitives.specs.declared.words.Spelt.{Spelt as SpeltWord}
 use Rattle.isl_primitives.specs.declared.words.Spelt.TheVariants as spelt
-use Rattle.isl_primitives.specs.Answers.{told, IsTold, IsCount, IsSaid}
-use Rattle.isl_primitives.specs.Objects.{pair_of, instance_parts, HasCons, HasString, HasVector, HasInstance}
+use Rattle.isl_primitives.specs.Answers.{IsTold, IsCount, IsSaid}
+use Rattle.isl_primitives.specs.Objects.{instance_parts, HasCons, HasString, HasVector, HasInstance}
 use Rattle.isl_primitives.specs.Words.{HasSymbol, IsPlace, IsNoPlace}
 use Rattle.isl_primitives.specs.Reading.{IsRead, IsSlotAt, IsNoSlot}
 
@@ -115,8 +110,10 @@ no_slots s w h = record { told = λ names rows b. rw (h.seen names b) refl }
 -- elements
 pub char_at_there : (s : Store) (w place : Word) (bytes : List ℕ) (n at c : ℕ) → HasString s w (Some bytes) → n ≡ length bytes → IsPlace place n at → slice_get bytes at ≡ Some c
     → IsRead p.CharAt (w ∷ place ∷ []) s (Gives (word.Character c))
-char_at_there s w place bytes n at c h len x e = record { told = λ names rows b.
-    rw (h.seen names b, ← len) (x.seen names (state_of names s b) _ ∙ rw (get_or_from_slice_get bytes at c 0 e) refl) }
+char_at_there s w place bytes n at c h len x e = record {
+  told = λ names rows b.
+      rw (h.seen names b, ← len) (x.seen names (state_of names s b) _ ∙ rw (get_or_from_slice_get bytes at c 0 e) refl);
+}
 
 pub char_at_wrong : (s : Store) (w place : Word) (bytes : List ℕ) (n : ℕ) (a : Answer) → HasString s w (Some bytes) → n ≡ length bytes → IsNoPlace place n a
     → IsRead p.CharAt (w ∷ place ∷ []) s a
@@ -131,8 +128,10 @@ element_told names ws at x e = get_or_from_slice_get (values_of names ws) at (va
 
 pub vector_ref_there : (s : Store) (w place : Word) (ws : List Word) (n at : ℕ) (x : Word) → HasVector s w (Some ws) → n ≡ length ws → IsPlace place n at → slice_get ws at ≡ Some x
     → IsRead p.VectorRef (w ∷ place ∷ []) s (Gives x)
-vector_ref_there s w place ws n at x h len i e = record { told = λ names rows b.
-    rw (h.seen names b, length-map ws (value_of_word names), ← len) (i.seen names (state_of names s b) _ ∙ rw (element_told names ws at x e) refl) }
+vector_ref_there s w place ws n at x h len i e = record {
+  told = λ names rows b.
+      rw (h.seen names b, length-map ws (value_of_word names), ← len) (i.seen names (state_of names s b) _ ∙ rw (element_told names ws at x e) refl);
+}
 
 pub vector_ref_wrong : (s : Store) (w place : Word) (ws : List Word) (n : ℕ) (a : Answer) → HasVector s w (Some ws) → n ≡ length ws → IsNoPlace place n a
     → IsRead p.VectorRef (w ∷ place ∷ []) s a

@@ -1,8 +1,6 @@
 -- Searches in precedence lists.
-use Rattle.std.proofs.Common.{◌≡◌, ◌≢◌, ◌==◌, ℕ, zero, suc, ◌+◌, ◌<◌, ◌≤◌, arith, Bool, true, false, List, [], ◌∷◌, length, drop, get_or, refl, sym, ◌∙◌, ap, zero-add, add-one, drop-cons}
+use Rattle.std.proofs.Common.{◌≡◌, ◌≢◌, ◌==◌, ℕ, zero, suc, ◌+◌, ◌<◌, ◌≤◌, arith, true, false, List, [], ◌∷◌, length, drop, get_or, refl, sym, ◌∙◌, zero-add, add-one, drop-cons}
 use Rattle.std.proofs.lemmas.Bool.{ne_eqb, eq-eqb}
-use Rattle.isl_meaning.specs.Lookup.{is_in, passed}
-use Rattle.isl_primitives.specs.declared.searching.Walk.{Walk}
 use Rattle.isl_primitives.specs.Searching.{IsWalk, IsPast}
 
 pub not_yet : (cs : List ℕ) (c : ℕ) → IsPast cs c 0 0

@@ -1,5 +1,5 @@
 -- Counting of what was passed.
-use Rattle.std.specs.Prelude.{◌≡◌, ℕ, ◌+◌, ◌^◌, ◌≤◌, pos, List, Option, Result, Ok, Err}
+use Rattle.std.specs.Prelude.{◌≡◌, ℕ, ◌+◌, ◌^◌, ◌≤◌, pos, List, Option, Result}
 use Rattle.isl_meaning.specs.Values.{integer}
 use Rattle.isl_meaning.specs.State as base
 use Rattle.isl_meaning.specs.Primitives.{result, program_error}

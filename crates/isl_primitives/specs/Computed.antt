@@ -1,15 +1,13 @@
 -- **What a primitive comes to**, where primitives see the names and the rows of a program.
-use Rattle.std.specs.Prelude.{◌≡◌, ◌==◌, ◌+◌, ◌<◌, drop, ℕ, Bool, false, List, Option, Some, None, Result, slice_get, slice_index_or, length, if◌then◌else◌}
+use Rattle.std.specs.Prelude.{◌≡◌, ◌==◌, ◌+◌, ◌<◌, drop, ℕ, Bool, false, List, Option, Some, None, Result, slice_index_or, length, if◌then◌else◌}
 use Rattle.isl_meaning.specs.declared.primitive.Primitive.{Primitive}
 use Rattle.isl_meaning.specs.declared.program.ProgramRows.{ProgramRows}
 use Rattle.std.specs.List.{position_or_len}
-use Rattle.isl_meaning.specs.declared.program.ClassRow.{ClassRow}
 use Rattle.isl_meaning.specs.declared.program.SlotRow.{SlotRow}
-use Rattle.isl_meaning.specs.Values.{Value}
-use Rattle.isl_meaning.specs.Lookup.{is_in, passed}
+use Rattle.isl_meaning.specs.Lookup.{passed}
 use Rattle.isl_meaning.specs.Objects.{serious_condition_class}
 use Rattle.isl_meaning.specs.Classes.{is_below, slots, precedence}
-use Rattle.isl_meaning.specs.Primitives.{primitive, can_be_made, Spelt, by_name, by_serial, says, is_slot, slot_place}
+use Rattle.isl_meaning.specs.Primitives.{primitive, can_be_made, says, is_slot, slot_place}
 use Rattle.isl_meaning.specs.State.{charged}
 use Rattle.isl_closure.specs.FlatNodes.{tables}
 use Rattle.isl_store.specs.declared.word.Word.{Word}

@@ -2,12 +2,12 @@
 use Rattle.std.specs.Prelude.{◌≡◌, ℕ, ◌+◌, ◌^◌, ◌≤◌, List, Option, None, replicate, Result, Ok, Err, length}
 use Rattle.isl_meaning.specs.declared.primitive.Primitive.{Primitive}
 use Rattle.isl_meaning.specs.declared.program.ProgramRows.{ProgramRows}
-use Rattle.isl_meaning.specs.Values.{Value, object, nil}
+use Rattle.isl_meaning.specs.Values.{object, nil}
 use Rattle.isl_meaning.specs.Objects as objects
 use Rattle.isl_meaning.specs.State.{State}
 use Rattle.isl_meaning.specs.Primitives.{primitive}
 use Rattle.isl_meaning.specs.Primitives as meaning
-use Rattle.isl_closure.specs.FlatState.{FlatState, charged}
+use Rattle.isl_closure.specs.FlatState.{charged}
 use Rattle.isl_store.specs.declared.word.Word.{Word}
 use Rattle.isl_store.specs.declared.object.Object.{Object}
 use Rattle.isl_store.specs.declared.store.Store.{Store}

@@ -1,5 +1,5 @@
 -- What arithmetic and comparisons are on two integers.
-use Rattle.std.specs.Prelude.{ℕ, ◌+◌, ◌/◌, ◌-◌, ℤ, pos, negsuc, ◌+ℤ◌, ◌-ℤ◌, ◌*ℤ◌, int_lt, int_le, Bool, not, List, []}
+use Rattle.std.specs.Prelude.{ℤ, ◌+ℤ◌, ◌-ℤ◌, ◌*ℤ◌, int_lt, int_le, Bool, not}
 use Rattle.isl_meaning.specs.Values.{int_equal}
 use Rattle.isl_meaning.specs.State.{State}
 use Rattle.isl_meaning.specs.Primitives.{Answer, integer_result, division, floor_quotient, floor_remainder}

@@ -2,7 +2,7 @@
 use Rattle.std.specs.Prelude.{◌≡◌, ℕ, List, Option, option_map}
 use Rattle.isl_meaning.specs.Values.{Value}
 use Rattle.isl_meaning.specs.Classes.{fetch}
-use Rattle.isl_meaning.specs.Primitives.{as_cons, as_string, as_vector, as_class, as_instance, as_symbol, fresh_in, by_serial}
+use Rattle.isl_meaning.specs.Primitives.{as_cons, as_string, as_vector, as_class, as_instance, fresh_in, by_serial}
 use Rattle.isl_store.specs.declared.word.Word.{Word}
 use Rattle.isl_store.specs.declared.store.Store.{Store}
 use Rattle.isl_store.specs.declared.object.Instance.{Instance}

@@ -1,5 +1,5 @@
 -- Searches from the front of a list on.
-use Rattle.std.specs.Prelude.{◌≡◌, ◌==◌, ℕ, ◌+◌, List, drop, Bool, false}
+use Rattle.std.specs.Prelude.{◌≡◌, ◌==◌, ℕ, ◌+◌, List, drop}
 use Rattle.isl_meaning.specs.Lookup.{is_in, passed}
 use Rattle.isl_primitives.specs.declared.searching.Walk.{Walk}
 

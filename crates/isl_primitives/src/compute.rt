@@ -54,12 +54,7 @@ impl<'p> Primitives<'p> {
 
     // A primitive without arguments.
     #[tactic(auto, using(crate::proofs::Dispatching::done_computed, crate::proofs::Dispatching::input_told, crate::proofs::Dispatching::output_told))]
-    fn zero(
-        &self,
-        store: &mut Store<'_>,
-        limit: Option<u64>,
-        zero: Zero,
-    ) -> Result<Answer, Halt>
+    fn zero(&self, store: &mut Store<'_>, limit: Option<u64>, zero: Zero) -> Result<Answer, Halt>
         ensures { IsComputed self.now limit (zero_of zero) [] store.old store.new result }
     {
         match zero {

@@ -2,9 +2,9 @@
 #![tactic(auto)]
 
 pub mod answer;
+mod classes;
 mod compute;
 mod elements;
-mod classes;
 mod expected;
 pub mod group;
 mod kinds;
@@ -13,9 +13,9 @@ mod numbers;
 mod objects;
 mod parts;
 pub mod primitives;
+mod programs;
 mod searches;
 mod searching;
-mod programs;
 mod setting;
 mod words;
 

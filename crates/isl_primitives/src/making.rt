@@ -34,11 +34,7 @@ pub(crate) fn gensym(store: &mut Store<'_>, limit: Option<u64>) -> Result<Answer
 }
 
 /// A list of so many items that are alike.
-pub(crate) fn filled<T: Copy>(
-    alloc: Global,
-    count: usize,
-    item: T,
-) -> Result<ItemList<T>, NoMemory>
+pub(crate) fn filled<T: Copy>(alloc: Global, count: usize, item: T) -> Result<ItemList<T>, NoMemory>
     ensures { IfOk result (λ list. list ≡ replicate count item) }
 {
     let mut list = ItemList::new(alloc);

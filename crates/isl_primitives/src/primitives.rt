@@ -81,7 +81,11 @@ impl<'p> Primitives<'p> {
         ensures { (names : List (List ℕ)) (rows : ProgramRows) → IsFitted names rows self.now → result ≡ described.instance_words rows class slots }
     {
         let words = 2 + slots as u64;
-        if self.is_serious(class) { words + 1 } else { words }
+        if self.is_serious(class) {
+            words + 1
+        } else {
+            words
+        }
     }
 }
 

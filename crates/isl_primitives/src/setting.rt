@@ -14,7 +14,13 @@ use crate::words::{character_of, index_in};
 use isl_store::{Store, Word};
 
 /// An element of a value is set.
-pub(crate) fn set_element(store: &mut Store<'_>, which: ElementSet, value: Word, word: Word, place: Word) -> Answer
+pub(crate) fn set_element(
+    store: &mut Store<'_>,
+    which: ElementSet,
+    value: Word,
+    word: Word,
+    place: Word,
+) -> Answer
     ensures { IsSet (element_set_of which) (value ∷ word ∷ place ∷ []) store.old store.new result }
 {
     match which {

@@ -49,7 +49,10 @@ pub(crate) fn symbol_of(store: &Store<'_>, word: Word) -> Option<Spelt>
         Word::Symbol(name) => Some(Spelt::Named(name)),
         Word::True => Some(Spelt::Truth),
         Word::Nil => Some(Spelt::Nothing),
-        Word::Unnamed { expansion: _, serial } => Some(Spelt::Fresh(serial)),
+        Word::Unnamed {
+            expansion: _,
+            serial,
+        } => Some(Spelt::Fresh(serial)),
         Word::Object(_number) => match fresh_of(store, word) {
             Some(serial) => Some(Spelt::Fresh(serial)),
             None => None,
@@ -78,13 +81,7 @@ pub(crate) fn byte(number: i32) -> Option<u8>
     ensures { byte_of number ≡ result }
 {
     match natural(number) {
-        Some(code) => {
-            if code <= 255 {
-                Some(code as u8)
-            } else {
-                None
-            }
-        }
+        Some(code) => { if code <= 255 { Some(code as u8) } else { None } }
         None => None,
     }
 }
