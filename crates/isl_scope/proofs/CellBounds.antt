@@ -1,5 +1,5 @@
 -- No fewer than the cells of dispatch tables: groups of classes, combinations of groups, and methods that apply.
-use Rattle.std.proofs.Common.{◌≡◌, ℕ, suc, ◌+◌, ◌-◌, ◌*◌, ◌==◌, ◌<◌, ◌≤◌, ◌⊎◌, inl, inr, ⊎_elim, Bool, true, false, not, ◌&&◌, ◌||◌, cond, List, [], ◌∷◌, ◌++◌, length, map, filter, Option, Some, None, IfSome, slice_get, drop, if◌then◌else◌, refl, ap, sym, ◌∙◌, arith, length-append}
+use Rattle.std.proofs.Common.{◌≡◌, ℕ, suc, ◌+◌, ◌-◌, ◌*◌, ◌==◌, ◌<◌, ◌≤◌, ◌⊎◌, inl, inr, ⊎_elim, Bool, true, false, not, ◌&&◌, ◌||◌, cond, List, [], ◌∷◌, ◌++◌, length, map, filter, Option, Some, None, IfSome, slice_get, drop, if◌then◌else◌, refl, ap, sym, subst, ◌∙◌, arith, length-append}
 use Rattle.std.specs.List.{range_with_len, list_any, sum_by, flat_map}
 use Rattle.std.specs.Prelude.{slice_index_or}
 use Rattle.std.specs.Str.{bytes_eq}
@@ -280,3 +280,7 @@ one_generic_more t at g most few next there enough same h =
 pub some_as : (r : Option ℕ) (P Q : ℕ → Type 0) → ((n : ℕ) → P n → Q n) → IfSome r P → IfSome r Q
 some_as None P Q f h = tt
 some_as (Some n) P Q f h = f n h
+
+-- of a value that is there
+pub some_of : {X : Type 0} (r : Option X) (x : X) (P : X → Type 0) → r ≡ Some x → IfSome r P → P x
+some_of r x P e h = subst (λ (o : Option _). IfSome o P) e h

@@ -1,11 +1,11 @@
 -- How many methods apply to a tuple of classes: each is that of one combination of the classes above them and one qualifier.
-use Rattle.std.proofs.Common.{◌≡◌, ℕ, zero, suc, ◌+◌, ◌*◌, ◌≤◌, ◌==◌, ◌⊎◌, ⊎_elim, Bool, true, false, not, ◌&&◌, ◌||◌, List, [], ◌∷◌, ◌++◌, length, map, filter, if◌then◌else◌, refl, sym, ap, subst, ◌∙◌, arith}
-use Rattle.std.specs.Prelude.{◌^◌}
+use Rattle.std.proofs.Common.{◌≡◌, ℕ, zero, suc, ◌+◌, ◌*◌, ◌≤◌, ◌==◌, ◌⊎◌, ⊎_elim, Bool, true, false, not, ◌&&◌, ◌||◌, List, [], ◌∷◌, ◌++◌, length, map, filter, if◌then◌else◌, refl, sym, ap, subst, ◌∙◌, arith, add-one}
+use Rattle.std.specs.Prelude.{◌^◌, Some, slice_get}
 use Rattle.std.specs.List.{list_any, list_all, flat_map}
 use Rattle.std.proofs.lemmas.Bool.{eqb-true, and_parts, and_from, cases_eq}
 use Rattle.std.proofs.lemmas.List.Folds.{list_any-append}
 use Rattle.std.proofs.lemmas.Slice.Eq.{bytes_eq-Decides}
-use Rattle.std.proofs.Math.Nat.{pow-zero, pow-succ', mul-le-mul_left, mul-le-mul_right}
+use Rattle.std.proofs.Math.Nat.{pow-zero, pow-suc, pow-succ', mul_assoc, mul-le-mul_left, mul-le-mul_right}
 use Rattle.isl_meaning.specs.declared.program.GenericRow.{GenericRow}
 use Rattle.isl_meaning.specs.declared.program.MethodRow.{MethodRow}
 use Rattle.isl_meaning.specs.declared.program.ProgramRows.{ProgramRows}
@@ -213,3 +213,19 @@ tuple_combines P g most cs h w =
     omega (arith, tuple_fits P g cs, few, four_times ts, power))
     (λ n. let none : length fit ≡ 0 = ap length (none_applies P cs g.required g.methods a.0 n) in omega (arith, tuple_fits P g cs, none))
     (cases_eq (length cs) g.required)
+
+-- an argument more
+
+pub power_none : (l : ℕ) → 4 ≡ 4 * (l ^ 0)
+power_none l = omega (arith, pow-zero l)
+
+pub power_more : (l k most next : ℕ) → most ≡ 4 * (l ^ k) → next ≡ most * l → next ≡ 4 * (l ^ (k + 1))
+power_more l k most next h e =
+    e ∙ ap (λ m. m * l) h ∙ mul_assoc 4 (l ^ k) l ∙ ap (λ m. 4 * m) (sym (ap (λ n. l ^ n) (add-one k) ∙ pow-suc l k))
+
+-- a generic function among whole ones
+pub whole_at : (gs : List GenericRow) (i : ℕ) (g : GenericRow) → list_all row_is_whole gs ≡ true → slice_get gs i ≡ Some g → row_is_whole g ≡ true
+whole_at [] i g h e = absurd (cc e)
+whole_at (x ∷ gs) zero g h e =
+    let same : x ≡ g = cc e in ap row_is_whole (sym same) ∙ (and_parts _ _ h).0
+whole_at (x ∷ gs) (suc i) g h e = whole_at gs i g (and_parts _ _ h).1 e

@@ -7,3 +7,6 @@ pub mod Counting
 pub mod Beginning
 pub mod Keeping
 pub mod CellBounds
+pub mod Pigeons
+pub mod ChainBounds
+pub mod GroupBounds

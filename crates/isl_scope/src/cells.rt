@@ -128,9 +128,25 @@ fn bounds_of(classes: &Classes) -> Bounds
     }
 }
 
-// No fewer than the groups of classes that the methods tell apart at the argument: where they all have `<object>`, the
-// classes that stand below it and those that do not; else one for each class, or, where it is known how classes stand in
-// front of others, for each method and each class that does not.
+// No fewer than the groups of classes that the methods tell apart at an argument: one for each class; or, where it is known
+// how classes stand in front of others, one for each method and for each class that does not.
+fn most_special(
+    generic: &GenericRow,
+    argument: usize,
+    classes: &Classes,
+    bounds: Option<Bounds>,
+) -> u64
+    requires { IfSome bounds (AreBounds classes.now.rows) }
+    ensures { length (groups (with_classes classes.now.rows) generic.now argument) ≤ result }
+{
+    let most = classes.rows().len() as u64;
+    match bounds {
+        None => most,
+        Some(bounds) => most.min(bounds.turns.saturating_add(generic.methods.len() as u64)),
+    }
+}
+
+// The same where they may all have `<object>`: then there are the classes that stand below it and those that do not.
 fn most_groups(
     generic: &GenericRow,
     argument: usize,
@@ -141,13 +157,11 @@ fn most_groups(
     ensures { length (groups (with_classes classes.now.rows) generic.now argument) ≤ result }
 {
     law_precedence();
-    let most = classes.rows().len() as u64;
-    if !is_specialised(generic, argument) {
-        return 2;
-    }
-    match bounds {
-        None => most,
-        Some(bounds) => most.min(bounds.turns.saturating_add(generic.methods.len() as u64)),
+    let _rows = classes.rows();
+    if is_specialised(generic, argument) {
+        most_special(generic, argument, classes, bounds)
+    } else {
+        2
     }
 }
 
