@@ -15,14 +15,19 @@ ghost use Rattle.isl_drafts.specs.Drafts.{around, Draws};
 use crate::functions::{Functions, Use, Uses, all_functions, slot_functions, some_lacking, uses};
 use crate::slots::{class_parts, slot_specs};
 use crate::supers::{are_supers, few_inherited, known_supers};
+use isl_base::{Datum, Name, Names, NoMemory, Reason};
 use isl_drafts::draft::{DefinedClass, Draft, offence};
 use isl_drafts::here::{Setting, fits_depth};
-use isl_drafts::taken::{defining_offence, generic_named, generic_row, has_function, has_name, is_truth};
-use isl_written::shapes::named;
-use isl_written::slots::{ClassOptions, WrittenSlots, WrittenSupers, are_options, class_options, is_abstract, slots_in, some_left_out, supers_in};
-use isl_written::words::keeps;
-use isl_base::{Datum, Name, Names, NoMemory, Reason};
+use isl_drafts::taken::{
+    defining_offence, generic_named, generic_row, has_function, has_name, is_truth,
+};
 use isl_profile::{NewClass, Tables};
+use isl_written::shapes::named;
+use isl_written::slots::{
+    ClassOptions, WrittenSlots, WrittenSupers, are_options, class_options, is_abstract, slots_in,
+    some_left_out, supers_in,
+};
+use isl_written::words::keeps;
 
 /// What the definition of a class says, apart from its name.
 #[derive(Drop)]

@@ -8,11 +8,11 @@ ghost use Rattle.isl_written.specs.ClassDefinitions.{view_slot_option, view_slot
 ghost use Rattle.isl_class_definitions.specs.Functions.{view_read, view_functions, maybe_use, view_uses};
 ghost use Rattle.isl_drafts.specs.Views.{view_parts};
 
+use isl_base::{Datum, ItemList, Name, NoMemory};
 use isl_drafts::plan::{Part, Parts, Written};
+use isl_profile::{Accessor, SlotFunction, SlotFunctions};
 use isl_written::naming::GivenName;
 use isl_written::slots::{SlotOption, WrittenSlot, WrittenSlots};
-use isl_base::{Datum, ItemList, Name, NoMemory};
-use isl_profile::{Accessor, SlotFunction, SlotFunctions};
 use std::alloc::Global;
 
 /// A function that an option of a slot asks for: an initform, or a method under the name of its generic function.

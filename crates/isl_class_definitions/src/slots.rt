@@ -13,11 +13,11 @@ ghost use Rattle.isl_drafts.specs.Views.{view_parts};
 
 use crate::functions::{functions_of, initform_from, push_parts};
 use crate::supers::{first_unknown, has_name, inherited};
+use isl_base::{Name, NameList, NoMemory, Reason};
+use isl_classes::{SlotSpec, SlotSpecs};
 use isl_drafts::here::Setting;
 use isl_drafts::plan::{Part, Parts};
 use isl_written::slots::{SlotOption, SlotOptions, WrittenSlot, WrittenSlots, WrittenSupers};
-use isl_base::{Name, NameList, NoMemory, Reason};
-use isl_classes::{SlotSpec, SlotSpecs};
 
 // The most slots that a class may have.
 const SLOT_LIMIT: usize = 64;

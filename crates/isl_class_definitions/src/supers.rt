@@ -8,11 +8,11 @@ ghost use Rattle.isl_classes.specs.InheritedSlots.{each_first, same_name};
 ghost use Rattle.isl_profile.specs.ClassRows as row;
 ghost use Rattle.isl_written.specs.ClassDefinitions.{view_super, view_supers};
 
-use isl_drafts::here::Setting;
-use isl_written::slots::{WrittenSuper, WrittenSupers};
 use isl_base::{Name, NameList, NoMemory, Place};
 use isl_classes::Classes;
+use isl_drafts::here::Setting;
 use isl_meaning::ClassIds;
+use isl_written::slots::{WrittenSuper, WrittenSupers};
 
 // The most slots that a class may have.
 const SLOT_LIMIT: usize = 64;

@@ -4,13 +4,13 @@ ghost use Rattle.std.specs.Prelude.{◌≡◌, IfOk};
 ghost use Rattle.isl_profile.specs.DefiningRows as row;
 ghost use Rattle.isl_drafts.specs.Drafts.{around, Draws};
 
+use isl_base::{Datum, Name, NoMemory, Reason};
 use isl_drafts::draft::{Defined, Draft, offence, one_part};
 use isl_drafts::here::{Setting, fits_depth};
 use isl_drafts::plan::{inner_forms, parameter_parts};
 use isl_drafts::taken::{defining_offence, has_global, has_name, is_reserved, is_taken, is_truth};
-use isl_written::shapes::{named, parameters_in};
-use isl_base::{Datum, Name, NoMemory, Reason};
 use isl_profile::{One, Parameters};
+use isl_written::shapes::{named, parameters_in};
 
 /// `(defglobal name x)` and `(defconstant name x)`: a constant is not set before.
 pub fn global_draft<'a>(
@@ -81,11 +81,7 @@ fn defun_with<'a>(
 }
 
 /// `(defun name lambda-list f*)`. The language keeps the name or not.
-pub fn defun_draft<'a>(
-    here: Setting,
-    kept: bool,
-    items: &'a [Datum],
-) -> Result<Draft<'a>, NoMemory>
+pub fn defun_draft<'a>(here: Setting, kept: bool, items: &'a [Datum]) -> Result<Draft<'a>, NoMemory>
     ensures { Draws here.entry
         (row.defun_row kept (around here.entry) here.entry.tables.now here.entry.place items.now) result }
 {

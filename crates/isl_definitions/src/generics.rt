@@ -12,18 +12,18 @@ ghost use Rattle.isl_drafts.specs.Drafts.{around, Draws};
 ghost use Rattle.isl_drafts.specs.Views.{view_parts};
 
 use crate::methods::{fits, push_head, push_method, written_head};
+use isl_base::{Datum, ItemList, Name, Names, NoMemory, Reason};
 use isl_derived::{is_word, list_items};
 use isl_drafts::draft::{DefinedMethods, Draft, offence};
 use isl_drafts::here::{Setting, fits_depth};
 use isl_drafts::plan::Parts;
 use isl_drafts::taken::{defining_offence, is_reserved, is_taken};
+use isl_meaning::{GenericRow, MethodRow, MethodRows};
+use isl_profile::{Heads, Parameters, Taker};
 use isl_written::methods::{WrittenMethod, method_in, some_fresh_class};
 use isl_written::naming::{GivenName, given_name};
 use isl_written::shapes::parameters_in;
 use isl_written::words::keeps;
-use isl_base::{Datum, ItemList, Name, Names, NoMemory, Reason};
-use isl_meaning::{GenericRow, MethodRow, MethodRows};
-use isl_profile::{Heads, Parameters, Taker};
 
 /// An option of the definition of a generic function: none that there is; one that this profile leaves out; the standard
 /// method combination; or a method.

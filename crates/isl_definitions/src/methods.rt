@@ -12,17 +12,20 @@ ghost use Rattle.isl_written.specs.Definitions.{maybe_specialised, view_speciali
 ghost use Rattle.isl_drafts.specs.Drafts.{around, Draws};
 ghost use Rattle.isl_drafts.specs.Views.{view_parts};
 
+use isl_base::{Datum, Name, Names, NoMemory, Reason};
 use isl_derived::is_word;
 use isl_drafts::draft::{DefinedMethods, Draft, offence};
 use isl_drafts::here::{Setting, fits_depth};
 use isl_drafts::plan::{Part, Parts, Written};
 use isl_drafts::taken::{generic_named, generic_row, is_reserved};
-use isl_written::methods::{Specialised, WrittenMethod, classes_asked, first_unknown, may_have_next, method_in, some_fresh_class, specialised_in};
-use isl_written::naming::{GivenName, given_name};
-use isl_written::words::keeps;
-use isl_base::{Datum, Name, Names, NoMemory, Reason};
 use isl_meaning::{ClassIds, GenericId, GenericRow, MethodRow, Qualifier};
 use isl_profile::{Head, Heads, Taker};
+use isl_written::methods::{
+    Specialised, WrittenMethod, classes_asked, first_unknown, may_have_next, method_in,
+    some_fresh_class, specialised_in,
+};
+use isl_written::naming::{GivenName, given_name};
+use isl_written::words::keeps;
 
 // The head of a method, where all of it is known.
 fn head_of(

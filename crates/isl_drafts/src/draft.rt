@@ -96,12 +96,7 @@ pub struct Bindings<'a> {
 }
 
 /// A core form that binds these things inside.
-pub fn made_of<'a>(
-    here: Setting,
-    note: Note,
-    work: Bindings<'a>,
-    making: Making,
-) -> Draft<'a>
+pub fn made_of<'a>(here: Setting, note: Note, work: Bindings<'a>, making: Making) -> Draft<'a>
     requires { here.spot.depth + 1 < 4294967296 }
     ensures { shows here.entry result
         ≡ word.made_of (around here.entry) (at (here.entry.bound.now ++ work.entry.binds) work.entry.inside)
@@ -181,11 +176,7 @@ pub fn made_at_once<'a>(here: Setting, leaf: Leaf) -> Draft<'a>
 }
 
 /// A form with one part.
-pub fn one_part<'a>(
-    here: Setting,
-    kind: One,
-    datum: &'a Datum,
-) -> Result<Draft<'a>, NoMemory>
+pub fn one_part<'a>(here: Setting, kind: One, datum: &'a Datum) -> Result<Draft<'a>, NoMemory>
     ensures { Draws here.entry
         (row.one_part (around here.entry) here.entry.place here.entry.tables.now kind datum.now) result }
 {

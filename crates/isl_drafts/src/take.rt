@@ -256,11 +256,7 @@ fn take_class<'a>(
 }
 
 /// The plan that a draft is for, which lacks no name; after `NoMemory` the tables may have grown.
-pub fn take<'a>(
-    here: Here,
-    tables: &mut Tables,
-    draft: Draft<'a>,
-) -> Result<Plan<'a>, NoMemory>
+pub fn take<'a>(here: Here, tables: &mut Tables, draft: Draft<'a>) -> Result<Plan<'a>, NoMemory>
     requires { is_unnamed (drawn (at here.bound.now here.spot) here.place tables.old draft) ≡ false }
     ensures { IsPlan here.entry.bound.now tables.old tables.new
         (drawn (at here.entry.bound.now here.entry.spot) here.entry.place tables.old draft.entry) result }

@@ -17,25 +17,30 @@ ghost use Rattle.isl_drafts.specs.Drafts.{around, drawn, Draws};
 ghost use Rattle.isl_drafts.specs.Views.{at, shown};
 ghost use Rattle.isl_profile.specs.Marks.{Grows};
 
+use isl_base::{Datum, Kind, Names, NoMemory, Reason, Symbol};
 use isl_class_definitions::classes::defclass_draft;
 use isl_definitions::defining::{defdynamic_draft, defun_draft, global_draft};
 use isl_definitions::generics::defgeneric_draft;
 use isl_definitions::methods::defmethod_draft;
+use isl_derived::{list_items, symbol_text, text_of};
 use isl_drafts::draft::{Draft, offence};
 use isl_drafts::here::{Here, Setting};
 use isl_drafts::plan::Plan;
 use isl_drafts::take::take;
-use isl_special_forms::bindings::{dynamic_let_draft, lambda_draft, let_draft, with_functions_draft};
+use isl_meaning::LiteralRow;
+use isl_profile::{Leaf, Special, Tables, Two, WithBody, special_named};
+use isl_special_forms::bindings::{
+    dynamic_let_draft, lambda_draft, let_draft, with_functions_draft,
+};
 use isl_special_forms::calls::{local_call_draft, named_call_draft, value_call_draft};
 use isl_special_forms::exits::{block_draft, go_draft, return_from_draft, tagbody_draft};
-use isl_special_forms::values::{body_draft, class_draft, cond_draft, dynamic_draft, function_draft, method_draft, progn_draft, quote_draft, set_dynamic_draft, setq_draft, symbol_draft, two_draft};
+use isl_special_forms::values::{
+    body_draft, class_draft, cond_draft, dynamic_draft, function_draft, method_draft, progn_draft,
+    quote_draft, set_dynamic_draft, setq_draft, symbol_draft, two_draft,
+};
 use isl_written::setters::add_setters;
 use isl_written::shapes::symbol_of;
 use isl_written::words::{is_kept, is_left_out, is_reserved_name};
-use isl_base::{Datum, Kind, Names, NoMemory, Reason, Symbol};
-use isl_derived::{list_items, symbol_text, text_of};
-use isl_meaning::LiteralRow;
-use isl_profile::{Leaf, Special, Tables, Two, WithBody, special_named};
 
 // Whether no definition of a file may have the name of the first of these.
 fn first_reserved(names: &Names, items: &[Datum]) -> bool

@@ -9,10 +9,10 @@ ghost use Rattle.isl_profile.specs.Marks.{Grows};
 ghost use Rattle.isl_profile.specs.Rows as row;
 ghost use Rattle.isl_profile.specs.Promises.{Settles, StepsStop, settled_datum};
 
-use isl_written::shapes::symbol_of;
 use isl_base::{Datum, Names, Reason, Refusal, Stop, Symbol};
 use isl_derived::{Step, derive, is_word, list_items};
 use isl_profile::Tables;
+use isl_written::shapes::symbol_of;
 use std::alloc::Global;
 
 // The last datum that steps gave, or the one that they began with.

@@ -143,7 +143,12 @@ impl Kept {
         ensures err { OnErr result (self.new ≡ []) }
     {
         let Formed { core, mentioned } = form;
-        match push(&mut self.found, &mut self.values, Found::Value(core), mentioned) {
+        match push(
+            &mut self.found,
+            &mut self.values,
+            Found::Value(core),
+            mentioned,
+        ) {
             Ok(()) => Ok(()),
             Err(_) => {
                 forget(&mut self.found, &mut self.values, &mut self.bindings);

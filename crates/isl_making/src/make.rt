@@ -65,7 +65,15 @@ fn make(
         Making::OfVariables => make_let(alloc, sorted.bindings, forms),
         Making::OfDynamics(names) => make_dynamics(alloc, &names, forms),
         Making::OfFunction(required, rest, around) => {
-            make_function(alloc, required, rest, &around, sorted.variables, forms, mentioned)
+            make_function(
+                alloc,
+                required,
+                rest,
+                &around,
+                sorted.variables,
+                forms,
+                mentioned,
+            )
         }
         Making::OfBlock(exit) => make_block(alloc, exit, forms),
         Making::OfSegments(exit, lengths) => make_segments(alloc, exit, &lengths, forms),
@@ -126,11 +134,7 @@ fn form_made(
 }
 
 // A form without parts, at its site.
-pub(crate) fn leaf_made(
-    alloc: Global,
-    site: Option<SiteId>,
-    leaf: Leaf,
-) -> Result<Formed, NoMemory>
+pub(crate) fn leaf_made(alloc: Global, site: Option<SiteId>, leaf: Leaf) -> Result<Formed, NoMemory>
     ensures { IfOk result (λ form. form ≡ at_site site (leaf_form leaf)) }
 {
     let form = leaf_form(alloc, leaf);

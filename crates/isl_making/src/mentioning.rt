@@ -25,7 +25,6 @@ fn own_part(form: &Core) -> Option<Part>
     }
 }
 
-
 // What bindings bind is none of them.
 fn unbind_variables(list: &BindingList, inner: &mut Mentioned)
     ensures { AreParts inner.new (λ p. not (owns (variables_bound (bindings_of list.now)) p) && has inner.old p) }

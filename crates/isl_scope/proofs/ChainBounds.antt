@@ -139,9 +139,9 @@ none_filtered q p [] h = refl
 none_filtered q p (x ∷ xs) h =
     elim (p x) as (λ b. list_any q (if b then x ∷ filter p xs else filter p xs) ≡ false) [
       | true ↦ elim (q x) as (λ b. (b || list_any q xs) ≡ false → (b || list_any q (filter p xs)) ≡ false) [
-          | true ↦ λ g. absurd (cc g)
-          | false ↦ λ g. none_filtered q p xs g
-        ] h
+        | true ↦ λ g. absurd (cc g)
+        | false ↦ λ g. none_filtered q p xs g
+      ] h
       | false ↦ none_filtered q p xs (second (q x) (list_any q xs) h)
     ]
 

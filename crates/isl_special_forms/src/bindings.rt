@@ -9,12 +9,12 @@ ghost use Rattle.isl_drafts.specs.Views.{view_parts};
 ghost use Rattle.isl_written.specs.Views.{view_pairs};
 
 use crate::bound::parts_around;
+use isl_base::{Datum, NameList, NoMemory, Reason};
 use isl_drafts::draft::{Bindings, Draft, Note, made_of, made_plain, made_within, offence};
 use isl_drafts::here::{Setting, deeper, fits_depth};
 use isl_drafts::plan::{Part, Parts, inner_forms, parameter_parts, push_below, push_form};
-use isl_written::shapes::{PairList, name_of, pairs_in, parameters_in, symbol_of};
-use isl_base::{Datum, NameList, NoMemory, Reason};
 use isl_profile::{Bound, BoundList, Making};
+use isl_written::shapes::{PairList, name_of, pairs_in, parameters_in, symbol_of};
 use std::alloc::Global;
 
 // Variables with their values.
@@ -90,10 +90,7 @@ fn dynamics<'a>(
 }
 
 /// `(dynamic-let ((v x)*) f*)`: dynamic variables have names.
-pub fn dynamic_let_draft<'a>(
-    here: Setting,
-    items: &'a [Datum],
-) -> Result<Draft<'a>, NoMemory>
+pub fn dynamic_let_draft<'a>(here: Setting, items: &'a [Datum]) -> Result<Draft<'a>, NoMemory>
     ensures { Draws here.entry
         (row.dynamic_let_row (around here.entry) here.entry.tables.now here.entry.place items.now) result }
 {

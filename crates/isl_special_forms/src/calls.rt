@@ -7,13 +7,13 @@ ghost use Rattle.isl_drafts.specs.Drafts.{around, Draws};
 ghost use Rattle.isl_drafts.specs.Views.{view_parts};
 ghost use Rattle.isl_profile.specs.RowWords as word;
 
+use isl_base::{Datum, Name, NoMemory};
 use isl_drafts::draft::{Draft, Note, made_within};
 use isl_drafts::here::Setting;
 use isl_drafts::plan::{Parts, push_form, push_forms};
-use isl_written::primitives::primitive_called;
-use isl_base::{Datum, Name, NoMemory};
 use isl_meaning::{Primitive, Var};
 use isl_profile::{Making, Two};
+use isl_written::primitives::primitive_called;
 
 // All parts stand where the form stands.
 fn all_forms<'a>(here: Setting, items: &'a [Datum]) -> Result<Parts<'a>, NoMemory>

@@ -10,12 +10,12 @@ ghost use Rattle.isl_profile.specs.Shapes.{symbol_of};
 ghost use Rattle.isl_drafts.specs.Drafts.{around, shows, Draws};
 ghost use Rattle.isl_drafts.specs.Views.{view_inner};
 
+use isl_base::{Datum, NoMemory, Reason, Symbol};
 use isl_drafts::draft::{Bindings, Draft, Note, made_at_once, made_of, offence, one_part};
 use isl_drafts::here::{Setting, deeper, fits_depth};
 use isl_drafts::plan::{Inner, Parts, inner_forms};
-use isl_written::shapes::{all_differ, forms_in, lengths_in, symbol_of, tags_in};
-use isl_base::{Datum, NoMemory, Reason, Symbol};
 use isl_profile::{Bound, BoundList, Leaf, Making, One};
+use isl_written::shapes::{all_differ, forms_in, lengths_in, symbol_of, tags_in};
 
 // What is not around, by its symbol: a fresh one is a bad shape.
 fn no_such<'a>(here: Setting, reason: Reason, symbol: Symbol) -> Draft<'a>
@@ -79,10 +79,7 @@ pub fn block_draft<'a>(here: Setting, items: &'a [Datum]) -> Result<Draft<'a>, N
 }
 
 /// `(return-from name x)`
-pub fn return_from_draft<'a>(
-    here: Setting,
-    items: &'a [Datum],
-) -> Result<Draft<'a>, NoMemory>
+pub fn return_from_draft<'a>(here: Setting, items: &'a [Datum]) -> Result<Draft<'a>, NoMemory>
     ensures { Draws here.entry
         (row.return_from_row (around here.entry) here.entry.tables.now here.entry.place items.now) result }
 {

@@ -10,13 +10,13 @@ ghost use Rattle.isl_drafts.specs.Drafts.{around, Draws};
 ghost use Rattle.isl_drafts.specs.Views.{view_parts};
 ghost use Rattle.isl_written.specs.Views.{view_clauses};
 
+use isl_base::{Datum, Kind, Name, NoMemory, Reason, Symbol};
 use isl_drafts::draft::{Draft, Note, made_at_once, made_plain, made_within, offence, one_part};
 use isl_drafts::here::{Setting, deeper_at_top, fits_depth};
 use isl_drafts::plan::{Parts, inner_forms, one_form, push_below, push_form};
-use isl_written::shapes::{Clauses, clauses_in, is_true, name_of, symbol_of};
-use isl_base::{Datum, Kind, Name, NoMemory, Reason, Symbol};
 use isl_meaning::LiteralRow;
 use isl_profile::{BodyLengths, Leaf, Making, One, ReservedWords, Tables, Two, WithBody};
+use isl_written::shapes::{Clauses, clauses_in, is_true, name_of, symbol_of};
 
 // A symbol that no variable around is: a global variable.
 fn free_symbol<'a>(here: Setting, symbol: Symbol) -> Result<Draft<'a>, NoMemory>
@@ -197,11 +197,7 @@ pub fn cond_draft<'a>(here: Setting, items: &'a [Datum]) -> Result<Draft<'a>, No
 }
 
 /// Two forms: `(throw x x)`, `(%apply x x)`.
-pub fn two_draft<'a>(
-    here: Setting,
-    kind: Two,
-    items: &'a [Datum],
-) -> Result<Draft<'a>, NoMemory>
+pub fn two_draft<'a>(here: Setting, kind: Two, items: &'a [Datum]) -> Result<Draft<'a>, NoMemory>
     ensures { Draws here.entry
         (row.two_row kind (around here.entry) here.entry.tables.now here.entry.place items.now) result }
 {
@@ -257,10 +253,7 @@ pub fn dynamic_draft<'a>(here: Setting, items: &'a [Datum]) -> Result<Draft<'a>,
 }
 
 /// `(set-dynamic x v)`
-pub fn set_dynamic_draft<'a>(
-    here: Setting,
-    items: &'a [Datum],
-) -> Result<Draft<'a>, NoMemory>
+pub fn set_dynamic_draft<'a>(here: Setting, items: &'a [Datum]) -> Result<Draft<'a>, NoMemory>
     ensures { Draws here.entry
         (row.set_dynamic_row (around here.entry) here.entry.tables.now here.entry.place items.now) result }
 {
@@ -302,11 +295,7 @@ pub fn function_draft<'a>(here: Setting, items: &'a [Datum]) -> Result<Draft<'a>
 }
 
 /// `(call-next-method)` and `(next-method-p)`, in a method that may have a next one.
-pub fn method_draft<'a>(
-    here: Setting,
-    leaf: Leaf,
-    items: &[Datum],
-) -> Result<Draft<'a>, NoMemory>
+pub fn method_draft<'a>(here: Setting, leaf: Leaf, items: &[Datum]) -> Result<Draft<'a>, NoMemory>
     ensures { Draws here.entry
         (row.method_row leaf (around here.entry) here.entry.tables.now here.entry.place items.now) result }
 {

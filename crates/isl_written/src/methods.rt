@@ -8,9 +8,9 @@ ghost use Rattle.isl_profile.specs.Shapes.{symbol_of, parameter_in};
 ghost use Rattle.isl_written.specs.Definitions.{view_asked, view_all_asked, maybe_asked, maybe_taken, view_specialised, maybe_specialised, maybe_method};
 
 use crate::shapes::{all_differ, all_symbols, behind_rest, is_rest_word, parameter_in, symbol_of};
-use isl_derived::{is_word, list_items};
 use isl_base::{Datum, FreshList, ItemList, Name, Names, NoMemory, Place, Symbol};
 use isl_classes::Classes;
+use isl_derived::{is_word, list_items};
 use isl_meaning::{ClassId, ClassIds, Qualifier};
 use isl_profile::{Parameters, ReservedWords};
 use std::alloc::Global;

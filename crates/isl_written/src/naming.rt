@@ -9,8 +9,8 @@ ghost use Rattle.isl_written.specs.Definitions.{borrowed, view_given, made_of_te
 ghost use Rattle.isl_written.specs.Lacking.{text_to_set, operator_in};
 
 use crate::shapes::symbol_of;
-use isl_derived::{is_word, list_items, symbol_text};
 use isl_base::{Bytes, Datum, Name, Names, NoMemory, Symbol};
+use isl_derived::{is_word, list_items, symbol_text};
 use std::alloc::Global;
 
 // The longest name that a name `(setf s)` is made of.

@@ -11,8 +11,8 @@ ghost use Rattle.isl_written.specs.Lacking.{HasNames, setter_lacks, name_lacks, 
 
 use crate::naming::{operator_in, setter_text};
 use crate::shapes::symbol_of;
-use isl_derived::{is_word, list_items, symbol_text};
 use isl_base::{Datum, Names, NoMemory};
+use isl_derived::{is_word, list_items, symbol_text};
 use isl_profile::{Special, special_named};
 use std::alloc::Global;
 

@@ -316,10 +316,7 @@ fn clause_in<'a>(datum: &'a Datum) -> Option<ClauseParts<'a>>
 }
 
 /// The clauses that these data are.
-pub fn clauses_in<'a>(
-    alloc: Global,
-    items: &'a [Datum],
-) -> Result<Option<Clauses<'a>>, NoMemory>
+pub fn clauses_in<'a>(alloc: Global, items: &'a [Datum]) -> Result<Option<Clauses<'a>>, NoMemory>
     ensures { IfOk result (λ found. maybe_clauses found ≡ clauses_in items.now) }
 {
     let mut clauses = Clauses::new(alloc);
@@ -346,10 +343,7 @@ pub fn tags_in(alloc: Global, items: &[Datum]) -> Result<FreshList, NoMemory>
 }
 
 /// Its forms.
-pub fn forms_in<'a>(
-    alloc: Global,
-    items: &'a [Datum],
-) -> Result<ItemList<&'a Datum>, NoMemory>
+pub fn forms_in<'a>(alloc: Global, items: &'a [Datum]) -> Result<ItemList<&'a Datum>, NoMemory>
     ensures { IfOk result (λ forms. data_of forms ≡ forms_in items.now) }
 {
     let mut forms = ItemList::new(alloc);

@@ -11,8 +11,8 @@ ghost use Rattle.isl_written.specs.Definitions.{view_given};
 
 use crate::naming::{GivenName, given_name, setter_of};
 use crate::shapes::{name_of, symbol_of};
-use isl_derived::{is_word, list_items};
 use isl_base::{Datum, ItemList, Kind, Name, Names, NoMemory, Place, Symbol};
+use isl_derived::{is_word, list_items};
 use isl_profile::Accessor;
 use std::alloc::Global;
 

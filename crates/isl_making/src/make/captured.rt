@@ -9,7 +9,11 @@ use isl_meaning::PartList;
 use std::alloc::Global;
 
 /// Those of these parts, in their order, that the body mentions.
-pub(crate) fn captured(alloc: Global, around: &PartList, body: &Mentioned) -> Result<PartList, NoMemory>
+pub(crate) fn captured(
+    alloc: Global,
+    around: &PartList,
+    body: &Mentioned,
+) -> Result<PartList, NoMemory>
     ensures { IfOk result (λ parts. parts ≡ filter (has body.now) around.now) }
 {
     let mut parts = PartList::new(alloc);

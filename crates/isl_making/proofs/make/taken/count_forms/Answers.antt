@@ -12,11 +12,11 @@ loop-part-preserved c =
     read_there c.args.found.now c.as_slice-part-items.result.now c.loop-part.part-index c.part-item.result c.as_slice-part-items.ensures c.loop-part-test.true c.part-item.is in
     elim c.if-is_form.branch [
       | then-is_form w ↦ record {
-          counted = w.count-is ∙ form_counted c.args.found.now c.loop-part.part-index c.loop-part.count c.part-item.result there (sym c.is_form.ensures ∙ w.if-is_form.true) c.loop-part.invariant.counted;
-          below = omega (arith, w.count-is, c.loop-part.invariant.below);
-        }
+        counted = w.count-is ∙ form_counted c.args.found.now c.loop-part.part-index c.loop-part.count c.part-item.result there (sym c.is_form.ensures ∙ w.if-is_form.true) c.loop-part.invariant.counted;
+        below = omega (arith, w.count-is, c.loop-part.invariant.below);
+      }
       | else-is_form w ↦ record {
-          counted = w.count-is ∙ none_counted c.args.found.now c.loop-part.part-index c.loop-part.count c.part-item.result there (sym c.is_form.ensures ∙ w.if-is_form.false) c.loop-part.invariant.counted;
-          below = omega (arith, w.count-is, c.loop-part.invariant.below);
-        }
+        counted = w.count-is ∙ none_counted c.args.found.now c.loop-part.part-index c.loop-part.count c.part-item.result there (sym c.is_form.ensures ∙ w.if-is_form.false) c.loop-part.invariant.counted;
+        below = omega (arith, w.count-is, c.loop-part.invariant.below);
+      }
     ]
