@@ -11,7 +11,7 @@ use Rattle.isl_primitives.specs.declared.group.Kind.TheVariants as kind
 use Rattle.isl_primitives.specs.declared.group.Part.{Part}
 use Rattle.isl_primitives.specs.declared.group.Part.TheVariants as part
 use Rattle.isl_primitives.specs.declared.group.Length.{Length}
-use Rattle.isl_primitives.specs.declared.group.Length.TheVariants as length
+use Rattle.isl_primitives.specs.declared.group.Length.TheVariants as measured
 use Rattle.isl_primitives.specs.declared.group.Element.{Element}
 use Rattle.isl_primitives.specs.declared.group.Element.TheVariants as element
 use Rattle.isl_primitives.specs.declared.group.ElementSet.{ElementSet}
@@ -63,9 +63,9 @@ part_of part.CodeChar = p.CodeChar
 part_of part.SymbolSerial = p.SymbolSerial
 
 abbrev pub length_primitive_of : Length → Primitive
-length_primitive_of length.String = p.StringLength
-length_primitive_of length.Vector = p.VectorLength
-length_primitive_of length.Slots = p.SlotCount
+length_primitive_of measured.String = p.StringLength
+length_primitive_of measured.Vector = p.VectorLength
+length_primitive_of measured.Slots = p.SlotCount
 
 abbrev pub element_of : Element → Primitive
 element_of element.CharAt = p.CharAt
