@@ -1,5 +1,5 @@
 -- No fewer than the cells of dispatch tables: groups of classes, combinations of groups, and methods that apply.
-use Rattle.std.proofs.Common.{◌≡◌, ℕ, suc, ◌+◌, ◌-◌, ◌*◌, ◌==◌, ◌<◌, ◌≤◌, ◌⊎◌, inl, inr, ⊎_elim, Bool, true, false, not, ◌&&◌, ◌||◌, cond, List, [], ◌∷◌, ◌++◌, length, map, filter, Option, Some, None, IfSome, slice_get, drop, if◌then◌else◌, refl, ap, sym, subst, ◌∙◌, arith, length-append}
+use Rattle.std.proofs.Common.{◌≡◌, ℕ, suc, ◌+◌, ◌-◌, ◌*◌, ◌==◌, ◌<◌, ◌≤◌, ◌⊎◌, inl, inr, ⊎_elim, Bool, true, false, not, ◌&&◌, ◌||◌, cond, List, [], ◌∷◌, ◌++◌, length, map, filter, Option, Some, None, IfSome, slice_get, drop, if◌then◌else◌, refl, ap, sym, ◌∙◌, arith, length-append}
 use Rattle.std.specs.List.{range_with_len, list_any, sum_by, flat_map}
 use Rattle.std.specs.Prelude.{slice_index_or}
 use Rattle.std.specs.Str.{bytes_eq}
@@ -24,15 +24,15 @@ use Rattle.isl_scope.specs.Scopes.{cells_of}
 -- ---- groups: at most one for each class
 
 -- one that was seen is no new one
-abbrev pub new_of : Bool → ℕ
+abbrev new_of : Bool → ℕ
 new_of true = 0
 new_of false = 1
 
-pub front : (b : Bool) (c : ℕ) (xs : List ℕ) → length ((if b then [] else c ∷ []) ++ xs) ≡ new_of b + length xs
+front : (b : Bool) (c : ℕ) (xs : List ℕ) → length ((if b then [] else c ∷ []) ++ xs) ≡ new_of b + length xs
 front true c xs = omega arith
 front false c xs = omega arith
 
-pub one_at_most : (b : Bool) → new_of b ≤ 1
+one_at_most : (b : Bool) → new_of b ≤ 1
 one_at_most true = omega arith
 one_at_most false = omega arith
 
@@ -88,7 +88,7 @@ and_second : (a b : Bool) → (not a && b) ≡ true → b ≡ true
 and_second true b h = absurd (cc h)
 and_second false b h = h
 
-pub kept : (b : Bool) (x : ℕ) (p : ℕ → Bool) (xs : List ℕ) → p x ≡ b → filter p (x ∷ xs) ≡ (if b then x ∷ filter p xs else filter p xs)
+kept : (b : Bool) (x : ℕ) (p : ℕ → Bool) (xs : List ℕ) → p x ≡ b → filter p (x ∷ xs) ≡ (if b then x ∷ filter p xs else filter p xs)
 kept b x p xs h = ap (λ v. if v then x ∷ filter p xs else filter p xs) h
 
 none_kept : (p : ℕ → Bool) (xs : List ℕ) → ((d : ℕ) → p d ≡ true → d ≡ 0) → list_any (λ y. 0 == y) xs ≡ false → filter p xs ≡ []
@@ -155,7 +155,7 @@ specialised_few P g argument =
 
 -- ---- combinations of groups
 
-pub fan_length : (cs : List ℕ) (ts : List (List ℕ)) → length (flat_map (λ c. map (λ tuple. c ∷ tuple) ts) cs) ≡ length cs * length ts
+fan_length : (cs : List ℕ) (ts : List (List ℕ)) → length (flat_map (λ c. map (λ tuple. c ∷ tuple) ts) cs) ≡ length cs * length ts
 fan_length [] ts = omega arith
 fan_length (c ∷ cs) ts =
     omega (
@@ -231,21 +231,13 @@ ordered_length : (b : MethodRow → MethodRow → Bool) (ms : List MethodRow) �
 ordered_length b [] = refl
 ordered_length b (m ∷ ms) = among_length b m (ordered b ms) ∙ ap suc (ordered_length b ms)
 
--- a tuple has one cell, and one for each method that applies, at most
-pub tuple_fits : (P : ProgramRows) (g : GenericRow) (cs : List ℕ) → tuple_cells P g cs ≤ length (filter (λ m. applies P cs m.classes) g.methods) + 1
-tuple_fits P g cs =
+tuple_few : (P : ProgramRows) (g : GenericRow) (cs : List ℕ) → tuple_cells P g cs ≤ length g.methods + 1
+tuple_few P g cs =
     let fit : List MethodRow = filter (λ m. applies P cs m.classes) g.methods in
     omega (
       arith,
       chain_few (applicable P cs g.methods) (of_kind Primary (applicable P cs g.methods)) refl,
       ordered_length (λ m n. more_specific P cs m.classes n.classes) fit,
-    )
-
-pub tuple_few : (P : ProgramRows) (g : GenericRow) (cs : List ℕ) → tuple_cells P g cs ≤ length g.methods + 1
-tuple_few P g cs =
-    omega (
-      arith,
-      tuple_fits P g cs,
       length-filter (λ m. applies P cs m.classes) g.methods,
       count_by-le-length (λ m. applies P cs m.classes) g.methods,
     )
@@ -256,17 +248,18 @@ sum_few : {X : Type 0} (f : X → ℕ) (k : ℕ) (xs : List X) → ((x : X) → 
 sum_few f k [] h = omega arith
 sum_few f k (x ∷ xs) h = omega (arith, sum_by-cons f x xs, h x, sum_few f k xs h)
 
-pub generic_few : (P : ProgramRows) (g : GenericRow) (maps chains tuples_most product most : ℕ) → maps ≡ length P.classes * g.required → ((cs : List ℕ) → tuple_cells P g cs ≤ chains) →
+pub generic_few : (P : ProgramRows) (g : GenericRow) (maps chains tuples_most product most : ℕ) → maps ≡ length P.classes * g.required → chains ≡ length g.methods + 1 →
     length (tuples_from P g 0 g.required) ≤ tuples_most → product ≡ tuples_most * chains → most ≡ maps + product → generic_cells P g ≤ most
 generic_few P g maps chains tuples_most product most m c t p s =
     let range : List ℕ = range_with_len 0 g.required in
     let specialised : length (filter (is_specialised g) range) ≤ g.required =
     omega (arith, length-filter (is_specialised g) range, count_by-le-length (is_specialised g) range, length-range_with_len 0 g.required) in
     let first : length P.classes * length (filter (is_specialised g) range) ≤ length P.classes * g.required = mul-le-mul_left (length P.classes) specialised in
-    let each : sum_by (tuple_cells P g) (tuples_from P g 0 g.required) ≤ length (tuples_from P g 0 g.required) * chains =
-    sum_few (tuple_cells P g) chains (tuples_from P g 0 g.required) c in
-    let second : length (tuples_from P g 0 g.required) * chains ≤ tuples_most * chains = mul-le-mul_right chains t in
-    omega (arith, first, each, second, p, m, s)
+    let each : sum_by (tuple_cells P g) (tuples_from P g 0 g.required) ≤ length (tuples_from P g 0 g.required) * (length g.methods + 1) =
+    sum_few (tuple_cells P g) (length g.methods + 1) (tuples_from P g 0 g.required) (tuple_few P g) in
+    let second : length (tuples_from P g 0 g.required) * (length g.methods + 1) ≤ tuples_most * (length g.methods + 1) = mul-le-mul_right (length g.methods + 1) t in
+    let third : product ≡ tuples_most * (length g.methods + 1) = p ∙ ap (λ n. tuples_most * n) c in
+    omega (arith, first, each, second, third, m, s)
 
 -- a generic function more
 pub one_generic_more : (t : Tables) (at : ℕ) (g : GenericRow) (most few next : ℕ) → slice_get t.generics at ≡ Some g →
@@ -280,7 +273,3 @@ one_generic_more t at g most few next there enough same h =
 pub some_as : (r : Option ℕ) (P Q : ℕ → Type 0) → ((n : ℕ) → P n → Q n) → IfSome r P → IfSome r Q
 some_as None P Q f h = tt
 some_as (Some n) P Q f h = f n h
-
--- of a value that is there
-pub some_of : {X : Type 0} (r : Option X) (x : X) (P : X → Type 0) → r ≡ Some x → IfSome r P → P x
-some_of r x P e h = subst (λ (o : Option _). IfSome o P) e h

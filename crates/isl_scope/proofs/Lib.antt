@@ -7,6 +7,3 @@ pub mod Counting
 pub mod Beginning
 pub mod Keeping
 pub mod CellBounds
-pub mod Pigeons
-pub mod ChainBounds
-pub mod GroupBounds

@@ -1,6 +1,5 @@
 -- No fewer than its maps and its chains.
-use Rattle.std.proofs.Common.{◌≡◌, ℕ, ◌+◌, ◌*◌, ◌≤◌, List, length, IfSome, rules}
-use Rattle.isl_meaning.specs.Cells.{tuple_cells}
+use Rattle.std.proofs.Common.{◌≡◌, ◌+◌, ◌*◌, length, IfSome, rules}
 use Rattle.isl_dispatch.specs.OfClasses.{with_classes}
 use Rattle.isl_scope.proofs.CellBounds.{generic_few, some_as}
 use Rattle.isl_scope.proofs.cells.most_generic_cells.Goals as goal
@@ -8,10 +7,10 @@ use Rattle.isl_scope.proofs.cells.most_generic_cells.Goals as goal
 pub returns : goal.returns
 returns c =
     let maps : c.in_ok-maps.maps ≡ length c.args.classes.now.rows * c.args.generic.now.required = search rules in
-    let chains : c.in_ok-chains.chains ≡ c.most_applicable.result + 1 = search rules in
+    let chains : c.in_ok-chains.chains ≡ length c.args.generic.now.methods + 1 = search rules in
     let product : c.in_ok-product.product ≡ c.in_ok-most_tuples.field-0 * c.in_ok-chains.chains = search rules in
     let most : IfSome c.checked_add-2.result (λ n. n ≡ c.in_ok-maps.maps + c.in_ok-product.product) = search rules in
     some_as c.checked_add-2.result _ _
     (λ n same. generic_few (with_classes c.args.classes.now.rows) c.args.generic.now c.in_ok-maps.maps c.in_ok-chains.chains c.in_ok-most_tuples.field-0
-    c.in_ok-product.product n maps (λ cs. rw chains (c.most_applicable.ensures cs)) c.in_ok-most_tuples.ensures product same)
+    c.in_ok-product.product n maps chains c.in_ok-most_tuples.ensures product same)
     most
