@@ -42,7 +42,7 @@ use Rattle.isl_primitives.specs.Words.{HasSymbol, spelt_of}
 use Rattle.isl_primitives.specs.Classing.{HasClassOf}
 use Rattle.isl_primitives.specs.Searching.{IsWalk}
 use Rattle.isl_primitives.specs.Charging.{IsCharged, IsSpent, IsPlaceTold, IsNoPlaceTold}
-use Rattle.isl_primitives.specs.Computed.{IsFitted, IsComputed, HasWalk, IsNamed, IsSlotPast, IsSlotFound, IsSlotMissing, HasPlace, IsBelow}
+use Rattle.isl_primitives.specs.Computed.{IsFitted, IsAlwaysComputed, HasWalk, IsNamed, IsSlotPast, IsSlotFound, IsSlotMissing, HasPlace, IsBelow}
 use Rattle.isl_primitives.proofs.Placing.{carried_told}
 use Rattle.isl_primitives.proofs.Looking.{read_computed, same_answer}
 
@@ -117,35 +117,37 @@ below_spent p c d w s t h x y = record {
       (spent_comes names limit s t b (truth_answer w.found) w.passed h y);
 }
 
-pub subclass_found : (p : Primitives) (limit : Option ℕ) (s t : Store) (w v : Word) (c d : ℕ) (r : Result Answer Halt) → HasClass s w (Some c) → HasClass s v (Some d) → IsBelow p c d s t r
-    → IsComputed p limit the.IsSubclass (w ∷ v ∷ []) s t r
-subclass_found p limit s t w v c d r h k x = record { comes = λ names rows b f. rw (h.seen names b, k.seen names b) (x.comes names rows b limit f) }
+pub subclass_found : (p : Primitives) (s t : Store) (w v : Word) (c d : ℕ) (r : Result Answer Halt) → HasClass s w (Some c) → HasClass s v (Some d) → IsBelow p c d s t r
+    → IsAlwaysComputed p the.IsSubclass (w ∷ v ∷ []) s t r
+subclass_found p s t w v c d r h k x = record { always = λ limit. record { comes = λ names rows b f. rw (h.seen names b, k.seen names b) (x.comes names rows b limit f) } }
 
-pub no_first_class : (p : Primitives) (limit : Option ℕ) (s : Store) (w v : Word) → HasClass s w None → IsComputed p limit the.IsSubclass (w ∷ v ∷ []) s s (Ok (DomainError w 16))
-no_first_class p limit s w v h = read_computed p limit the.IsSubclass (w ∷ v ∷ []) s (DomainError w 16) (record { told = λ names rows b f. rw (h.seen names b) refl })
+pub no_first_class : (p : Primitives) (s : Store) (w v : Word) → HasClass s w None → IsAlwaysComputed p the.IsSubclass (w ∷ v ∷ []) s s (Ok (DomainError w 16))
+no_first_class p s w v h = record { always = λ limit. read_computed p limit the.IsSubclass (w ∷ v ∷ []) s (DomainError w 16) (record { told = λ names rows b f. rw (h.seen names b) refl }) }
 
-pub no_second_class : (p : Primitives) (limit : Option ℕ) (s : Store) (w v : Word) (c : ℕ) → HasClass s w (Some c) → HasClass s v None
-    → IsComputed p limit the.IsSubclass (w ∷ v ∷ []) s s (Ok (DomainError v 16))
-no_second_class p limit s w v c h k = read_computed p limit the.IsSubclass (w ∷ v ∷ []) s (DomainError v 16) (record { told = λ names rows b f. rw (h.seen names b, k.seen names b) refl })
+pub no_second_class : (p : Primitives) (s : Store) (w v : Word) (c : ℕ) → HasClass s w (Some c) → HasClass s v None
+    → IsAlwaysComputed p the.IsSubclass (w ∷ v ∷ []) s s (Ok (DomainError v 16))
+no_second_class p s w v c h k = record { always = λ limit. read_computed p limit the.IsSubclass (w ∷ v ∷ []) s (DomainError v 16) (record { told = λ names rows b f. rw (h.seen names b, k.seen names b) refl }) }
 
 instance_form : (names : List (List ℕ)) (rows : ProgramRows) (s : Store) (b : Beside) (w v : Word) (d : ℕ) → HasClass s v (Some d)
     → primitive names rows the.IsInstance (values_of names (w ∷ v ∷ [])) (state_of names s b)
     ≡ says (is_below rows (class_of (state_of names s b) (value_of_word names w)) d) (base.charged (passed (λ e. d == e) (precedence rows (class_of (state_of names s b) (value_of_word names w)))) (state_of names s b))
 instance_form names rows s b w v d k = rw (k.seen names b) refl
 
-pub instance_found : (p : Primitives) (limit : Option ℕ) (s t : Store) (w v : Word) (c d : ℕ) (r : Result Answer Halt) → HasClassOf s w c → HasClass s v (Some d) → IsBelow p c d s t r
-    → IsComputed p limit the.IsInstance (w ∷ v ∷ []) s t r
-instance_found p limit s t w v c d r h k x = record {
-  comes = λ names rows b f.
-      same_answer names limit s t b r (primitive names rows the.IsInstance (values_of names (w ∷ v ∷ [])) (state_of names s b))
-      (says (is_below rows c d) (base.charged (passed (λ e. d == e) (precedence rows c)) (state_of names s b)))
-      (instance_form names rows s b w v d k
-      ∙ ap (λ q. says (is_below rows q d) (base.charged (passed (λ e. d == e) (precedence rows q)) (state_of names s b))) (h.seen names b))
-      (x.comes names rows b limit f);
+pub instance_found : (p : Primitives) (s t : Store) (w v : Word) (c d : ℕ) (r : Result Answer Halt) → HasClassOf s w c → HasClass s v (Some d) → IsBelow p c d s t r
+    → IsAlwaysComputed p the.IsInstance (w ∷ v ∷ []) s t r
+instance_found p s t w v c d r h k x = record {
+  always = λ limit. record {
+    comes = λ names rows b f.
+        same_answer names limit s t b r (primitive names rows the.IsInstance (values_of names (w ∷ v ∷ [])) (state_of names s b))
+        (says (is_below rows c d) (base.charged (passed (λ e. d == e) (precedence rows c)) (state_of names s b)))
+        (instance_form names rows s b w v d k
+        ∙ ap (λ q. says (is_below rows q d) (base.charged (passed (λ e. d == e) (precedence rows q)) (state_of names s b))) (h.seen names b))
+        (x.comes names rows b limit f);
+  };
 }
 
-pub no_class_of_instance : (p : Primitives) (limit : Option ℕ) (s : Store) (w v : Word) → HasClass s v None → IsComputed p limit the.IsInstance (w ∷ v ∷ []) s s (Ok (DomainError v 16))
-no_class_of_instance p limit s w v k = read_computed p limit the.IsInstance (w ∷ v ∷ []) s (DomainError v 16) (record { told = λ names rows b f. rw (k.seen names b) refl })
+pub no_class_of_instance : (p : Primitives) (s : Store) (w v : Word) → HasClass s v None → IsAlwaysComputed p the.IsInstance (w ∷ v ∷ []) s s (Ok (DomainError v 16))
+no_class_of_instance p s w v k = record { always = λ limit. read_computed p limit the.IsInstance (w ∷ v ∷ []) s (DomainError v 16) (record { told = λ names rows b f. rw (k.seen names b) refl }) }
 
 -- slots by their names
 
@@ -278,17 +280,19 @@ place_answer : (names : List (List ℕ)) (rows : ProgramRows) (s : Store) (b : B
     → primitive names rows the.SlotPlace (values_of names (w ∷ v ∷ [])) (state_of names s b) ≡ slot_place (slots rows i.class) (is_slot names (spelt_of names x)) (state_of names s b)
 place_answer names rows s b w v i x h k = rw (h.seen names b, k.seen names b) refl
 
-pub place_found : (p : Primitives) (limit : Option ℕ) (s t : Store) (w v : Word) (i : Instance) (x : SpeltWord) (r : Result Answer Halt) → HasInstance s w (Some i) → HasSymbol s v (Some x)
-    → HasPlace p i.class x s t r → IsComputed p limit the.SlotPlace (w ∷ v ∷ []) s t r
-place_found p limit s t w v i x r h k y = record {
-  comes = λ names rows b f.
-      same_answer names limit s t b r (primitive names rows the.SlotPlace (values_of names (w ∷ v ∷ [])) (state_of names s b)) (slot_place (slots rows i.class) (is_slot names (spelt_of names x)) (state_of names s b))
-      (place_answer names rows s b w v i x h k) (y.comes names rows b limit f);
+pub place_found : (p : Primitives) (s t : Store) (w v : Word) (i : Instance) (x : SpeltWord) (r : Result Answer Halt) → HasInstance s w (Some i) → HasSymbol s v (Some x)
+    → HasPlace p i.class x s t r → IsAlwaysComputed p the.SlotPlace (w ∷ v ∷ []) s t r
+place_found p s t w v i x r h k y = record {
+  always = λ limit. record {
+    comes = λ names rows b f.
+        same_answer names limit s t b r (primitive names rows the.SlotPlace (values_of names (w ∷ v ∷ [])) (state_of names s b)) (slot_place (slots rows i.class) (is_slot names (spelt_of names x)) (state_of names s b))
+        (place_answer names rows s b w v i x h k) (y.comes names rows b limit f);
+  };
 }
 
-pub no_instance_place : (p : Primitives) (limit : Option ℕ) (s : Store) (w v : Word) → HasInstance s w None → IsComputed p limit the.SlotPlace (w ∷ v ∷ []) s s (Ok (DomainError w 17))
-no_instance_place p limit s w v h = read_computed p limit the.SlotPlace (w ∷ v ∷ []) s (DomainError w 17) (record { told = λ names rows b f. rw (h.seen names b) refl })
+pub no_instance_place : (p : Primitives) (s : Store) (w v : Word) → HasInstance s w None → IsAlwaysComputed p the.SlotPlace (w ∷ v ∷ []) s s (Ok (DomainError w 17))
+no_instance_place p s w v h = record { always = λ limit. read_computed p limit the.SlotPlace (w ∷ v ∷ []) s (DomainError w 17) (record { told = λ names rows b f. rw (h.seen names b) refl }) }
 
-pub no_symbol_place : (p : Primitives) (limit : Option ℕ) (s : Store) (w v : Word) (i : Instance) → HasInstance s w (Some i) → HasSymbol s v None
-    → IsComputed p limit the.SlotPlace (w ∷ v ∷ []) s s (Ok (DomainError v 10))
-no_symbol_place p limit s w v i h k = read_computed p limit the.SlotPlace (w ∷ v ∷ []) s (DomainError v 10) (record { told = λ names rows b f. rw (h.seen names b, k.seen names b) refl })
+pub no_symbol_place : (p : Primitives) (s : Store) (w v : Word) (i : Instance) → HasInstance s w (Some i) → HasSymbol s v None
+    → IsAlwaysComputed p the.SlotPlace (w ∷ v ∷ []) s s (Ok (DomainError v 10))
+no_symbol_place p s w v i h k = record { always = λ limit. read_computed p limit the.SlotPlace (w ∷ v ∷ []) s (DomainError v 10) (record { told = λ names rows b f. rw (h.seen names b, k.seen names b) refl }) }

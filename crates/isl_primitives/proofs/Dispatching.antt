@@ -47,7 +47,7 @@ use Rattle.isl_primitives.specs.Reading.{IsRead, is_kind, IsOfKind, IsSlotAt, Is
 use Rattle.isl_primitives.specs.Setting.{IsSet}
 use Rattle.isl_primitives.specs.Done.{IsDone}
 use Rattle.isl_primitives.specs.Classing.{HasClassOf}
-use Rattle.isl_primitives.specs.Computed.{IsReadBy, IsComputed}
+use Rattle.isl_primitives.specs.Computed.{IsAlwaysComputed, IsReadBy, IsComputed}
 use Rattle.isl_primitives.proofs.Placing.{told_done, read_done, set_done}
 use Rattle.isl_primitives.proofs.Looking as looking
 
@@ -56,6 +56,12 @@ done_computed p limit which ws s t r x = looking.done_computed p limit which ws 
 
 pub set_computed : (p : Primitives) (limit : Option ℕ) (which : Primitive) (ws : List Word) (s t : Store) (a : Answer) → IsSet which ws s t a → IsComputed p limit which ws s t (Ok a)
 set_computed p limit which ws s t a x = looking.done_computed p limit which ws s t (Ok a) (set_done limit which ws s t a x)
+
+pub set_always : (p : Primitives) (which : Primitive) (ws : List Word) (s t : Store) (a : Answer) → IsSet which ws s t a → IsAlwaysComputed p which ws s t (Ok a)
+set_always p which ws s t a x = record { always = λ limit. set_computed p limit which ws s t a x }
+
+pub always_computed : (p : Primitives) (limit : Option ℕ) (which : Primitive) (ws : List Word) (s t : Store) (r : Result Answer Halt) → IsAlwaysComputed p which ws s t r → IsComputed p limit which ws s t r
+always_computed p limit which ws s t r x = x.always limit
 
 pub read_done_computed : (p : Primitives) (limit : Option ℕ) (which : Primitive) (ws : List Word) (s : Store) (a : Answer) → IsRead which ws s a → IsComputed p limit which ws s s (Ok a)
 read_done_computed p limit which ws s a x = looking.done_computed p limit which ws s s (Ok a) (read_done limit which ws s a x)

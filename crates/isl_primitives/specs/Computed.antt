@@ -42,6 +42,10 @@ pub record IsComputed (p : Primitives) (limit : Option ℕ) (which : Primitive) 
   pub comes : (names : List (List ℕ)) (rows : ProgramRows) (b : Beside) → IsFitted names rows p
       → Comes names r (seen names new b) (carried_out (limit_of limit) (primitive names rows which (values_of names arguments) (state_of names old b)) (seen names old b))
 
+-- however many words there are
+pub record IsAlwaysComputed (p : Primitives) (which : Primitive) (arguments : List Word) (old new : Store) (r : Result Answer Halt) : Type 0 where
+  pub always : (limit : Option ℕ) → IsComputed p limit which arguments old new r
+
 -- whether a class is below `<serious-condition>`
 pub record IsSerious (p : Primitives) (c : ℕ) (r : Bool) : Type 0 where
   pub seen : (names : List (List ℕ)) (rows : ProgramRows) → IsFitted names rows p → is_below rows c serious_condition_class ≡ r

@@ -2,7 +2,7 @@
 
 ghost use Rattle.std.specs.Prelude.{◌≡◌, false, [], ◌∷◌};
 ghost use Rattle.isl_primitives.specs.Groups.{is_streaming, zero_of, one_of, two_of, element_set_of};
-ghost use Rattle.isl_primitives.specs.Computed.{IsComputed, IsReadBy};
+ghost use Rattle.isl_primitives.specs.Computed.{IsComputed, IsAlwaysComputed, IsReadBy};
 ghost use Rattle.isl_meaning.specs.declared.primitive.Primitive.TheVariants as the;
 
 use crate::answer::Answer;
@@ -45,7 +45,7 @@ impl<'p> Primitives<'p> {
                 _ => Ok(Answer::Gives(Word::Nil)),
             },
             Group::Three(three) => match arguments {
-                [value, word, place] => self.three(store, limit, three, *value, *word, *place),
+                [value, word, place] => self.three(store, three, *value, *word, *place),
                 _ => Ok(Answer::Gives(Word::Nil)),
             },
             Group::Stream(_stream) => unreachable!(),
@@ -91,7 +91,7 @@ impl<'p> Primitives<'p> {
     }
 
     // A primitive of two arguments.
-    #[tactic(auto, using(crate::proofs::Dispatching::told_computed, crate::proofs::Dispatching::same_computed, crate::proofs::Dispatching::read_done_computed, crate::proofs::Dispatching::read_by_computed, crate::proofs::Dispatching::set_computed, crate::proofs::Dispatching::done_computed))]
+    #[tactic(auto, using(crate::proofs::Dispatching::told_computed, crate::proofs::Dispatching::same_computed, crate::proofs::Dispatching::read_done_computed, crate::proofs::Dispatching::read_by_computed, crate::proofs::Dispatching::set_computed, crate::proofs::Dispatching::done_computed, crate::proofs::Dispatching::always_computed))]
     fn two(
         &self,
         store: &mut Store<'_>,
@@ -114,22 +114,21 @@ impl<'p> Primitives<'p> {
             Two::Cons => cons(store, limit, word, other),
             Two::MakeString => make_string(self.alloc, store, limit, word, other),
             Two::MakeVector => make_vector(self.alloc, store, limit, word, other),
-            Two::Search(which) => self.search(store, limit, which, word, other),
+            Two::Search(which) => self.search(store, which, word, other),
         }
     }
 
     // A primitive of three arguments.
-    #[tactic(auto, using(crate::proofs::Dispatching::set_computed))]
+    #[tactic(auto, using(crate::proofs::Dispatching::set_always))]
     fn three(
         &self,
         store: &mut Store<'_>,
-        limit: Option<u64>,
         three: ElementSet,
         value: Word,
         word: Word,
         place: Word,
     ) -> Result<Answer, Halt>
-        ensures { IsComputed self.now limit (element_set_of three) (value ∷ word ∷ place ∷ []) store.old store.new result }
+        ensures { IsAlwaysComputed self.now (element_set_of three) (value ∷ word ∷ place ∷ []) store.old store.new result }
     {
         Ok(set_element(store, three, value, word, place))
     }

@@ -60,12 +60,12 @@ fn quotient(a: i32, b: i32) -> i64
     requires { b ≡ pos 0 → ⊥ }
     ensures { result ≡ floor_quotient a b }
 {
-    let over = i64::from(a.unsigned_abs());
-    let under = i64::from(b.unsigned_abs());
+    let over = a.unsigned_abs();
+    let under = b.unsigned_abs();
     if a == 0 || (a < 0) == (b < 0) {
-        over / under
+        i64::from(over / under)
     } else {
-        -1 - (over - 1) / under
+        -1 - i64::from((over - 1) / under)
     }
 }
 

@@ -4,7 +4,7 @@ ghost use Rattle.std.specs.Prelude.{◌+◌, ◌<◌, ◌^◌, [], ◌∷◌, Ma
 ghost use Rattle.std.specs.Str.{bytes_eq};
 ghost use Rattle.isl_meaning.specs.Lookup.{text};
 ghost use Rattle.isl_primitives.specs.Groups.{search_of};
-ghost use Rattle.isl_primitives.specs.Computed.{IsComputed, IsBelow, HasWalk, HasPlace, IsFirstSlot, IsNamed};
+ghost use Rattle.isl_primitives.specs.Computed.{IsAlwaysComputed, IsBelow, HasWalk, HasPlace, IsFirstSlot, IsNamed};
 ghost use Rattle.isl_primitives.specs.Charging.{IsCharged, IsSpent, IsPlaceTold, IsNoPlaceTold};
 ghost use Rattle.isl_meaning.specs.declared.primitive.Primitive.TheVariants as the;
 
@@ -26,30 +26,23 @@ impl<'p> Primitives<'p> {
     pub(crate) fn search(
         &self,
         store: &mut Store<'_>,
-        limit: Option<u64>,
         which: Search,
         word: Word,
         other: Word,
     ) -> Result<Answer, Halt>
-        ensures { IsComputed self.now limit (search_of which) (word ∷ other ∷ []) store.old store.new result }
+        ensures { IsAlwaysComputed self.now (search_of which) (word ∷ other ∷ []) store.old store.new result }
     {
         match which {
-            Search::IsSubclass => self.is_subclass(store, limit, word, other),
-            Search::IsInstance => self.is_instance(store, limit, word, other),
-            Search::SlotPlace => self.slot_place(store, limit, word, other),
+            Search::IsSubclass => self.is_subclass(store, word, other),
+            Search::IsInstance => self.is_instance(store, word, other),
+            Search::SlotPlace => self.slot_place(store, word, other),
         }
     }
 
     // Whether the first class is the second or below it.
     #[tactic(auto, using(crate::proofs::Charging::subclass_found, crate::proofs::Charging::no_first_class, crate::proofs::Charging::no_second_class))]
-    fn is_subclass(
-        &self,
-        store: &mut Store<'_>,
-        limit: Option<u64>,
-        word: Word,
-        other: Word,
-    ) -> Result<Answer, Halt>
-        ensures { IsComputed self.now limit the.IsSubclass (word ∷ other ∷ []) store.old store.new result }
+    fn is_subclass(&self, store: &mut Store<'_>, word: Word, other: Word) -> Result<Answer, Halt>
+        ensures { IsAlwaysComputed self.now the.IsSubclass (word ∷ other ∷ []) store.old store.new result }
     {
         let Some(class) = class_object_of(store, word) else {
             return Ok(Answer::DomainError(word, STANDARD_CLASS));
@@ -62,14 +55,8 @@ impl<'p> Primitives<'p> {
 
     // Whether an object is of a class.
     #[tactic(auto, using(crate::proofs::Charging::instance_found, crate::proofs::Charging::no_class_of_instance))]
-    fn is_instance(
-        &self,
-        store: &mut Store<'_>,
-        limit: Option<u64>,
-        word: Word,
-        other: Word,
-    ) -> Result<Answer, Halt>
-        ensures { IsComputed self.now limit the.IsInstance (word ∷ other ∷ []) store.old store.new result }
+    fn is_instance(&self, store: &mut Store<'_>, word: Word, other: Word) -> Result<Answer, Halt>
+        ensures { IsAlwaysComputed self.now the.IsInstance (word ∷ other ∷ []) store.old store.new result }
     {
         let Some(above) = class_object_of(store, other) else {
             return Ok(Answer::DomainError(other, STANDARD_CLASS));
@@ -106,14 +93,8 @@ impl<'p> Primitives<'p> {
 
     #[tactic(auto, using(crate::proofs::Charging::place_found, crate::proofs::Charging::no_instance_place, crate::proofs::Charging::no_symbol_place))]
     // The place of a slot; each slot that is passed counts.
-    fn slot_place(
-        &self,
-        store: &mut Store<'_>,
-        limit: Option<u64>,
-        word: Word,
-        name: Word,
-    ) -> Result<Answer, Halt>
-        ensures { IsComputed self.now limit the.SlotPlace (word ∷ name ∷ []) store.old store.new result }
+    fn slot_place(&self, store: &mut Store<'_>, word: Word, name: Word) -> Result<Answer, Halt>
+        ensures { IsAlwaysComputed self.now the.SlotPlace (word ∷ name ∷ []) store.old store.new result }
     {
         let Some(instance) = instance_of(store, word) else {
             return Ok(Answer::DomainError(word, STANDARD_OBJECT));
