@@ -26,6 +26,5 @@ pub mod LaterForms
 pub mod Spans
 pub mod Judging
 pub mod Ran
-pub mod Checks
 pub mod Ends
 pub mod CommandLine
