@@ -1,5 +1,5 @@
 -- How the status that is answered comes from the answer to the words.
-use Rattle.std.proofs.Common.{◌≡◌, ◌≢◌, ℕ, List, [], refl, sym, subst, ◌∙◌, ◌⊎◌, inl, inr, None}
+use Rattle.std.proofs.Common.{◌≡◌, ◌≢◌, ℕ, List, [], refl, sym, subst, ◌∙◌, ◌⊎◌, inl, inr, Some, None}
 use Rattle.std.specs.Prelude.{Option}
 use Rattle.isl_base.specs.declared.reason.Refusal.{Refusal}
 use Rattle.isl_top.specs.declared.status.Status.{Status}
@@ -8,8 +8,8 @@ use Rattle.isl_top.specs.declared.status.Answer.{Answer}
 use Rattle.isl_top.specs.declared.status.Answer.TheVariants as answer
 use Rattle.rv_machine.specs.declared.image.Image.{Image}
 use Rattle.isl_meaning.specs.declared.program.ProgramRows.{ProgramRows}
-use Rattle.isl_top.specs.Command.{asked}
-use Rattle.isl_top.specs.Answers.{RunAnswers, RunFileAnswers, was_run, was_check, WordsAnswers, was_usage, was_untold, was_asked}
+use Rattle.isl_top.specs.Command.{Asked, asked}
+use Rattle.isl_top.specs.Answers.{RunAnswers, RunFileAnswers, Obeys, was_run, was_check, WordsAnswers, was_usage, was_untold, was_asked}
 use Rattle.isl_top.specs.Lines.{line_of, status_of, budget_line, refused_line, file_fault_line, no_memory_line, WasGiven}
 use Rattle.isl_top.specs.Theorem.{Sent, Accepted, IsDone, IsSpent, IsBudget, IsRefused, IsCutOff, IsUsage, IsChecked, IsCheckedRefused, IsCheckedCutOff}
 

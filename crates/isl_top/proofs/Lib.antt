@@ -26,5 +26,6 @@ pub mod LaterForms
 pub mod Spans
 pub mod Judging
 pub mod Ran
+pub mod Checks
 pub mod Ends
 pub mod CommandLine
