@@ -1,4 +1,5 @@
 pub mod Chains
 pub mod Frames
 pub mod View
+pub mod Exits
 pub mod Links
