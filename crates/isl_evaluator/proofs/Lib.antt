@@ -1,4 +1,6 @@
+pub mod Conditions
 pub mod Linking
 pub mod Nearest
 pub mod Looking
 pub mod Pushes
+pub mod Stepping

@@ -23,7 +23,6 @@ setting_of names g = record { names = names; program = g.program.now; limit = li
 
 -- what is known of what a run is given
 pub data IsGiven : List (List ℕ) → Given → Type 0 where
-  stub : ℕ → (names : List (List ℕ)) (g : Given) → IsGiven names g
 
 -- a situation, and surroundings, at the frames of a machine
 abbrev pub at : List (List ℕ) → Machine → Situation → machine.Situation

@@ -6,5 +6,6 @@ pub mod frame;
 pub mod given;
 pub mod links;
 pub mod machine;
+pub mod signals;
 pub mod situation;
 pub mod slot;
