@@ -9,3 +9,4 @@ pub mod machine;
 pub mod signals;
 pub mod situation;
 pub mod slot;
+pub mod transfers;
