@@ -8,20 +8,20 @@ use Rattle.isl_meaning.specs.Lookup.{passed}
 use Rattle.isl_meaning.specs.Signals.{is_continuable}
 use Rattle.isl_closure.specs.FlatState.{FlatState, charged, leaves}
 use Rattle.isl_plain.specs.Moment.{Setting, Frame, Moment, Step, moment, come_to, ended, some_or, first_that}
-use Rattle.isl_plain.specs.Applications.{searched, signal_class, continue_with}
+use Rattle.isl_plain.specs.Applications.{searched, signal_class, transfer, continue_with}
 use Rattle.isl_store.specs.View.{Beside}
 use Rattle.isl_store.specs.Words.{value_of_word}
 use Rattle.isl_store.specs.declared.word.Word.{Word}
 use Rattle.isl_evaluator.specs.declared.situation.Around.{Around}
 use Rattle.isl_evaluator.specs.declared.machine.Machine.{Machine}
 use Rattle.isl_evaluator.specs.declared.exits.Sought.{Sought}
-use Rattle.isl_evaluator.specs.declared.exits.Sought.TheVariants.{SignalOf}
+use Rattle.isl_evaluator.specs.declared.exits.Sought.TheVariants.{Number, SignalOf}
 use Rattle.isl_evaluator.specs.declared.exits.Exit.{Exit as Here}
 use Rattle.isl_evaluator.specs.declared.exits.Looked.{Looked}
 use Rattle.isl_evaluator.specs.Chains.{chained}
 use Rattle.isl_evaluator.specs.Frames.{exit_link, around_in}
 use Rattle.isl_evaluator.specs.Exits.{exit_of, meets, IsFirst, IsFound, IsLookedFor, leaving}
-use Rattle.isl_evaluator.specs.View.{Steps, IsCharged, IsGiven, setting_of, surroundings, frames, state}
+use Rattle.isl_evaluator.specs.View.{Steps, IsCharged, IsGiven, setting_of, surroundings, frames, state, moment_of}
 use Rattle.isl_evaluator.proofs.Givens.{spelling}
 
 -- the exits of surroundings
@@ -92,4 +92,87 @@ none_leaves old mid new sought w landing level a f s = record {
     ∙ behind old mid sought a None f names b g (λ around. signal_class (setting_of names old.given) 22 [] level around)
     ∙ sym (searching old mid sought a None f names b g (λ x rest y. ended (leaves x.number (value_of_word names w) landing y) rest) (signal_class (setting_of names old.given) 22 [] level (surroundings names old a)) (frames names old 0) (state names old b)
       ∙ ap (λ o. some_or o (signal_class (setting_of names old.given) 22 [] level (surroundings names old a)) (λ (x : Exit) rest y. ended (leaves x.number (value_of_word names w) landing y) rest) (frames names old 0) (charged (passed_in names old sought a.exits) (state names old b))) (f.first names g));
+}
+
+-- a transfer to an exit by its number, if there is one
+pub number_leaves : (old new : Machine) (e : ℕ) (exit : Option ℕ) (w : Word) (landing : Landing) (level : ℕ) (a : Around) → exit ≡ Some e
+    → Steps old new (λ names s b. leaving s (meets names (Number e)) (value_of_word names w) landing level (surroundings names old a) (frames names old 0) (state names old b))
+    → Steps old new (λ names s b. transfer s exit (value_of_word names w) landing level (surroundings names old a) (frames names old 0) (state names old b))
+number_leaves old new e exit w landing level a h s = record {
+  given = s.given;
+  comes = λ names b g. s.comes names b g
+    ∙ ap (λ o. transfer (setting_of names old.given) o (value_of_word names w) landing level (surroundings names old a) (frames names old 0) (state names old b)) (sym h);
+}
+
+pub nowhere_leaves : (old new : Machine) (exit : Option ℕ) (w : Word) (landing : Landing) (level : ℕ) (a : Around) → exit ≡ None
+    → Steps old new (λ names s b. signal_class s 22 [] level (surroundings names old a) (frames names old 0) (state names old b))
+    → Steps old new (λ names s b. transfer s exit (value_of_word names w) landing level (surroundings names old a) (frames names old 0) (state names old b))
+nowhere_leaves old new exit w landing level a h s = record {
+  given = s.given;
+  comes = λ names b g. s.comes names b g
+    ∙ ap (λ o. transfer (setting_of names old.given) o (value_of_word names w) landing level (surroundings names old a) (frames names old 0) (state names old b)) (sym h);
+}
+
+-- what a signal that is continued does with its exit
+abbrev pub continued : Setting → Value → (level : ℕ) → Surroundings → Exit → Step
+continued s v level around x rest y =
+    if is_continuable x.kind then ended (leaves x.number v (at_segment 0) y) rest else signal_class s 22 [] level around rest y
+
+module _ (old mid : Machine) (c w : Word) (level : ℕ) (a : Around) (found : Option Here) (f : IsFound old mid (SignalOf c) a.exits found) (names : List (List ℕ)) (b : Beside) (g : IsGiven names old.given) where
+  -- what is found is continued
+  pub continuing : continue_with (setting_of names old.given) (value_of_word names c) (value_of_word names w) level (surroundings names old a) (frames names old 0) (state names old b)
+      ≡ some_or (first_that (meets names (SignalOf c)) (chained (exit_link names) (reverse old.frames.items) a.exits)) (signal_class (setting_of names old.given) 22 [] level (surroundings names old a))
+      (continued (setting_of names old.given) (value_of_word names w) level (surroundings names old a)) (frames names old 0) (charged (passed_in names old (SignalOf c) a.exits) (state names old b))
+  continuing =
+      searching old mid (SignalOf c) a found f names b g (continued (setting_of names old.given) (value_of_word names w) level (surroundings names old a))
+      (signal_class (setting_of names old.given) 22 [] level (surroundings names old a)) (frames names old 0) (state names old b)
+
+-- a control error behind the search
+error_behind : (old mid new : Machine) (sought : Sought) (level : ℕ) (a : Around) (found : Option Here) → IsFound old mid sought a.exits found
+    → Steps mid new (λ names s b. signal_class s 22 [] level (surroundings names mid a) (frames names mid 0) (state names mid b))
+    → (names : List (List ℕ)) (b : Beside) → IsGiven names old.given
+    → moment_of names new b ≡ signal_class (setting_of names old.given) 22 [] level (surroundings names old a) (frames names old 0) (charged (passed_in names old sought a.exits) (state names old b))
+error_behind old mid new sought level a found f s names b g =
+    s.comes names b (given_behind old mid sought a.exits found names f g)
+    ∙ ap (λ k. signal_class (setting_of names k) 22 [] level (surroundings names mid a) (frames names mid 0) (state names mid b)) (still_given old mid sought a.exits found f)
+    ∙ behind old mid sought a found f names b g (λ around. signal_class (setting_of names old.given) 22 [] level around)
+
+pub continues : (old mid new : Machine) (c w : Word) (level : ℕ) (a : Around) (e : Here) → IsFound old mid (SignalOf c) a.exits (Some e)
+    → ((names : List (List ℕ)) → true ≡ is_continuable (exit_of names e).kind)
+    → Steps mid new (λ names s b. moment (come_to (state_of.exit e.number (value_of_word names w) (at_segment 0))) (frames names mid 0) (state names mid b))
+    → Steps old new (λ names s b. continue_with s (value_of_word names c) (value_of_word names w) level (surroundings names old a) (frames names old 0) (state names old b))
+continues old mid new c w level a e f yes_it s = record {
+  given = s.given ∙ still_given old mid (SignalOf c) a.exits (Some e) f;
+  comes = λ names b g.
+    s.comes names b (given_behind old mid (SignalOf c) a.exits (Some e) names f g)
+    ∙ behind old mid (SignalOf c) a (Some e) f names b g (λ around frs z. moment (come_to (state_of.exit e.number (value_of_word names w) (at_segment 0))) frs z)
+    ∙ ap (λ t. (if t then ended (leaves e.number (value_of_word names w) (at_segment 0) (charged (passed_in names old (SignalOf c) a.exits) (state names old b))) (frames names old 0)
+        else signal_class (setting_of names old.given) 22 [] level (surroundings names old a) (frames names old 0) (charged (passed_in names old (SignalOf c) a.exits) (state names old b)))) (yes_it names)
+    ∙ sym (continuing old mid c w level a (Some e) f names b g
+      ∙ ap (λ o. some_or o (signal_class (setting_of names old.given) 22 [] level (surroundings names old a)) (continued (setting_of names old.given) (value_of_word names w) level (surroundings names old a)) (frames names old 0) (charged (passed_in names old (SignalOf c) a.exits) (state names old b))) (f.first names g));
+}
+
+pub continues_not : (old mid new : Machine) (c w : Word) (level : ℕ) (a : Around) (e : Here) → IsFound old mid (SignalOf c) a.exits (Some e)
+    → ((names : List (List ℕ)) → false ≡ is_continuable (exit_of names e).kind)
+    → Steps mid new (λ names s b. signal_class s 22 [] level (surroundings names mid a) (frames names mid 0) (state names mid b))
+    → Steps old new (λ names s b. continue_with s (value_of_word names c) (value_of_word names w) level (surroundings names old a) (frames names old 0) (state names old b))
+continues_not old mid new c w level a e f no_it s = record {
+  given = s.given ∙ still_given old mid (SignalOf c) a.exits (Some e) f;
+  comes = λ names b g.
+    error_behind old mid new (SignalOf c) level a (Some e) f s names b g
+    ∙ ap (λ t. (if t then ended (leaves e.number (value_of_word names w) (at_segment 0) (charged (passed_in names old (SignalOf c) a.exits) (state names old b))) (frames names old 0)
+        else signal_class (setting_of names old.given) 22 [] level (surroundings names old a) (frames names old 0) (charged (passed_in names old (SignalOf c) a.exits) (state names old b)))) (no_it names)
+    ∙ sym (continuing old mid c w level a (Some e) f names b g
+      ∙ ap (λ o. some_or o (signal_class (setting_of names old.given) 22 [] level (surroundings names old a)) (continued (setting_of names old.given) (value_of_word names w) level (surroundings names old a)) (frames names old 0) (charged (passed_in names old (SignalOf c) a.exits) (state names old b))) (f.first names g));
+}
+
+pub continues_nowhere : (old mid new : Machine) (c w : Word) (level : ℕ) (a : Around) → IsFound old mid (SignalOf c) a.exits None
+    → Steps mid new (λ names s b. signal_class s 22 [] level (surroundings names mid a) (frames names mid 0) (state names mid b))
+    → Steps old new (λ names s b. continue_with s (value_of_word names c) (value_of_word names w) level (surroundings names old a) (frames names old 0) (state names old b))
+continues_nowhere old mid new c w level a f s = record {
+  given = s.given ∙ still_given old mid (SignalOf c) a.exits None f;
+  comes = λ names b g.
+    error_behind old mid new (SignalOf c) level a None f s names b g
+    ∙ sym (continuing old mid c w level a None f names b g
+      ∙ ap (λ o. some_or o (signal_class (setting_of names old.given) 22 [] level (surroundings names old a)) (continued (setting_of names old.given) (value_of_word names w) level (surroundings names old a)) (frames names old 0) (charged (passed_in names old (SignalOf c) a.exits) (state names old b))) (f.first names g));
 }

@@ -1,3 +1,4 @@
+pub mod Building
 pub mod Chains
 pub mod Frames
 pub mod View

@@ -6,12 +6,11 @@ ghost use Rattle.isl_store.specs.Words.{value_of_word, values_of};
 ghost use Rattle.isl_plain.specs.Applications.{signal_class, signal_domain, signal_undefined, signal_unbound};
 ghost use Rattle.isl_evaluator.specs.View.{Steps, frames, state, surroundings};
 
-use crate::frame::Outcome;
 use crate::machine::{Control, Machine};
 use crate::situation::Around;
 use isl_base::{ItemList, Name, NoMemory};
 use isl_meaning::ClassId;
-use isl_store::{Halt, Instance, Object, Slots, Word};
+use isl_store::{Instance, Object, Slots, Word};
 use std::alloc::Global;
 
 // The classes of the conditions that rules signal.
@@ -46,22 +45,15 @@ impl<'p> Machine<'p> {
             slots,
             mark: Word::Nil,
         });
-        match self.store.make(self.given.limit, size, 0, condition) {
-            Ok(condition) => {
-                self.control = Control::Signals {
-                    condition,
-                    mark: Word::Nil,
-                    level,
-                    around,
-                };
-                Ok(())
-            }
-            Err(Halt::Full { asked, left }) => {
-                self.control = Control::ComeTo(Outcome::Full { asked, left });
-                Ok(())
-            }
-            Err(_) => Err(NoMemory),
+        if let Some(condition) = self.build(size, 0, condition)? {
+            self.control = Control::Signals {
+                condition,
+                mark: Word::Nil,
+                level,
+                around,
+            };
         }
+        Ok(())
     }
 
     /// A condition of a class without slots.

@@ -63,11 +63,15 @@ impl<'p> Machine<'p> {
         ensures { OnOk result (Steps self.old self.new (λ names s b. continue_with s (value_of_word names condition) (value_of_word names word) level (surroundings names self.old around) (frames names self.old 0) (state names self.old b))) }
     {
         match self.find(Sought::SignalOf(condition), around.exits)? {
-            Some(exit) if exit.is_continuable() => {
-                self.come_to(Outcome::Exit(exit.number, word, Landing::Segment(0)));
-                Ok(())
+            Some(exit) => {
+                if exit.is_continuable() {
+                    self.come_to(Outcome::Exit(exit.number, word, Landing::Segment(0)));
+                    Ok(())
+                } else {
+                    self.signal_class(CONTROL_ERROR, level, around)
+                }
             }
-            _ => self.signal_class(CONTROL_ERROR, level, around),
+            None => self.signal_class(CONTROL_ERROR, level, around),
         }
     }
 }
