@@ -1,11 +1,11 @@
 -- The machine of the code at a moment, as the machine of the definitions; and what an operation makes of it.
 use Rattle.std.specs.Prelude.{◌≡◌, ℕ, Bool, true, false, List, [], ◌∷◌, reverse}
 use Rattle.isl_meaning.specs.State.{Surroundings}
-use Rattle.isl_meaning.specs.Values.{Value, nil}
-use Rattle.isl_meaning.specs.Layout.{class_value}
+use Rattle.isl_meaning.specs.Values.{Value}
 use Rattle.isl_meaning.specs.Primitives.{instance_words}
 use Rattle.isl_closure.specs.FlatNodes.{tables}
 use Rattle.isl_store.specs.Spelling.{IsSpelling}
+use Rattle.isl_layout.specs.Layout.{IsLayout}
 use Rattle.isl_closure.specs.FlatState.{FlatState, charged}
 use Rattle.isl_plain.specs.Moment.{Setting, Moment, Control, moment, evaluate, signals, come_to}
 use Rattle.isl_plain.specs.Moment as machine
@@ -28,8 +28,8 @@ setting_of names g = record { names = names; program = g.program.now; limit = li
 -- what is known of what a run is given
 pub record IsGiven (names : List (List ℕ)) (g : Given) : Type 0 where
   pub spelling : IsSpelling names g.spellings
-  -- stubs, until layouts and primitives are there
-  pub class_stub : (c : ℕ) → nil ≡ class_value names (tables g.program.now) c
+  pub layout : IsLayout names (tables g.program.now) g.layout.now
+  -- a stub, until primitives are there
   pub words_stub : (c n : ℕ) → n ≡ instance_words (tables g.program.now) c n
 
 -- a situation, and surroundings, at the frames of a machine

@@ -9,16 +9,18 @@ ghost use Rattle.isl_store.specs.Spelling.{IsSpelling};
 ghost use Rattle.isl_evaluator.specs.View.{IsGiven};
 
 use isl_closure::FlatProgram;
+use isl_layout::Layout;
 use isl_meaning::ClassId;
 use isl_store::{Spellings, Word};
 use std::alloc::Global;
 
-/// The program, how its names are told apart, and how many words there are.
+/// The program, how its names are told apart, where its first objects stand, and how many words there are.
 #[derive(Clone, Copy)]
 pub struct Given<'p> {
     pub alloc: Global,
     pub program: &'p FlatProgram,
     pub spellings: Spellings,
+    pub layout: &'p Layout,
     pub limit: Option<u64>,
 }
 
@@ -27,8 +29,7 @@ impl<'p> Given<'p> {
     pub fn class_word(&self, class: ClassId) -> Word
         ensures { (names : List (List ℕ)) → IsGiven names self.now → value_of_word names result ≡ class_value names (tables self.now.program.now) class }
     {
-        let _ = class;
-        Word::Nil
+        self.layout.class_word(class)
     }
 
     /// The words of an instance with so many slots; none where that is no number of 64 bits.

@@ -6,6 +6,7 @@ pub mod exits;
 pub mod frame;
 pub mod given;
 pub mod links;
+pub mod literals;
 pub mod machine;
 pub mod signals;
 pub mod situation;
