@@ -49,10 +49,10 @@ plain_in names a operands slots ws (frame.SignalMark c s) h = ap (λ os. frame_i
 plain_in names a operands slots ws (frame.ContinueCondition f s) h = ap (λ os. frame_in names a ws [] [] (frame.ContinueCondition f s) ∷ frames_in names a os slots ws) (others_none operands)
 plain_in names a operands slots ws (frame.ContinueValue c s) h = ap (λ os. frame_in names a ws [] [] (frame.ContinueValue c s) ∷ frames_in names a os slots ws) (others_none operands)
 plain_in names a operands slots ws (frame.Kept o) h = ap (λ os. frame_in names a ws [] [] (frame.Kept o) ∷ frames_in names a os slots ws) (others_none operands)
-plain_in names a operands slots ws (frame.Methods ms n vs l a) h = ap (λ os. frame_in names a ws [] [] (frame.Methods ms n vs l a) ∷ frames_in names a os slots ws) (others_none operands)
-plain_in names a operands slots ws (frame.BeforeMethods r vs l a) h = ap (λ os. frame_in names a ws [] [] (frame.BeforeMethods r vs l a) ∷ frames_in names a os slots ws) (others_none operands)
-plain_in names a operands slots ws (frame.PrimaryMethod r vs l a) h = ap (λ os. frame_in names a ws [] [] (frame.PrimaryMethod r vs l a) ∷ frames_in names a os slots ws) (others_none operands)
-plain_in names a operands slots ws (frame.HandlerReturn l a) h = ap (λ os. frame_in names a ws [] [] (frame.HandlerReturn l a) ∷ frames_in names a os slots ws) (others_none operands)
+plain_in names a operands slots ws (frame.Methods ms n vs l r) h = ap (λ os. frame_in names a ws [] [] (frame.Methods ms n vs l r) ∷ frames_in names a os slots ws) (others_none operands)
+plain_in names a operands slots ws (frame.BeforeMethods r vs l q) h = ap (λ os. frame_in names a ws [] [] (frame.BeforeMethods r vs l q) ∷ frames_in names a os slots ws) (others_none operands)
+plain_in names a operands slots ws (frame.PrimaryMethod r vs l q) h = ap (λ os. frame_in names a ws [] [] (frame.PrimaryMethod r vs l q) ∷ frames_in names a os slots ws) (others_none operands)
+plain_in names a operands slots ws (frame.HandlerReturn l q) h = ap (λ os. frame_in names a ws [] [] (frame.HandlerReturn l q) ∷ frames_in names a os slots ws) (others_none operands)
 plain_in names a operands slots ws (frame.MainForm n) h = ap (λ os. frame_in names a ws [] [] (frame.MainForm n) ∷ frames_in names a os slots ws) (others_none operands)
 plain_in names a operands slots ws (frame.Cleans f s) h = ap (λ os. frame_in names a ws [] [] (frame.Cleans f s) ∷ frames_in names a os slots ws) (others_none operands)
 plain_in names a operands slots ws (frame.RestoresStack n) h = ap (λ os. frame_in names a ws [] [] (frame.RestoresStack n) ∷ frames_in names a os slots ws) (others_none operands)
@@ -110,10 +110,10 @@ plain_links names (frame.SignalMark c s) h = record { own = refl; exit = refl; h
 plain_links names (frame.ContinueCondition f s) h = record { own = refl; exit = refl; handler = refl; binding = refl }
 plain_links names (frame.ContinueValue c s) h = record { own = refl; exit = refl; handler = refl; binding = refl }
 plain_links names (frame.Kept o) h = record { own = refl; exit = refl; handler = refl; binding = refl }
-plain_links names (frame.Methods ms n vs l a) h = record { own = refl; exit = refl; handler = refl; binding = refl }
-plain_links names (frame.BeforeMethods r vs l a) h = record { own = refl; exit = refl; handler = refl; binding = refl }
-plain_links names (frame.PrimaryMethod r vs l a) h = record { own = refl; exit = refl; handler = refl; binding = refl }
-plain_links names (frame.HandlerReturn l a) h = record { own = refl; exit = refl; handler = refl; binding = refl }
+plain_links names (frame.Methods ms n vs l r) h = record { own = refl; exit = refl; handler = refl; binding = refl }
+plain_links names (frame.BeforeMethods r vs l q) h = record { own = refl; exit = refl; handler = refl; binding = refl }
+plain_links names (frame.PrimaryMethod r vs l q) h = record { own = refl; exit = refl; handler = refl; binding = refl }
+plain_links names (frame.HandlerReturn l q) h = record { own = refl; exit = refl; handler = refl; binding = refl }
 plain_links names (frame.MainForm n) h = record { own = refl; exit = refl; handler = refl; binding = refl }
 plain_links names (frame.Cleans f s) h = record { own = refl; exit = refl; handler = refl; binding = refl }
 plain_links names (frame.RestoresStack n) h = record { own = refl; exit = refl; handler = refl; binding = refl }

@@ -2,3 +2,5 @@ pub mod Chains
 pub mod Frames
 pub mod View
 pub mod Links
+pub mod Requests
+pub mod Operands

@@ -5,5 +5,7 @@ pub mod frame;
 pub mod given;
 pub mod links;
 pub mod machine;
+pub mod operands;
+pub mod requests;
 pub mod situation;
 pub mod slot;

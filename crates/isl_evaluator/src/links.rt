@@ -51,6 +51,7 @@ fn next(frame: &Frame<'_>, kind: Kind) -> Option<usize>
 }
 
 impl<'p> Machine<'p> {
+    #[tactic(auto, using(crate::proofs::Nearest::none_yet, crate::proofs::Nearest::found, crate::proofs::Nearest::one_more, crate::proofs::Nearest::all_searched))]
     /// The place of the innermost frame, among the first so many, that links things of that kind; and its link, which is
     /// at most its place.
     pub(crate) fn nearest(&self, kind: Kind, link: usize) -> Option<(usize, usize)>
@@ -59,10 +60,10 @@ impl<'p> Machine<'p> {
         let mut left = link.min(self.frames.len());
         while left > 0 {
             let place = left - 1;
-            if let Some(behind) = next(&self.frames[place], kind) {
-                return Some((place, behind.min(place)));
+            match next(&self.frames[place], kind) {
+                Some(behind) => return Some((place, behind.min(place))),
+                None => left = place,
             }
-            left = place;
         }
         None
     }

@@ -6,7 +6,7 @@ ghost use Rattle.isl_closure.specs.FlatState.{charged};
 ghost use Rattle.isl_plain.specs.Moment.{moment, evaluate, come_to, signals};
 ghost use Rattle.isl_store.specs.Words.{value_of_word};
 ghost use Rattle.isl_evaluator.specs.Frames.{outcome_of};
-ghost use Rattle.isl_evaluator.specs.View.{Steps, IsCharged, IsAsked, IsPlain, at, frames, state, surroundings, waiting};
+ghost use Rattle.isl_evaluator.specs.View.{Steps, IsCharged, IsPlain, at, frames, state, waiting};
 
 use crate::frame::{Frame, Outcome};
 use crate::given::Given;
@@ -67,7 +67,7 @@ impl<'p> Machine<'p> {
     #[tactic(auto, using(crate::proofs::Pushes::pushed, crate::proofs::Pushes::stays))]
     pub(crate) fn wait(&mut self, frame: Frame<'p>, form: &'p FlatCore, situation: Situation) -> Result<(), NoMemory>
         requires { IsPlain frame ≡ true }
-        ensures { OnOk result (Steps self.old self.new (λ names s b. moment (evaluate form.now (at names self.old situation)) (waiting names self.old frame ∷ frames names self.old 0) (state names self.old b))) }
+        ensures { OnOk result (Steps self.old self.new (λ names s b. moment (evaluate form.now (at names self.old situation)) (waiting names self.old frame.entry ∷ frames names self.old 0) (state names self.old b))) }
     {
         self.frames.push(frame)?;
         self.control = Control::Evaluate(form, situation);
