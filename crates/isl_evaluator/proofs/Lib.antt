@@ -1,3 +1,4 @@
 pub mod Linking
 pub mod Nearest
+pub mod Looking
 pub mod Pushes

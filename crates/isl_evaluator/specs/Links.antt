@@ -25,9 +25,9 @@ next_of Bindings w = None
 abbrev pub IsNoneNearer : Kind → List Frame → ℕ → ℕ → Type 0
 IsNoneNearer kind items low high = (i : ℕ) (w : Frame) → low ≤ i → i < high → slice_get items i ≡ Some w → next_of kind w ≡ None
 
--- the innermost frame, among the first so many, that links things of that kind: its place, and its link, at most its place
-pub record IsNearest (kind : Kind) (items : List Frame) (link place behind : ℕ) : Type 0 where
-  pub frame : Frame
+-- the innermost frame, among the first so many, that links things of that kind, and its link, at most its place
+pub record IsNearest (kind : Kind) (items : List Frame) (link : ℕ) (frame : Frame) (behind : ℕ) : Type 0 where
+  pub place : ℕ
   pub there : slice_get items place ≡ Some frame
   pub below : place < link
   pub next : ℕ

@@ -1,6 +1,7 @@
 // The code of the plain evaluator's machine.
 #![tactic(auto)]
 
+pub mod exits;
 pub mod frame;
 pub mod given;
 pub mod links;

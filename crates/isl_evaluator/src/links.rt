@@ -52,16 +52,16 @@ fn next(frame: &Frame<'_>, kind: Kind) -> Option<usize>
 
 impl<'p> Machine<'p> {
     #[tactic(auto, using(crate::proofs::Nearest::none_yet, crate::proofs::Nearest::found, crate::proofs::Nearest::one_more, crate::proofs::Nearest::all_searched))]
-    /// The place of the innermost frame, among the first so many, that links things of that kind; and its link, which is
-    /// at most its place.
-    pub(crate) fn nearest(&self, kind: Kind, link: usize) -> Option<(usize, usize)>
-        ensures { MatchOption result (IsNoneNearer kind self.now.frames.items 0 link) (λ found. IsNearest kind self.now.frames.items link found.0 found.1) }
+    /// The innermost frame, among the first so many, that links things of that kind; and its link, which is at most its place.
+    pub(crate) fn nearest(&self, kind: Kind, link: usize) -> Option<(&Frame<'p>, usize)>
+        ensures { MatchOption result (IsNoneNearer kind self.now.frames.items 0 link) (λ found. IsNearest kind self.now.frames.items link found.0.now found.1) }
     {
         let mut left = link.min(self.frames.len());
         while left > 0 {
             let place = left - 1;
-            match next(&self.frames[place], kind) {
-                Some(behind) => return Some((place, behind.min(place))),
+            let frame = &self.frames[place];
+            match next(frame, kind) {
+                Some(behind) => return Some((frame, behind.min(place))),
                 None => left = place,
             }
         }
