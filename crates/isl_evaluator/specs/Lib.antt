@@ -5,3 +5,5 @@ pub mod Exits
 pub mod Links
 pub mod Requests
 pub mod Operands
+pub mod Tops
+pub mod Begins
