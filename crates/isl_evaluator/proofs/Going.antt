@@ -1,10 +1,13 @@
 -- What a machine has come to, from what it has come to in parts.
-use Rattle.std.proofs.Common.{◌≡◌, ℕ, List, refl, sym, ap, ◌∙◌, subst}
+use Rattle.std.proofs.Common.{◌≡◌, ℕ, List, ◌∷◌, refl, sym, ap, ◌∙◌, subst, reverse}
 use Rattle.isl_closure.specs.FlatState.{FlatState}
 use Rattle.isl_plain.specs.Moment.{Setting, Moment}
 use Rattle.isl_store.specs.View.{Beside}
 use Rattle.isl_evaluator.specs.declared.machine.Machine.{Machine}
+use Rattle.isl_evaluator.specs.declared.frame.Frame.{Frame}
+use Rattle.isl_evaluator.specs.Tops.{IsAbove}
 use Rattle.isl_evaluator.specs.View.{Steps, IsGiven, setting_of, state}
+use Rattle.isl_evaluator.proofs.Pushes.{one_on}
 
 -- the same moment, said in another way
 pub followed : (old new : Machine) (f g : List (List ℕ) → Setting → Beside → Moment) → Steps old new f
@@ -38,3 +41,14 @@ after_store old mid new f g same is x =
     let moved : Steps (record old { store = mid.store }) new (λ names s b. f (record old { store = mid.store }) names s (g names (state names old b))) =
       subst (λ m. Steps m new (λ names s b. f m names s (g names (state names old b)))) same said in
     from_given old (record old { store = mid.store }) new (λ names s b. f (record old { store = mid.store }) names s (g names (state names old b))) refl moved
+
+-- from a machine with one frame more
+pub after_push : (old mid new : Machine) (w : Frame) (f : Machine → List (List ℕ) → Setting → List Frame → FlatState → Moment) → IsAbove old mid w
+    → Steps mid new (λ names s b. f mid names s (reverse mid.frames.items) (state names mid b))
+    → Steps old new (λ names s b. f (record old { frames = mid.frames }) names s (w ∷ reverse old.frames.items) (state names old b))
+after_push old mid new w f a x =
+    let moved : Steps (record old { frames = mid.frames }) new (λ names s b. f (record old { frames = mid.frames }) names s (reverse mid.frames.items) (state names old b)) =
+      subst (λ m. Steps m new (λ names s b. f m names s (reverse mid.frames.items) (state names m b))) a.same x in
+    let on : Steps (record old { frames = mid.frames }) new (λ names s b. f (record old { frames = mid.frames }) names s (w ∷ reverse old.frames.items) (state names old b)) =
+      subst (λ ws. Steps (record old { frames = mid.frames }) new (λ names s b. f (record old { frames = mid.frames }) names s ws (state names old b))) (ap reverse a.frames ∙ one_on old.frames.items w) moved in
+    from_given old (record old { frames = mid.frames }) new (λ names s b. f (record old { frames = mid.frames }) names s (w ∷ reverse old.frames.items) (state names old b)) refl on

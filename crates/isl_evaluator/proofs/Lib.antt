@@ -6,3 +6,6 @@ pub mod Tops
 pub mod Going
 pub mod Leftover
 pub mod Waiting
+pub mod Counting
+pub mod Beginning
+pub mod Inside

@@ -7,3 +7,4 @@ pub mod Requests
 pub mod Operands
 pub mod Tops
 pub mod Begins
+pub mod Exiting

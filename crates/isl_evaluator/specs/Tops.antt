@@ -28,6 +28,11 @@ IsUnlinked (frame.Handles w next) = false
 IsUnlinked (frame.Binds bs first next) = false
 IsUnlinked w = true
 
+-- a frame was pushed
+pub record IsAbove (old new : Machine) (w : Frame) : Type 0 where
+  pub frames : new.frames.items ≡ old.frames.items ++ w ∷ []
+  pub same : new ≡ record old { frames = new.frames }
+
 -- the frame on top, if there is one, was taken away
 pub record IsPopped (old new : Machine) (top : Option Frame) : Type 0 where
   pub frames : old.frames.items ≡ new.frames.items ++ option_to_list top

@@ -1,16 +1,21 @@
 // The code of the plain evaluator's machine.
 #![tactic(auto)]
 
+pub mod blocks;
 pub mod exits;
+pub mod forms;
 pub mod frame;
 pub mod given;
 pub mod links;
 pub mod lists;
 pub mod machine;
+pub mod nodes;
 pub mod open;
 pub mod operands;
 pub mod places;
 pub mod requests;
+pub mod sites;
 pub mod situation;
 pub mod slot;
 pub mod stack;
+pub mod word_tests;

@@ -1,13 +1,14 @@
 // Frames are pushed and popped.
 
-ghost use Rattle.std.specs.Prelude.{◌≡◌, ◌∷◌, true, reverse, OnOk};
+ghost use Rattle.std.specs.Prelude.{◌≡◌, ◌∷◌, true, suc, length, reverse, OnOk, IfOk};
 ghost use Rattle.isl_plain.specs.Moment.{moment, evaluate};
 ghost use Rattle.isl_evaluator.specs.Frames.{situation_in};
-ghost use Rattle.isl_evaluator.specs.Tops.{taken, below, IsUnlinked, IsPopped};
+ghost use Rattle.isl_evaluator.specs.Tops.{taken, below, IsUnlinked, IsAbove, IsPopped};
 ghost use Rattle.isl_evaluator.specs.View.{Steps, at, state};
 
 use crate::frame::Frame;
 use crate::machine::{Control, Machine};
+use crate::places::after;
 use crate::situation::Situation;
 use isl_base::NoMemory;
 use isl_closure::FlatCore;
@@ -28,6 +29,21 @@ impl<'p> Machine<'p> {
         ensures { OnOk result (Steps self.old self.new (λ names s b. moment (evaluate form.now (at names self.old situation)) (taken names self.old frame.entry ∷ below names self.old frame.entry) (state names self.old b))) }
     {
         self.enter(frame, form, situation)
+    }
+
+    /// A frame more.
+    pub(crate) fn push_frame(&mut self, frame: Frame<'p>) -> Result<(), NoMemory>
+        ensures { OnOk result (IsAbove self.old self.new frame.entry) }
+    {
+        self.frames.push(frame)?;
+        Ok(())
+    }
+
+    /// The link to the frame that is pushed next.
+    pub(crate) fn next_link(&self) -> Result<usize, NoMemory>
+        ensures { IfOk result (λ link. link ≡ suc (length self.now.frames.items)) }
+    {
+        after(self.frames.as_slice().len())
     }
 
     /// The frame on top, which goes.
