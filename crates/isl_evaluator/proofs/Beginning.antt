@@ -1,11 +1,17 @@
 -- A form that begins is charged first; and exits of blocks, tagbodies and catches.
-use Rattle.std.proofs.Common.{◌≡◌, ℕ, ◌+◌, ◌-◌, List, [], length, Result, OnOk, refl, sym, ap, subst, arith}
+use Rattle.std.proofs.Common.{◌≡◌, ℕ, ◌+◌, ◌-◌, List, [], length, Option, Some, None, Result, OnOk, refl, sym, ap, ◌∙◌, ◌∷◌, map, subst, arith}
 use Rattle.std.proofs.lemmas.Result.{on_ok_weaker}
+use Rattle.std.specs.Prelude.{slice_get}
 use Rattle.isl_closure.specs.FlatForm.{FlatForms, FlatBindings, FlatDynamics, FlatForm, literal, local, set_local, global, set_global, def_global, clauses, sequence, let_form, make_function, call, call_value, apply, prim, while_form, block, return_from, tagbody, go, catch_form, throw, unwind, dynamic_let, dynamic, set_dynamic, def_dynamic, with_handler, signal_form, continue_form, next_method, has_next, sited}
 use Rattle.isl_closure.specs.declared.place.VariablePlace.TheVariants as place
 use Rattle.isl_closure.specs.FlatNodes.{own_nodes}
-use Rattle.isl_closure.specs.FlatState.{FlatState, charged}
-use Rattle.isl_plain.specs.Moment.{Setting, Situation, Operation, Frame}
+use Rattle.isl_meaning.specs.State.{State}
+use Rattle.isl_meaning.specs.State as base
+use Rattle.isl_meaning.specs.Lookup.{value_at}
+use Rattle.isl_closure.specs.FlatState.{FlatEnvironment, FlatState, charged, gives, cell_held, cell_in, captured_part, make_closure}
+use Rattle.isl_closure.specs.declared.place.FlatPart.{FlatPart}
+use Rattle.isl_closure.specs.declared.place.FlatPart.TheVariants as part
+use Rattle.isl_plain.specs.Moment.{Setting, Situation, Operation, Frame, ended}
 use Rattle.isl_plain.specs.Step.{form_step, arguments_step, bindings_step, dynamics_step}
 use Rattle.isl_store.specs.Words.{values_of}
 use Rattle.isl_evaluator.specs.declared.machine.Machine.{Machine}
@@ -19,12 +25,30 @@ use Rattle.isl_evaluator.proofs.Leftover.{done}
 no_units : (z : FlatState) → z ≡ charged 0 z
 no_units z = let e : z.state.units ≡ z.state.units + 0 = omega arith in ap (λ u. record z { state = record z.state { units = u } }) e
 
+-- the value in a cell does not hang on what was counted
+at_cell : (o : Option ℕ) (y : State) (n : ℕ) → value_at o (base.charged n y) ≡ value_at o y
+at_cell None y n = refl
+at_cell (Some i) y n = refl
+
+-- nor does what is captured
+part_same : (env : FlatEnvironment) (z : FlatState) (n : ℕ) (p : FlatPart) → captured_part env (charged n z) p ≡ captured_part env z p
+part_same env z n (part.Variable (place.Slot i)) = refl
+part_same env z n (part.Variable (place.SlotCell i)) = refl
+part_same env z n (part.Variable (place.CapturedValue i)) = refl
+part_same env z n (part.Variable (place.CapturedCell i)) = refl
+part_same env z n (part.Exit e) = refl
+part_same env z n (part.Method m) = refl
+
+parts_same : (env : FlatEnvironment) (z : FlatState) (n : ℕ) (ps : List FlatPart) → map (captured_part env (charged n z)) ps ≡ map (captured_part env z) ps
+parts_same env z n [] = refl
+parts_same env z n (p ∷ ps) = ap (λ c. c ∷ map (captured_part env (charged n z)) ps) (part_same env z n p) ∙ ap (λ cs. captured_part env z p ∷ cs) (parts_same env z n ps)
+
 pub form_begins : (s : Setting) (f : FlatForm) (at : Situation) (ws : List Frame) (z : FlatState) → begins s f at ws (charged (own_nodes f) z) ≡ form_step s f at ws z
 form_begins s (literal i) at ws z = refl
 form_begins s (local (place.Slot n)) at ws z = refl
-form_begins s (local (place.SlotCell n)) at ws z = refl
+form_begins s (local (place.SlotCell n)) at ws z = ap (λ v. ended (gives v (charged 1 z)) ws) (at_cell (cell_held (slice_get z.frame n)) z.state 1)
 form_begins s (local (place.CapturedValue n)) at ws z = refl
-form_begins s (local (place.CapturedCell n)) at ws z = refl
+form_begins s (local (place.CapturedCell n)) at ws z = ap (λ v. ended (gives v (charged 1 z)) ws) (at_cell (cell_in (slice_get at.environment.captured n)) z.state 1)
 form_begins s (set_local p f) at ws z = refl
 form_begins s (global n) at ws z = refl
 form_begins s (set_global n f) at ws z = refl
@@ -32,7 +56,8 @@ form_begins s (def_global n f) at ws z = refl
 form_begins s (clauses cs) at ws z = refl
 form_begins s (sequence fs) at ws z = refl
 form_begins s (let_form bs body) at ws z = refl
-form_begins s (make_function p parts) at ws z = refl
+form_begins s (make_function p parts) at ws z =
+    ap (λ cs. ended (make_closure s.limit p cs (charged (own_nodes (make_function p parts)) z) (λ v after. gives v after)) ws) (parts_same at.environment z (own_nodes (make_function p parts)) parts)
 form_begins s (call n fs) at ws z = refl
 form_begins s (call_value fs) at ws z = refl
 form_begins s (apply f list) at ws z = refl

@@ -9,3 +9,5 @@ pub mod Waiting
 pub mod Counting
 pub mod Beginning
 pub mod Inside
+pub mod Aside
+pub mod SlotLists

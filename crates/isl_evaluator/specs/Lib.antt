@@ -8,3 +8,4 @@ pub mod Operands
 pub mod Tops
 pub mod Begins
 pub mod Exiting
+pub mod Slots

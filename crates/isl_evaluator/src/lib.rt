@@ -17,5 +17,6 @@ pub mod requests;
 pub mod sites;
 pub mod situation;
 pub mod slot;
+pub mod slots;
 pub mod stack;
 pub mod word_tests;
