@@ -11,3 +11,4 @@ pub mod Beginning
 pub mod Inside
 pub mod Aside
 pub mod SlotLists
+pub mod Captures

@@ -2,7 +2,7 @@
 use Rattle.std.proofs.Common.{◌≡◌, ℕ, zero, suc, ◌+◌, ◌-◌, ◌<◌, ◌≤◌, List, [], ◌∷◌, ◌++◌, Option, Some, None, refl, sym, ap, ◌∙◌, length, take, drop, get_or, min, arith, length-append, length-set}
 use Rattle.std.specs.Prelude.{slice_get, slice_set}
 use Rattle.std.proofs.lemmas.List.{length-drop, take-append-le, drop-append-le, length-take}
-use Rattle.std.proofs.lemmas.Option.{slice_get_read, slice_get_past}
+use Rattle.std.proofs.lemmas.Option.{slice_get-get_or, slice_get_past}
 use Rattle.isl_evaluator.specs.Frames.{last_of, others_of}
 
 pub get_drop : {X : Type 0} (xs : List X) (n i : ℕ) → slice_get (drop n xs) i ≡ slice_get xs (n + i)
@@ -11,9 +11,11 @@ get_drop [] (suc n) i = refl
 get_drop (x ∷ xs) zero i = ap (slice_get (x ∷ xs)) (let e : i ≡ 0 + i = omega arith in e)
 get_drop (x ∷ xs) (suc n) i = get_drop xs n i ∙ ap (slice_get (x ∷ xs)) (let e : suc (n + i) ≡ suc n + i = omega arith in e)
 
-pub slot_there : {X : Type 0} (xs : List X) (k first i : ℕ) (x : X) → first ≡ length xs - k → i < length xs - first → x ≡ get_or xs (first + i) x → Some x ≡ slice_get (last_of k xs) i
-slot_there xs k first i x e h g =
-    sym (ap (λ n. slice_get (drop n xs) i) (sym e) ∙ get_drop xs first i ∙ slice_get_read xs (length xs) (first + i) x refl (omega arith) g)
+pub slot_there : {X : Type 0} (xs ys : List X) (k first i : ℕ) (d : X) → ys ≡ xs → first ≡ length xs - k → i < length ys - first → Some (get_or ys (first + i) d) ≡ slice_get (last_of k xs) i
+slot_there xs ys k first i d same e h =
+    let l : length ys ≡ length xs = ap length same in
+    ap (λ zs. Some (get_or zs (first + i) d)) same
+    ∙ sym (ap (λ n. slice_get (drop n xs) i) (sym e) ∙ get_drop xs first i ∙ slice_get-get_or xs (first + i) d (omega arith))
 
 pub slot_past : {X : Type 0} (xs : List X) (k first i : ℕ) → first ≡ length xs - k → length xs - first ≤ i → None ≡ slice_get (last_of k xs) i
 slot_past xs k first i e h =

@@ -8,6 +8,7 @@ pub mod frame;
 pub mod given;
 pub mod links;
 pub mod lists;
+pub mod locals;
 pub mod machine;
 pub mod nodes;
 pub mod open;

@@ -5,7 +5,7 @@ ghost use Rattle.isl_meaning.specs.Lookup.{text};
 ghost use Rattle.isl_meaning.specs.Meaning.{is_next};
 ghost use Rattle.isl_meaning.specs.State.{at_segment};
 ghost use Rattle.isl_meaning.specs.Values.{nil, truth};
-ghost use Rattle.isl_closure.specs.FlatState.{gives, exit_of, method_of, captured_part, make_closure, value_of};
+ghost use Rattle.isl_closure.specs.FlatState.{gives, exit_of, method_of, captured_part, make_closure};
 ghost use Rattle.isl_closure.specs.model.View.{bindings_of, dynamics_of};
 ghost use Rattle.isl_plain.specs.Applications.{transfer};
 ghost use Rattle.isl_plain.specs.Moment.{ended};
@@ -18,7 +18,7 @@ use crate::machine::Machine;
 use crate::situation::Situation;
 use isl_base::{Name, NoMemory};
 use isl_closure::{
-    ExitPlace, FlatBindingList, FlatCore, FlatDynBindings, FlatPartList, MethodPlace, VariablePlace,
+    ExitPlace, FlatBindingList, FlatCore, FlatDynBindings, FlatPartList, MethodPlace,
 };
 use isl_meaning::LiteralId;
 
@@ -80,12 +80,6 @@ impl<'p> Machine<'p> {
 
     pub(crate) fn dynamic_body(&mut self, list: &'p FlatDynBindings, count: usize, body: &'p FlatCore, situation: Situation) -> Result<(), NoMemory>
         ensures { OnOk result (Steps self.old self.new (λ names s b. dynamic_let_step s (dynamics_of list.now) body.now (top names self.old count) (at names self.old situation) (frames names self.old count) (state names self.old b))) }
-    {
-        Err(NoMemory)
-    }
-
-    pub(crate) fn local(&mut self, place: VariablePlace, situation: Situation) -> Result<(), NoMemory>
-        ensures { OnOk result (Steps self.old self.new (λ names s b. ended (gives (value_of place (at names self.old situation).environment (state names self.old b)) (state names self.old b)) (frames names self.old 0))) }
     {
         Err(NoMemory)
     }
