@@ -6,3 +6,13 @@ pub mod Looking
 pub mod Pushes
 pub mod Stepping
 pub mod Leaving
+pub mod Tops
+pub mod Going
+pub mod Leftover
+pub mod Waiting
+pub mod Counting
+pub mod Beginning
+pub mod Inside
+pub mod Aside
+pub mod SlotLists
+pub mod Captures

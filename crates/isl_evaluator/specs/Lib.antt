@@ -4,3 +4,9 @@ pub mod Frames
 pub mod View
 pub mod Exits
 pub mod Links
+pub mod Requests
+pub mod Operands
+pub mod Tops
+pub mod Begins
+pub mod Exiting
+pub mod Slots

@@ -2,7 +2,9 @@
 #![tactic(auto)]
 
 pub mod building;
+pub mod blocks;
 pub mod exits;
+pub mod forms;
 pub mod frame;
 pub mod given;
 pub mod links;
@@ -12,3 +14,14 @@ pub mod signals;
 pub mod situation;
 pub mod slot;
 pub mod transfers;
+pub mod lists;
+pub mod locals;
+pub mod nodes;
+pub mod open;
+pub mod operands;
+pub mod places;
+pub mod requests;
+pub mod sites;
+pub mod slots;
+pub mod stack;
+pub mod word_tests;
