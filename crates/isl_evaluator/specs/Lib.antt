@@ -5,3 +5,4 @@ pub mod Exits
 pub mod Links
 pub mod Requests
 pub mod Operands
+pub mod Sizes

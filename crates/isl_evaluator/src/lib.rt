@@ -8,5 +8,7 @@ pub mod links;
 pub mod machine;
 pub mod operands;
 pub mod requests;
+mod nodes;
 pub mod situation;
+pub mod sizes;
 pub mod slot;
