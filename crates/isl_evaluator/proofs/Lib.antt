@@ -3,3 +3,9 @@ pub mod Nearest
 pub mod Looking
 pub mod Pushes
 pub mod NodesInside
+pub mod Doing
+pub mod Cells
+pub mod Lists
+pub mod NewSlots
+pub mod MoreSlots
+pub mod Entering

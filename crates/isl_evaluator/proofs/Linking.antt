@@ -47,7 +47,7 @@ capped of (w ∷ ws) n =
     let low : min n (length ws) ≡ length ws = omega arith in
     let high : min (suc (length ws)) (length ws) ≡ length ws = omega arith in
     let below : chained of ws n ≡ chained of ws (suc (length ws)) =
-      capped of ws n ∙ ap (chained of ws) (low ∙ sym high) ∙ sym (capped of ws (suc (length ws))) in
+    capped of ws n ∙ ap (chained of ws) (low ∙ sym high) ∙ sym (capped of ws (suc (length ws))) in
     over of w ws n h ∙ at_top of ws n (suc (length ws)) (of w) below ∙ sym (over of w ws (suc (length ws)) (omega arith)) ∙ ap (chained of (w ∷ ws)) (sym e))
     (λ (h : n ≤ length ws).
     let e : min n (suc (length ws)) ≡ n = omega arith in

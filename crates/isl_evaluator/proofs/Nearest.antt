@@ -42,11 +42,11 @@ one_more kind items left link x pos is unlinked s = record {
   inside = let inside : left ≤ length items = s.inside in omega arith;
   below = let b : left ≤ link = s.below in omega arith;
   none = λ i w low high there. ⊎_elim
-    (λ (h : i < left).
-    let e : i ≡ left - 1 = omega arith in
-    ap (next_of kind) (read items left w x pos s.inside is (ap (slice_get items) (sym e) ∙ there)) ∙ sym unlinked)
-    (λ (h : left ≤ i). s.none i w h high there)
-    (cases_lt i left);
+      (λ (h : i < left).
+      let e : i ≡ left - 1 = omega arith in
+      ap (next_of kind) (read items left w x pos s.inside is (ap (slice_get items) (sym e) ∙ there)) ∙ sym unlinked)
+      (λ (h : left ≤ i). s.none i w h high there)
+      (cases_lt i left);
 }
 
 pub all_searched : (kind : Kind) (items : List Frame) (left link : ℕ) → left ≡ 0 → IsSearched kind items left link → IsNoneNearer kind items 0 link

@@ -6,3 +6,6 @@ pub mod Links
 pub mod Requests
 pub mod Operands
 pub mod Sizes
+pub mod Doing
+pub mod Slots
+pub mod Entering

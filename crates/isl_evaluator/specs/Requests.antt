@@ -5,6 +5,7 @@ use Rattle.isl_closure.specs.FlatState.{gives}
 use Rattle.isl_plain.specs.Applications.{requested}
 use Rattle.isl_store.specs.View.{Beside, limit_of}
 use Rattle.isl_evaluator.specs.declared.frame.Outcome.{Outcome}
+use Rattle.isl_evaluator.specs.declared.frame.Outcome.TheVariants.{Full}
 use Rattle.isl_evaluator.specs.declared.machine.Control.TheVariants.{ComeTo}
 use Rattle.isl_evaluator.specs.declared.machine.Machine.{Machine}
 use Rattle.isl_evaluator.specs.Frames.{outcome_of}
@@ -15,9 +16,12 @@ pub record IsGranted (old new : Machine) (heap stack : ℕ) : Type 0 where
   pub same : new ≡ record old { store = new.store }
   pub state_is : (names : List (List ℕ)) (b : Beside) → requested (limit_of old.given.limit) heap stack (state names old b) ≡ gives nil (state names new b)
 
--- they do not fit: the outcome is what comes, and all else is as it was
+-- they do not fit: the outcome is what comes, which is Full, and all else is as it was
 pub record IsRefused (old new : Machine) (heap stack : ℕ) : Type 0 where
   pub outcome : Outcome
+  pub asked : ℕ
+  pub left : ℕ
+  pub is_full : outcome ≡ Full asked left
   pub same : new ≡ record old { control = ComeTo outcome; store = new.store }
   pub state_is : (names : List (List ℕ)) (b : Beside) → requested (limit_of old.given.limit) heap stack (state names old b) ≡ record { outcome = outcome_of names outcome; state = state names new b }
 

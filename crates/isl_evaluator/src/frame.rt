@@ -78,10 +78,27 @@ pub enum Frame<'p> {
     /// The main forms from that one on are left. The exit of the program's end.
     MainForms(u64, &'p FlatCoreList, usize),
     /// Exits, each with links to the exits outside it.
-    Block { number: u64, exits: usize, own: usize },
-    Catch { number: u64, tag: Word, exits: usize },
-    Signal { number: u64, condition: Word, mark: Word, exits: usize },
-    Tagbody { number: u64, segments: &'p FlatCoreList, outside: Situation },
+    Block {
+        number: u64,
+        exits: usize,
+        own: usize,
+    },
+    Catch {
+        number: u64,
+        tag: Word,
+        exits: usize,
+    },
+    Signal {
+        number: u64,
+        condition: Word,
+        mark: Word,
+        exits: usize,
+    },
+    Tagbody {
+        number: u64,
+        segments: &'p FlatCoreList,
+        outside: Situation,
+    },
     Cleans(&'p FlatCore, Situation),
     RestoresStack(u64),
     RestoresSlots(Activation<'p>),

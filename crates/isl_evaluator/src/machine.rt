@@ -65,7 +65,12 @@ impl<'p> Machine<'p> {
 
     /// A form is evaluated, for whose value a frame waits.
     #[tactic(auto, using(crate::proofs::Pushes::pushed, crate::proofs::Pushes::stays))]
-    pub(crate) fn wait(&mut self, frame: Frame<'p>, form: &'p FlatCore, situation: Situation) -> Result<(), NoMemory>
+    pub(crate) fn wait(
+        &mut self,
+        frame: Frame<'p>,
+        form: &'p FlatCore,
+        situation: Situation,
+    ) -> Result<(), NoMemory>
         requires { IsPlain frame ≡ true }
         ensures { OnOk result (Steps self.old self.new (λ names s b. moment (evaluate form.now (at names self.old situation)) (waiting names self.old frame.entry ∷ frames names self.old 0) (state names self.old b))) }
     {

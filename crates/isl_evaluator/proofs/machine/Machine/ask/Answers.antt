@@ -13,6 +13,9 @@ returns-in-Ok c = record {
 pub returns-in-Err-Full : goal.returns-in-Err-Full
 returns-in-Err-Full c = record {
   outcome = Full c.in-Err-Full.asked c.in-Err-Full.left;
+  asked = c.in-Err-Full.asked;
+  left = c.in-Err-Full.left;
+  is_full = refl;
   same = refl;
   state_is = λ names b. rw c.in-Err-Full.field-0-is at (c.in-Err-Full.ensures.answer names (record b { frame = frame_slots names c.args.self.now.current c.args.self.now.slots.items }));
 }

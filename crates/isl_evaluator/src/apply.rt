@@ -1,0 +1,6 @@
+// Applications: procedures are entered, functions applied, methods run.
+
+pub mod arguments;
+pub mod cells;
+pub mod entering;
+pub mod slots;
