@@ -161,3 +161,23 @@ then_filled old mid new n f next d x =
         ∙ ap (λ (m : Machine). moment (come_to (full d.asked d.left)) (frames names old n) (state names (record m { store = mid.store }) b)) (sym (ap (λ (m : Machine). record m { control = old.control }) d.same))
         ∙ sym (ap (λ r. then_on r (frames names old n) (next names (setting_of names old.given) b)) (d.state_is names b));
     }
+
+-- a machine goes on once operands are dropped
+pub then_dropped : (old mid new : Machine) (n : ℕ) (a : Around) (t : List (List ℕ) → Setting → Surroundings → Step) → IsDropped old mid n
+    → Steps mid new (λ names s b. t names s (surroundings names mid a) (frames names mid 0) (state names mid b))
+    → Steps old new (λ names s b. t names s (surroundings names old a) (frames names old n) (state names old b))
+then_dropped old mid new n a t d s =
+    let given_is : mid.given ≡ old.given = ap (λ (m : Machine). m.given) d.same in
+    record {
+      given = s.given ∙ given_is;
+      comes = λ names b g.
+        s.comes names b (let P : Given → Type 0 = λ x. IsGiven names x in subst P (sym given_is) g)
+        ∙ ap (λ (m : Machine). t names (setting_of names m.given) (surroundings names m a) (frames names m 0) (state names m b)) d.same
+        ∙ ap (λ os. t names (setting_of names old.given) (surroundings names old a) (frames_in names old.current os old.slots.items (reverse old.frames.items)) (state names old b))
+        (others_none mid.operands.items ∙ d.operands);
+    }
+
+-- what a step comes to is known by another step
+pub steps_alike : (old new : Machine) (f g : List (List ℕ) → Setting → Beside → Moment) → Steps old new f
+    → ((names : List (List ℕ)) (b : Beside) → IsGiven names old.given → f names (setting_of names old.given) b ≡ g names (setting_of names old.given) b) → Steps old new g
+steps_alike old new f g s h = record { given = s.given; comes = λ names b k. s.comes names b k ∙ h names b k }

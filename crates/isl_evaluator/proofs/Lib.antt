@@ -9,3 +9,6 @@ pub mod Lists
 pub mod NewSlots
 pub mod MoreSlots
 pub mod Entering
+pub mod Bodies
+pub mod Gathered
+pub mod Judged

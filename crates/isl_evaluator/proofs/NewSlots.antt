@@ -16,7 +16,7 @@ use Rattle.isl_evaluator.specs.declared.slot.Slot.TheVariants as slot
 use Rattle.isl_evaluator.specs.declared.machine.Machine.{Machine}
 use Rattle.isl_evaluator.specs.Frames.{last_of, slot_of, frame_slots}
 use Rattle.isl_evaluator.specs.View.{state}
-use Rattle.isl_evaluator.specs.Slots.{AreSlotted, IsSlotted}
+use Rattle.isl_evaluator.specs.Variables.{AreSlotted, IsSlotted}
 
 get_past : {X : Type 0} (xs : List X) (k at : ℕ) → slice_get (drop k xs) at ≡ slice_get xs (k + at)
 get_past xs zero at = let e : 0 + at ≡ at = omega arith in ap (slice_get xs) (sym e)

@@ -7,5 +7,5 @@ pub mod Requests
 pub mod Operands
 pub mod Sizes
 pub mod Doing
-pub mod Slots
+pub mod Variables
 pub mod Entering

@@ -3,4 +3,4 @@
 pub mod arguments;
 pub mod cells;
 pub mod entering;
-pub mod slots;
+pub mod variables;

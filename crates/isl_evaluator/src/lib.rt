@@ -8,7 +8,7 @@ pub mod given;
 pub mod links;
 pub mod machine;
 pub mod making;
-mod nodes;
+mod body_nodes;
 pub mod operands;
 pub mod requests;
 pub mod signals_stub;

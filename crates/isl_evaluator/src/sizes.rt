@@ -5,7 +5,7 @@ ghost use Rattle.isl_closure.specs.declared.program.FlatProgram.{FlatProgram as 
 ghost use Rattle.isl_meaning.specs.Counts.{application_words};
 ghost use Rattle.isl_evaluator.specs.Sizes.{AreSizes, form_words, procedure_words};
 
-use crate::nodes::form_nodes;
+use crate::body_nodes::form_nodes;
 use isl_base::{ItemList, NoMemory};
 use isl_closure::{FlatCore, FlatCoreList, FlatProcedureList, FlatProgram};
 use std::alloc::Global;

@@ -26,7 +26,7 @@ pub(crate) struct Entering<'p> {
 
 impl<'p> Machine<'p> {
     /// A procedure is entered with the last operands, so many as that: their number is judged first.
-    pub(crate) fn enter(
+    pub(crate) fn enter_procedure(
         &mut self,
         procedure: Entering<'p>,
         operands: usize,
@@ -188,7 +188,7 @@ impl<'p> Machine<'p> {
         activation.slots = 0;
         let caller = mem::replace(&mut self.current, activation);
         self.frames.push(Frame::RestoresSlots(caller))?;
-        self.add_slots(code, count)?;
+        self.add_variables(code, count)?;
         self.drop_operands(count);
         self.evaluate(
             &code.body,

@@ -3,7 +3,7 @@
 ghost use Rattle.std.specs.Prelude.{◌≡◌, ◌≤◌, ◌+◌, ◌++◌, ◌∷◌, [], OnOk, length, slice_get};
 ghost use Rattle.isl_closure.specs.FlatNodes.{homes};
 ghost use Rattle.isl_evaluator.specs.Frames.{last_of};
-ghost use Rattle.isl_evaluator.specs.Slots.{IsSlotted, AreSlotted};
+ghost use Rattle.isl_evaluator.specs.Variables.{IsSlotted, AreSlotted};
 
 use crate::machine::Machine;
 use crate::slot::Slot;
@@ -13,7 +13,7 @@ use isl_store::Word;
 
 impl<'p> Machine<'p> {
     /// A new variable, behind those of the activation that runs.
-    pub(crate) fn add_slot(&mut self, home: Home, word: Word) -> Result<(), NoMemory>
+    pub(crate) fn add_new_variable(&mut self, home: Home, word: Word) -> Result<(), NoMemory>
         ensures { OnOk result (IsSlotted self.old self.new home word) }
     {
         match home {
@@ -40,7 +40,7 @@ impl<'p> Machine<'p> {
     }
 
     /// The variables of a procedure, with the values of the last operands, so many as that.
-    pub(crate) fn add_slots(
+    pub(crate) fn add_variables(
         &mut self,
         procedure: &FlatProcedure,
         count: usize,
@@ -54,7 +54,7 @@ impl<'p> Machine<'p> {
                 return Ok(());
             };
             let word = self.operand(first + at);
-            self.add_slot(home, word)?;
+            self.add_new_variable(home, word)?;
         }
         Ok(())
     }

@@ -2,7 +2,7 @@
 use Rattle.isl_base.specs.bridge.Counted.{one_more}
 use Rattle.isl_closure.specs.FlatNodes.{nodes}
 use Rattle.isl_evaluator.specs.Sizes.{clause_nodes, value_nodes, dynamic_nodes}
-use Rattle.isl_evaluator.proofs.nodes.+nodes.Goals as goal
+use Rattle.isl_evaluator.proofs.body_nodes.+nodes.Goals as goal
 
 pub list_nodes-loop-at-preserved : goal.list_nodes-loop-at-preserved
 list_nodes-loop-at-preserved t c = one_more nodes c.args.list.now 0 c.loop-at.at c.in-Some.form.now _ _ _ c.in-Some.ensures c.form_nodes.ensures c.saturating_add-total.ensures c.loop-at.invariant

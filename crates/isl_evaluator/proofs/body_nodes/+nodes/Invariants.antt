@@ -6,7 +6,7 @@ use Rattle.isl_closure.specs.model.View.{forms, clauses_of, bindings_of, dynamic
 use Rattle.isl_closure.specs.FlatNodes.{nodes}
 use Rattle.isl_evaluator.specs.Sizes.{clause_nodes, value_nodes, dynamic_nodes}
 use Rattle.isl_evaluator.proofs.NodesInside.{clause_size}
-use Rattle.isl_evaluator.proofs.nodes.+nodes.Given as goal
+use Rattle.isl_evaluator.proofs.body_nodes.+nodes.Given as goal
 
 abbrev pub decreases-form_nodes : goal.decreases-form_nodes
 decreases-form_nodes l = 3 * form_size l.form.now + 1

@@ -1,6 +1,6 @@
 -- A cell is a new variable of the store.
 use Rattle.isl_evaluator.proofs.NewSlots.{cell_made}
-use Rattle.isl_evaluator.proofs.machine.Machine.add_slot.Goals as goal
+use Rattle.isl_evaluator.proofs.machine.Machine.add_new_variable.Goals as goal
 
 pub returns-in_ok-number-in-Cell : goal.returns-in_ok-number-in-Cell
 returns-in_ok-number-in-Cell c =
