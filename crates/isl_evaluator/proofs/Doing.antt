@@ -1,6 +1,6 @@
 -- Something is done to the state of a machine, and then something else.
 use Rattle.std.proofs.Common.{◌≡◌, ℕ, ◌+◌, List, Bool, true, false, Option, Some, None, Result, refl, ap, sym, ◌∙◌, subst}
-use Rattle.std.specs.Prelude.{OnOk, Ok, Err, reverse, if◌then◌else◌}
+use Rattle.std.specs.Prelude.{OnOk, IfOk, Ok, Err, reverse, if◌then◌else◌}
 use Rattle.isl_meaning.specs.Values.{Value, nil}
 use Rattle.isl_meaning.specs.State.{Surroundings, Limit, full, has_room, room_left, with_words}
 use Rattle.isl_closure.specs.FlatState.{FlatState, FlatEvaluated, gives, on_state, go_on, charged, request}
@@ -8,14 +8,16 @@ use Rattle.isl_plain.specs.Moment.{Setting, Step, Moment, moment, come_to, then_
 use Rattle.isl_plain.specs.Applications.{requested}
 use Rattle.isl_store.specs.declared.word.Word.{Word}
 use Rattle.isl_store.specs.declared.word.Word.TheVariants.{Nil}
+use Rattle.isl_store.specs.declared.object.Object.{Object}
 use Rattle.isl_store.specs.Words.{value_of_word}
-use Rattle.isl_store.specs.View.{Beside, limit_of}
+use Rattle.isl_store.specs.View.{Beside, built, limit_of}
 use Rattle.isl_evaluator.specs.declared.situation.Around.{Around}
 use Rattle.isl_evaluator.specs.declared.given.Given.{Given}
 use Rattle.isl_evaluator.specs.declared.frame.Outcome.TheVariants.{Full}
 use Rattle.isl_evaluator.specs.declared.machine.Control.TheVariants.{ComeTo}
 use Rattle.isl_evaluator.specs.declared.machine.Machine.{Machine}
 use Rattle.isl_evaluator.specs.Requests.{IsGranted, IsRefused, IsAsked}
+use Rattle.isl_evaluator.specs.Building.{IsBuilt}
 use Rattle.isl_evaluator.specs.Operands.{IsDropped}
 use Rattle.isl_evaluator.specs.Frames.{others_of, frames_in}
 use Rattle.isl_evaluator.specs.View.{Steps, IsCharged, IsGiven, setting_of, moment_of, state, top, frames, surroundings}
@@ -118,6 +120,17 @@ pub does_none : (old new : Machine) (f : Doing) (r : Option Word) → Does old n
 does_none old new f None d e = d
 does_none old new f (Some u) d e = absurd (cc)
 
+-- an object is made
+pub built_does : (old new : Machine) (size besides : ℕ) (o : Object) (r : Option Word) → IsBuilt old new size besides o r
+    → Does old new (λ names z. built names (limit_of old.given.limit) size besides o z) r
+built_does old new size besides o (Some w) d = record { same = d.same; state_is = d.state_is }
+built_does old new size besides o None d = record { asked = d.asked; left = d.left; same = d.same; state_is = d.state_is }
+
+pub built_ok : {E : Type 0} (old new : Machine) (size besides : ℕ) (o : Object) (r : Result (Option Word) E) → IfOk r (IsBuilt old new size besides o)
+    → IfOk r (Does old new (λ names z. built names (limit_of old.given.limit) size besides o z))
+built_ok old new size besides o (Ok r) d = built_does old new size besides o r d
+built_ok old new size besides o (Err e) d = tt
+
 -- words of the heap are asked for, and then counted
 pub heap_given : (old mid new : Machine) (words : ℕ) (r : Bool) → IsAsked old mid words 0 r → r ≡ true → IsCharged mid new words
     → Gives old new (λ names z. request (limit_of old.given.limit) words 0 z (λ entered. gives nil (charged words entered))) Nil
@@ -176,8 +189,3 @@ then_dropped old mid new n a t d s =
         ∙ ap (λ os. t names (setting_of names old.given) (surroundings names old a) (frames_in names old.current os old.slots.items (reverse old.frames.items)) (state names old b))
         (others_none mid.operands.items ∙ d.operands);
     }
-
--- what a step comes to is known by another step
-pub steps_alike : (old new : Machine) (f g : List (List ℕ) → Setting → Beside → Moment) → Steps old new f
-    → ((names : List (List ℕ)) (b : Beside) → IsGiven names old.given → f names (setting_of names old.given) b ≡ g names (setting_of names old.given) b) → Steps old new g
-steps_alike old new f g s h = record { given = s.given; comes = λ names b k. s.comes names b k ∙ h names b k }

@@ -13,7 +13,8 @@ use Rattle.isl_evaluator.specs.Frames.{last_of, others_of, frames_in}
 use Rattle.isl_evaluator.specs.View.{Steps, setting_of, state, top, frames, surroundings}
 use Rattle.isl_evaluator.specs.Operands.{IsDropped}
 use Rattle.isl_evaluator.specs.Entering.{entered_of, entering, in_words}
-use Rattle.isl_evaluator.proofs.Doing.{then_dropped, steps_alike}
+use Rattle.isl_evaluator.proofs.Doing.{then_dropped}
+use Rattle.isl_evaluator.proofs.Stepping.{same_moment}
 use Rattle.isl_evaluator.proofs.Entering.{so_many}
 
 -- so many operands, or all that there are
@@ -36,7 +37,7 @@ pub taken : (old new : Machine) (p : Entering) (n count level : ℕ) (a : Around
     → Steps old new (λ names s b. in_words s (entered_of names p) (top names old count) level (surroundings names old a) (frames names old count) (state names old b))
     → Steps old new (λ names s b. entering s (entered_of names p) (top names old n) level (surroundings names old a) (frames names old n) (state names old b))
 taken old new p n count level a e t s =
-    steps_alike old new _ _ s (λ names b g.
+    same_moment old new _ _ s (λ names b g.
     ap (λ xs. in_words (setting_of names old.given) (entered_of names p) (values_of names xs) level (surroundings names old a) (frames names old count) (state names old b)) (held_last old.operands.items n count e)
     ∙ ap (λ xs. in_words (setting_of names old.given) (entered_of names p) (top names old n) level (surroundings names old a) (frames_in names old.current xs old.slots.items (reverse old.frames.items)) (state names old b)) (held_others old.operands.items n count e)
     ∙ sym (ap (λ k. if k then in_words (setting_of names old.given) (entered_of names p) (top names old n) level (surroundings names old a) (frames names old n) (state names old b)
@@ -48,7 +49,7 @@ pub not_taken : (old mid new : Machine) (p : Entering) (n count level : ℕ) (a 
     → Steps mid new (λ names s b. signal_class s program_error_class [] (level + 1) (surroundings names mid a) (frames names mid 0) (state names mid b))
     → Steps old new (λ names s b. entering s (entered_of names p) (top names old n) level (surroundings names old a) (frames names old n) (state names old b))
 not_taken old mid new p n count level a e t d s =
-    steps_alike old new _ _ (then_dropped old mid new n a (λ names s around frames z. signal_class s program_error_class [] (level + 1) around frames z) d s) (λ names b g.
+    same_moment old new _ _ (then_dropped old mid new n a (λ names s around frames z. signal_class s program_error_class [] (level + 1) around frames z) d s) (λ names b g.
     ap (λ k. signal_class (setting_of names old.given) program_error_class [] k (surroundings names old a) (frames names old n) (state names old b)) (add-one level)
     ∙ sym (ap (λ k. if k then in_words (setting_of names old.given) (entered_of names p) (top names old n) level (surroundings names old a) (frames names old n) (state names old b)
     else signal_class (setting_of names old.given) program_error_class [] (suc level) (surroundings names old a) (frames names old n) (state names old b))

@@ -1,3 +1,5 @@
+pub mod Conditions
+pub mod Givens
 pub mod Linking
 pub mod Nearest
 pub mod Looking
@@ -12,3 +14,7 @@ pub mod Entering
 pub mod Bodies
 pub mod Gathered
 pub mod Judged
+pub mod Stepping
+pub mod Leaving
+pub mod Lookups
+pub mod Applying

@@ -1,3 +1,4 @@
+pub mod Building
 pub mod Chains
 pub mod Frames
 pub mod View
@@ -9,3 +10,5 @@ pub mod Sizes
 pub mod Doing
 pub mod Variables
 pub mod Entering
+pub mod Applying
+pub mod Methods

@@ -1,18 +1,30 @@
 -- The machine of the code at a moment, as the machine of the definitions; and what an operation makes of it.
-use Rattle.std.specs.Prelude.{◌≡◌, ℕ, Bool, true, false, List, [], ◌∷◌, reverse}
+use Rattle.std.specs.Prelude.{◌≡◌, ℕ, Bool, true, false, List, [], ◌∷◌, reverse, None, option_map}
 use Rattle.isl_meaning.specs.State.{Surroundings}
-use Rattle.isl_meaning.specs.Values.{Value}
+use Rattle.isl_meaning.specs.Values.{Value, nil}
+use Rattle.isl_meaning.specs.Layout.{class_value}
+use Rattle.isl_meaning.specs.Primitives.{instance_words}
+use Rattle.isl_closure.specs.FlatNodes.{tables}
+use Rattle.isl_store.specs.Spelling.{IsSpelling}
 use Rattle.isl_closure.specs.FlatState.{FlatState, charged}
 use Rattle.isl_plain.specs.Moment.{Setting, Moment, Control, moment, evaluate, signals, come_to}
 use Rattle.isl_plain.specs.Moment as machine
 use Rattle.isl_store.specs.declared.word.Word.{Word}
 use Rattle.isl_store.specs.Words.{value_of_word, values_of}
-use Rattle.isl_store.specs.View.{Beside, seen, limit_of}
+use Rattle.isl_store.specs.View.{Beside, seen, state_of, limit_of}
+use Rattle.isl_store.specs.declared.store.Store.{Store}
+use Rattle.isl_meaning.specs.declared.program.FunctionRow.{FunctionRow}
+use Rattle.isl_meaning.specs.Lookup.{text}
+use Rattle.isl_meaning.specs.Literals.{function_row}
+use Rattle.isl_meaning.specs.Classes.{class_of}
 use Rattle.isl_evaluator.specs.declared.situation.Around.{Around}
 use Rattle.isl_evaluator.specs.declared.situation.Situation.{Situation}
 use Rattle.isl_evaluator.specs.declared.frame.Frame.{Frame}
 use Rattle.isl_evaluator.specs.declared.frame.Frame.TheVariants as frame
 use Rattle.isl_evaluator.specs.declared.given.Given.{Given}
+use Rattle.isl_dispatch.specs.OfClasses.{with_classes}
+use Rattle.isl_dispatch.specs.Tables.{AreTablesOf}
+use Rattle.isl_evaluator.specs.Sizes.{AreSizes}
 use Rattle.isl_evaluator.specs.declared.machine.Control.{Control as Doing}
 use Rattle.isl_evaluator.specs.declared.machine.Control.TheVariants as doing
 use Rattle.isl_evaluator.specs.declared.machine.Machine.{Machine}
@@ -22,8 +34,15 @@ abbrev pub setting_of : List (List ℕ) → Given → Setting
 setting_of names g = record { names = names; program = g.program.now; limit = limit_of g.limit }
 
 -- what is known of what a run is given
-pub data IsGiven : List (List ℕ) → Given → Type 0 where
-  stub : ℕ → (names : List (List ℕ)) (g : Given) → IsGiven names g
+pub record IsGiven (names : List (List ℕ)) (g : Given) : Type 0 where
+  pub spelling : IsSpelling names g.spellings
+  pub sizes : AreSizes g.program.now g.sizes.now
+  pub dispatch : AreTablesOf (with_classes g.program.now.classes) g.program.now.generics g.tables.now
+  -- stubs, until layouts and primitives are there
+  pub class_stub : (c : ℕ) → nil ≡ class_value names (tables g.program.now) c
+  pub words_stub : (c n : ℕ) → n ≡ instance_words (tables g.program.now) c n
+  pub callee_stub : (n : ℕ) → None ≡ option_map (λ (f : FunctionRow). f.callee) (function_row names g.program.now.functions (text names n))
+  pub class_of_stub : (s : Store) (b : Beside) (w : Word) → 0 ≡ class_of (state_of names s b) (value_of_word names w)
 
 -- a situation, and surroundings, at the frames of a machine
 abbrev pub at : List (List ℕ) → Machine → Situation → machine.Situation

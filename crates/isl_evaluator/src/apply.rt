@@ -3,4 +3,6 @@
 pub mod arguments;
 pub mod cells;
 pub mod entering;
+pub mod methods;
+pub mod procedures;
 pub mod variables;

@@ -107,21 +107,24 @@ impl Exit {
 
 impl<'p> Machine<'p> {
     /// Looks for an exit from a link on.
-    #[tactic(auto, using(crate::proofs::Looking::begun, crate::proofs::Looking::passed_one, crate::proofs::Looking::found_one, crate::proofs::Looking::found_none))]
     pub(crate) fn look_for(&self, sought: Sought, link: usize) -> Result<Looked, NoMemory>
         ensures { IfOk result (λ looked. (names : List (List ℕ)) → IsSpelling names self.now.given.spellings → IsLookedFor names sought (reverse self.now.frames.items) link looked) }
     {
         let mut left = link;
         let mut passed: u64 = 0;
         while let Some((frame, behind)) = self.nearest(Kind::Exits, left) {
-            passed = passed.checked_add(1).ok_or(NoMemory)?;
-            if let Some(exit) = made_by(frame) {
-                if exit.meets(sought, self.given.spellings) {
-                    return Ok(Looked {
-                        found: Some(exit),
-                        passed,
-                    });
-                }
+            let Some(more) = passed.checked_add(1) else {
+                return Err(NoMemory);
+            };
+            passed = more;
+            let Some(exit) = made_by(frame) else {
+                unreachable!()
+            };
+            if exit.meets(sought, self.given.spellings) {
+                return Ok(Looked {
+                    found: Some(exit),
+                    passed,
+                });
             }
             left = behind;
         }

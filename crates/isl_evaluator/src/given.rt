@@ -1,12 +1,45 @@
 // What a run is given and does not change.
 
-use isl_closure::FlatProgram;
-use isl_store::Spellings;
+ghost use Rattle.std.specs.Prelude.{◌≡◌, List, ℕ};
+ghost use Rattle.isl_meaning.specs.Layout.{class_value};
+ghost use Rattle.isl_meaning.specs.Primitives.{instance_words};
+ghost use Rattle.isl_closure.specs.FlatNodes.{tables};
+ghost use Rattle.isl_store.specs.Words.{value_of_word};
+ghost use Rattle.isl_store.specs.Spelling.{IsSpelling};
+ghost use Rattle.isl_evaluator.specs.View.{IsGiven};
 
-/// The program, how its names are told apart, and how many words there are.
+use crate::sizes::Sizes;
+use isl_closure::FlatProgram;
+use isl_dispatch::Tables;
+use isl_meaning::ClassId;
+use isl_store::{Spellings, Word};
+use std::alloc::Global;
+
+/// The program, how its names are told apart, the words of its applications, its dispatch tables, and how many words there are.
 #[derive(Clone, Copy)]
 pub struct Given<'p> {
+    pub alloc: Global,
     pub program: &'p FlatProgram,
     pub spellings: Spellings,
+    pub sizes: &'p Sizes,
+    pub tables: &'p Tables,
     pub limit: Option<u64>,
+}
+
+impl<'p> Given<'p> {
+    /// The object of a class.
+    pub fn class_word(&self, class: ClassId) -> Word
+        ensures { (names : List (List ℕ)) → IsGiven names self.now → value_of_word names result ≡ class_value names (tables self.now.program.now) class }
+    {
+        let _ = class;
+        Word::Nil
+    }
+
+    /// The words of an instance with so many slots; none where that is no number of 64 bits.
+    pub fn instance_words(&self, class: ClassId, slots: u32) -> u64
+        ensures { (names : List (List ℕ)) → IsGiven names self.now → result ≡ instance_words (tables self.now.program.now) class slots }
+    {
+        let _ = class;
+        u64::from(slots)
+    }
 }

@@ -1,33 +1,17 @@
 -- A table of values as a list of texts and values.
-use Rattle.std.proofs.Common.{◌≡◌, ℕ, zero, suc, ◌<◌, ◌==◌, Bool, true, false, List, [], ◌∷◌, ◌++◌, length, Option, Some, None, refl, sym, ◌∙◌, ap, arith}
-use Rattle.std.specs.Prelude.{slice_get, slice_set, if◌then◌else◌}
+use Rattle.std.proofs.Common.{◌≡◌, ℕ, ◌<◌, ◌==◌, Bool, true, false, List, [], ◌∷◌, length, Option, Some, refl, sym, ◌∙◌, ap}
+use Rattle.std.specs.Prelude.{if◌then◌else◌}
 use Rattle.std.specs.Vec.{with_item}
 use Rattle.std.specs.Str.{bytes_eq}
-use Rattle.std.proofs.Math.Dec.{eqb-suc-zero, eqb-zero-suc, eqb-suc-suc}
 use Rattle.isl_meaning.specs.Values.{Value}
 use Rattle.isl_meaning.specs.Lookup.{text, under_text}
 use Rattle.isl_store.specs.declared.word.Word.{Word}
 use Rattle.isl_store.specs.declared.named_values.NamedValues.{NamedValues}
 use Rattle.isl_store.specs.Words.{value_of_word, value_or_none}
 use Rattle.isl_store.specs.Spelling.{number_of, IsSpelling}
-use Rattle.isl_store.specs.NamedValues.{item_or_none, word_of, Holds, IsAlike}
-use Rattle.isl_store.proofs.Spelt.{told}
-
--- one more that has no value
-pub none_more : {X : Type 0} (xs : List (Option X)) (i : ℕ) → item_or_none (slice_get (xs ++ None ∷ []) i) ≡ item_or_none (slice_get xs i)
-none_more [] zero = refl
-none_more [] (suc i) = refl
-none_more (x ∷ xs) zero = refl
-none_more (x ∷ xs) (suc i) = none_more xs i
-
--- what is looked up after a value was set
-pub looked_up : {X : Type 0} (xs : List (Option X)) (i j : ℕ) (x : X) → i < length xs
-    → item_or_none (slice_get (slice_set xs i (Some x)) j) ≡ (if j == i then Some x else item_or_none (slice_get xs j))
-looked_up [] i j x h = absurd (omega arith)
-looked_up (y ∷ ys) zero zero x h = refl
-looked_up (y ∷ ys) zero (suc j) x h = rw (eqb-suc-zero j) refl
-looked_up (y ∷ ys) (suc i) zero x h = rw (eqb-zero-suc i) refl
-looked_up (y ∷ ys) (suc i) (suc j) x h = rw (eqb-suc-suc j i) (looked_up ys i j x (omega arith))
+use Rattle.isl_store.specs.NamedValues.{word_of, Holds, IsAlike}
+use Rattle.isl_store.specs.bridge.Told.{told}
+use Rattle.isl_store.specs.bridge.Places.{looked_up}
 
 pub nothing_held : (names : List (List ℕ)) (t : NamedValues) → IsSpelling names t.spellings → t.values.items ≡ [] → Holds names t []
 nothing_held names t x e = record { spelling = x; found = λ n. rw e refl }

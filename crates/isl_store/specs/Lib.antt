@@ -3,3 +3,4 @@ pub mod Spelling
 pub mod View
 pub mod Requests
 pub mod NamedValues
+pub mod bridge

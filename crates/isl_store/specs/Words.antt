@@ -7,7 +7,6 @@ use Rattle.isl_closure.specs.FlatState as flat
 use Rattle.isl_store.specs.declared.word.Word.{Word}
 use Rattle.isl_store.specs.declared.word.Word.TheVariants.{Nil, True, Integer, Character, Symbol, Unnamed}
 use Rattle.isl_store.specs.declared.word.Word.TheVariants as word
-use Rattle.isl_dispatch.specs.declared.chain.Chain.{Chain}
 use Rattle.isl_store.specs.declared.called.Rest.{Rest}
 use Rattle.isl_store.specs.declared.called.Rest.TheVariants.{Around, Primary}
 use Rattle.isl_store.specs.declared.called.Called.{Called}

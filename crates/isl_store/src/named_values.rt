@@ -56,7 +56,7 @@ impl NamedValues {
         Ok(())
     }
 
-    #[tactic(auto, using(crate::proofs::Holding::none_more))]
+    #[tactic(auto, using(crate::specs::bridge::Places::none_more))]
     // There is room for a number.
     fn reach(&mut self, number: usize) -> Result<(), NoMemory>
         ensures reached { OnOk result (number < length self.new.values.items) }

@@ -50,7 +50,7 @@ impl Spellings {
         }
     }
 
-    #[tactic(auto, using(crate::proofs::Spelt::told))]
+    #[tactic(auto, using(crate::specs::bridge::Told::told))]
     /// Whether two names have the same text.
     pub fn same_name(self, name: Name, other: Name) -> bool
         ensures { (names : List (List ℕ)) → IsSpelling names self → result ≡ bytes_eq (text names name.0) (text names other.0) }

@@ -1,7 +1,7 @@
 -- The store makes the object, and all else is as it was.
 use Rattle.std.proofs.Common.{refl}
 use Rattle.isl_evaluator.specs.Frames.{frame_slots}
-use Rattle.isl_evaluator.proofs.machine.Machine.make.Goals as goal
+use Rattle.isl_evaluator.proofs.machine.Machine.build.Goals as goal
 
 pub returns-in-Ok : goal.returns-in-Ok
 returns-in-Ok c = record {

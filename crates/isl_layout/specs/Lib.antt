@@ -1,0 +1,4 @@
+pub mod Recipes
+pub mod Parts
+pub mod Tables
+pub mod Layout
