@@ -35,6 +35,24 @@ seen_as : {X : Type 0} (as_kind : Option objects.Object → Option X) (names : L
     → Reads s w i x → as_kind (fetch (state_of names s b) (value_of_word names w)) ≡ Some v → as_kind (Some (object_of names x)) ≡ Some v
 seen_as as_kind names b s w i x v r h = ap as_kind (sym (fetched_at names b s w i x r.number r.there)) ∙ h
 
+-- and the other way round
+met : {X : Type 0} (as_kind : Option objects.Object → Option X) (names : List (List ℕ)) (b : Beside) (s : Store) (w : Word) (i : ℕ) (x : Object) (v : X)
+    → Reads s w i x → as_kind (Some (object_of names x)) ≡ Some v → as_kind (fetch (state_of names s b) (value_of_word names w)) ≡ Some v
+met as_kind names b s w i x v r h = ap as_kind (fetched_at names b s w i x r.number r.there) ∙ h
+
+-- an item in its own place
+pub set_itself : {X : Type 0} (xs : List X) (i : ℕ) (x : X) → slice_get xs i ≡ Some x → slice_set xs i x ≡ xs
+set_itself [] i x h = refl
+set_itself (y ∷ ys) zero x h = ap (λ z. z ∷ ys) (cc)
+set_itself (y ∷ ys) (suc i) x h = ap (λ zs. y ∷ zs) (set_itself ys i x h)
+
+-- an object in its own place
+pub unchanged : (names : List (List ℕ)) (b : Beside) (s : Store) (w : Word) (i : ℕ) (x o : Object) → Reads s w i x → x ≡ o
+    → seen names (record s { objects = with_item s.objects i o }) b ≡ seen names s b
+unchanged names b s w i x o r is =
+    let same : slice_set s.objects.items i o ≡ s.objects.items = set_itself s.objects.items i o (r.there ∙ ap (λ y. Some y) is) in
+    rw same refl
+
 -- conses
 pub cons_there : (names : List (List ℕ)) (x : Object) (v : Value × Value) → as_cons (Some (object_of names x)) ≡ Some v
     → (p : Word × Word) × (x ≡ Cons p.0 p.1) × (value_of_word names p.0 ≡ v.0) × (value_of_word names p.1 ≡ v.1)
@@ -86,6 +104,10 @@ pub no_cons : (names : List (List ℕ)) (b : Beside) (s : Store) (w : Word) (i :
     → Reads s w i x → ((a d : Word) → x ≡ Cons a d → ⊥) → as_cons (fetch (state_of names s b) (value_of_word names w)) ≡ Some v → ⊥
 no_cons names b s w i x v r f h = let p = cons_there names x v (seen_as as_cons names b s w i x v r h) in f p.0.0 p.0.1 p.1
 
+pub some_cons : (names : List (List ℕ)) (b : Beside) (s : Store) (w : Word) (i : ℕ) (x : Object) (a d : Word) → Reads s w i x → x ≡ Cons a d
+    → ((v : Value × Value) → as_cons (fetch (state_of names s b) (value_of_word names w)) ≡ Some v → ⊥) → ⊥
+some_cons names b s w i x a d r e f = f (value_of_word names a, value_of_word names d) (met as_cons names b s w i x (value_of_word names a, value_of_word names d) r (rw e refl))
+
 -- strings
 pub byte_set : (names : List (List ℕ)) (b : Beside) (s : Store) (w : Word) (i : ℕ) (x : Object) (bytes later : List ℕ) (at byte : ℕ) (v : List ℕ)
     → Reads s w i x → x ≡ Text bytes → later ≡ slice_set bytes at byte → as_string (fetch (state_of names s b) (value_of_word names w)) ≡ Some v
@@ -106,6 +128,12 @@ no_byte names b s w i x bytes n at v r e len past h inside =
 pub no_string : (names : List (List ℕ)) (b : Beside) (s : Store) (w : Word) (i : ℕ) (x : Object) (v : List ℕ)
     → Reads s w i x → ((bytes : List ℕ) → x ≡ Text bytes → ⊥) → as_string (fetch (state_of names s b) (value_of_word names w)) ≡ Some v → ⊥
 no_string names b s w i x v r f h = f v (strings_there names x v (seen_as as_string names b s w i x v r h))
+
+pub some_byte : (names : List (List ℕ)) (b : Beside) (s : Store) (w : Word) (i : ℕ) (x : Object) (bytes : List ℕ) (n at : ℕ) → Reads s w i x → x ≡ Text bytes → n ≡ length bytes → at < n
+    → ((v : List ℕ) → as_string (fetch (state_of names s b) (value_of_word names w)) ≡ Some v → length v ≤ at) → ⊥
+some_byte names b s w i x bytes n at r e len inside f =
+    let past : length bytes ≤ at = f bytes (met as_string names b s w i x bytes r (rw e refl)) in
+    omega arith
 
 -- vectors
 pub element_set : (names : List (List ℕ)) (b : Beside) (s : Store) (w : Word) (i : ℕ) (x : Object) (es later : List Word) (at : ℕ) (e : Word) (v : List Value)
@@ -130,6 +158,12 @@ no_element names b s w i x es n at v r is len past h inside =
 pub no_vector : (names : List (List ℕ)) (b : Beside) (s : Store) (w : Word) (i : ℕ) (x : Object) (v : List Value)
     → Reads s w i x → ((es : List Word) → x ≡ Vector es → ⊥) → as_vector (fetch (state_of names s b) (value_of_word names w)) ≡ Some v → ⊥
 no_vector names b s w i x v r f h = let p = vector_there names x v (seen_as as_vector names b s w i x v r h) in f p.0 p.1
+
+pub some_element : (names : List (List ℕ)) (b : Beside) (s : Store) (w : Word) (i : ℕ) (x : Object) (es : List Word) (n at : ℕ) → Reads s w i x → x ≡ Vector es → n ≡ length es → at < n
+    → ((v : List Value) → as_vector (fetch (state_of names s b) (value_of_word names w)) ≡ Some v → length v ≤ at) → ⊥
+some_element names b s w i x es n at r e len inside f =
+    let past : length (values_of names es) ≤ at = f (values_of names es) (met as_vector names b s w i x (values_of names es) r (rw e refl)) in
+    omega (arith, length-map es (value_of_word names))
 
 -- instances
 pub slot_set : (names : List (List ℕ)) (b : Beside) (s : Store) (w : Word) (i : ℕ) (x : Object) (it : Instance) (later : List (Option Word)) (at : ℕ) (e : Word) (v : ℕ × List (Option Value) × Value)
@@ -158,6 +192,13 @@ pub no_instance : (names : List (List ℕ)) (b : Beside) (s : Store) (w : Word) 
     → Reads s w i x → ((it : Instance) → x ≡ made.Instance it → ⊥) → as_instance (fetch (state_of names s b) (value_of_word names w)) ≡ Some v → ⊥
 no_instance names b s w i x v r f h = let p = instance_there names x v (seen_as as_instance names b s w i x v r h) in f p.0 p.1
 
+pub some_slot : (names : List (List ℕ)) (b : Beside) (s : Store) (w : Word) (i : ℕ) (x : Object) (it : Instance) (n at : ℕ) → Reads s w i x → x ≡ made.Instance it → n ≡ length it.slots → at < n
+    → ((v : ℕ × List (Option Value) × Value) → as_instance (fetch (state_of names s b) (value_of_word names w)) ≡ Some v → length v.1 ≤ at) → ⊥
+some_slot names b s w i x it n at r e len inside f =
+    let past : length (slots_of names it.slots) ≤ at = f (it.class, slots_of names it.slots, value_of_word names it.mark)
+            (met as_instance names b s w i x (it.class, slots_of names it.slots, value_of_word names it.mark) r (rw e refl)) in
+    omega (arith, length-map it.slots (value_or_none names))
+
 -- marks
 pub mark_set : (names : List (List ℕ)) (b : Beside) (s : Store) (w : Word) (i : ℕ) (x : Object) (it : Instance) (mark : Word)
     → Reads s w i x → x ≡ made.Instance it
@@ -166,12 +207,6 @@ pub mark_set : (names : List (List ℕ)) (b : Beside) (s : Store) (w : Word) (i 
 mark_set names b s w i x it mark r is =
     let f : fetch (state_of names s b) (value_of_word names w) ≡ Some (object_of names (made.Instance it)) = fetched_at names b s w i x r.number r.there ∙ ap (λ o. Some (object_of names o)) is in
     rw (r.number, rw r.number at f) (object_set names b s i x (made.Instance (record it { mark = mark })) r.there (rw is refl) refl)
-
--- an item in its own place
-pub set_itself : {X : Type 0} (xs : List X) (i : ℕ) (x : X) → slice_get xs i ≡ Some x → slice_set xs i x ≡ xs
-set_itself [] i x h = refl
-set_itself (y ∷ ys) zero x h = ap (λ z. z ∷ ys) (cc)
-set_itself (y ∷ ys) (suc i) x h = ap (λ zs. y ∷ zs) (set_itself ys i x h)
 
 -- what is no instance has no mark
 unmarked : (names : List (List ℕ)) (b : Beside) (s : Store) (i : ℕ) (x : Object) (mark : Word) → ((it : Instance) → x ≡ made.Instance it → ⊥)
@@ -193,8 +228,7 @@ pub no_mark : (names : List (List ℕ)) (b : Beside) (s : Store) (w : Word) (i :
     → seen names (record s { objects = with_item s.objects i x }) b ≡ on_state (λ y. marked (value_of_word names w) (value_of_word names mark) y) (seen names s b)
 no_mark names b s w i x mark r f =
     let e : slice_get (state_of names s b).store i ≡ Some (object_of names x) = slice_get-map (object_of names) s.objects.items i ∙ ap (option_map (object_of names)) r.there in
-    let same : slice_set s.objects.items i x ≡ s.objects.items = set_itself s.objects.items i x r.there in
-    rw (r.number, same, e) (unmarked names b s i x mark f)
+    rw (r.number, e) (unchanged names b s w i x x r refl ∙ unmarked names b s i x mark f)
 
 -- a word that is past the objects, and one that is no object
 pub nothing_marked : (names : List (List ℕ)) (b : Beside) (s : Store) (w : Word) (i : ℕ) (mark : Word) → w ≡ word.Object i → length s.objects.items ≤ i

@@ -245,11 +245,13 @@ impl<'p> Store<'p> {
         self.objects.len()
     }
 
-    /// The first part of a cons is set.
+    /// The first part of a cons is set; the store is unchanged where the word is no cons.
     pub fn set_car(&mut self, word: Word, car: Word)
-        ensures { (names : List (List ℕ)) (b : Beside) (c : Value × Value) →
+        ensures set { (names : List (List ℕ)) (b : Beside) (c : Value × Value) →
             as_cons (fetch (seen names self.old b).state (value_of_word names word)) ≡ Some c
             → seen names self.new b ≡ on_state (λ y. change (value_of_word names word) (cons (value_of_word names car) c.1) y) (seen names self.old b) }
+        ensures rest { (names : List (List ℕ)) (b : Beside) → ((c : Value × Value) → as_cons (fetch (seen names self.old b).state (value_of_word names word)) ≡ Some c → ⊥)
+            → seen names self.new b ≡ seen names self.old b }
     {
         if let Word::Object(number) = word {
             if number < self.objects.len() {
@@ -260,11 +262,13 @@ impl<'p> Store<'p> {
         }
     }
 
-    /// The second part of a cons is set.
+    /// The second part of a cons is set; the store is unchanged where the word is no cons.
     pub fn set_cdr(&mut self, word: Word, cdr: Word)
-        ensures { (names : List (List ℕ)) (b : Beside) (c : Value × Value) →
+        ensures set { (names : List (List ℕ)) (b : Beside) (c : Value × Value) →
             as_cons (fetch (seen names self.old b).state (value_of_word names word)) ≡ Some c
             → seen names self.new b ≡ on_state (λ y. change (value_of_word names word) (cons c.0 (value_of_word names cdr)) y) (seen names self.old b) }
+        ensures rest { (names : List (List ℕ)) (b : Beside) → ((c : Value × Value) → as_cons (fetch (seen names self.old b).state (value_of_word names word)) ≡ Some c → ⊥)
+            → seen names self.new b ≡ seen names self.old b }
     {
         if let Word::Object(number) = word {
             if number < self.objects.len() {
@@ -275,11 +279,13 @@ impl<'p> Store<'p> {
         }
     }
 
-    /// A character of a string is set.
+    /// A character of a string is set; the store is unchanged where the word is no string, or a shorter one.
     pub fn set_byte(&mut self, word: Word, at: usize, byte: u8)
-        ensures { (names : List (List ℕ)) (b : Beside) (bytes : List ℕ) →
+        ensures set { (names : List (List ℕ)) (b : Beside) (bytes : List ℕ) →
             as_string (fetch (seen names self.old b).state (value_of_word names word)) ≡ Some bytes → at < length bytes
             → seen names self.new b ≡ on_state (λ y. change (value_of_word names word) (string (slice_set bytes at byte)) y) (seen names self.old b) }
+        ensures rest { (names : List (List ℕ)) (b : Beside) → ((bytes : List ℕ) → as_string (fetch (seen names self.old b).state (value_of_word names word)) ≡ Some bytes → length bytes ≤ at)
+            → seen names self.new b ≡ seen names self.old b }
     {
         if let Word::Object(number) = word {
             if number < self.objects.len() {
@@ -292,11 +298,13 @@ impl<'p> Store<'p> {
         }
     }
 
-    /// An element of a vector is set.
+    /// An element of a vector is set; the store is unchanged where the word is no vector, or a shorter one.
     pub fn set_element(&mut self, word: Word, at: usize, element: Word)
-        ensures { (names : List (List ℕ)) (b : Beside) (vs : List Value) →
+        ensures set { (names : List (List ℕ)) (b : Beside) (vs : List Value) →
             as_vector (fetch (seen names self.old b).state (value_of_word names word)) ≡ Some vs → at < length vs
             → seen names self.new b ≡ on_state (λ y. change (value_of_word names word) (vector (slice_set vs at (value_of_word names element))) y) (seen names self.old b) }
+        ensures rest { (names : List (List ℕ)) (b : Beside) → ((vs : List Value) → as_vector (fetch (seen names self.old b).state (value_of_word names word)) ≡ Some vs → length vs ≤ at)
+            → seen names self.new b ≡ seen names self.old b }
     {
         if let Word::Object(number) = word {
             if number < self.objects.len() {
@@ -309,11 +317,13 @@ impl<'p> Store<'p> {
         }
     }
 
-    /// A slot of an instance is set.
+    /// A slot of an instance is set; the store is unchanged where the word is no instance, or one of fewer slots.
     pub fn set_slot(&mut self, word: Word, at: usize, value: Word)
-        ensures { (names : List (List ℕ)) (b : Beside) (i : ℕ × List (Option Value) × Value) →
+        ensures set { (names : List (List ℕ)) (b : Beside) (i : ℕ × List (Option Value) × Value) →
             as_instance (fetch (seen names self.old b).state (value_of_word names word)) ≡ Some i → at < length i.1
             → seen names self.new b ≡ on_state (λ y. change (value_of_word names word) (instance i.0 (slice_set i.1 at (Some (value_of_word names value))) i.2) y) (seen names self.old b) }
+        ensures rest { (names : List (List ℕ)) (b : Beside) → ((i : ℕ × List (Option Value) × Value) → as_instance (fetch (seen names self.old b).state (value_of_word names word)) ≡ Some i → length i.1 ≤ at)
+            → seen names self.new b ≡ seen names self.old b }
     {
         if let Word::Object(number) = word {
             if number < self.objects.len() {
