@@ -196,7 +196,7 @@ pub some_slot : (names : List (List ℕ)) (b : Beside) (s : Store) (w : Word) (i
     → ((v : ℕ × List (Option Value) × Value) → as_instance (fetch (state_of names s b) (value_of_word names w)) ≡ Some v → length v.1 ≤ at) → ⊥
 some_slot names b s w i x it n at r e len inside f =
     let past : length (slots_of names it.slots) ≤ at = f (it.class, slots_of names it.slots, value_of_word names it.mark)
-            (met as_instance names b s w i x (it.class, slots_of names it.slots, value_of_word names it.mark) r (rw e refl)) in
+    (met as_instance names b s w i x (it.class, slots_of names it.slots, value_of_word names it.mark) r (rw e refl)) in
     omega (arith, length-map it.slots (value_or_none names))
 
 -- marks
