@@ -8,8 +8,10 @@ use isl_base::{Datum, Name, NoMemory, Reason};
 use isl_drafts::draft::{Defined, Draft, offence, one_part};
 use isl_drafts::here::{Setting, fits_depth};
 use isl_drafts::plan::{inner_forms, parameter_parts};
-use isl_drafts::taken::{defining_offence, has_global, has_name, is_reserved, is_taken, is_truth};
-use isl_profile::{One, Parameters};
+use isl_drafts::taken::{
+    defining_offence, has_dynamic, has_global, has_name, is_reserved, is_taken, is_truth,
+};
+use isl_profile::{DynamicRow, GlobalRow, One, Parameters};
 use isl_written::shapes::{named, parameters_in};
 
 /// `(defglobal name x)` and `(defconstant name x)`: a constant is not set before.
@@ -27,7 +29,7 @@ pub fn global_draft<'a>(
     let Some(name) = named(target) else {
         return Ok(offence(here.place, Reason::BadShape));
     };
-    let taken = has_global(here.tables, name);
+    let taken = has_global(here.spot.sited, here.tables, name);
     let reserved = is_truth(here, name);
     if let Some(reason) = defining_offence(here, taken, reserved) {
         return Ok(offence(here.place, reason));
@@ -35,7 +37,12 @@ pub fn global_draft<'a>(
     if constant && has_name(&here.tables.set, name) {
         return Ok(offence(here.place, Reason::ConstantSet));
     }
-    one_part(here, One::DefineGlobal(name, constant), datum)
+    let row = GlobalRow {
+        name,
+        constant,
+        of_file: here.spot.sited,
+    };
+    one_part(here, One::DefineGlobal(row), datum)
 }
 
 /// `(defdynamic name x)`
@@ -49,12 +56,16 @@ pub fn defdynamic_draft<'a>(here: Setting, items: &'a [Datum]) -> Result<Draft<'
     let Some(name) = named(target) else {
         return Ok(offence(here.place, Reason::BadShape));
     };
-    let taken = has_name(&here.tables.dynamics, name);
+    let taken = has_dynamic(here.spot.sited, here.tables, name);
     let reserved = is_truth(here, name);
     if let Some(reason) = defining_offence(here, taken, reserved) {
         return Ok(offence(here.place, reason));
     }
-    one_part(here, One::DefineDynamic(name), datum)
+    let row = DynamicRow {
+        name,
+        of_file: here.spot.sited,
+    };
+    one_part(here, One::DefineDynamic(row), datum)
 }
 
 // The definition, with what its body binds and has.

@@ -23,12 +23,31 @@ pub fn has_name(names: &NameList, name: Name) -> bool
     false
 }
 
-/// Whether a global variable has the name.
-pub fn has_global(tables: &Tables, name: Name) -> bool
-    ensures { result ≡ row.has_global tables.now name }
+// For a definition of a file, what a prelude defined does not count.
+fn counts(of_file: bool, before: bool) -> bool
+    ensures { result ≡ row.counts of_file before }
+{
+    !of_file || before
+}
+
+/// Whether a global variable that counts for a definition, of a file or of a prelude, has the name.
+pub fn has_global(of_file: bool, tables: &Tables, name: Name) -> bool
+    ensures { result ≡ row.has_global of_file tables.now name }
 {
     for global in tables.globals.as_slice() {
-        if name.0 == global.name.0 {
+        if name.0 == global.name.0 && counts(of_file, global.of_file) {
+            return true;
+        }
+    }
+    false
+}
+
+/// Whether a dynamic variable that counts for a definition, of a file or of a prelude, has the name.
+pub fn has_dynamic(of_file: bool, tables: &Tables, name: Name) -> bool
+    ensures { result ≡ row.has_dynamic of_file tables.now name }
+{
+    for variable in tables.dynamics.as_slice() {
+        if name.0 == variable.name.0 && counts(of_file, variable.of_file) {
             return true;
         }
     }

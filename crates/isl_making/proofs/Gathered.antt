@@ -95,9 +95,9 @@ leaf_gathers p Nothing b v d e = outside p (leaf_form Nothing) b v d refl (sym e
 one_of_gathers : (p : Part) (k : One) (f : Form) (b : Bool) → b ≡ false → Gathers p (one_of k f) b (list_any (mentions p) (f ∷ []))
 one_of_gathers p (SetVariable v) f b d = outside p (one_of (SetVariable v) f) b _ d refl refl refl
 one_of_gathers p (SetGlobal n) f b d = outside p (one_of (SetGlobal n) f) b _ d refl refl refl
-one_of_gathers p (DefineGlobal n c) f b d = outside p (one_of (DefineGlobal n c) f) b _ d refl refl refl
+one_of_gathers p (DefineGlobal row) f b d = outside p (one_of (DefineGlobal row) f) b _ d refl refl refl
 one_of_gathers p (SetDynamic n) f b d = outside p (one_of (SetDynamic n) f) b _ d refl refl refl
-one_of_gathers p (DefineDynamic n) f b d = outside p (one_of (DefineDynamic n) f) b _ d refl refl refl
+one_of_gathers p (DefineDynamic row) f b d = outside p (one_of (DefineDynamic row) f) b _ d refl refl refl
 one_of_gathers p (ReturnTo x) f b d = outside p (one_of (ReturnTo x) f) b _ d refl refl refl
 
 one_gathers : (p : Part) (k : One) (fs : List Form) (b : Bool) → b ≡ false → (length fs == 1) ≡ true → Gathers p (make_one k fs) b (list_any (mentions p) fs)

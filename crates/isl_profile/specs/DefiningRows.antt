@@ -10,6 +10,8 @@ use Rattle.isl_base.specs.declared.reason.Reason.TheVariants.{DuplicateName, Not
 use Rattle.isl_base.specs.Data.{Item}
 use Rattle.isl_meaning.specs.declared.program.LiteralRow.TheVariants as row
 use Rattle.isl_profile.specs.declared.tables.Tables.{Tables}
+use Rattle.isl_profile.specs.declared.tables.GlobalRow.{GlobalRow}
+use Rattle.isl_profile.specs.declared.tables.DynamicRow.{DynamicRow}
 use Rattle.isl_profile.specs.declared.making.Leaf.{Leaf}
 use Rattle.isl_profile.specs.declared.making.Leaf.TheVariants.{Literal, Nothing}
 use Rattle.isl_profile.specs.declared.making.One.TheVariants.{DefineGlobal, DefineDynamic}
@@ -31,11 +33,15 @@ is_that n m = n.0 == m.0
 
 -- what was defined before, in each namespace
 
-abbrev pub has_global : Tables → Name → Bool
-has_global s n = list_any (λ g. is_that n g.name) s.globals
+-- for a definition of a file, what a prelude defined does not count
+abbrev pub counts : (of_file before : Bool) → Bool
+counts of_file before = not of_file || before
 
-abbrev pub has_dynamic : Tables → Name → Bool
-has_dynamic s n = list_any (is_that n) s.dynamics
+abbrev pub has_global : Bool → Tables → Name → Bool
+has_global of_file s n = list_any (λ g. is_that n g.name && counts of_file g.of_file) s.globals
+
+abbrev pub has_dynamic : Bool → Tables → Name → Bool
+has_dynamic of_file s n = list_any (λ v. is_that n v.name && counts of_file v.of_file) s.dynamics
 
 abbrev pub is_of_prelude : Tables → Name → Bool
 is_of_prelude s n = list_any (is_that n) s.prelude
@@ -71,11 +77,14 @@ is_truth a s n = a.spot.sited && is_that n s.words.truth
 
 -- (defglobal name x) and (defconstant name x): a constant is not set before
 
+abbrev pub global_variable : Around → Name → Bool → GlobalRow
+global_variable a n constant = record { name = n; constant = constant; of_file = a.spot.sited }
+
 abbrev pub global_as : Bool → Around → Tables → Place → Option Name → Item → Node
 global_as constant a s p None x = bad_shape p
 global_as constant a s p (Some n) x =
-    defining a p (has_global s n) (is_truth a s n)
-    (if constant && is_set s n then offends p ConstantSet else one_part a p s (DefineGlobal n constant) x)
+    defining a p (has_global a.spot.sited s n) (is_truth a s n)
+    (if constant && is_set s n then offends p ConstantSet else one_part a p s (DefineGlobal (global_variable a n constant)) x)
 
 abbrev pub global_row : Bool → Around → Tables → Place → List Item → Node
 global_row constant a s p (d ∷ x ∷ []) = global_as constant a s p (named (symbol_of d)) x
@@ -85,9 +94,13 @@ global_row constant a s p (d ∷ x ∷ e ∷ ds) = bad_shape p
 
 -- (defdynamic name x)
 
+abbrev pub dynamic_variable : Around → Name → DynamicRow
+dynamic_variable a n = record { name = n; of_file = a.spot.sited }
+
 abbrev pub defdynamic_as : Around → Tables → Place → Option Name → Item → Node
 defdynamic_as a s p None x = bad_shape p
-defdynamic_as a s p (Some n) x = defining a p (has_dynamic s n) (is_truth a s n) (one_part a p s (DefineDynamic n) x)
+defdynamic_as a s p (Some n) x =
+    defining a p (has_dynamic a.spot.sited s n) (is_truth a s n) (one_part a p s (DefineDynamic (dynamic_variable a n)) x)
 
 abbrev pub defdynamic_row : Around → Tables → Place → List Item → Node
 defdynamic_row a s p (d ∷ x ∷ []) = defdynamic_as a s p (named (symbol_of d)) x

@@ -19,6 +19,8 @@ use Rattle.isl_classes.specs.InheritedClasses.{with_class}
 use Rattle.isl_classes.specs.InheritedPrecedence.{object_class}
 use Rattle.isl_classes.specs.InheritedSlots.{same_name}
 use Rattle.isl_dispatch.specs.Methods.{new_row, with_method}
+use Rattle.isl_profile.specs.declared.tables.GlobalRow.{GlobalRow}
+use Rattle.isl_profile.specs.declared.tables.DynamicRow.{DynamicRow}
 use Rattle.isl_profile.specs.declared.tables.Tables.{Tables}
 use Rattle.isl_profile.specs.declared.making.Found.{Found}
 use Rattle.isl_profile.specs.declared.making.Leaf.{Leaf}
@@ -89,9 +91,9 @@ body_of fs = sequence (forms fs)
 abbrev pub one_of : One → Form → Form
 one_of (SetVariable v) f = set_local v f
 one_of (SetGlobal n) f = set_global n.0 f
-one_of (DefineGlobal n constant) f = def_global n.0 f
+one_of (DefineGlobal g) f = def_global g.name.0 f
 one_of (SetDynamic n) f = set_dynamic n.0 f
-one_of (DefineDynamic n) f = def_dynamic n.0 f
+one_of (DefineDynamic v) f = def_dynamic v.name.0 f
 one_of (ReturnTo x) f = return_from x f
 
 abbrev pub two_of : Two → Form → Form → Form
@@ -190,11 +192,11 @@ made_form m rs = at_site m.site (make m.making rs)
 
 -- what counts for the forms that come after
 
-abbrev pub with_global : Name → Bool → Tables → Tables
-with_global n constant s = record s { globals = s.globals ++ (record { name = n; constant = constant }) ∷ [] }
+abbrev pub with_global : GlobalRow → Tables → Tables
+with_global g s = record s { globals = s.globals ++ g ∷ [] }
 
-abbrev pub with_dynamic : Name → Tables → Tables
-with_dynamic n s = record s { dynamics = s.dynamics ++ n ∷ [] }
+abbrev pub with_dynamic : DynamicRow → Tables → Tables
+with_dynamic v s = record s { dynamics = s.dynamics ++ v ∷ [] }
 
 -- a function of the prelude is one that no definition of the file may name
 abbrev pub prelude_with : Bool → Name → List Name → List Name
@@ -318,8 +320,8 @@ finish_class c p of_file s =
     with_slot_functions c.functions (length s.classes.rows) p of_file (with_new_class c of_file s)
 
 abbrev pub finish_one : One → Tables → Tables
-finish_one (DefineGlobal n constant) s = with_global n constant s
-finish_one (DefineDynamic n) s = with_dynamic n s
+finish_one (DefineGlobal g) s = with_global g s
+finish_one (DefineDynamic v) s = with_dynamic v s
 finish_one (SetVariable v) s = s
 finish_one (SetGlobal n) s = s
 finish_one (SetDynamic n) s = s

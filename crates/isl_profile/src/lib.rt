@@ -17,4 +17,4 @@ pub use making::{
 pub use parameters::Parameters;
 pub use special::{Special, is_special_name, special_named};
 pub use spot::Spot;
-pub use tables::{GlobalRow, ReservedWords, Tables};
+pub use tables::{DynamicRow, GlobalRow, ReservedWords, Tables};

@@ -1,5 +1,6 @@
 // How a core form is made of what was found of its parts.
 
+use crate::tables::{DynamicRow, GlobalRow};
 use isl_base::{ItemList, Name, NameList};
 use isl_classes::SlotSpecs;
 use isl_meaning::{
@@ -39,10 +40,9 @@ pub enum Leaf {
 pub enum One {
     SetVariable(Var),
     SetGlobal(Name),
-    /// A constant or none.
-    DefineGlobal(Name, bool),
+    DefineGlobal(GlobalRow),
     SetDynamic(Name),
-    DefineDynamic(Name),
+    DefineDynamic(DynamicRow),
     ReturnTo(ExitVar),
 }
 

@@ -13,11 +13,20 @@ pub struct ReservedWords {
     pub and_rest: Name,
 }
 
-/// A global variable that was defined, and whether it is a constant (ISO/IEC 13816:2007, 12.8).
+/// A global variable that was defined, whether it is a constant, and whether a file or a prelude defined it
+/// (ISO/IEC 13816:2007, 12.8).
 #[derive(Clone, Copy, Debug, PartialEq, Eq)]
 pub struct GlobalRow {
     pub name: Name,
     pub constant: bool,
+    pub of_file: bool,
+}
+
+/// A dynamic variable that was defined, and whether a file or a prelude defined it (ISO/IEC 13816:2007, 14.3).
+#[derive(Clone, Copy, Debug, PartialEq, Eq)]
+pub struct DynamicRow {
+    pub name: Name,
+    pub of_file: bool,
 }
 
 /// What the forms judged so far gave: rows of a program, names that were defined or set, the new
@@ -37,7 +46,7 @@ pub struct Tables {
     pub globals: ItemList<GlobalRow>,
     /// The global variables that a form sets.
     pub set: NameList,
-    pub dynamics: NameList,
+    pub dynamics: ItemList<DynamicRow>,
     pub sites: PlaceList,
     pub fresh: FreshList,
     pub variables: Var,

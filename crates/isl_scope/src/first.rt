@@ -50,7 +50,7 @@ pub(crate) fn first_tables(alloc: Global, words: ReservedWords, classes: Classes
         generics: Generics::new(alloc),
         globals: ItemList::new(alloc),
         set: NameList::new(alloc),
-        dynamics: NameList::new(alloc),
+        dynamics: ItemList::new(alloc),
         sites: PlaceList::new(alloc),
         fresh: FreshList::new(alloc),
         variables: 0,

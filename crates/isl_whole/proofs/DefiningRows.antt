@@ -30,7 +30,7 @@ use Rattle.isl_profile.specs.Makings.{leaf_form, forms_found, procedure_found}
 use Rattle.isl_profile.specs.Shapes.{symbol_of, parameters_in, all_symbols}
 use Rattle.isl_profile.specs.RowWords.{each_parameter, each_inner, alone}
 use Rattle.isl_profile.specs.FunctionNodes.{function_parts}
-use Rattle.isl_profile.specs.DefiningRows.{named, is_that, has_global, has_dynamic, is_set, is_of_prelude, has_function, is_taken, is_truth, is_reserved, defining_offence, unless_offending, global_as, global_row, defdynamic_as, defdynamic_row, with_name, named_form, defun_of, defun_with, defun_as, defun_row}
+use Rattle.isl_profile.specs.DefiningRows.{named, is_that, has_global, has_dynamic, global_variable, dynamic_variable, is_set, is_of_prelude, has_function, is_taken, is_truth, is_reserved, defining_offence, unless_offending, global_as, global_row, defdynamic_as, defdynamic_row, with_name, named_form, defun_of, defun_with, defun_as, defun_row}
 use Rattle.isl_whole.specs.Definitions.{Definitions, defined, rows_of, Later, Undefined, has_function as has_row, SoundDefinitions, EachStands}
 use Rattle.isl_whole.specs.Places.{scope_of}
 use Rattle.isl_whole.specs.Right.{RightIn, Counted}
@@ -65,8 +65,8 @@ apt_global_as : (n : ℕ) (constant : Bool) (a : Around) (s : Tables) (p : Place
     → AptAt n a s (global_as constant a s p name x)
 apt_global_as n constant a s p None x b g = tt
 apt_global_as n constant a s p (Some name) x b g =
-    where_no_offence n a s p a.spot.top (has_global s name) (is_truth a s name) _
-    (λ t k r. apt_if n a s (constant && is_set s name) _ _ tt (apt_one n a p s (DefineGlobal name constant) x b tt g))
+    where_no_offence n a s p a.spot.top (has_global a.spot.sited s name) (is_truth a s name) _
+    (λ t k r. apt_if n a s (constant && is_set s name) _ _ tt (apt_one n a p s (DefineGlobal (global_variable a name constant)) x b tt g))
 
 pub apt_global : (n : ℕ) (constant : Bool) (a : Around) (s : Tables) (p : Place) (ds : List Item) → Stage a s → AllOf (Good n) ds → AptAt n a s (global_row constant a s p ds)
 apt_global n constant a s p (d ∷ x ∷ []) b g = apt_global_as n constant a s p (named (symbol_of d)) x b g.1.0
@@ -77,7 +77,7 @@ apt_global n constant a s p (d ∷ x ∷ e ∷ ds) b g = tt
 apt_defdynamic_as : (n : ℕ) (a : Around) (s : Tables) (p : Place) (name : Option Name) (x : Item) → Stage a s → Good n x → AptAt n a s (defdynamic_as a s p name x)
 apt_defdynamic_as n a s p None x b g = tt
 apt_defdynamic_as n a s p (Some name) x b g =
-    where_no_offence n a s p a.spot.top (has_dynamic s name) (is_truth a s name) _ (λ t k r. apt_one n a p s (DefineDynamic name) x b tt g)
+    where_no_offence n a s p a.spot.top (has_dynamic a.spot.sited s name) (is_truth a s name) _ (λ t k r. apt_one n a p s (DefineDynamic (dynamic_variable a name)) x b tt g)
 
 pub apt_defdynamic : (n : ℕ) (a : Around) (s : Tables) (p : Place) (ds : List Item) → Stage a s → AllOf (Good n) ds → AptAt n a s (defdynamic_row a s p ds)
 apt_defdynamic n a s p (d ∷ x ∷ []) b g = apt_defdynamic_as n a s p (named (symbol_of d)) x b g.1.0

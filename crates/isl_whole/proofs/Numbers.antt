@@ -85,9 +85,9 @@ one_numbered : (g h : Definitions) (k : One) (fs : List Form) → Each (Numbered
 one_numbered g h k [] e = record { numbers = refl }
 one_numbered g h (SetVariable v) (f ∷ fs) e = numbered_whole g h _ refl (e.0, tt) tt
 one_numbered g h (SetGlobal n) (f ∷ fs) e = numbered_whole g h _ refl (e.0, tt) tt
-one_numbered g h (DefineGlobal n constant) (f ∷ fs) e = numbered_whole g h _ refl (e.0, tt) tt
+one_numbered g h (DefineGlobal row) (f ∷ fs) e = numbered_whole g h _ refl (e.0, tt) tt
 one_numbered g h (SetDynamic n) (f ∷ fs) e = numbered_whole g h _ refl (e.0, tt) tt
-one_numbered g h (DefineDynamic n) (f ∷ fs) e = numbered_whole g h _ refl (e.0, tt) tt
+one_numbered g h (DefineDynamic row) (f ∷ fs) e = numbered_whole g h _ refl (e.0, tt) tt
 one_numbered g h (ReturnTo x) (f ∷ fs) e = numbered_whole g h _ refl (e.0, tt) tt
 
 two_numbered : (g h : Definitions) (k : Two) (fs : List Form) → Each (Numbered g h) fs → Numbered g h (make_two k fs)

@@ -218,17 +218,17 @@ starts_literal s a p row = starts_unsited s a p (with_literal row s) _ (grows_li
 abbrev pub Sets : One → Type 0
 Sets (SetVariable v) = Unit {0}
 Sets (SetGlobal n) = Unit {0}
-Sets (DefineGlobal n constant) = ⊥
+Sets (DefineGlobal row) = ⊥
 Sets (SetDynamic n) = Unit {0}
-Sets (DefineDynamic n) = ⊥
+Sets (DefineDynamic row) = ⊥
 Sets (ReturnTo x) = Unit {0}
 
 pub sets_nothing : (k : One) → Sets k → MakesNothing (OfOne k)
 sets_nothing (SetVariable v) h = λ rs u. none_defined u
 sets_nothing (SetGlobal n) h = λ rs u. none_defined u
-sets_nothing (DefineGlobal n constant) h = absurd h
+sets_nothing (DefineGlobal row) h = absurd h
 sets_nothing (SetDynamic n) h = λ rs u. none_defined u
-sets_nothing (DefineDynamic n) h = absurd h
+sets_nothing (DefineDynamic row) h = absurd h
 sets_nothing (ReturnTo x) h = λ rs u. none_defined u
 
 -- parts that leave no procedure

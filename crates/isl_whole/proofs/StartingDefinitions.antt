@@ -71,7 +71,7 @@ starts_joining s a d xs k f h e =
 starts_global_as : (s : Tables) (constant : Bool) (a : Around) (p : Place) (n : Option Name) (x : Item) → Starts s a.spot.top (global_as constant a s p n x)
 starts_global_as s constant a p None x = tt
 starts_global_as s constant a p (Some n) x =
-    starts_defining s p a.spot.top (has_global s n) (is_truth a s n) _
+    starts_defining s p a.spot.top (has_global a.spot.sited s n) (is_truth a s n) _
     (λ e taken reserved. starts_if s a.spot.top (constant && is_set s n) _ _ tt (starts_one s a p s _ x (grows_same s) (none_defined s) (λ l. absurd (cc (e, l)))))
 
 pub starts_global : (s : Tables) (constant : Bool) (a : Around) (p : Place) (ds : List Item) → Starts s a.spot.top (global_row constant a s p ds)
@@ -82,7 +82,7 @@ starts_global s constant a p (d ∷ x ∷ e ∷ ds) = tt
 
 starts_defdynamic_as : (s : Tables) (a : Around) (p : Place) (n : Option Name) (x : Item) → Starts s a.spot.top (defdynamic_as a s p n x)
 starts_defdynamic_as s a p None x = tt
-starts_defdynamic_as s a p (Some n) x = starts_defining s p a.spot.top (has_dynamic s n) (is_truth a s n) _ (λ e taken reserved. starts_one s a p s _ x (grows_same s) (none_defined s) (λ l. absurd (cc (e, l))))
+starts_defdynamic_as s a p (Some n) x = starts_defining s p a.spot.top (has_dynamic a.spot.sited s n) (is_truth a s n) _ (λ e taken reserved. starts_one s a p s _ x (grows_same s) (none_defined s) (λ l. absurd (cc (e, l))))
 
 pub starts_defdynamic : (s : Tables) (a : Around) (p : Place) (ds : List Item) → Starts s a.spot.top (defdynamic_row a s p ds)
 starts_defdynamic s a p (d ∷ x ∷ []) = starts_defdynamic_as s a p (named (symbol_of d)) x

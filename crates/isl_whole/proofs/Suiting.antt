@@ -102,9 +102,9 @@ simple_suits (OfClass c p of_file l) h u = absurd h
 one_known : (k : One) (u : Tables) → KnownTables u → KnownTables (finish_one k u)
 one_known (SetVariable v) u w = w
 one_known (SetGlobal n) u w = w
-one_known (DefineGlobal n constant) u w = w
+one_known (DefineGlobal row) u w = w
 one_known (SetDynamic n) u w = w
-one_known (DefineDynamic n) u w = w
+one_known (DefineDynamic row) u w = w
 one_known (ReturnTo x) u w = w
 
 simple_known : (k : Making) → IsSimple k → (rs : List Found) (u : Tables) → KnownTables u → KnownTables (finish k rs u)

@@ -9,7 +9,7 @@ use crate::make::parts::split_variables;
 use crate::make::sort::sort_found;
 use isl_base::{Name, NameList, NoMemory};
 use isl_meaning::{Callee, Core, FunctionRow, Procedure, SiteId};
-use isl_profile::{FoundList, GlobalRow, Leaf, One, Tables};
+use isl_profile::{FoundList, Leaf, One, Tables};
 use std::alloc::Global;
 
 /// The next number, where there is one.
@@ -25,8 +25,8 @@ pub(crate) fn finish_one(one: One, tables: &mut Tables) -> Result<(), NoMemory>
     ensures err { OnErr result (tables.new ≡ tables.old) }
 {
     match one {
-        One::DefineGlobal(name, constant) => tables.globals.push(GlobalRow { name, constant }),
-        One::DefineDynamic(name) => tables.dynamics.push(name),
+        One::DefineGlobal(row) => tables.globals.push(row),
+        One::DefineDynamic(row) => tables.dynamics.push(row),
         One::SetVariable(_) | One::SetGlobal(_) | One::SetDynamic(_) | One::ReturnTo(_) => Ok(()),
     }
 }

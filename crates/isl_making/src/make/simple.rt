@@ -42,9 +42,9 @@ fn one_of(one: One, form: Box<Core>) -> Core
     Core::new(match one {
         One::SetVariable(var) => CoreForm::SetLocal(var, form),
         One::SetGlobal(name) => CoreForm::SetGlobal(name, form),
-        One::DefineGlobal(name, _) => CoreForm::DefGlobal(name, form),
+        One::DefineGlobal(row) => CoreForm::DefGlobal(row.name, form),
         One::SetDynamic(name) => CoreForm::SetDynamic(name, form),
-        One::DefineDynamic(name) => CoreForm::DefDynamic(name, form),
+        One::DefineDynamic(row) => CoreForm::DefDynamic(row.name, form),
         One::ReturnTo(exit) => CoreForm::Return(exit, form),
     })
 }

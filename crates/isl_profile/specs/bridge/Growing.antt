@@ -20,6 +20,7 @@ use Rattle.isl_dispatch.specs.Methods.{new_row, with_method}
 use Rattle.isl_meaning.specs.declared.program.Procedure.{Procedure}
 use Rattle.isl_profile.specs.declared.tables.Tables.{Tables}
 use Rattle.isl_profile.specs.declared.tables.GlobalRow.{GlobalRow}
+use Rattle.isl_profile.specs.declared.tables.DynamicRow.{DynamicRow}
 use Rattle.isl_profile.specs.declared.making.Found.{Found}
 use Rattle.isl_profile.specs.declared.making.One.{One}
 use Rattle.isl_profile.specs.declared.making.Making.{Making}
@@ -125,7 +126,7 @@ pub record Added : Type 0 where
   pub prelude : Option (List Name)
   pub globals : Option (List GlobalRow)
   pub set : Option (List Name)
-  pub dynamics : Option (List Name)
+  pub dynamics : Option (List DynamicRow)
   pub sites : Option (List Place)
   pub fresh : Option (List Symbol)
 
@@ -274,9 +275,8 @@ class_grows mark s c of_file g =
     (own_with mark.classes.own s.classes c.name c.supers (given c.slots) c.abstract_class g.slots) g.generics
 
 finish_one_grows : (mark s : Tables) (k : One) → Grows mark s → Grows mark (finish_one k s)
-finish_one_grows mark s (DefineGlobal n constant) g =
-    grows_by mark s (record nothing_added { globals = Some ((record { name = n; constant = constant }) ∷ []) }) g
-finish_one_grows mark s (DefineDynamic n) g = grows_by mark s (record nothing_added { dynamics = Some (n ∷ []) }) g
+finish_one_grows mark s (DefineGlobal row) g = grows_by mark s (record nothing_added { globals = Some (row ∷ []) }) g
+finish_one_grows mark s (DefineDynamic row) g = grows_by mark s (record nothing_added { dynamics = Some (row ∷ []) }) g
 finish_one_grows mark s k g = g
 
 -- what counts once a form is made

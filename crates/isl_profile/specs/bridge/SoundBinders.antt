@@ -112,7 +112,7 @@ sound_global_as : (n : ℕ) (constant : Bool) (a : Around) (s : Tables) (p : Pla
     SoundNode n (weight a.spot) (global_as constant a s p name x)
 sound_global_as n constant a s p None x g = tt
 sound_global_as n constant a s p (Some name) x g =
-    sound_defining n (weight a.spot) a p (has_global s name) (is_truth a s name) _
+    sound_defining n (weight a.spot) a p (has_global a.spot.sited s name) (is_truth a s name) _
     (λ top. sound_if n (weight a.spot) (constant && is_set s name) _ _ tt (sound_one n a p s _ x g))
 
 pub sound_global : (n : ℕ) (constant : Bool) (a : Around) (s : Tables) (p : Place) (ds : List Item) → AllOf (Good n) ds →
@@ -126,7 +126,7 @@ sound_defdynamic_as : (n : ℕ) (a : Around) (s : Tables) (p : Place) (name : Op
     SoundNode n (weight a.spot) (defdynamic_as a s p name x)
 sound_defdynamic_as n a s p None x g = tt
 sound_defdynamic_as n a s p (Some name) x g =
-    sound_defining n (weight a.spot) a p (has_dynamic s name) (is_truth a s name) _ (λ top. sound_one n a p s _ x g)
+    sound_defining n (weight a.spot) a p (has_dynamic a.spot.sited s name) (is_truth a s name) _ (λ top. sound_one n a p s _ x g)
 
 pub sound_defdynamic : (n : ℕ) (a : Around) (s : Tables) (p : Place) (ds : List Item) → AllOf (Good n) ds →
     SoundNode n (weight a.spot) (defdynamic_row a s p ds)
