@@ -66,7 +66,7 @@ impl<'p> Machine<'p> {
             FlatCoreForm::WithHandler(handler, body) => self.wait(Frame::HandlerValue(body, situation), handler, situation),
             FlatCoreForm::Signal(condition, mark) => self.wait(Frame::SignalCondition(mark, situation), condition, situation),
             FlatCoreForm::Continue(condition, value) => self.wait(Frame::ContinueCondition(value, situation), condition, situation),
-            FlatCoreForm::NextMethod(place) => self.next_method(*place, situation),
+            FlatCoreForm::NextMethod(place) => self.next_method_at(*place, situation),
             FlatCoreForm::HasNext(place) => self.has_next(*place, situation),
             FlatCoreForm::Sited(site, form) => self.sited(*site, form, situation),
         }

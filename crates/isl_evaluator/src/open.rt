@@ -1,6 +1,6 @@
 // What others write: for now these answer want of memory.
 
-ghost use Rattle.std.specs.Prelude.{OnOk, map, slice_get};
+ghost use Rattle.std.specs.Prelude.{OnOk, map};
 ghost use Rattle.isl_meaning.specs.Lookup.{text};
 ghost use Rattle.isl_meaning.specs.Meaning.{is_next};
 ghost use Rattle.isl_meaning.specs.State.{at_segment};
@@ -9,7 +9,7 @@ ghost use Rattle.isl_closure.specs.FlatState.{gives, exit_of, method_of, capture
 ghost use Rattle.isl_closure.specs.model.View.{bindings_of, dynamics_of};
 ghost use Rattle.isl_plain.specs.Applications.{transfer};
 ghost use Rattle.isl_plain.specs.Moment.{ended};
-ghost use Rattle.isl_plain.specs.Step.{operation_step, let_step, dynamic_let_step, literal_step, global_step, dynamic_step, next_method_step};
+ghost use Rattle.isl_plain.specs.Step.{operation_step, let_step, dynamic_let_step, global_step, dynamic_step, next_method_step};
 ghost use Rattle.isl_evaluator.specs.Frames.{operation_of};
 ghost use Rattle.isl_evaluator.specs.View.{Steps, at, top, frames, state};
 
@@ -20,19 +20,11 @@ use isl_base::{Name, NoMemory};
 use isl_closure::{
     ExitPlace, FlatBindingList, FlatCore, FlatDynBindings, FlatPartList, MethodPlace,
 };
-use isl_meaning::LiteralId;
 
 impl<'p> Machine<'p> {
     /// What is done with arguments, which are the last operands.
     pub(crate) fn operate(&mut self, operation: Operation, count: usize, situation: Situation) -> Result<(), NoMemory>
         ensures { OnOk result (Steps self.old self.new (λ names s b. operation_step s (operation_of operation) (top names self.old count) (at names self.old situation) (frames names self.old count) (state names self.old b))) }
-    {
-        Err(NoMemory)
-    }
-
-    /// A literal.
-    pub(crate) fn literal(&mut self, id: LiteralId, situation: Situation) -> Result<(), NoMemory>
-        ensures { OnOk result (Steps self.old self.new (λ names s b. literal_step s id (slice_get s.program.literals id) (at names self.old situation) (frames names self.old 0) (state names self.old b))) }
     {
         Err(NoMemory)
     }
@@ -59,7 +51,7 @@ impl<'p> Machine<'p> {
     }
 
     /// The rest of the chain of a method.
-    pub(crate) fn next_method(&mut self, place: MethodPlace, situation: Situation) -> Result<(), NoMemory>
+    pub(crate) fn next_method_at(&mut self, place: MethodPlace, situation: Situation) -> Result<(), NoMemory>
         ensures { OnOk result (Steps self.old self.new (λ names s b. next_method_step s (method_of place (at names self.old situation).environment) (at names self.old situation) (frames names self.old 0) (state names self.old b))) }
     {
         Err(NoMemory)

@@ -1,16 +1,13 @@
 // The slots of the activation that runs.
 
-ghost use Rattle.std.specs.Prelude.{◌≡◌, ◌-◌, ◌∷◌, [], List, ℕ, length, slice_get, slice_set, OnOk, IfOk};
-ghost use Rattle.isl_closure.specs.FlatState.{value_held, cell_held, with_slots};
+ghost use Rattle.std.specs.Prelude.{◌≡◌, ◌-◌, List, ℕ, length, slice_get, slice_set};
+ghost use Rattle.isl_closure.specs.FlatState.{value_held, cell_held};
 ghost use Rattle.isl_store.specs.Words.{value_of_word};
 ghost use Rattle.isl_evaluator.specs.Frames.{last_of, slot_of, frame_slots};
-ghost use Rattle.isl_evaluator.specs.Slots.{IsChanged, IsNewSlot};
+ghost use Rattle.isl_evaluator.specs.Slots.{IsChanged};
 
 use crate::machine::Machine;
-use crate::places::after;
 use crate::slot::Slot;
-use isl_base::NoMemory;
-use isl_closure::Home;
 use isl_store::Word;
 
 impl<'p> Machine<'p> {
@@ -71,27 +68,6 @@ impl<'p> Machine<'p> {
         let count = self.slots.as_slice().len() - first;
         if number < count {
             self.slots[first + number] = slot;
-        }
-    }
-
-    /// A new variable, in a slot behind those that are there.
-    pub(crate) fn add_slot(&mut self, home: Home, word: Word) -> Result<(), NoMemory>
-        ensures { OnOk result (IsChanged self.old self.new (λ names z. with_slots (home ∷ []) (value_of_word names word ∷ []) z)) }
-    {
-        let slot = self.new_slot(home, word)?;
-        let count = after(self.current.slots)?;
-        self.slots.push(slot)?;
-        self.current.slots = count;
-        Ok(())
-    }
-
-    // The slot of a new variable, which has a new cell if it lives in one.
-    fn new_slot(&mut self, home: Home, word: Word) -> Result<Slot, NoMemory>
-        ensures { IfOk result (IsNewSlot self.old self.new home word) }
-    {
-        match home {
-            Home::Slot => Ok(Slot::Value(word)),
-            Home::Cell => Ok(Slot::Cell(self.store.add_variable(word)?)),
         }
     }
 }
