@@ -30,9 +30,3 @@ pub record IsInPlace (old new : Machine) : Type 0 where
 pub record IsChanged (old new : Machine) (f : List (List ℕ) → FlatState → FlatState) : Type 0 where
   pub in_place : IsInPlace old new
   pub state_is : (names : List (List ℕ)) (b : Beside) → state names new b ≡ f names (state names old b)
-
--- a slot for a new variable, with a new cell if the variable lives in one
-pub record IsNewSlot (old new : Machine) (home : Home) (word : Word) (slot : Slot) : Type 0 where
-  pub same : new ≡ record old { store = new.store }
-  pub slot_is : (names : List (List ℕ)) (b : Beside) → slot_of names slot ∷ [] ≡ new_slots (home ∷ []) (value_of_word names word ∷ []) (length (state names old b).state.variables)
-  pub state_is : (names : List (List ℕ)) (b : Beside) → state names new b ≡ with_values (new_cells (home ∷ []) (value_of_word names word ∷ [])) (state names old b)
