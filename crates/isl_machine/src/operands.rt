@@ -1,0 +1,26 @@
+// The values so far of the forms that wait.
+
+ghost use Rattle.std.specs.Prelude.{OnOk};
+ghost use Rattle.isl_machine.specs.Operands.{IsPushed, IsDropped};
+
+use crate::machine::Machine;
+use isl_base::NoMemory;
+use isl_store::Word;
+
+impl<'p> Machine<'p> {
+    /// An operand more.
+    pub fn push_operand(&mut self, word: Word) -> Result<(), NoMemory>
+        ensures { OnOk result (IsPushed self.old self.new word) }
+    {
+        self.operands.push(word)?;
+        Ok(())
+    }
+
+    /// The last operands go, so many as that.
+    pub fn drop_operands(&mut self, count: usize)
+        ensures { IsDropped self.old self.new count }
+    {
+        let left = self.operands.len().saturating_sub(count);
+        self.operands.truncate(left);
+    }
+}
