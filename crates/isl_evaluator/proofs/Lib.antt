@@ -1,0 +1,2 @@
+-- Proofs of the evaluator.
+pub mod Lifting

@@ -1,0 +1,2 @@
+-- How the evaluator is seen.
+pub mod Runs
