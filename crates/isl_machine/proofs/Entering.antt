@@ -29,7 +29,7 @@ use Rattle.isl_machine.specs.Doing.{Gives, Fills, IsDone}
 use Rattle.isl_machine.specs.Entering.{HasStack, IsGivenStack, entered_of, in_words, in_rest, in_record, in_cells}
 use Rattle.isl_machine.proofs.Doing.{alike, asked_true, asked_false, done_true, done_false, then_given, then_filled}
 use Rattle.isl_machine.proofs.Pushes.{pushed, surroundings_stay}
-use Rattle.isl_machine.proofs.Lists.{last_last}
+use Rattle.isl_machine.proofs.Listed.{last_last}
 
 -- the words are granted, the units counted, and the frame is there
 pub stack_given : (old mid counted new : Machine) (words all units before : ℕ) (r : Bool) → all ≡ words → IsAsked old mid 0 all r → r ≡ true → IsCharged mid counted units

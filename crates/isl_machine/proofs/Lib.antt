@@ -7,7 +7,7 @@ pub mod Pushes
 pub mod NodesInside
 pub mod Doing
 pub mod Cells
-pub mod Lists
+pub mod Listed
 pub mod NewSlots
 pub mod MoreSlots
 pub mod Entering

@@ -4,7 +4,7 @@ use Rattle.isl_plain.specs.Applications.{listed}
 use Rattle.isl_store.specs.View.{limit_of}
 use Rattle.isl_machine.specs.View.{top}
 use Rattle.isl_machine.proofs.Doing.{alike, does_some, does_none}
-use Rattle.isl_machine.proofs.Lists.{one_listed, list_filled, none_listed}
+use Rattle.isl_machine.proofs.Listed.{one_listed, list_filled, none_listed}
 use Rattle.isl_machine.proofs.machine.Machine.make_list.Goals as goal
 
 pub loop-taken-init : goal.loop-taken-init
