@@ -1,3 +1,2 @@
 -- Proofs of the evaluator.
 pub mod Lifting
-pub mod Carrying

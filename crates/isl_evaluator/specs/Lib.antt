@@ -1,3 +1,3 @@
 -- How the evaluator is seen.
 pub mod Runs
-pub mod Computing
+pub mod Streams

@@ -1,7 +1,6 @@
 // The evaluator of flat programs: the machine, with what stands beside it.
 #![tactic(auto)]
 
-pub mod computing;
 pub mod evaluator;
 pub mod open;
 pub mod streams;

@@ -10,11 +10,12 @@ ghost use Rattle.isl_primitives.specs.Groups.{stream_of};
 ghost use Rattle.isl_machine.specs.Frames.{last_of};
 ghost use Rattle.isl_machine.specs.View.{top, frames, state, surroundings};
 ghost use Rattle.isl_evaluator.specs.Runs.{Runs};
-ghost use Rattle.isl_evaluator.specs.Computing.{IsStreamed, IsPrinted, computed, reads, is_fed};
+ghost use Rattle.isl_machine.specs.Computing.{computed};
+ghost use Rattle.isl_evaluator.specs.Streams.{IsStreamed, IsPrinted, reads, is_fed};
 
-use crate::computing::tell;
 use crate::evaluator::Evaluator;
 use isl_base::NoMemory;
+use isl_machine::computing::tell;
 use isl_machine::situation::Around;
 use isl_meaning::ClassId;
 use isl_primitives::{Answer, Stream};

@@ -15,6 +15,7 @@ pub mod Bodies
 pub mod Gathered
 pub mod Judged
 pub mod Stepping
+pub mod Carrying
 pub mod Leaving
 pub mod Tops
 pub mod Going

@@ -10,6 +10,7 @@ pub mod Tops
 pub mod Begins
 pub mod Exiting
 pub mod Slots
+pub mod Computing
 pub mod Sizes
 pub mod Doing
 pub mod Variables

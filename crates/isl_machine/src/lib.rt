@@ -5,6 +5,7 @@ pub mod apply;
 pub mod blocks;
 mod body_nodes;
 pub mod building;
+pub mod computing;
 pub mod exits;
 pub mod forms;
 pub mod frame;

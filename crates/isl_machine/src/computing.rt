@@ -1,14 +1,15 @@
 // Primitives that read and write no stream compute with the last operands, which go.
 
-ghost use Rattle.std.specs.Prelude.{◌≡◌, false, OnOk};
+ghost use Rattle.std.specs.Prelude.{◌≡◌, ◌-◌, false, ℕ, length, Ok, Err, OnOk};
+ghost use Rattle.isl_machine.specs.declared.situation.Around.{Around};
 ghost use Rattle.isl_primitives.specs.Groups.{is_streaming};
 ghost use Rattle.isl_machine.specs.View.{Steps, top, frames, state, surroundings};
-ghost use Rattle.isl_evaluator.specs.Computing.{IsAnswered, IsTold, computed};
+ghost use Rattle.isl_machine.specs.Computing.{IsAnswered, IsTold, computed};
 
 use isl_base::NoMemory;
-use isl_machine::frame::Outcome;
-use isl_machine::machine::Machine;
-use isl_machine::situation::Around;
+use crate::frame::Outcome;
+use crate::machine::Machine;
+use crate::situation::Around;
 use isl_meaning::Primitive;
 use isl_primitives::Answer;
 use isl_store::Halt;
@@ -26,7 +27,7 @@ pub fn compute<'p>(
 {
     let answer = answer_of(machine, which, count);
     machine.drop_operands(count);
-    tell(machine, answer, level, around)
+    tell_result(machine, answer, level, around)
 }
 
 // What it comes to; the operands stay.
@@ -34,7 +35,7 @@ fn answer_of<'p>(machine: &mut Machine<'p>, which: Primitive, count: usize) -> R
     requires { is_streaming which ≡ false }
     ensures { IsAnswered machine.old machine.new which count result }
 {
-    let first = machine.operands.len().saturating_sub(count);
+    let first = first_of(machine, count);
     let given = machine.given;
     given.primitives.compute(
         &mut machine.store,
@@ -44,8 +45,15 @@ fn answer_of<'p>(machine: &mut Machine<'p>, which: Primitive, count: usize) -> R
     )
 }
 
-/// An answer is told: its value comes, its condition is signalled, or there is no room.
-pub fn tell<'p>(
+// The place of the first one of the last operands, so many as that.
+fn first_of(machine: &Machine<'_>, count: usize) -> usize
+    ensures { result ≡ length machine.now.operands.items - count }
+{
+    machine.operands.len().saturating_sub(count)
+}
+
+// What a primitive comes to is told.
+fn tell_result<'p>(
     machine: &mut Machine<'p>,
     answer: Result<Answer, Halt>,
     level: u64,
@@ -54,16 +62,39 @@ pub fn tell<'p>(
     ensures { OnOk result (IsTold machine.old machine.new answer level around) }
 {
     match answer {
-        Ok(Answer::Gives(word)) => {
+        Ok(answer) => tell(machine, answer, level, around),
+        Err(halt) => tell_halt(machine, halt),
+    }
+}
+
+/// An answer is told: its value comes, or its condition is signalled.
+pub fn tell<'p>(
+    machine: &mut Machine<'p>,
+    answer: Answer,
+    level: u64,
+    around: Around,
+) -> Result<(), NoMemory>
+    ensures { OnOk result (IsTold machine.old machine.new (Ok answer) level around) }
+{
+    match answer {
+        Answer::Gives(word) => {
             machine.gives(word);
             Ok(())
         }
-        Ok(Answer::Fails(class)) => machine.signal_class(class, level, around),
-        Ok(Answer::DomainError(word, class)) => machine.signal_domain(word, class, level, around),
-        Err(Halt::Full { asked, left }) => {
+        Answer::Fails(class) => machine.signal_class(class, level, around),
+        Answer::DomainError(word, class) => machine.signal_domain(word, class, level, around),
+    }
+}
+
+// There is no room, or counts pass 64 bits.
+fn tell_halt<'p>(machine: &mut Machine<'p>, halt: Halt) -> Result<(), NoMemory>
+    ensures { OnOk result ((level : ℕ) (around : Around) → IsTold machine.old machine.new (Err halt) level around) }
+{
+    match halt {
+        Halt::Full { asked, left } => {
             machine.come_to(Outcome::Full { asked, left });
             Ok(())
         }
-        Err(Halt::Spent) | Err(Halt::NoMemory) => Err(NoMemory),
+        Halt::Spent | Halt::NoMemory => Err(NoMemory),
     }
 }
