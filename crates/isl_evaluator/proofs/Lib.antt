@@ -1,2 +1,3 @@
 -- Proofs of the evaluator.
 pub mod Lifting
+pub mod Streaming
