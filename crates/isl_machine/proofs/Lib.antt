@@ -6,14 +6,6 @@ pub mod Looking
 pub mod Pushes
 pub mod NodesInside
 pub mod Doing
-pub mod Cells
-pub mod Listed
-pub mod NewSlots
-pub mod MoreSlots
-pub mod Entering
-pub mod Bodies
-pub mod Gathered
-pub mod Judged
 pub mod Stepping
 pub mod Leaving
 pub mod Tops
@@ -27,4 +19,3 @@ pub mod Aside
 pub mod SlotLists
 pub mod Captures
 pub mod Coded
-pub mod Applying

@@ -12,7 +12,4 @@ pub mod Exiting
 pub mod Slots
 pub mod Sizes
 pub mod Doing
-pub mod Variables
-pub mod Entering
-pub mod Applying
-pub mod Methods
+pub mod Codes

@@ -1,7 +1,6 @@
 // The code of the plain evaluator's machine.
 #![tactic(auto)]
 
-pub mod apply;
 pub mod blocks;
 mod body_nodes;
 pub mod building;
@@ -15,7 +14,6 @@ pub mod literals;
 pub mod locals;
 pub mod lookups;
 pub mod machine;
-pub mod making;
 pub mod nodes;
 pub mod open;
 pub mod operands;

@@ -23,7 +23,12 @@ use isl_closure::{
 
 impl<'p> Machine<'p> {
     /// What is done with arguments, which are the last operands.
-    pub fn operate(&mut self, operation: Operation, count: usize, situation: Situation) -> Result<(), NoMemory>
+    pub fn operate(
+        &mut self,
+        operation: Operation,
+        count: usize,
+        situation: Situation,
+    ) -> Result<(), NoMemory>
         ensures { OnOk result (Steps self.old self.new (λ names s b. operation_step s (operation_of operation) (top names self.old count) (at names self.old situation) (frames names self.old count) (state names self.old b))) }
     {
         Err(NoMemory)
@@ -44,14 +49,23 @@ impl<'p> Machine<'p> {
     }
 
     /// A transfer to a segment of a tagbody.
-    pub fn go(&mut self, exit: ExitPlace, segment: u32, situation: Situation) -> Result<(), NoMemory>
+    pub fn go(
+        &mut self,
+        exit: ExitPlace,
+        segment: u32,
+        situation: Situation,
+    ) -> Result<(), NoMemory>
         ensures { OnOk result (Steps self.old self.new (λ names s b. transfer s (exit_of exit (at names self.old situation).environment) nil (at_segment segment) (at names self.old situation).level (at names self.old situation).around (frames names self.old 0) (state names self.old b))) }
     {
         Err(NoMemory)
     }
 
     /// The rest of the chain of a method.
-    pub fn next_method_at(&mut self, place: MethodPlace, situation: Situation) -> Result<(), NoMemory>
+    pub fn next_method_at(
+        &mut self,
+        place: MethodPlace,
+        situation: Situation,
+    ) -> Result<(), NoMemory>
         ensures { OnOk result (Steps self.old self.new (λ names s b. next_method_step s (method_of place (at names self.old situation).environment) (at names self.old situation) (frames names self.old 0) (state names self.old b))) }
     {
         Err(NoMemory)
@@ -64,19 +78,36 @@ impl<'p> Machine<'p> {
         Err(NoMemory)
     }
 
-    pub fn let_body(&mut self, list: &'p FlatBindingList, count: usize, body: &'p FlatCore, situation: Situation) -> Result<(), NoMemory>
+    pub fn let_body(
+        &mut self,
+        list: &'p FlatBindingList,
+        count: usize,
+        body: &'p FlatCore,
+        situation: Situation,
+    ) -> Result<(), NoMemory>
         ensures { OnOk result (Steps self.old self.new (λ names s b. let_step s (bindings_of list.now) body.now (top names self.old count) (at names self.old situation) (frames names self.old count) (state names self.old b))) }
     {
         Err(NoMemory)
     }
 
-    pub fn dynamic_body(&mut self, list: &'p FlatDynBindings, count: usize, body: &'p FlatCore, situation: Situation) -> Result<(), NoMemory>
+    pub fn dynamic_body(
+        &mut self,
+        list: &'p FlatDynBindings,
+        count: usize,
+        body: &'p FlatCore,
+        situation: Situation,
+    ) -> Result<(), NoMemory>
         ensures { OnOk result (Steps self.old self.new (λ names s b. dynamic_let_step s (dynamics_of list.now) body.now (top names self.old count) (at names self.old situation) (frames names self.old count) (state names self.old b))) }
     {
         Err(NoMemory)
     }
 
-    pub fn make_function(&mut self, procedure: usize, parts: &'p FlatPartList, situation: Situation) -> Result<(), NoMemory>
+    pub fn make_function(
+        &mut self,
+        procedure: usize,
+        parts: &'p FlatPartList,
+        situation: Situation,
+    ) -> Result<(), NoMemory>
         ensures { OnOk result (Steps self.old self.new (λ names s b. ended (make_closure s.limit procedure (map (captured_part (at names self.old situation).environment (state names self.old b)) parts.now) (state names self.old b) (λ v after. gives v after)) (frames names self.old 0))) }
     {
         Err(NoMemory)

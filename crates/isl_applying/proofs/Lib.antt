@@ -1,0 +1,9 @@
+pub mod Cells
+pub mod Listed
+pub mod NewSlots
+pub mod MoreSlots
+pub mod Entering
+pub mod Bodies
+pub mod Gathered
+pub mod Judged
+pub mod Applying

@@ -1,0 +1,4 @@
+pub mod Variables
+pub mod Entering
+pub mod Applying
+pub mod Methods

@@ -1,0 +1,10 @@
+// Applications: procedures are entered, functions applied, methods run, conditions signalled.
+#![tactic(auto)]
+
+pub mod arguments;
+pub mod cells;
+pub mod entering;
+pub mod making;
+pub mod methods;
+pub mod procedures;
+pub mod variables;
