@@ -7,3 +7,7 @@ pub mod Bodies
 pub mod Gathered
 pub mod Judged
 pub mod Applying
+pub mod Situations
+pub mod Above
+pub mod Methods
+pub mod Functions

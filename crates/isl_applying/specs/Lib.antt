@@ -2,3 +2,4 @@ pub mod Variables
 pub mod Entering
 pub mod Applying
 pub mod Methods
+pub mod Functions

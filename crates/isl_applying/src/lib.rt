@@ -4,6 +4,7 @@
 pub mod arguments;
 pub mod cells;
 pub mod entering;
+pub mod functions;
 pub mod making;
 pub mod methods;
 pub mod procedures;

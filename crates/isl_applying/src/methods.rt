@@ -62,7 +62,7 @@ pub fn apply_each<'p>(
     level: u64,
     around: Around,
 ) -> Result<(), NoMemory>
-    ensures { OnOk result (Steps machine.old machine.new (λ names s b. apply_each s (drop at list.now) (values_of names arguments.entry.value) level (surroundings names machine.old around) (frames names machine.old 0) (state names machine.old b))) }
+    ensures { OnOk result (Steps machine.old machine.new (λ names s b. apply_each s (drop at list.now) (values_of names arguments.value) level (surroundings names machine.old around) (frames names machine.old 0) (state names machine.old b))) }
 {
     if at < list.len() {
         apply_next(machine, list, at, arguments, level, around)
@@ -83,16 +83,13 @@ fn apply_next<'p>(
     around: Around,
 ) -> Result<(), NoMemory>
     requires { at < length list.now }
-    ensures { OnOk result (Steps machine.old machine.new (λ names s b. apply_each s (drop at list.now) (values_of names arguments.entry.value) level (surroundings names machine.old around) (frames names machine.old 0) (state names machine.old b))) }
+    ensures { OnOk result (Steps machine.old machine.new (λ names s b. apply_each s (drop at list.now) (values_of names arguments.value) level (surroundings names machine.old around) (frames names machine.old 0) (state names machine.old b))) }
 {
     let Some(number) = list.get(at) else {
         unreachable!()
     };
-    let _end = list.len();
     let count = push_arguments(machine, &arguments)?;
-    machine
-        .frames
-        .push(Frame::Methods(list, at + 1, arguments, level, around))?;
+    machine.push_frame(Frame::Methods(list, at + 1, arguments, level, around))?;
     apply_procedure(machine, *number, None, count, level, around)
 }
 
@@ -104,7 +101,7 @@ pub fn run_chain<'p>(
     level: u64,
     around: Around,
 ) -> Result<(), NoMemory>
-    ensures { OnOk result (Steps machine.old machine.new (λ names s b. run_chain s (rest_of rest.entry) (values_of names arguments.entry.value) level (surroundings names machine.old around) (frames names machine.old 0) (state names machine.old b))) }
+    ensures { OnOk result (Steps machine.old machine.new (λ names s b. run_chain s (rest_of rest.entry) (values_of names arguments.value) level (surroundings names machine.old around) (frames names machine.old 0) (state names machine.old b))) }
 {
     match next_around(rest) {
         Some(next) => {
@@ -126,16 +123,14 @@ fn run_primary<'p>(
     level: u64,
     around: Around,
 ) -> Result<(), NoMemory>
-    ensures { OnOk result (Steps machine.old machine.new (λ names s b. run_primary s (rest_of rest.entry) (rest_of rest.entry).primary (values_of names arguments.entry.value) level (surroundings names machine.old around) (frames names machine.old 0) (state names machine.old b))) }
+    ensures { OnOk result (Steps machine.old machine.new (λ names s b. run_primary s (rest_of rest.entry) (rest_of rest.entry).primary (values_of names arguments.value) level (surroundings names machine.old around) (frames names machine.old 0) (state names machine.old b))) }
 {
     if next_primary(rest).is_none() {
         drop(arguments);
         return machine.signal_class(CONTROL_ERROR, level, around);
     }
     let shared = arguments.clone()?;
-    machine
-        .frames
-        .push(Frame::BeforeMethods(rest, shared, level, around))?;
+    machine.push_frame(Frame::BeforeMethods(rest, shared, level, around))?;
     let (list, at) = before_methods(rest);
     apply_each(machine, list, at, arguments, level, around)
 }
@@ -148,13 +143,11 @@ pub fn after_before<'p>(
     level: u64,
     around: Around,
 ) -> Result<(), NoMemory>
-    ensures { OnOk result (Steps machine.old machine.new (λ names s b. after_before s (rest_of rest.entry) (rest_of rest.entry).primary (values_of names arguments.entry.value) level (surroundings names machine.old around) (frames names machine.old 0) (state names machine.old b))) }
+    ensures { OnOk result (Steps machine.old machine.new (λ names s b. after_before s (rest_of rest.entry) (rest_of rest.entry).primary (values_of names arguments.value) level (surroundings names machine.old around) (frames names machine.old 0) (state names machine.old b))) }
 {
     let next = primary_after(rest);
     let shared = arguments.clone()?;
-    machine
-        .frames
-        .push(Frame::PrimaryMethod(rest, shared, level, around))?;
+    machine.push_frame(Frame::PrimaryMethod(rest, shared, level, around))?;
     let called = Called {
         arguments,
         rest: next.rest,
@@ -171,9 +164,9 @@ pub fn after_primary<'p>(
     level: u64,
     around: Around,
 ) -> Result<(), NoMemory>
-    ensures { OnOk result (Steps machine.old machine.new (λ names s b. value_step s (primary_method (rest_of rest.entry).after (values_of names arguments.entry.value) level (surroundings names machine.old around)) (value_of_word names word) (frames names machine.old 0) (state names machine.old b))) }
+    ensures { OnOk result (Steps machine.old machine.new (λ names s b. value_step s (primary_method (rest_of rest.entry).after (values_of names arguments.value) level (surroundings names machine.old around)) (value_of_word names word) (frames names machine.old 0) (state names machine.old b))) }
 {
-    machine.frames.push(Frame::Kept(Outcome::Value(word)))?;
+    machine.push_frame(Frame::Kept(Outcome::Value(word)))?;
     let (list, at) = after_methods(rest);
     apply_each(machine, list, at, arguments, level, around)
 }
