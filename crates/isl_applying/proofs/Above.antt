@@ -12,9 +12,11 @@ use Rattle.isl_machine.specs.declared.given.Given.{Given}
 use Rattle.isl_machine.specs.declared.situation.Around.{Around}
 use Rattle.isl_machine.specs.declared.machine.Machine.{Machine}
 use Rattle.isl_machine.specs.Frames.{last_of, others_of, around_in, frames_in}
+use Rattle.isl_machine.specs.Operands.{IsDropped}
 use Rattle.isl_machine.specs.Tops.{IsAbove}
 use Rattle.isl_machine.specs.View.{Steps, IsGiven, IsPlain, setting_of, waiting, state, top, frames, surroundings}
 use Rattle.isl_applying.specs.Methods.{ArePushed}
+use Rattle.isl_machine.proofs.Doing.{then_dropped}
 use Rattle.isl_machine.proofs.Pushes.{pushed, surroundings_stay, others_none}
 
 -- a plain frame is pushed
@@ -60,3 +62,12 @@ then_arguments old mid new ws n a t h e s = record {
       ∙ ap (λ xs. t names (setting_of names old.given) (values_of names ws) (surroundings names old a) (frames_in names old.current xs old.slots.items (reverse old.frames.items)) (state names old b))
       (others_pushed old.operands.items ws n e ∙ sym (others_none old.operands.items));
 }
+
+-- operands are dropped, where the surroundings do not count
+nowhere : Around
+nowhere = record { exits = 0; handlers = 0; bindings = 0; site = record { line = 0; column = 0 } }
+
+pub then_fewer : (old mid new : Machine) (n : ℕ) (t : List (List ℕ) → Setting → Step) → IsDropped old mid n
+    → Steps mid new (λ names s b. t names s (frames names mid 0) (state names mid b))
+    → Steps old new (λ names s b. t names s (frames names old n) (state names old b))
+then_fewer old mid new n t d s = then_dropped old mid new n nowhere (λ names s around frames z. t names s frames z) d s

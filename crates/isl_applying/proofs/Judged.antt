@@ -15,7 +15,7 @@ use Rattle.isl_machine.specs.Operands.{IsDropped}
 use Rattle.isl_applying.specs.Entering.{entered_of, entering, in_words}
 use Rattle.isl_machine.proofs.Doing.{then_dropped}
 use Rattle.isl_machine.proofs.Stepping.{same_moment}
-use Rattle.isl_applying.proofs.Entering.{so_many}
+use Rattle.isl_applying.proofs.Entries.{so_many}
 
 -- so many operands, or all that there are
 pub held_last : {X : Type 0} (xs : List X) (n count : ℕ) → count ≡ min n (length xs) → last_of count xs ≡ last_of n xs

@@ -3,3 +3,6 @@ pub mod Entering
 pub mod Applying
 pub mod Methods
 pub mod Functions
+pub mod Generics
+pub mod Signalling
+pub mod Spreading

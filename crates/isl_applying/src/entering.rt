@@ -7,7 +7,7 @@ ghost use Rattle.isl_machine.specs.View.{Steps, top, frames, state, surroundings
 ghost use Rattle.isl_applying.specs.Entering.{entered_of, entering, in_words, in_rest, in_record, in_cells, IsGivenStack};
 
 use crate::arguments::{held, make_list};
-use crate::cells::take_procedure_cells;
+use crate::cells::{take_procedure_cells, take_record};
 use crate::variables::add_variables;
 use isl_base::NoMemory;
 use isl_closure::FlatProcedure;

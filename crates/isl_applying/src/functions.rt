@@ -19,7 +19,7 @@ pub enum Function<'p> {
 }
 
 /// The function that a value is.
-#[tactic(auto, using(crate::proofs::Functions::procedure_there, crate::proofs::Functions::closure_there, crate::proofs::Functions::generic_there, crate::proofs::Functions::function_else, crate::proofs::Functions::function_absent))]
+#[tactic(auto, using(crate::proofs::Finding::procedure_there, crate::proofs::Finding::generic_there, crate::proofs::Finding::function_else, crate::proofs::Finding::function_absent))]
 pub fn function_of<'p>(store: &Store<'p>, word: Word) -> Result<Function<'p>, NoMemory>
     ensures { IfOk result (λ function. IsFunction store.now word function) }
 {
@@ -38,7 +38,7 @@ pub fn function_of<'p>(store: &Store<'p>, word: Word) -> Result<Function<'p>, No
 }
 
 /// Whether a value is a function.
-#[tactic(auto, using(crate::proofs::Functions::is_procedure, crate::proofs::Functions::is_closure, crate::proofs::Functions::is_generic, crate::proofs::Functions::is_none, crate::proofs::Functions::is_absent))]
+#[tactic(auto, using(crate::proofs::Finding::is_none, crate::proofs::Finding::is_absent))]
 pub fn is_function(store: &Store<'_>, word: Word) -> bool
     ensures { IsFunctionOrNot store.now word result }
 {

@@ -1,5 +1,5 @@
 -- A cell has a word.
-use Rattle.isl_applying.proofs.Cells.{one_cell_taken}
+use Rattle.isl_applying.proofs.CellWords.{one_cell_taken}
 use Rattle.isl_applying.proofs.cells.take_cell.Goals as goal
 
 pub returns-in-Cell : goal.returns-in-Cell

@@ -2,7 +2,7 @@
 use Rattle.std.proofs.Common.{arith}
 use Rattle.isl_store.specs.declared.word.Word.TheVariants.{Nil}
 use Rattle.isl_machine.proofs.Doing.{nothing_done}
-use Rattle.isl_applying.proofs.Cells.{one_more, none_more, all_taken}
+use Rattle.isl_applying.proofs.CellWords.{one_more, none_more, all_taken}
 use Rattle.isl_applying.proofs.cells.take_cells.Goals as goal
 
 pub returns-then-not-branch : goal.returns-then-not-branch

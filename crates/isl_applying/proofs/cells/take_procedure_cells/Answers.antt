@@ -1,6 +1,6 @@
 -- The cells of the required variables, and then that of the rest.
 use Rattle.std.specs.Prelude.{option_to_list}
-use Rattle.isl_applying.proofs.Cells.{rest_taken, rest_filled, no_rest}
+use Rattle.isl_applying.proofs.CellWords.{rest_taken, rest_filled, no_rest}
 use Rattle.isl_applying.proofs.cells.take_procedure_cells.Goals as goal
 
 pub returns-then-not-branch : goal.returns-then-not-branch

@@ -1,7 +1,7 @@
 -- The words of the record.
 use Rattle.std.proofs.Common.{List, length, ap, ◌∙◌, arith}
 use Rattle.isl_store.specs.declared.word.Word.{Word}
-use Rattle.isl_applying.proofs.Cells.{record_taken}
+use Rattle.isl_applying.proofs.CellWords.{record_taken}
 use Rattle.isl_applying.proofs.cells.take_record.Goals as goal
 
 pub returns-in-Some-checked_add : goal.returns-in-Some-checked_add

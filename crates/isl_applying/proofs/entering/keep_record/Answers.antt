@@ -1,6 +1,6 @@
 -- The record, and then the cells.
 use Rattle.isl_machine.proofs.Doing.{over_ok}
-use Rattle.isl_applying.proofs.Entering.{record_then, record_filled}
+use Rattle.isl_applying.proofs.Entries.{record_then, record_filled}
 use Rattle.isl_applying.proofs.entering.keep_record.Goals as goal
 
 pub returns-then-branch : goal.returns-then-branch

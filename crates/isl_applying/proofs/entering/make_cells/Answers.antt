@@ -1,6 +1,6 @@
 -- The cells, and then the body.
 use Rattle.isl_machine.proofs.Doing.{over_ok}
-use Rattle.isl_applying.proofs.Entering.{cells_then, cells_filled}
+use Rattle.isl_applying.proofs.Entries.{cells_then, cells_filled}
 use Rattle.isl_applying.proofs.entering.make_cells.Goals as goal
 
 pub returns-then-branch : goal.returns-then-branch

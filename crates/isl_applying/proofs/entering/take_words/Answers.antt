@@ -1,6 +1,6 @@
 -- The words of the stack, and then the rest.
 use Rattle.isl_machine.proofs.Doing.{over_ok}
-use Rattle.isl_applying.proofs.Entering.{words_then, words_filled, has_stack, no_stack}
+use Rattle.isl_applying.proofs.Entries.{words_then, words_filled, has_stack, no_stack}
 use Rattle.isl_applying.proofs.entering.take_words.Goals as goal
 
 pub returns-then-branch : goal.returns-then-branch

@@ -38,7 +38,7 @@ use Rattle.isl_applying.proofs.Situations.{level_at, around_at}
 pub none_pushed : (m : Machine) → ArePushed m m []
 none_pushed m = record { operands = sym (append-nil m.operands.items); same = refl }
 
-take_there : (ws : List Word) (n : ℕ) (w : Word) → slice_get ws n ≡ Some w → take (n + 1) ws ≡ take n ws ++ w ∷ []
+pub take_there : (ws : List Word) (n : ℕ) (w : Word) → slice_get ws n ≡ Some w → take (n + 1) ws ≡ take n ws ++ w ∷ []
 take_there ws n w h =
     ap (λ k. take k ws) (add-one n) ∙ take-suc ws n w (slice_get_within ws n w h) ∙ ap (λ x. take n ws ++ x ∷ []) (get_or_from_slice_get ws n w w h)
 

@@ -1,5 +1,5 @@
 -- Values that are functions are applied as such.
-use Rattle.std.proofs.Common.{◌≡◌, Global, ℕ, List, Option, Some, None, refl, ap, ◌∙◌, true, false}
+use Rattle.std.proofs.Common.{◌≡◌, Global, ℕ, List, Option, Some, None, refl, ap, sym, ◌∙◌, true, false}
 use Rattle.std.specs.Prelude.{option_map}
 use Rattle.std.specs.declared.rc.Rc.{Rc}
 use Rattle.isl_base.specs.declared.lists.ItemList.{ItemList}
