@@ -6,7 +6,7 @@ ghost use Rattle.isl_store.specs.Words.{value_of_word};
 ghost use Rattle.isl_machine.specs.View.{Steps, at, frames, state};
 
 use crate::functions::is_function;
-use crate::spreading::spread;
+use crate::spreading::push_elements;
 use crate::values::apply_value;
 use isl_base::NoMemory;
 use isl_machine::machine::Machine;
@@ -31,7 +31,7 @@ pub fn apply_list(
     if !is_function(&machine.store, function) {
         return machine.signal_domain(function, FUNCTION, situation.level, situation.around);
     }
-    let elements = spread(machine, list)?;
+    let elements = push_elements(machine, list)?;
     machine.charge(elements.count as u64)?;
     if elements.proper {
         apply_value(machine, function, elements.count, situation.level, situation.around)

@@ -13,6 +13,7 @@ use isl_base::{ItemList, NoMemory};
 use isl_dispatch::Chain;
 use isl_machine::frame::{Frame, Outcome};
 use isl_machine::machine::Machine;
+use isl_machine::places::after;
 use isl_machine::situation::{Around, Situation};
 use isl_meaning::{ClassId, ProcedureId};
 use isl_store::{Arguments, Called, Rest, Word};
@@ -88,8 +89,9 @@ fn apply_next<'p>(
     let Some(number) = list.get(at) else {
         unreachable!()
     };
+    let next = after(at)?;
     let count = push_arguments(machine, &arguments)?;
-    machine.push_frame(Frame::Methods(list, at + 1, arguments, level, around))?;
+    machine.push_frame(Frame::Methods(list, next, arguments, level, around))?;
     apply_procedure(machine, *number, None, count, level, around)
 }
 
