@@ -17,3 +17,4 @@ pub mod Handlers
 pub mod Handling
 pub mod Callees
 pub mod Spreads
+pub mod Firsts

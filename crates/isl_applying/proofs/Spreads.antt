@@ -1,7 +1,9 @@
 -- The elements of a list become operands, one after another.
-use Rattle.std.proofs.Common.{◌≡◌, ℕ, zero, suc, ◌+◌, ◌-◌, ◌<◌, ◌==◌, ◌≢◌, List, [], ◌∷◌, ◌++◌, length, Bool, true, false, cond, Option, Some, None, refl, ap, sym, ◌∙◌, subst, zero-add, arith}
+use Rattle.std.proofs.Common.{◌≡◌, ℕ, zero, suc, ◌+◌, ◌-◌, ◌<◌, ◌==◌, ◌≢◌, List, [], ◌∷◌, ◌++◌, length, Bool, true, false, cond, Option, Some, None, refl, ap, sym, ◌∙◌, subst, zero-add, arith, ⊎_elim}
 use Rattle.std.specs.Prelude.{if◌then◌else◌, ◌||◌}
 use Rattle.std.proofs.lemmas.List.{map-append, append-nil, append_assoc, length-append, length-map}
+use Rattle.std.proofs.lemmas.Bool.{cases_eq}
+use Rattle.std.proofs.lemmas.Bool.Decides.{nat_tests}
 use Rattle.isl_meaning.specs.Values.{Value, object}
 use Rattle.isl_meaning.specs.Objects.{Object, cons, list_class, function_class}
 use Rattle.isl_meaning.specs.State.{State, Surroundings}
@@ -116,10 +118,11 @@ spread_again z fuel n seen v a d e h k =
     ∙ ap (λ (t : Bool). if t then (let r : Spread = record { elements = []; proper = false } in r) else behind (a ∷ []) (spread fuel z (n ∷ seen) d)) k
 
 swapped : (k n : ℕ) → (n == k) ≡ (k == n)
-swapped zero zero = refl
-swapped zero (suc n) = refl
-swapped (suc k) zero = refl
-swapped (suc k) (suc n) = swapped k n
+swapped k n =
+    ⊎_elim
+    (λ (e : n ≡ k). let there : (n == k) ≡ true = grind (arith, nat_tests) in let back : (k == n) ≡ true = grind (arith, nat_tests) in there ∙ sym back)
+    (λ (e : n ≢ k). let there : (n == k) ≡ false = grind (arith, nat_tests) in let back : (k == n) ≡ false = grind (arith, nat_tests) in there ∙ sym back)
+    (cases_eq n k)
 
 in_more : (k n : ℕ) (m : Bool) (seen : List ℕ) → m ≡ is_in k seen → cond (n == k) true m ≡ is_in k (n ∷ seen)
 in_more k n m seen h =

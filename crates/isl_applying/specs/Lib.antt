@@ -6,3 +6,4 @@ pub mod Functions
 pub mod Generics
 pub mod Signalling
 pub mod Spreading
+pub mod Firsts
