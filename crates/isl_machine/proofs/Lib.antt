@@ -26,5 +26,12 @@ pub mod Inside
 pub mod Aside
 pub mod SlotLists
 pub mod Captures
+pub mod Following
+pub mod OwnExits
+pub mod Jumping
+pub mod BindingHomes
+pub mod LetEntered
+pub mod MethodPlaces
+pub mod MadeFunctions
 pub mod Coded
 pub mod Applying

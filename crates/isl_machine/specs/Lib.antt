@@ -16,3 +16,4 @@ pub mod Variables
 pub mod Entering
 pub mod Applying
 pub mod Methods
+pub mod LetBodies
