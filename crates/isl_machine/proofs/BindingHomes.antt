@@ -23,7 +23,7 @@ home_there (b ∷ bs) (suc n) h e = home_there bs n (omega arith) e
 -- the home of a binding, and none past the last one
 pub home_at : (bs : List FlatBinding) (n : ℕ) (b : FlatBinding) → slice_get bs n ≡ Some b → Some b.home ≡ slice_get (binding_homes (bindings_of bs)) n
 home_at [] n b e = absurd (cc)
-home_at (x ∷ bs) zero b e = let same : x ≡ b = cc in ap (λ (y : FlatBinding). Some y.home) (cc same)
+home_at (x ∷ bs) zero b e = let same : b ≡ x = cc in ap (λ (y : FlatBinding). Some y.home) same
 home_at (x ∷ bs) (suc n) b e = home_at bs n b e
 
 pub home_past : (bs : List FlatBinding) (n : ℕ) → length bs ≤ n → None ≡ slice_get (binding_homes (bindings_of bs)) n

@@ -1,6 +1,6 @@
 -- Looking for the innermost binding of a name, one frame after another.
 use Rattle.std.proofs.Common.{Bor, ◌≡◌, ℕ, zero, suc, ◌+◌, ◌<◌, ◌≤◌, Bool, true, false, List, [], ◌∷◌, ◌++◌, Option, Some, None, refl, ap, sym, ◌∙◌, subst, length, drop, arith, zero-add, add_assoc}
-use Rattle.std.specs.Prelude.{reverse, slice_get, option_map, if◌then◌else◌}
+use Rattle.std.specs.Prelude.{reverse, slice_get, option_map, is_some, if◌then◌else◌}
 use Rattle.std.proofs.lemmas.List.{drop_all}
 use Rattle.isl_base.specs.model.DataRest.{rest_at}
 use Rattle.isl_meaning.specs.Lookup.{text, passed, numbered}
@@ -195,25 +195,29 @@ is_nowhere names n bs at e s =
 found_in_front : (names : List (List ℕ)) (n v : ℕ) (xs ys : List (List ℕ × ℕ)) → variable_of names n xs ≡ Some v
     → (variable_of names n (xs ++ ys) ≡ Some v) × (passed (is_named names n) (xs ++ ys) ≡ passed (is_named names n) xs)
 found_in_front names n v [] ys h = absurd (cc)
-found_in_front names n v (x ∷ xs) ys h = by (is_named names n x) refl
+found_in_front names n v (x ∷ xs) ys h = by (is_named names n x) refl (found_in_front names n v xs ys)
   where
-    by : (t : Bool) → is_named names n x ≡ t → (variable_of names n (x ∷ xs ++ ys) ≡ Some v) × (passed (is_named names n) (x ∷ xs ++ ys) ≡ passed (is_named names n) (x ∷ xs))
-    by true e = (rw e (rw e at h), rw e refl)
-    by false e =
+    by : (t : Bool) → is_named names n x ≡ t
+        → (variable_of names n xs ≡ Some v → (variable_of names n (xs ++ ys) ≡ Some v) × (passed (is_named names n) (xs ++ ys) ≡ passed (is_named names n) xs))
+        → (variable_of names n (x ∷ xs ++ ys) ≡ Some v) × (passed (is_named names n) (x ∷ xs ++ ys) ≡ passed (is_named names n) (x ∷ xs))
+    by true e behind = (rw e (rw e at h), rw e refl)
+    by false e behind =
         let rest : variable_of names n xs ≡ Some v = rw e at h in
-        (rw e ((found_in_front names n v xs ys rest).0), rw e (ap (λ k. 1 + k) ((found_in_front names n v xs ys rest).1)))
+        (rw e ((behind rest).0), rw e (ap (λ k. 1 + k) ((behind rest).1)))
 
 none_in_front : (names : List (List ℕ)) (n : ℕ) (xs ys : List (List ℕ × ℕ)) → variable_of names n xs ≡ None
     → (variable_of names n (xs ++ ys) ≡ variable_of names n ys) × (passed (is_named names n) (xs ++ ys) ≡ passed (is_named names n) xs + passed (is_named names n) ys)
 none_in_front names n [] ys h = (refl, sym (zero-add (passed (is_named names n) ys)))
-none_in_front names n (x ∷ xs) ys h = by (is_named names n x) refl
+none_in_front names n (x ∷ xs) ys h = by (is_named names n x) refl (none_in_front names n xs ys)
   where
     by : (t : Bool) → is_named names n x ≡ t
+        → (variable_of names n xs ≡ None
+        → (variable_of names n (xs ++ ys) ≡ variable_of names n ys) × (passed (is_named names n) (xs ++ ys) ≡ passed (is_named names n) xs + passed (is_named names n) ys))
         → (variable_of names n (x ∷ xs ++ ys) ≡ variable_of names n ys) × (passed (is_named names n) (x ∷ xs ++ ys) ≡ passed (is_named names n) (x ∷ xs) + passed (is_named names n) ys)
-    by true e = let some : Some x.1 ≡ None = rw e at h in absurd (cc)
-    by false e =
+    by true e behind = let some : Some x.1 ≡ None = rw e at h in absurd (cc)
+    by false e behind =
         let rest : variable_of names n xs ≡ None = rw e at h in
-        (rw e ((none_in_front names n xs ys rest).0), rw e (ap (λ k. 1 + k) ((none_in_front names n xs ys rest).1) ∙ sym (add_assoc 1 (passed (is_named names n) xs) (passed (is_named names n) ys))))
+        (rw e ((behind rest).0), rw e (ap (λ k. 1 + k) ((behind rest).1) ∙ sym (add_assoc 1 (passed (is_named names n) xs) (passed (is_named names n) ys))))
 
 -- in frames: how far they were searched
 abbrev pub around_from : List (List ℕ) → List Frame → ℕ → List (List ℕ × ℕ)
@@ -279,6 +283,15 @@ frames_end names n items link left count s none =
       variable = s.variable ∙ ap (variable_of names n) nothing;
       passed_so_many = omega arith;
     }
+
+-- whether one was found
+pub some_there : {X : Type 0} (o : Option X) → is_some o ≡ true → (x : X) × (o ≡ Some x)
+some_there (Some x) e = (x, refl)
+some_there None e = absurd (cc)
+
+pub none_there : {X : Type 0} (o : Option X) → is_some o ≡ false → o ≡ None
+none_there (Some x) e = absurd (cc)
+none_there None e = refl
 
 -- those that were passed are counted
 pub binding_counted : (old new : Machine) (n link : ℕ) (bound : Bound)

@@ -1,7 +1,8 @@
 -- What methods were called with, and whether methods are left.
-use Rattle.std.proofs.Common.{◌≡◌, ℕ, suc, ◌+◌, ◌-◌, ◌<◌, ◌≤◌, List, [], ◌∷◌, Bool, true, false, Option, Some, None, refl, ap, sym, ◌∙◌, length, drop, arith}
+use Rattle.std.proofs.Common.{◌≡◌, ℕ, suc, ◌+◌, ◌-◌, ◌<◌, ◌≤◌, List, [], ◌∷◌, Bool, true, false, Option, Some, None, refl, ap, sym, ◌∙◌, length, drop, arith, ⊎_elim}
 use Rattle.std.proofs.lemmas.List.{length-drop}
-use Rattle.std.specs.Prelude.{reverse}
+use Rattle.std.proofs.lemmas.Bool.{cases_lt, lt-ltb, le-ltb}
+use Rattle.std.specs.Prelude.{nat_lt}
 use Rattle.isl_meaning.specs.Objects.{Called as Chained}
 use Rattle.isl_meaning.specs.Meaning.{is_next}
 use Rattle.isl_closure.specs.FlatState.{FlatState, gives}
@@ -41,3 +42,10 @@ is_left_behind c ps n e h = is_left c (drop n ps) e (omega (arith, length-drop n
 
 pub is_not_left_behind : (c : Chained) (ps : List ℕ) (n : ℕ) → c.rest.primary ≡ drop n ps → length ps ≤ n → false ≡ is_next (Some c)
 is_not_left_behind c ps n e h = is_not_left c (drop n ps) e (omega (arith, length-drop n ps))
+
+pub left_behind : (c : Chained) (ps : List ℕ) (passed count : ℕ) → count ≡ length ps → c.rest.primary ≡ drop passed ps → nat_lt passed count ≡ is_next (Some c)
+left_behind c ps passed count e is =
+    ⊎_elim
+    (λ (h : passed < count). lt-ltb passed count h ∙ is_left_behind c ps passed is (omega arith))
+    (λ (h : count ≤ passed). le-ltb passed count h ∙ is_not_left_behind c ps passed is (omega arith))
+    (cases_lt passed count)

@@ -17,3 +17,4 @@ pub mod Entering
 pub mod Applying
 pub mod Methods
 pub mod LetBodies
+pub mod Bindings

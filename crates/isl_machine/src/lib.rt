@@ -4,6 +4,7 @@
 pub mod apply;
 pub mod blocks;
 mod body_nodes;
+pub mod bound;
 pub mod building;
 pub mod captured;
 pub mod exits;

@@ -9,12 +9,12 @@ returns-in-Variable c names b =
     let m = c.args.self.now in
     c.captured_variable.ensures names b c.args.situation ∙ ap (captured_part (at names m c.args.situation).environment (state names m b)) (sym c.in-Variable.is)
 
-pub returns-in_ok-exit : goal.returns-in_ok-exit
-returns-in_ok-exit c names b =
+pub returns-in_ok-exit-in-Exit : goal.returns-in_ok-exit-in-Exit
+returns-in_ok-exit-in-Exit c names b =
     let m = c.args.self.now in
-    ap of_exit (c.in_ok-exit.ensures names) ∙ ap (captured_part (at names m c.args.situation).environment (state names m b)) (sym c.in-Exit.is)
+    ap of_exit (c.in_ok-exit-in-Exit.ensures names) ∙ ap (captured_part (at names m c.args.situation).environment (state names m b)) (sym c.in-Exit.is)
 
-pub returns-in_ok-method : goal.returns-in_ok-method
-returns-in_ok-method c names b =
+pub returns-in_ok-method-in-Method : goal.returns-in_ok-method-in-Method
+returns-in_ok-method-in-Method c names b =
     let m = c.args.self.now in
-    ap of_method (c.in_ok-method.ensures names c.args.situation) ∙ ap (captured_part (at names m c.args.situation).environment (state names m b)) (sym c.in-Method.is)
+    ap of_method (c.in_ok-method-in-Method.ensures names c.args.situation) ∙ ap (captured_part (at names m c.args.situation).environment (state names m b)) (sym c.in-Method.is)

@@ -9,12 +9,12 @@ use Rattle.isl_machine.proofs.Cells.{one_more, none_more, all_taken}
 use Rattle.isl_machine.proofs.machine.Machine.take_binding_cells.Goals as goal
 
 pub unreachable-requires : goal.unreachable-requires
-unreachable-requires c = home_there c.args.list.now c.loop-at.at (omega arith) (sym c.in_default-binding_home.ensures)
+unreachable-requires c = home_there c.args.list.now c.loop-at.at (omega arith) (sym c.binding_home.ensures ∙ c.in_default.is)
 
 pub returns-then-not-branch : goal.returns-then-not-branch
 returns-then-not-branch c =
     none_more c.args.self.now c.loop-at.self c.take_home.new.self (binding_homes (bindings_of c.args.list.now)) c.loop-at.at c.in-Some.home _
-    (sym c.in-Some.ensures) c.loop-at.invariant c.in_ok-take_home.ensures c.if-not-branch.true
+    (sym c.binding_home.ensures ∙ c.in-Some.is) c.loop-at.invariant c.in_ok-take_home.ensures c.if-not-branch.true
 
 pub loop-at-init : goal.loop-at-init
 loop-at-init c = nothing_done c.args.self.now Nil
@@ -22,7 +22,7 @@ loop-at-init c = nothing_done c.args.self.now Nil
 pub loop-at-preserved : goal.loop-at-preserved
 loop-at-preserved c =
     one_more c.args.self.now c.loop-at.self c.take_home.new.self (binding_homes (bindings_of c.args.list.now)) c.loop-at.at c.in-Some.home _
-    (sym c.in-Some.ensures) c.loop-at.invariant c.in_ok-take_home.ensures c.if-not-branch.false
+    (sym c.binding_home.ensures ∙ c.in-Some.is) c.loop-at.invariant c.in_ok-take_home.ensures c.if-not-branch.false
 
 pub returns : goal.returns
 returns c =
