@@ -38,16 +38,16 @@ abbrev pub AreCaptured : Machine → Situation → List Captured → List FlatPa
 AreCaptured m q cs parts = (names : List (List ℕ)) (b : Beside) → map (captured_of names) cs ≡ map (captured_part (at names m q).environment (state names m b)) parts
 
 -- one place more
-pub one_captured : (m : Machine) (q : Situation) (cs : List Captured) (parts : List FlatPart) (c : Captured) (i : ℕ) (part : FlatPart) → i < length parts → part ≡ get_or parts i part
+pub one_captured : (m : Machine) (q : Situation) (cs : List Captured) (parts : List FlatPart) (c : Captured) (i : ℕ) (d : FlatPart) → i < length parts
     → AreCaptured m q cs (take i parts)
-    → ((names : List (List ℕ)) (b : Beside) → captured_of names c ≡ captured_part (at names m q).environment (state names m b) part)
+    → ((names : List (List ℕ)) (b : Beside) → captured_of names c ≡ captured_part (at names m q).environment (state names m b) (get_or parts i d))
     → AreCaptured m q (cs ++ c ∷ []) (take (i + 1) parts)
-one_captured m q cs parts c i part h is a one names b =
+one_captured m q cs parts c i d h a one names b =
     map-append (captured_of names) cs (c ∷ [])
     ∙ ap (λ xs. xs ++ captured_of names c ∷ []) (a names b)
     ∙ ap (λ x. map (captured_part (at names m q).environment (state names m b)) (take i parts) ++ x ∷ []) (one names b)
-    ∙ sym (map-append (captured_part (at names m q).environment (state names m b)) (take i parts) (part ∷ []))
-    ∙ ap (map (captured_part (at names m q).environment (state names m b))) (ap (λ x. take i parts ++ x ∷ []) is ∙ sym (take_more parts i part h))
+    ∙ sym (map-append (captured_part (at names m q).environment (state names m b)) (take i parts) (get_or parts i d ∷ []))
+    ∙ ap (map (captured_part (at names m q).environment (state names m b))) (sym (take_more parts i d h))
 
 pub function_made : (old mid new : Machine) (p size : ℕ) (shared : Rc (ItemList Captured) Global) (cs : List Captured) (w : Word) (parts : List FlatPart) (q : Situation)
     → shared.value ≡ cs → size ≡ 2 + length cs → AreCaptured old q cs parts → IsMade old mid size 0 (Closure p shared) w

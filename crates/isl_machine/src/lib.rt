@@ -7,6 +7,7 @@ mod body_nodes;
 pub mod bound;
 pub mod building;
 pub mod captured;
+pub mod dynamic_bodies;
 pub mod exits;
 pub mod forms;
 pub mod frame;

@@ -3,8 +3,7 @@
 ghost use Rattle.std.specs.Prelude.{OnOk};
 ghost use Rattle.isl_meaning.specs.Lookup.{text};
 ghost use Rattle.isl_closure.specs.FlatState.{method_of};
-ghost use Rattle.isl_closure.specs.model.View.{dynamics_of};
-ghost use Rattle.isl_plain.specs.Step.{operation_step, dynamic_let_step, global_step, dynamic_step, next_method_step};
+ghost use Rattle.isl_plain.specs.Step.{operation_step, global_step, dynamic_step, next_method_step};
 ghost use Rattle.isl_machine.specs.Frames.{operation_of};
 ghost use Rattle.isl_machine.specs.View.{Steps, at, top, frames, state};
 
@@ -12,7 +11,7 @@ use crate::frame::Operation;
 use crate::machine::Machine;
 use crate::situation::Situation;
 use isl_base::{Name, NoMemory};
-use isl_closure::{FlatCore, FlatDynBindings, MethodPlace};
+use isl_closure::MethodPlace;
 
 impl<'p> Machine<'p> {
     /// What is done with arguments, which are the last operands.
@@ -39,13 +38,6 @@ impl<'p> Machine<'p> {
     /// The rest of the chain of a method.
     pub fn next_method_at(&mut self, place: MethodPlace, situation: Situation) -> Result<(), NoMemory>
         ensures { OnOk result (Steps self.old self.new (λ names s b. next_method_step s (method_of place (at names self.old situation).environment) (at names self.old situation) (frames names self.old 0) (state names self.old b))) }
-    {
-        Err(NoMemory)
-    }
-
-    /// The values of dynamic bindings are there, which are the last operands: the body is evaluated.
-    pub fn dynamic_body(&mut self, list: &'p FlatDynBindings, count: usize, body: &'p FlatCore, situation: Situation) -> Result<(), NoMemory>
-        ensures { OnOk result (Steps self.old self.new (λ names s b. dynamic_let_step s (dynamics_of list.now) body.now (top names self.old count) (at names self.old situation) (frames names self.old count) (state names self.old b))) }
     {
         Err(NoMemory)
     }
