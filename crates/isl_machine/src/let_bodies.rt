@@ -1,6 +1,6 @@
 // Bodies with new variables.
 
-ghost use Rattle.std.specs.Prelude.{◌≡◌, ◌≤◌, OnOk, length, min};
+ghost use Rattle.std.specs.Prelude.{OnOk};
 ghost use Rattle.isl_closure.specs.model.View.{bindings_of};
 ghost use Rattle.isl_plain.specs.Step.{let_step};
 ghost use Rattle.isl_machine.specs.LetBodies.{let_enters};
@@ -36,12 +36,5 @@ impl<'p> Machine<'p> {
         self.drop_operands(count);
         self.evaluate(body, situation);
         Ok(())
-    }
-
-    // So many operands, or all that there are.
-    fn held_operands(&self, count: usize) -> usize
-        ensures { result ≡ min count (length self.now.operands.items) }
-    {
-        count.min(self.operands.len())
     }
 }

@@ -1,6 +1,6 @@
 // New variables of the activation that runs, and the words of their cells.
 
-ghost use Rattle.std.specs.Prelude.{◌≡◌, ◌<◌, ◌≤◌, ◌+◌, ◌++◌, ◌∷◌, [], OnOk, IfOk, length, slice_get, Some};
+ghost use Rattle.std.specs.Prelude.{◌≡◌, ◌≤◌, ◌+◌, ◌++◌, ◌∷◌, [], OnOk, IfOk, length, slice_get};
 ghost use Rattle.isl_meaning.specs.Values.{nil};
 ghost use Rattle.isl_closure.specs.FlatMeaning.{binding_homes};
 ghost use Rattle.isl_closure.specs.FlatState.{gives, charged, request};
@@ -68,14 +68,6 @@ impl<'p> Machine<'p> {
             self.add_variable(home, word)?;
         }
         Ok(())
-    }
-
-    // The operand at that place, from the first one on.
-    fn operand_at(&self, at: usize) -> Word
-        requires { at < length self.now.operands.items }
-        ensures { slice_get self.now.operands.items at ≡ Some result }
-    {
-        self.operands[at]
     }
 
     /// A new variable, behind those of the activation that runs.
