@@ -31,6 +31,7 @@ pub mod OwnExits
 pub mod Jumping
 pub mod BindingHomes
 pub mod LetEntered
+pub mod LiteralValues
 pub mod DynamicEntered
 pub mod BindingsFound
 pub mod MethodPlaces
