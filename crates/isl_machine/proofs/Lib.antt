@@ -7,13 +7,7 @@ pub mod Pushes
 pub mod NodesInside
 pub mod Doing
 pub mod Cells
-pub mod Listed
 pub mod NewSlots
-pub mod MoreSlots
-pub mod Entering
-pub mod Bodies
-pub mod Gathered
-pub mod Judged
 pub mod Stepping
 pub mod Leaving
 pub mod Tops
@@ -37,4 +31,3 @@ pub mod BindingsFound
 pub mod MethodPlaces
 pub mod MadeFunctions
 pub mod Coded
-pub mod Applying

@@ -12,9 +12,7 @@ pub mod Exiting
 pub mod Slots
 pub mod Sizes
 pub mod Doing
+pub mod Codes
 pub mod Variables
-pub mod Entering
-pub mod Applying
-pub mod Methods
 pub mod LetBodies
 pub mod Bindings

@@ -1,7 +1,6 @@
 // The code of the plain evaluator's machine.
 #![tactic(auto)]
 
-pub mod apply;
 pub mod blocks;
 mod body_nodes;
 pub mod bound;
@@ -21,7 +20,6 @@ pub mod literals;
 pub mod locals;
 pub mod lookups;
 pub mod machine;
-pub mod making;
 pub mod method_places;
 pub mod nodes;
 pub mod open;
