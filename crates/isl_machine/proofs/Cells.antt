@@ -1,17 +1,15 @@
 -- Words for cells are asked for one by one.
-use Rattle.std.proofs.Common.{◌≡◌, ℕ, ◌+◌, ◌≤◌, length, List, [], ◌∷◌, ◌++◌, Bool, true, false, Option, Some, None, refl, ap, sym, ◌∙◌, take, drop, arith}
-use Rattle.std.specs.Prelude.{slice_get, option_to_list, IfOk, Result, Ok, Err, if◌then◌else◌}
-use Rattle.std.proofs.lemmas.List.{take-append-drop, take_all, append-nil, length-map}
+use Rattle.std.proofs.Common.{◌≡◌, ℕ, ◌+◌, ◌≤◌, length, List, [], ◌∷◌, ◌++◌, Bool, true, false, Some, None, refl, ap, sym, ◌∙◌, take, drop}
+use Rattle.std.specs.Prelude.{slice_get, IfOk, Result, Ok, Err, if◌then◌else◌}
+use Rattle.std.proofs.lemmas.List.{take-append-drop, take_all}
 use Rattle.isl_base.specs.model.DataRest.{take_at}
 use Rattle.isl_meaning.specs.Values.{nil}
 use Rattle.isl_meaning.specs.State.{Limit, full, has_room, room_left, with_words}
 use Rattle.isl_closure.specs.declared.place.Home.{Home}
 use Rattle.isl_closure.specs.declared.place.Home.TheVariants.{Slot, Cell}
-use Rattle.isl_closure.specs.FlatState.{FlatState, FlatEvaluated, on_state, gives, go_on, charged, request}
-use Rattle.isl_plain.specs.Applications.{celled, recorded}
+use Rattle.isl_closure.specs.FlatState.{FlatState, on_state, gives, go_on, charged, request}
+use Rattle.isl_plain.specs.Applications.{celled}
 use Rattle.isl_store.specs.declared.word.Word.TheVariants.{Nil}
-use Rattle.isl_store.specs.declared.called.Called.{Called}
-use Rattle.isl_store.specs.Words.{value_of_word, values_of, called_or_none}
 use Rattle.isl_store.specs.View.{limit_of}
 use Rattle.isl_machine.specs.declared.machine.Machine.{Machine}
 use Rattle.isl_machine.specs.Doing.{Gives, Fills, IsDone}
