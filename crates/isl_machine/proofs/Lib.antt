@@ -6,6 +6,8 @@ pub mod Looking
 pub mod Pushes
 pub mod NodesInside
 pub mod Doing
+pub mod Cells
+pub mod NewSlots
 pub mod Stepping
 pub mod Leaving
 pub mod Tops
@@ -18,4 +20,14 @@ pub mod Inside
 pub mod Aside
 pub mod SlotLists
 pub mod Captures
+pub mod Following
+pub mod OwnExits
+pub mod Jumping
+pub mod BindingHomes
+pub mod LetEntered
+pub mod LiteralValues
+pub mod DynamicEntered
+pub mod BindingsFound
+pub mod MethodPlaces
+pub mod MadeFunctions
 pub mod Coded

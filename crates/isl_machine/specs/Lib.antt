@@ -13,3 +13,6 @@ pub mod Slots
 pub mod Sizes
 pub mod Doing
 pub mod Codes
+pub mod Variables
+pub mod LetBodies
+pub mod Bindings

@@ -1,6 +1,6 @@
--- The object of a class, by the layout.
-use Rattle.isl_closure.specs.FlatNodes.{tables}
+-- The layout is that of the program.
+use Rattle.isl_machine.proofs.Givens.{layout}
 use Rattle.isl_machine.proofs.given.Given.class_word.Goals as goal
 
 pub returns : goal.returns
-returns c = λ names g. c.class_word.ensures names (tables c.args.self.now.program.now) g.layout
+returns c names g = c.class_word.ensures names _ (layout names c.args.self.now g)

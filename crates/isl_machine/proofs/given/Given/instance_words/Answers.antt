@@ -1,6 +1,6 @@
--- The words of an instance, as primitives see them.
-use Rattle.isl_closure.specs.FlatNodes.{tables}
+-- The primitives see the program's classes.
+use Rattle.isl_machine.proofs.Givens.{fitted}
 use Rattle.isl_machine.proofs.given.Given.instance_words.Goals as goal
 
 pub returns : goal.returns
-returns c = λ names g. c.instance_words.ensures names (tables c.args.self.now.program.now) g.fitted
+returns c names g = c.instance_words.ensures names _ (fitted names c.args.self.now g)
