@@ -1,6 +1,5 @@
 pub mod CellWords
 pub mod Listed
-pub mod NewSlots
 pub mod MoreSlots
 pub mod Entries
 pub mod Bodies
@@ -18,3 +17,4 @@ pub mod Handling
 pub mod Callees
 pub mod Spreads
 pub mod Firsts
+pub mod NamedCalls

@@ -1,4 +1,3 @@
-pub mod Variables
 pub mod Entering
 pub mod Applying
 pub mod Methods

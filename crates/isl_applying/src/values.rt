@@ -10,18 +10,15 @@ ghost use Rattle.isl_plain.specs.Step.{call_value_step};
 ghost use Rattle.isl_applying.specs.Functions.{applied};
 ghost use Rattle.isl_applying.specs.Firsts.{IsFirst};
 
-use crate::arguments::held;
+use crate::classes::FUNCTION;
 use crate::functions::{Function, function_of};
 use crate::generics::apply_generic;
 use crate::procedures::{apply_function, apply_procedure, give_nil};
 use isl_base::{Name, NoMemory};
 use isl_machine::machine::Machine;
 use isl_machine::situation::{Around, Situation};
-use isl_meaning::{Callee, ClassId};
+use isl_meaning::Callee;
 use isl_store::Word;
-
-// The class of functions.
-const FUNCTION: ClassId = 6;
 
 /// A value, which is to be a function, is applied to the last operands, so many as that.
 pub fn apply_value(
@@ -108,7 +105,7 @@ pub fn call_first(
 ) -> Result<(), NoMemory>
     ensures { OnOk result (Steps machine.old machine.new (λ names s b. call_value_step s (top names machine.old operands) (at names machine.old situation) (frames names machine.old operands) (state names machine.old b))) }
 {
-    let count = held(machine, operands);
+    let count = machine.held_operands(operands);
     let Some(others) = count.checked_sub(1) else {
         give_nil(machine, operands);
         return Ok(());
