@@ -13,7 +13,7 @@ pub mod Slots
 pub mod Computing
 pub mod Sizes
 pub mod Doing
+pub mod Codes
 pub mod Variables
-pub mod Entering
-pub mod Applying
-pub mod Methods
+pub mod LetBodies
+pub mod Bindings
