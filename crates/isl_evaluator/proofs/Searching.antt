@@ -56,7 +56,7 @@ pub found_runs : (e : Evaluator) (mid m : Machine) (n v : ℕ) (q : Situation) (
     → IsBindingFound e.machine mid n q.around.bindings (Some v)
     → Steps mid m (λ names s b. found names v (frames names mid 0) (state names mid b))
     → Runs e (record e { machine = m }) (λ names s b.
-      searched (is_named names n) (λ (x : List ℕ × ℕ). found names x.1) (other names s) (at names e.machine q).around.bindings (frames names e.machine 0) (state names e.machine b))
+      searched (is_named s.names n) (λ (x : List ℕ × ℕ). found names x.1) (other names s) (at names e.machine q).around.bindings (frames names e.machine 0) (state names e.machine b))
 found_runs e mid m n v q found other is s =
     let given_is : mid.given ≡ e.machine.given = ap (λ (x : Machine). x.given) is.same in
     record {
@@ -80,7 +80,7 @@ pub unfound_runs : (e new : Evaluator) (mid : Machine) (n : ℕ) (q : Situation)
     → IsBindingFound e.machine mid n q.around.bindings None
     → Runs (record e { machine = mid }) new (λ names s b. other names s (at names mid q) (frames names mid 0) (state names mid b))
     → Runs e new (λ names s b.
-      searched (is_named names n) (λ (x : List ℕ × ℕ). found names x.1) (other names s (at names e.machine q)) (at names e.machine q).around.bindings (frames names e.machine 0) (state names e.machine b))
+      searched (is_named s.names n) (λ (x : List ℕ × ℕ). found names x.1) (other names s (at names e.machine q)) (at names e.machine q).around.bindings (frames names e.machine 0) (state names e.machine b))
 unfound_runs e new mid n q found other is r =
     let given_is : mid.given ≡ e.machine.given = ap (λ (x : Machine). x.given) is.same in
     record {

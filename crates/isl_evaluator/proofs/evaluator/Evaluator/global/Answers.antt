@@ -18,5 +18,5 @@ returns-in-Some c =
 
 pub returns-in-None : goal.returns-in-None
 returns-in-None c =
-    unbound c.signal_unbound.result c.args.self.now c.signal_unbound.new.self c.args.name.0 c.args.situation (λ b. b.globals) (λ names v rest y. ended (gives v y) rest)
+    unbound c.signal_unbound.result c.args.self.now c.signal_unbound.new.self c.args.name.0 c.args.situation (λ b. b.globals) (λ names s v rest y. ended (gives v y) rest)
     (λ names written unread b st. c.in-None.ensures names b.globals st.globals) c.signal_unbound.ensures

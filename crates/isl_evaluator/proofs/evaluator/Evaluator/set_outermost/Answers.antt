@@ -27,5 +27,5 @@ pub returns-in-None : goal.returns-in-None
 returns-in-None c =
     let n = c.args.name.0 in
     unbound c.signal_unbound.result c.args.self.now c.signal_unbound.new.self n c.args.situation (λ b. b.dynamics)
-    (λ names old rest y. ended (gives (value_of_word names c.args.word) (on_state (λ (x : State). record x { dynamics = (text names n, value_of_word names c.args.word) ∷ x.dynamics }) y)) rest)
+    (λ names s old rest y. ended (gives (value_of_word names c.args.word) (on_state (λ (x : State). record x { dynamics = (text s.names n, value_of_word names c.args.word) ∷ x.dynamics }) y)) rest)
     (λ names written unread b st. c.in-None.ensures names b.dynamics st.dynamics) c.signal_unbound.ensures
