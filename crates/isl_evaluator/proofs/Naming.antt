@@ -20,7 +20,7 @@ use Rattle.isl_evaluator.proofs.Lifting.{beside_another}
 -- the machine alone has gone on, and the tables say where
 pub went : (e : Evaluator) (m : Machine) (f g : List (List ℕ) → Setting → Beside → Moment) → Steps e.machine m f
     → ((names : List (List ℕ)) (written unread : List ℕ) (b : Beside) → IsGiven names e.machine.given → Stands names e written unread b
-      → f names (setting_of names e.machine.given) b ≡ g names (setting_of names e.machine.given) b)
+    → f names (setting_of names e.machine.given) b ≡ g names (setting_of names e.machine.given) b)
     → Runs e (record e { machine = m }) g
 went e m f g s same = record {
   given = s.given;
@@ -35,7 +35,7 @@ went e m f g s same = record {
 pub went_with : (e new : Evaluator) (f g : List (List ℕ) → Setting → Beside → Moment) (h : List (List ℕ) → Beside → Beside) → Steps e.machine new.machine f
     → ((names : List (List ℕ)) (written unread : List ℕ) (b : Beside) → Stands names e written unread b → Stands names new written unread (h names b))
     → ((names : List (List ℕ)) (written unread : List ℕ) (b : Beside) → Stands names e written unread b
-      → f names (setting_of names e.machine.given) (h names b) ≡ g names (setting_of names e.machine.given) b)
+    → f names (setting_of names e.machine.given) (h names b) ≡ g names (setting_of names e.machine.given) b)
     → Runs e new g
 went_with e new f g h s stands same = record {
   given = s.given;
@@ -82,7 +82,7 @@ pub unbound : {T E : Type 0} (r : Result T E) (e : Evaluator) (m : Machine) (n :
     → ((names : List (List ℕ)) (written unread : List ℕ) (b : Beside) → Stands names e written unread b → under_text (text names n) (pairs b) ≡ None)
     → OnOk r (Steps e.machine m (λ names s b. signal_unbound s (text names n) q.level (surroundings names e.machine q.around) (frames names e.machine 0) (state names e.machine b)))
     → OnOk r (Runs e (record e { machine = m }) (λ names s b.
-      some_or (under_text (text s.names n) (pairs b)) (signal_unbound s (text s.names n) (at names e.machine q).level (at names e.machine q).around) (next names s) (frames names e.machine 0) (state names e.machine b)))
+    some_or (under_text (text s.names n) (pairs b)) (signal_unbound s (text s.names n) (at names e.machine q).level (at names e.machine q).around) (next names s) (frames names e.machine 0) (state names e.machine b)))
 unfolding situation_in
 unbound (Err x) e m n q pairs next none s = tt
 unbound (Ok x) e m n q pairs next none s =

@@ -123,9 +123,9 @@ pub list_bound : (names : List (List ℕ)) (n : ℕ) (w : Frame) (bs : Bor (List
     → IsBound names n (bindings_in names (dynamics_of bs.now) first) bound → IsBoundBy names n w bound
 list_bound names n w bs first next bound e is = record {
   bound_by = λ l h.
-    let same : Some (record { items = bindings_in names (dynamics_of bs.now) first; next = next }) ≡ Some l = sym (ap (binding_link names) e) ∙ h in
-    let items : bindings_in names (dynamics_of bs.now) first ≡ l.items = cc in
-    let P : List (List ℕ × ℕ) → Type 0 = λ xs. IsBound names n xs bound in subst P items is;
+      let same : Some (record { items = bindings_in names (dynamics_of bs.now) first; next = next }) ≡ Some l = sym (ap (binding_link names) e) ∙ h in
+      let items : bindings_in names (dynamics_of bs.now) first ≡ l.items = cc in
+      let P : List (List ℕ × ℕ) → Type 0 = λ xs. IsBound names n xs bound in subst P items is;
 }
 
 -- in a list: how far it was searched
@@ -137,8 +137,8 @@ pub seeking_begins : (names : List (List ℕ)) (n : ℕ) (bs : List FlatDynBindi
 seeking_begins names n bs = record {
   variable = λ first. ap (λ k. variable_of names n (bindings_in names (dynamics_of bs) k)) (let e : first ≡ first + 0 = omega arith in e);
   count = λ first.
-    ap (λ k. passed (is_named names n) (bindings_in names (dynamics_of bs) k)) (let e : first ≡ first + 0 = omega arith in e)
-    ∙ sym (zero-add (passed (is_named names n) (bindings_in names (dynamics_of bs) (first + 0))));
+      ap (λ k. passed (is_named names n) (bindings_in names (dynamics_of bs) k)) (let e : first ≡ first + 0 = omega arith in e)
+      ∙ sym (zero-add (passed (is_named names n) (bindings_in names (dynamics_of bs) (first + 0))));
 }
 
 module _ (names : List (List ℕ)) (n : ℕ) (bs : List FlatDynBinding) (at : ℕ) (b : FlatDynBinding) (there : slice_get bs at ≡ Some b) where
@@ -153,28 +153,28 @@ module _ (names : List (List ℕ)) (n : ℕ) (bs : List FlatDynBinding) (at : �
   pub seeking_goes : is_named names n (text names b.name.0, 0) ≡ false → IsSought names n bs at → IsSought names n bs (at + 1)
   seeking_goes other s = record {
     variable = λ first.
-      s.variable first ∙ ap (variable_of names n) (left_bindings first)
-      ∙ ap (λ t. option_map (λ (x : List ℕ × ℕ). x.1) (if t then Some (text names b.name.0, first + at) else first_that (is_named names n) (bindings_in names (dynamics_of (drop (at + 1) bs)) (first + (at + 1))))) other;
+        s.variable first ∙ ap (variable_of names n) (left_bindings first)
+        ∙ ap (λ t. option_map (λ (x : List ℕ × ℕ). x.1) (if t then Some (text names b.name.0, first + at) else first_that (is_named names n) (bindings_in names (dynamics_of (drop (at + 1) bs)) (first + (at + 1))))) other;
     count = λ first.
-      let left : List (List ℕ × ℕ) = bindings_in names (dynamics_of (drop (at + 1) bs)) (first + (at + 1)) in
-      let one : passed (is_named names n) (bindings_in names (dynamics_of (drop at bs)) (first + at)) ≡ 1 + passed (is_named names n) left =
+        let left : List (List ℕ × ℕ) = bindings_in names (dynamics_of (drop (at + 1) bs)) (first + (at + 1)) in
+        let one : passed (is_named names n) (bindings_in names (dynamics_of (drop at bs)) (first + at)) ≡ 1 + passed (is_named names n) left =
         ap (passed (is_named names n)) (left_bindings first) ∙ ap (λ t. (if t then 1 else 1 + passed (is_named names n) left)) other in
-      let so_far : passed (is_named names n) (bindings_in names (dynamics_of bs) first) ≡ at + passed (is_named names n) (bindings_in names (dynamics_of (drop at bs)) (first + at)) = s.count first in
-      omega arith;
+        let so_far : passed (is_named names n) (bindings_in names (dynamics_of bs) first) ≡ at + passed (is_named names n) (bindings_in names (dynamics_of (drop at bs)) (first + at)) = s.count first in
+        omega arith;
   }
 
   -- one of the name
   pub is_there : is_named names n (text names b.name.0, 0) ≡ true → IsSought names n bs at → IsThere names n bs at
   is_there this s = record {
     variable = λ first.
-      s.variable first ∙ ap (variable_of names n) (left_bindings first)
-      ∙ ap (λ t. option_map (λ (x : List ℕ × ℕ). x.1) (if t then Some (text names b.name.0, first + at) else first_that (is_named names n) (bindings_in names (dynamics_of (drop (at + 1) bs)) (first + (at + 1))))) this;
+        s.variable first ∙ ap (variable_of names n) (left_bindings first)
+        ∙ ap (λ t. option_map (λ (x : List ℕ × ℕ). x.1) (if t then Some (text names b.name.0, first + at) else first_that (is_named names n) (bindings_in names (dynamics_of (drop (at + 1) bs)) (first + (at + 1))))) this;
     passed_so_many = λ first.
-      let left : List (List ℕ × ℕ) = bindings_in names (dynamics_of (drop (at + 1) bs)) (first + (at + 1)) in
-      let one : passed (is_named names n) (bindings_in names (dynamics_of (drop at bs)) (first + at)) ≡ 1 =
+        let left : List (List ℕ × ℕ) = bindings_in names (dynamics_of (drop (at + 1) bs)) (first + (at + 1)) in
+        let one : passed (is_named names n) (bindings_in names (dynamics_of (drop at bs)) (first + at)) ≡ 1 =
         ap (passed (is_named names n)) (left_bindings first) ∙ ap (λ t. (if t then 1 else 1 + passed (is_named names n) left)) this in
-      let so_far : passed (is_named names n) (bindings_in names (dynamics_of bs) first) ≡ at + passed (is_named names n) (bindings_in names (dynamics_of (drop at bs)) (first + at)) = s.count first in
-      omega arith;
+        let so_far : passed (is_named names n) (bindings_in names (dynamics_of bs) first) ≡ at + passed (is_named names n) (bindings_in names (dynamics_of (drop at bs)) (first + at)) = s.count first in
+        omega arith;
   }
 
 -- none is left
@@ -184,10 +184,10 @@ is_nowhere names n bs at e s =
     record {
       variable = λ first. s.variable first ∙ ap (λ xs. variable_of names n (bindings_in names (dynamics_of xs) (first + at))) none;
       passed_so_many = λ first.
-        let so_far : passed (is_named names n) (bindings_in names (dynamics_of bs) first) ≡ at + passed (is_named names n) (bindings_in names (dynamics_of (drop at bs)) (first + at)) = s.count first in
-        let nothing : passed (is_named names n) (bindings_in names (dynamics_of (drop at bs)) (first + at)) ≡ 0 =
+          let so_far : passed (is_named names n) (bindings_in names (dynamics_of bs) first) ≡ at + passed (is_named names n) (bindings_in names (dynamics_of (drop at bs)) (first + at)) = s.count first in
+          let nothing : passed (is_named names n) (bindings_in names (dynamics_of (drop at bs)) (first + at)) ≡ 0 =
           ap (λ xs. passed (is_named names n) (bindings_in names (dynamics_of xs) (first + at))) none in
-        omega arith;
+          omega arith;
     }
 
 -- in two lists, one after the other
@@ -251,7 +251,7 @@ frames_go names n items link left behind count more w here e none s near bound =
     let front = none_in_front names n xs (around_from names items behind) (is.variable ∙ none) in
     let here_passed : here.passed ≡ passed (is_named names n) xs = is.passed_so_many in
     let two : passed (is_named names n) (around_from names items left) ≡ passed (is_named names n) xs + passed (is_named names n) (around_from names items behind) =
-      ap (passed (is_named names n)) there ∙ front.1 in
+    ap (passed (is_named names n)) there ∙ front.1 in
     let so_far : passed (is_named names n) (around_from names items link) ≡ count + passed (is_named names n) (around_from names items left) = s.so_far in
     record {
       variable = s.variable ∙ ap (variable_of names n) there ∙ front.0;

@@ -26,7 +26,7 @@ use Rattle.isl_machine.proofs.Stepping.{same_moment}
 -- a value, for a literal that is that row
 pub literal_is : (old new : Machine) (id : ℕ) (q : Situation) (r : Option LiteralRow) (w : Word) → slice_get old.given.program.now.literals id ≡ r
     → ((names : List (List ℕ)) (fs : List Frame) (z : FlatState) → IsGiven names old.given
-      → moment (come_to (value (value_of_word names w))) fs z ≡ literal_step (setting_of names old.given) id r (at names old q) fs z)
+    → moment (come_to (value (value_of_word names w))) fs z ≡ literal_step (setting_of names old.given) id r (at names old q) fs z)
     → Steps old new (λ names s b. moment (come_to (value (value_of_word names w))) (frames names old 0) (state names old b))
     → Steps old new (λ names s b. literal_step s id (slice_get s.program.literals id) (at names old q) (frames names old 0) (state names old b))
 literal_is old new id q r w e h x =

@@ -53,12 +53,12 @@ function_made old mid new p size shared cs w parts q is many captured made s =
     record {
       given = s.given ∙ given_is;
       comes = λ names b g.
-        s.comes names b (let P : Given → Type 0 = λ x. IsGiven names x in subst P (sym given_is) g)
-        ∙ ap (λ (m : Machine). moment (come_to (value (value_of_word names w))) (frames names m 0) (state names mid b)) made.same
-        ∙ sym (ap (λ r. ended r (frames names old 0))
-        (sym (closure_built names (limit_of old.given.limit) p size shared (map (captured_part (at names old q).environment (state names old b)) parts) (state names old b)
-        (many ∙ ap (λ xs. 2 + length xs) (sym is)) (ap (map (captured_of names)) is ∙ captured names b))
-        ∙ made.state_is names b));
+          s.comes names b (let P : Given → Type 0 = λ x. IsGiven names x in subst P (sym given_is) g)
+          ∙ ap (λ (m : Machine). moment (come_to (value (value_of_word names w))) (frames names m 0) (state names mid b)) made.same
+          ∙ sym (ap (λ r. ended r (frames names old 0))
+          (sym (closure_built names (limit_of old.given.limit) p size shared (map (captured_part (at names old q).environment (state names old b)) parts) (state names old b)
+          (many ∙ ap (λ xs. 2 + length xs) (sym is)) (ap (map (captured_of names)) is ∙ captured names b))
+          ∙ made.state_is names b));
     }
 
 pub function_denied : (old new : Machine) (p size : ℕ) (shared : Rc (ItemList Captured) Global) (cs : List Captured) (parts : List FlatPart) (q : Situation)
@@ -67,10 +67,10 @@ pub function_denied : (old new : Machine) (p size : ℕ) (shared : Rc (ItemList 
 function_denied old new p size shared cs parts q is many captured denied = record {
   given = ap (λ (m : Machine). m.given) denied.same;
   comes = λ names b g.
-    ap (λ (m : Machine). moment_of names m b) denied.same
-    ∙ ap (λ (m : Machine). moment (come_to (full denied.asked denied.left)) (frames names old 0) (state names m b)) (sym (ap (λ (m : Machine). record m { control = old.control }) denied.same))
-    ∙ sym (ap (λ r. ended r (frames names old 0))
-    (sym (closure_built names (limit_of old.given.limit) p size shared (map (captured_part (at names old q).environment (state names old b)) parts) (state names old b)
-    (many ∙ ap (λ xs. 2 + length xs) (sym is)) (ap (map (captured_of names)) is ∙ captured names b))
-    ∙ denied.state_is names b));
+      ap (λ (m : Machine). moment_of names m b) denied.same
+      ∙ ap (λ (m : Machine). moment (come_to (full denied.asked denied.left)) (frames names old 0) (state names m b)) (sym (ap (λ (m : Machine). record m { control = old.control }) denied.same))
+      ∙ sym (ap (λ r. ended r (frames names old 0))
+      (sym (closure_built names (limit_of old.given.limit) p size shared (map (captured_part (at names old q).environment (state names old b)) parts) (state names old b)
+      (many ∙ ap (λ xs. 2 + length xs) (sym is)) (ap (map (captured_of names)) is ∙ captured names b))
+      ∙ denied.state_is names b));
 }

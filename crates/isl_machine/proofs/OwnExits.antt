@@ -120,10 +120,10 @@ count_goes items link left behind count more w e c n = by (own_link w) refl
     by (Some l) is =
         let made : option_map (λ (l : Linking ℕ). l.items) (own_link w) ≡ Some l.items = ap (option_map (λ (l : Linking ℕ). l.items)) is in
         let single : Some (length l.items) ≡ Some 1 =
-          sym (ap (option_map (λ (l : Linking ℕ). length l.items)) is) ∙ one_each w ∙ ap (option_map (λ (l : Linking ℕ). 1)) is in
+        sym (ap (option_map (λ (l : Linking ℕ). length l.items)) is) ∙ one_each w ∙ ap (option_map (λ (l : Linking ℕ). 1)) is in
         let one : length l.items ≡ 1 = cc in
         let there : length (chained own_link (reverse items) left) ≡ length l.items + length (chained own_link (reverse items) behind) =
-          ap length (one_further Own own_link items left behind w l.items own_linked n made) ∙ length-append l.items (chained own_link (reverse items) behind) in
+        ap length (one_further Own own_link items left behind w l.items own_linked n made) ∙ length-append l.items (chained own_link (reverse items) behind) in
         let so_far : length (chained own_link (reverse items) link) ≡ count + length (chained own_link (reverse items) left) = c.so_far in
         record { so_far = omega arith }
 
@@ -177,13 +177,13 @@ passing_goes items link others left behind more w h p n = by (own_link w) refl
     by (Some l) is =
         let made : option_map (λ (l : Linking ℕ). l.items) (own_link w) ≡ Some l.items = ap (option_map (λ (l : Linking ℕ). l.items)) is in
         let single : Some (length l.items) ≡ Some 1 =
-          sym (ap (option_map (λ (l : Linking ℕ). length l.items)) is) ∙ one_each w ∙ ap (option_map (λ (l : Linking ℕ). 1)) is in
+        sym (ap (option_map (λ (l : Linking ℕ). length l.items)) is) ∙ one_each w ∙ ap (option_map (λ (l : Linking ℕ). 1)) is in
         let one : length l.items ≡ 1 = cc in
         record {
           same =
-            p.same
-            ∙ ap (λ xs. slice_get xs more) (one_further Own own_link items left behind w l.items own_linked n made)
-            ∙ past_first l.items (chained own_link (reverse items) behind) more one h;
+              p.same
+              ∙ ap (λ xs. slice_get xs more) (one_further Own own_link items left behind w l.items own_linked n made)
+              ∙ past_first l.items (chained own_link (reverse items) behind) more one h;
         }
 
 pub passing_ends : (items : List Frame) (link others left more : ℕ) → IsPassing items link others left more → IsNoneNearer Own items 0 left

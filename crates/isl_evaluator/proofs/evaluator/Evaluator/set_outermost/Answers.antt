@@ -19,8 +19,8 @@ returns-in_ok-set-in-Some c =
     (dynamic_stands e c.set.new.self c.gives.new.self n c.args.word c.in_ok-set-in-Some.ensures.ok)
     (λ names written unread b st.
     sym (ap (λ o. some_or o (signal_unbound (setting_of names e.machine.given) (text names n) (at names e.machine q).level (at names e.machine q).around)
-      (λ old rest y. ended (gives (value_of_word names c.args.word) (on_state (λ (x : State). record x { dynamics = (text names n, value_of_word names c.args.word) ∷ x.dynamics }) y)) rest)
-      (frames names e.machine 0) (state names e.machine b))
+    (λ old rest y. ended (gives (value_of_word names c.args.word) (on_state (λ (x : State). record x { dynamics = (text names n, value_of_word names c.args.word) ∷ x.dynamics }) y)) rest)
+    (frames names e.machine 0) (state names e.machine b))
     (c.in-Some.ensures names b.dynamics st.dynamics)))
 
 pub returns-in-None : goal.returns-in-None
