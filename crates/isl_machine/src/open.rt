@@ -15,7 +15,12 @@ use isl_closure::MethodPlace;
 
 impl<'p> Machine<'p> {
     /// What is done with arguments, which are the last operands.
-    pub fn operate(&mut self, operation: Operation, count: usize, situation: Situation) -> Result<(), NoMemory>
+    pub fn operate(
+        &mut self,
+        operation: Operation,
+        count: usize,
+        situation: Situation,
+    ) -> Result<(), NoMemory>
         ensures { OnOk result (Steps self.old self.new (λ names s b. operation_step s (operation_of operation) (top names self.old count) (at names self.old situation) (frames names self.old count) (state names self.old b))) }
     {
         Err(NoMemory)
@@ -36,7 +41,11 @@ impl<'p> Machine<'p> {
     }
 
     /// The rest of the chain of a method.
-    pub fn next_method_at(&mut self, place: MethodPlace, situation: Situation) -> Result<(), NoMemory>
+    pub fn next_method_at(
+        &mut self,
+        place: MethodPlace,
+        situation: Situation,
+    ) -> Result<(), NoMemory>
         ensures { OnOk result (Steps self.old self.new (λ names s b. next_method_step s (method_of place (at names self.old situation).environment) (at names self.old situation) (frames names self.old 0) (state names self.old b))) }
     {
         Err(NoMemory)
