@@ -28,3 +28,7 @@ pub mod SlotLists
 pub mod Captures
 pub mod Coded
 pub mod Applying
+pub mod Passed
+pub mod Reached
+pub mod Staying
+pub mod Mains

@@ -16,3 +16,5 @@ pub mod Variables
 pub mod Entering
 pub mod Applying
 pub mod Methods
+pub mod Mains
+pub mod Passing
