@@ -1,7 +1,8 @@
 -- The exits that are left from one of them on.
-use Rattle.std.proofs.Common.{◌≡◌, ℕ, ◌==◌, Bool, true, false, List, [], ◌∷◌, Option, Some, refl, ap, sym, ◌∙◌}
+use Rattle.std.proofs.Common.{◌≡◌, ◌≢◌, ℕ, ◌==◌, Bool, true, false, List, [], ◌∷◌, Option, Some, refl, ap, sym, ◌∙◌, arith}
+use Rattle.std.proofs.lemmas.Bool.Decides.{nat_tests}
 use Rattle.std.specs.Prelude.{reverse, option_map, if◌then◌else◌}
-use Rattle.isl_meaning.specs.State.{exits_from}
+use Rattle.isl_meaning.specs.State.{Exit, exits_from}
 use Rattle.isl_machine.specs.declared.frame.Frame.{Frame}
 use Rattle.isl_machine.specs.declared.links.Kind.TheVariants.{Exits}
 use Rattle.isl_machine.specs.declared.exits.Exit.{Exit as Here}
@@ -13,20 +14,20 @@ use Rattle.isl_machine.proofs.Looking.{none_left, first_left}
 
 -- the exit was found
 pub reached : (names : List (List ℕ)) (items : List Frame) (link behind number : ℕ) (w : Frame) (e : Here) → IsNearest Exits items link w behind
-    → option_map (λ l. l.items) (exit_link names w) ≡ Some (exit_of names e ∷ []) → (e.number == number) ≡ true
+    → option_map (λ (l : Linking Exit). l.items) (exit_link names w) ≡ Some (exit_of names e ∷ []) → e.number ≡ number
     → chained (exit_link names) (reverse items) link ≡ exits_from number (chained (exit_link names) (reverse items) link)
 reached names items link behind number w e n made h =
     let c : chained (exit_link names) (reverse items) link ≡ exit_of names e ∷ chained (exit_link names) (reverse items) behind = first_left names items link behind w e n made in
-    let f : exits_from number (exit_of names e ∷ chained (exit_link names) (reverse items) behind) ≡ exit_of names e ∷ chained (exit_link names) (reverse items) behind = rw h refl in
+    let f : exits_from number (exit_of names e ∷ chained (exit_link names) (reverse items) behind) ≡ exit_of names e ∷ chained (exit_link names) (reverse items) behind = (let t : (e.number == number) ≡ true = grind (arith, nat_tests) in rw t refl) in
     c ∙ sym (ap (exits_from number) c ∙ f)
 
 -- it is not this one
 pub not_this : (names : List (List ℕ)) (items : List Frame) (link behind number : ℕ) (w : Frame) (e : Here) → IsNearest Exits items link w behind
-    → option_map (λ l. l.items) (exit_link names w) ≡ Some (exit_of names e ∷ []) → (e.number == number) ≡ false
+    → option_map (λ (l : Linking Exit). l.items) (exit_link names w) ≡ Some (exit_of names e ∷ []) → e.number ≢ number
     → exits_from number (chained (exit_link names) (reverse items) link) ≡ exits_from number (chained (exit_link names) (reverse items) behind)
 not_this names items link behind number w e n made h =
     let c : chained (exit_link names) (reverse items) link ≡ exit_of names e ∷ chained (exit_link names) (reverse items) behind = first_left names items link behind w e n made in
-    let f : exits_from number (exit_of names e ∷ chained (exit_link names) (reverse items) behind) ≡ exits_from number (chained (exit_link names) (reverse items) behind) = rw h refl in
+    let f : exits_from number (exit_of names e ∷ chained (exit_link names) (reverse items) behind) ≡ exits_from number (chained (exit_link names) (reverse items) behind) = (let t : (e.number == number) ≡ false = grind (arith, nat_tests) in rw t refl) in
     ap (exits_from number) c ∙ f
 
 -- no exit is left

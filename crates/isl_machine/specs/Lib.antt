@@ -18,3 +18,4 @@ pub mod Applying
 pub mod Methods
 pub mod Mains
 pub mod Passing
+pub mod Valued

@@ -34,4 +34,5 @@ pub mod slot;
 pub mod slots;
 pub mod stack;
 pub mod transfers;
+pub mod values;
 pub mod word_tests;

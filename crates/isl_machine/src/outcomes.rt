@@ -44,8 +44,8 @@ fn segment_of(landing: Landing) -> u32
     }
 }
 
-// The situation at another level.
-fn at_level(situation: Situation, level: u64) -> Situation
+/// The situation at another level.
+pub fn at_level(situation: Situation, level: u64) -> Situation
     ensures { result ≡ record situation { level = level } }
 {
     Situation {
@@ -138,7 +138,7 @@ impl<'p> Machine<'p> {
         situation: Situation,
         outcome: Outcome,
     ) -> Result<(), NoMemory>
-        ensures { OnOk result (Steps self.old self.new (λ names s b. cleanup_step cleanup.now (at names self.old situation) (outcome_of names outcome) (frames names self.old 0) (state names self.old b))) }
+        ensures { OnOk result (Steps self.old self.new (λ names s b. cleanup_step s cleanup.now (at names self.old situation) (outcome_of names outcome) (frames names self.old 0) (state names self.old b))) }
     {
         match outcome {
             Outcome::Value(_) => self.wait(Frame::Kept(outcome), cleanup, situation),
