@@ -32,3 +32,5 @@ pub mod Passed
 pub mod Reached
 pub mod Staying
 pub mod Mains
+pub mod Framed
+pub mod Others

@@ -1,5 +1,5 @@
 -- A main form begins above the frames that wait for it.
-use Rattle.std.proofs.Common.{◌≡◌, ℕ, suc, ◌+◌, ◌-◌, ◌<◌, false, List, [], ◌∷◌, ◌++◌, None, length, drop, map, Option, refl, ap, sym, ◌∙◌, subst, arith}
+use Rattle.std.proofs.Common.{Bor, ◌≡◌, ℕ, suc, ◌+◌, ◌-◌, ◌<◌, false, List, [], ◌∷◌, ◌++◌, None, length, drop, map, Option, refl, ap, sym, ◌∙◌, subst, arith}
 use Rattle.std.specs.Prelude.{reverse, nat_lt}
 use Rattle.std.proofs.lemmas.List.{drop_all, length-reverse}
 use Rattle.std.proofs.lemmas.Bool.{le-ltb}

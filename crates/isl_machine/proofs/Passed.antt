@@ -10,26 +10,16 @@ use Rattle.isl_closure.specs.FlatForm.{FlatForm, FlatForms}
 use Rattle.isl_closure.specs.FlatMeaning.{from_segment}
 use Rattle.isl_closure.specs.FlatState.{FlatState}
 use Rattle.isl_closure.specs.model.View.{forms}
-use Rattle.isl_plain.specs.Moment.{Setting, Wait, Frame, Step, Situation as Within, moment, evaluate, come_to, awaits, kept, descend}
-use Rattle.isl_plain.specs.Step.{outcome_step, turn_step, cleanup_step, segments_step}
+use Rattle.isl_plain.specs.Moment.{Setting, Frame, Step, Situation as Within, moment, come_to, descend}
+use Rattle.isl_plain.specs.Step.{turn_step, cleanup_step, segments_step}
 use Rattle.isl_store.specs.declared.word.Word.{Word}
-use Rattle.isl_machine.specs.declared.frame.Landing.{Landing as Here}
 use Rattle.isl_machine.specs.declared.frame.Outcome.{Outcome}
 use Rattle.isl_machine.specs.declared.frame.Outcome.TheVariants as outcome
 use Rattle.isl_machine.specs.declared.situation.Situation.{Situation}
 use Rattle.isl_machine.specs.declared.machine.Machine.{Machine}
 use Rattle.isl_machine.specs.Chains.{chained}
 use Rattle.isl_machine.specs.Frames.{outcome_of, exit_link, forms_from, inside_tagbody, situation_in, around_in}
-use Rattle.isl_machine.specs.Passing.{IsValue}
 use Rattle.isl_machine.specs.View.{at}
-
--- a place that waits for a value passes any other outcome on
-pub passed_on : (names : List (List ℕ)) (s : Setting) (w : Wait) (o : Outcome) (frames : List Frame) (z : FlatState) → IsValue o ≡ false
-    → moment (come_to (outcome_of names o)) frames z ≡ outcome_step s (awaits w) (outcome_of names o) frames z
-passed_on names s w (outcome.Value x) frames z h = absurd (cc)
-passed_on names s w (outcome.Exit e x l) frames z h = refl
-passed_on names s w (outcome.Full asked left) frames z h = refl
-passed_on names s w outcome.More frames z h = refl
 
 -- the segments from one of them on
 pub segments_left : (n : ℕ) (fs : List FlatForm) → forms_from fs n ≡ from_segment n (forms fs)
@@ -88,15 +78,7 @@ turns_other names s number all at (outcome.Exit e x l) frames z h = absurd (⊎_
 turns_other names s number all at (outcome.Full asked left) frames z h = refl
 turns_other names s number all at outcome.More frames z h = refl
 
--- a transfer goes through a cleanup, and one that fails does not
-pub cleans_exit : (names : List (List ℕ)) (s : Setting) (cleanup : FlatForm) (at : Within) (o : Outcome) (e : ℕ) (w : Word) (l : Here) (frames : List Frame) (z : FlatState)
-    → o ≡ outcome.Exit e w l
-    → moment (evaluate cleanup (record at { around = record at.around { exits = exits_from e at.around.exits } })) (awaits (kept (outcome_of names o)) ∷ frames) z
-    ≡ cleanup_step s cleanup at (outcome_of names o) frames z
-cleans_exit names s cleanup at o e w l frames z h =
-    ap (λ k. moment (evaluate cleanup (record at { around = record at.around { exits = exits_from e at.around.exits } })) (awaits (kept (outcome_of names k)) ∷ frames) z) h
-    ∙ ap (λ k. cleanup_step s cleanup at (outcome_of names k) frames z) (sym h)
-
+-- and one that fails goes through a form with a cleanup
 pub cleans_other : (names : List (List ℕ)) (s : Setting) (cleanup : FlatForm) (at : Within) (o : Outcome) (frames : List Frame) (z : FlatState)
     → ((asked : ℕ) × (left : ℕ) × (o ≡ outcome.Full asked left)) ⊎ (o ≡ outcome.More)
     → moment (come_to (outcome_of names o)) frames z ≡ cleanup_step s cleanup at (outcome_of names o) frames z

@@ -17,7 +17,7 @@ keep_last xs k first count e h =
 take_fewer : {X : Type 0} (n m : ℕ) (xs : List X) → take n (take (n + m) xs) ≡ take n xs
 take_fewer zero m [] = refl
 take_fewer zero m (x ∷ xs) = refl
-take_fewer (suc n) m [] = refl
+take_fewer (suc n) m [] = let e : suc n + m ≡ suc (n + m) = omega arith in ap (λ k. take (suc n) (take k [])) e
 take_fewer (suc n) m (x ∷ xs) = let e : suc n + m ≡ suc (n + m) = omega arith in ap (λ k. take (suc n) (take k (x ∷ xs))) e ∙ ap (λ ys. x ∷ ys) (take_fewer n m xs)
 
 pub keep_others : {X : Type 0} (xs : List X) (k first count : ℕ) → first ≡ length xs - k → count < length xs - first → others_of count (take (first + count) xs) ≡ others_of k xs

@@ -1,6 +1,6 @@
 // The main forms of a program run one after another, each in an activation of its own with words of the stack.
 
-ghost use Rattle.std.specs.Prelude.{OnOk, drop};
+ghost use Rattle.std.specs.Prelude.{◌≡◌, OnOk, drop};
 ghost use Rattle.isl_plain.specs.Moment.{main_form, main_forms};
 ghost use Rattle.isl_plain.specs.Step.{value_step};
 ghost use Rattle.isl_store.specs.Words.{value_of_word};

@@ -46,7 +46,7 @@ impl<'p> Machine<'p> {
 
     // The body of a clause is evaluated; without one the value of its test is the value.
     fn clause_body(&mut self, clause: Option<&'p FlatClause>, word: Word, situation: Situation)
-        ensures { Steps self.old self.new (λ names s b. clause_body_of s (value_of_word names word) (option_copied clause) (at names self.old situation) (frames names self.old 0) (state names self.old b)) }
+        ensures { Steps self.old self.new (λ names s b. clause_body_of s (value_of_word names word) (option_copied clause.entry) (at names self.old situation) (frames names self.old 0) (state names self.old b)) }
     {
         let Some(clause) = clause else {
             self.gives(word);

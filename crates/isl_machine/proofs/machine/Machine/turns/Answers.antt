@@ -2,7 +2,6 @@
 use Rattle.std.proofs.Common.{ap, sym, ◌∙◌}
 use Rattle.std.proofs.lemmas.Result.{on_ok_weaker}
 use Rattle.isl_closure.specs.model.View.{forms}
-use Rattle.isl_plain.specs.Moment.{moment, come_to}
 use Rattle.isl_plain.specs.Step.{turn_step}
 use Rattle.isl_store.specs.Words.{value_of_word}
 use Rattle.isl_machine.specs.Frames.{inside_tagbody, landing_of, outcome_of}
@@ -27,8 +26,7 @@ returns-else-exit-number c =
     let m = c.args.self.now in
     let all = forms c.args.segments.now in
     followed _ _ _ _ c.come_to.ensures (λ names s b.
-      ap (λ o. moment (come_to (outcome_of names o)) (frames names m 0) (state names m b)) c.in-Exit.is
-      ∙ not_turned s c.args.number c.in-Exit.exit all (inside_tagbody c.args.number (at names m c.args.outside)) (value_of_word names c.in-Exit.field-1) (landing_of c.in-Exit.landing) (frames names m 0) (state names m b) c.if-exit-number.false
+      not_turned s c.args.number c.in-Exit.exit all (inside_tagbody c.args.number (at names m c.args.outside)) (value_of_word names c.in-Exit.field-1) (landing_of c.in-Exit.landing) (frames names m 0) (state names m b) c.if-exit-number.false
       ∙ ap (λ o. turn_step s c.args.number all (inside_tagbody c.args.number (at names m c.args.outside)) (outcome_of names o) (frames names m 0) (state names m b)) (sym c.in-Exit.is))
 
 pub returns-in-Value : goal.returns-in-Value
