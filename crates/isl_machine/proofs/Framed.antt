@@ -1,5 +1,7 @@
 -- What comes to a frame that was on top, by its kind.
-use Rattle.std.proofs.Common.{◌≡◌, ℕ, suc, List, [], ◌∷◌, ◌++◌, Option, Some, None, Bool, true, false, Result, OnOk, refl, ap, sym, ◌∙◌, subst, reverse, map}
+use Rattle.std.proofs.Common.{Bor, ◌≡◌, ◌≤◌, ℕ, suc, List, [], ◌∷◌, ◌++◌, Option, Some, None, Bool, true, false, Result, OnOk, refl, ap, sym, ◌∙◌, subst, reverse, map, length, MatchOption, option_copied}
+use Rattle.std.specs.Prelude.{slice_get}
+use Rattle.std.proofs.lemmas.Option.{slice_get_past}
 use Rattle.std.proofs.lemmas.List.{map-append}
 use Rattle.isl_meaning.specs.State.{Outcome, Surroundings}
 use Rattle.isl_meaning.specs.Values.{Value, is_true, nil}
@@ -90,3 +92,8 @@ pub clause_off : (s : Setting) (v : Value) (c : Option FlatClause) (cs : FlatCla
     → clauses_step s cs at frames z ≡ value_step s (clause_wait c cs at) v frames z
 clause_off s v None cs at frames z h = rw h refl
 clause_off s v (Some c) cs at frames z h = rw h refl
+
+-- what was read at a place
+pub got : {X : Type 0} (xs : List X) (n : ℕ) (o : Option (Bor X)) → MatchOption o (length xs ≤ n) (λ x. slice_get xs n ≡ Some x.now) → option_copied o ≡ slice_get xs n
+got xs n None h = sym (slice_get_past xs n h)
+got xs n (Some x) h = sym h
