@@ -1,2 +1,4 @@
 -- Proofs of the evaluator.
 pub mod Lifting
+pub mod Naming
+pub mod Searching

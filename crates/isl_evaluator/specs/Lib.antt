@@ -1,2 +1,3 @@
 -- How the evaluator is seen.
 pub mod Runs
+pub mod Outermost

@@ -1,5 +1,7 @@
 // The evaluator of flat programs: the machine, with what stands beside it.
 #![tactic(auto)]
 
+pub mod dynamics;
 pub mod evaluator;
+pub mod globals;
 pub mod open;

@@ -26,6 +26,15 @@ pub mod Inside
 pub mod Aside
 pub mod SlotLists
 pub mod Captures
+pub mod Following
+pub mod OwnExits
+pub mod Jumping
+pub mod BindingHomes
+pub mod LetEntered
+pub mod DynamicEntered
+pub mod BindingsFound
+pub mod MethodPlaces
+pub mod MadeFunctions
 pub mod Coded
 pub mod Applying
 pub mod Passed

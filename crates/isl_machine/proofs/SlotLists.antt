@@ -58,3 +58,16 @@ set_others xs k first i x e =
 pub set_last : {X : Type 0} (xs : List X) (k first i : ℕ) (x : X) → first ≡ length xs - k → last_of k (slice_set xs (first + i) x) ≡ slice_set (last_of k xs) i x
 set_last xs k first i x e =
     ap (λ n. drop n (slice_set xs (first + i) x)) (ap (λ n. n - k) (length-set xs (first + i) x) ∙ sym e) ∙ drop_set xs first i x ∙ ap (λ n. slice_set (drop n xs) i x) e
+
+-- those in front of the last ones, where there are more behind them
+pub others_below : {X : Type 0} (xs more : List X) (k n : ℕ) → n ≡ k + length more → others_of n (xs ++ more) ≡ others_of k xs
+others_below xs more k n e =
+    let l : length (xs ++ more) ≡ length xs + length more = length-append xs more in
+    let d : length (xs ++ more) - n ≡ length xs - k = omega arith in
+    ap (λ m. take m (xs ++ more)) d ∙ take-append-le (length xs - k) xs more (omega arith)
+
+-- so many, or all that there are
+pub last_held : {X : Type 0} (xs : List X) (n count : ℕ) → count ≡ min n (length xs) → last_of count xs ≡ last_of n xs
+last_held xs n count e =
+    let d : length xs - count ≡ length xs - n = omega arith in
+    ap (λ k. drop k xs) d

@@ -19,3 +19,5 @@ pub mod Methods
 pub mod Mains
 pub mod Passing
 pub mod Valued
+pub mod LetBodies
+pub mod Bindings

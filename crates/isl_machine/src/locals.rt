@@ -1,12 +1,12 @@
 // Local variables.
 
-ghost use Rattle.std.specs.Prelude.{◌≡◌, List, ℕ, map, slice_get, option_copied, OnOk};
-ghost use Rattle.isl_closure.specs.FlatState.{gives, value_of, set_to, value_in, cell_in};
+ghost use Rattle.std.specs.Prelude.{◌≡◌, List, ℕ, OnOk};
+ghost use Rattle.isl_closure.specs.FlatState.{gives, value_of, set_to};
 ghost use Rattle.isl_plain.specs.Moment.{ended};
 ghost use Rattle.isl_store.specs.View.{Beside};
-ghost use Rattle.isl_store.specs.Words.{value_of_word, captured_of};
+ghost use Rattle.isl_store.specs.Words.{value_of_word};
 ghost use Rattle.isl_machine.specs.declared.situation.Situation.{Situation};
-ghost use Rattle.isl_machine.specs.Slots.{IsChanged, captured_list};
+ghost use Rattle.isl_machine.specs.Slots.{IsChanged};
 ghost use Rattle.isl_machine.specs.View.{Steps, at, frames, state};
 
 use crate::machine::Machine;
@@ -14,45 +14,9 @@ use crate::situation::Situation;
 use crate::slot::Slot;
 use isl_base::NoMemory;
 use isl_closure::VariablePlace;
-use isl_store::{Captured, Word};
+use isl_store::Word;
 
 impl<'p> Machine<'p> {
-    // What the function of the activation captured, by its number.
-    fn captured(&self, number: usize) -> Option<&Captured<'p>>
-        ensures { option_copied result ≡ slice_get (captured_list self.now.current) number }
-    {
-        match &self.current.captured {
-            Some(list) => list.get(number),
-            None => None,
-        }
-    }
-
-    // A value that it captured.
-    fn captured_value(&self, number: usize) -> Word
-        ensures { (names : List (List ℕ)) → value_of_word names result ≡ value_in (slice_get (map (captured_of names) (captured_list self.now.current)) number) }
-    {
-        match self.captured(number) {
-            Some(Captured::Value(word)) => *word,
-            Some(Captured::Cell(_)) => Word::Nil,
-            Some(Captured::Exit(_)) => Word::Nil,
-            Some(Captured::Method(_)) => Word::Nil,
-            None => Word::Nil,
-        }
-    }
-
-    // A cell that it captured.
-    fn captured_cell(&self, number: usize) -> Option<usize>
-        ensures { (names : List (List ℕ)) → result ≡ cell_in (slice_get (map (captured_of names) (captured_list self.now.current)) number) }
-    {
-        match self.captured(number) {
-            Some(Captured::Value(_)) => None,
-            Some(Captured::Cell(cell)) => *cell,
-            Some(Captured::Exit(_)) => None,
-            Some(Captured::Method(_)) => None,
-            None => None,
-        }
-    }
-
     // The value of a variable.
     fn value_of(&self, place: VariablePlace) -> Word
         ensures { (names : List (List ℕ)) (b : Beside) (s : Situation) → value_of_word names result ≡ value_of place (at names self.now s).environment (state names self.now b) }

@@ -1,6 +1,6 @@
 // The values so far of the forms that wait.
 
-ghost use Rattle.std.specs.Prelude.{OnOk};
+ghost use Rattle.std.specs.Prelude.{◌≡◌, ◌<◌, OnOk, Some, length, min, slice_get};
 ghost use Rattle.isl_machine.specs.Operands.{IsPushed, IsDropped};
 
 use crate::machine::Machine;
@@ -14,6 +14,21 @@ impl<'p> Machine<'p> {
     {
         self.operands.push(word)?;
         Ok(())
+    }
+
+    /// So many operands, or all that there are.
+    pub fn held_operands(&self, count: usize) -> usize
+        ensures { result ≡ min count (length self.now.operands.items) }
+    {
+        count.min(self.operands.len())
+    }
+
+    /// The operand at that place, from the first one on.
+    pub fn operand_at(&self, at: usize) -> Word
+        requires { at < length self.now.operands.items }
+        ensures { slice_get self.now.operands.items at ≡ Some result }
+    {
+        self.operands[at]
     }
 
     /// The last operands go, so many as that.
