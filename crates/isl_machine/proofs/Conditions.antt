@@ -73,8 +73,8 @@ module _ (old mid : Machine) (class level size count : ℕ) (words : List Word) 
   signals_it w m = record {
     given = ap (λ (x : Machine). x.given) m.same;
     comes = λ names b g.
-      ap (λ (x : Machine). moment (signals (value_of_word names w) nil level (surroundings names x a)) (frames names x 0) (state names mid b)) m.same
-      ∙ sym (sizes names b g ∙ signalled names old.given.limit size class level words i (surroundings names old a) (frames names old 0) (state names old b) (state names mid b) w e (m.state_is names b));
+        ap (λ (x : Machine). moment (signals (value_of_word names w) nil level (surroundings names x a)) (frames names x 0) (state names mid b)) m.same
+        ∙ sym (sizes names b g ∙ signalled names old.given.limit size class level words i (surroundings names old a) (frames names old 0) (state names old b) (state names mid b) w e (m.state_is names b));
   }
 
   pub has_no_room : IsDenied old mid size 0 (made_as.Instance i)
@@ -82,6 +82,6 @@ module _ (old mid : Machine) (class level size count : ℕ) (words : List Word) 
   has_no_room m = record {
     given = ap (λ (x : Machine). x.given) m.same;
     comes = λ names b g.
-      ap (λ (x : Machine). moment (control_of names x x.control) (frames names x 0) (state names mid b)) m.same
-      ∙ sym (sizes names b g ∙ no_room names old.given.limit size class level m.asked m.left words i (surroundings names old a) (frames names old 0) (state names old b) (state names mid b) e (m.state_is names b));
+        ap (λ (x : Machine). moment (control_of names x x.control) (frames names x 0) (state names mid b)) m.same
+        ∙ sym (sizes names b g ∙ no_room names old.given.limit size class level m.asked m.left words i (surroundings names old a) (frames names old 0) (state names old b) (state names mid b) e (m.state_is names b));
   }

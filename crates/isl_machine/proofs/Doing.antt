@@ -153,9 +153,9 @@ pub then_given : (old mid new : Machine) (n : ℕ) (a : Around) (f : List (List 
 then_given old mid new n a f w t d s = record {
   given = s.given ∙ ap (λ (m : Machine). m.given) d.same;
   comes = λ names b g.
-    s.comes names b (let P : Given → Type 0 = λ x. IsGiven names x in subst P (sym (ap (λ (m : Machine). m.given) d.same)) g)
-    ∙ ap (λ (m : Machine). t names (setting_of names m.given) (top names m n) (surroundings names m a) (value_of_word names w) (frames names m n) (state names mid b)) d.same
-    ∙ sym (ap (λ r. then_on r (frames names old n) (λ v after. t names (setting_of names old.given) (top names old n) (surroundings names old a) v (frames names old n) after)) (d.state_is names b));
+      s.comes names b (let P : Given → Type 0 = λ x. IsGiven names x in subst P (sym (ap (λ (m : Machine). m.given) d.same)) g)
+      ∙ ap (λ (m : Machine). t names (setting_of names m.given) (top names m n) (surroundings names m a) (value_of_word names w) (frames names m n) (state names mid b)) d.same
+      ∙ sym (ap (λ r. then_on r (frames names old n) (λ v after. t names (setting_of names old.given) (top names old n) (surroundings names old a) v (frames names old n) after)) (d.state_is names b));
 }
 
 pub then_filled : (old mid new : Machine) (n : ℕ) (f : List (List ℕ) → Setting → FlatState → FlatEvaluated) (next : List (List ℕ) → Setting → Beside → Value → FlatState → Moment)
@@ -163,16 +163,16 @@ pub then_filled : (old mid new : Machine) (n : ℕ) (f : List (List ℕ) → Set
     → Steps old new (λ names s b. then_on (f names s (state names old b)) (frames names old n) (next names s b))
 then_filled old mid new n f next d x =
     let all : new ≡ record old { control = ComeTo (Full d.asked d.left); operands = new.operands; store = mid.store } =
-      x.same ∙ ap (λ (m : Machine). record m { operands = new.operands }) d.same in
+    x.same ∙ ap (λ (m : Machine). record m { operands = new.operands }) d.same in
     let operands : others_of 0 new.operands.items ≡ others_of n old.operands.items =
-      others_none new.operands.items ∙ x.operands ∙ ap (λ (m : Machine). others_of n m.operands.items) d.same in
+    others_none new.operands.items ∙ x.operands ∙ ap (λ (m : Machine). others_of n m.operands.items) d.same in
     record {
       given = ap (λ (m : Machine). m.given) all;
       comes = λ names b g.
-        ap (λ (m : Machine). moment_of names m b) all
-        ∙ ap (λ os. moment (come_to (full d.asked d.left)) (frames_in names old.current os old.slots.items (reverse old.frames.items)) (state names (record old { store = mid.store }) b)) operands
-        ∙ ap (λ (m : Machine). moment (come_to (full d.asked d.left)) (frames names old n) (state names (record m { store = mid.store }) b)) (sym (ap (λ (m : Machine). record m { control = old.control }) d.same))
-        ∙ sym (ap (λ r. then_on r (frames names old n) (next names (setting_of names old.given) b)) (d.state_is names b));
+          ap (λ (m : Machine). moment_of names m b) all
+          ∙ ap (λ os. moment (come_to (full d.asked d.left)) (frames_in names old.current os old.slots.items (reverse old.frames.items)) (state names (record old { store = mid.store }) b)) operands
+          ∙ ap (λ (m : Machine). moment (come_to (full d.asked d.left)) (frames names old n) (state names (record m { store = mid.store }) b)) (sym (ap (λ (m : Machine). record m { control = old.control }) d.same))
+          ∙ sym (ap (λ r. then_on r (frames names old n) (next names (setting_of names old.given) b)) (d.state_is names b));
     }
 
 -- a machine goes on once operands are dropped
@@ -184,8 +184,8 @@ then_dropped old mid new n a t d s =
     record {
       given = s.given ∙ given_is;
       comes = λ names b g.
-        s.comes names b (let P : Given → Type 0 = λ x. IsGiven names x in subst P (sym given_is) g)
-        ∙ ap (λ (m : Machine). t names (setting_of names m.given) (surroundings names m a) (frames names m 0) (state names m b)) d.same
-        ∙ ap (λ os. t names (setting_of names old.given) (surroundings names old a) (frames_in names old.current os old.slots.items (reverse old.frames.items)) (state names old b))
-        (others_none mid.operands.items ∙ d.operands);
+          s.comes names b (let P : Given → Type 0 = λ x. IsGiven names x in subst P (sym given_is) g)
+          ∙ ap (λ (m : Machine). t names (setting_of names m.given) (surroundings names m a) (frames names m 0) (state names m b)) d.same
+          ∙ ap (λ os. t names (setting_of names old.given) (surroundings names old a) (frames_in names old.current os old.slots.items (reverse old.frames.items)) (state names old b))
+          (others_none mid.operands.items ∙ d.operands);
     }

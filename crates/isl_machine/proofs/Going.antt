@@ -26,8 +26,8 @@ pub from_given : (old mid new : Machine) (f : List (List ℕ) → Setting → Be
 from_given old mid new f e x = record {
   given = x.given ∙ e;
   comes = λ names b k.
-    let k' : IsGiven names mid.given = subst (IsGiven names) (sym e) k in
-    x.comes names b k' ∙ ap (λ g. f names (setting_of names g) b) e;
+      let k' : IsGiven names mid.given = subst (IsGiven names) (sym e) k in
+      x.comes names b k' ∙ ap (λ g. f names (setting_of names g) b) e;
 }
 
 -- from a machine whose store alone has changed: the moment may be said of the store before
@@ -37,9 +37,9 @@ pub after_store : (old mid new : Machine) (f : Machine → List (List ℕ) → S
     → Steps old new (λ names s b. f (record old { store = mid.store }) names s (g names (state names old b)))
 after_store old mid new f g same is x =
     let said : Steps mid new (λ names s b. f mid names s (g names (state names old b))) =
-      followed mid new (λ names s b. f mid names s (state names mid b)) (λ names s b. f mid names s (g names (state names old b))) x (λ names s b. ap (f mid names s) (is names b)) in
+    followed mid new (λ names s b. f mid names s (state names mid b)) (λ names s b. f mid names s (g names (state names old b))) x (λ names s b. ap (f mid names s) (is names b)) in
     let moved : Steps (record old { store = mid.store }) new (λ names s b. f (record old { store = mid.store }) names s (g names (state names old b))) =
-      subst (λ m. Steps m new (λ names s b. f m names s (g names (state names old b)))) same said in
+    subst (λ m. Steps m new (λ names s b. f m names s (g names (state names old b)))) same said in
     from_given old (record old { store = mid.store }) new (λ names s b. f (record old { store = mid.store }) names s (g names (state names old b))) refl moved
 
 -- from a machine with one frame more
@@ -48,7 +48,7 @@ pub after_push : (old mid new : Machine) (w : Frame) (f : Machine → List (List
     → Steps old new (λ names s b. f (record old { frames = mid.frames }) names s (w ∷ reverse old.frames.items) (state names old b))
 after_push old mid new w f a x =
     let moved : Steps (record old { frames = mid.frames }) new (λ names s b. f (record old { frames = mid.frames }) names s (reverse mid.frames.items) (state names old b)) =
-      subst (λ m. Steps m new (λ names s b. f m names s (reverse mid.frames.items) (state names m b))) a.same x in
+    subst (λ m. Steps m new (λ names s b. f m names s (reverse mid.frames.items) (state names m b))) a.same x in
     let on : Steps (record old { frames = mid.frames }) new (λ names s b. f (record old { frames = mid.frames }) names s (w ∷ reverse old.frames.items) (state names old b)) =
-      subst (λ ws. Steps (record old { frames = mid.frames }) new (λ names s b. f (record old { frames = mid.frames }) names s ws (state names old b))) (ap reverse a.frames ∙ one_on old.frames.items w) moved in
+    subst (λ ws. Steps (record old { frames = mid.frames }) new (λ names s b. f (record old { frames = mid.frames }) names s ws (state names old b))) (ap reverse a.frames ∙ one_on old.frames.items w) moved in
     from_given old (record old { frames = mid.frames }) new (λ names s b. f (record old { frames = mid.frames }) names s (w ∷ reverse old.frames.items) (state names old b)) refl on

@@ -73,9 +73,9 @@ pub found_leaves : (old mid new : Machine) (sought : Sought) (w : Word) (landing
 found_leaves old mid new sought w landing level a e f s = record {
   given = s.given ∙ still_given old mid sought a.exits (Some e) f;
   comes = λ names b g.
-    s.comes names b (given_behind old mid sought a.exits (Some e) names f g)
-    ∙ behind old mid sought a (Some e) f names b g (λ around frs z. moment (come_to (state_of.exit e.number (value_of_word names w) landing)) frs z)
-    ∙ sym (searching old mid sought a (Some e) f names b g (λ x rest y. ended (leaves x.number (value_of_word names w) landing y) rest) (signal_class (setting_of names old.given) 22 [] level (surroundings names old a)) (frames names old 0) (state names old b)
+      s.comes names b (given_behind old mid sought a.exits (Some e) names f g)
+      ∙ behind old mid sought a (Some e) f names b g (λ around frs z. moment (come_to (state_of.exit e.number (value_of_word names w) landing)) frs z)
+      ∙ sym (searching old mid sought a (Some e) f names b g (λ x rest y. ended (leaves x.number (value_of_word names w) landing y) rest) (signal_class (setting_of names old.given) 22 [] level (surroundings names old a)) (frames names old 0) (state names old b)
       ∙ ap (λ o. some_or o (signal_class (setting_of names old.given) 22 [] level (surroundings names old a)) (λ (x : Exit) rest y. ended (leaves x.number (value_of_word names w) landing y) rest) (frames names old 0) (charged (passed_in names old sought a.exits) (state names old b))) (f.first names g));
 }
 
@@ -87,10 +87,10 @@ pub none_leaves : (old mid new : Machine) (sought : Sought) (w : Word) (landing 
 none_leaves old mid new sought w landing level a f s = record {
   given = s.given ∙ still_given old mid sought a.exits None f;
   comes = λ names b g.
-    s.comes names b (given_behind old mid sought a.exits None names f g)
-    ∙ ap (λ k. signal_class (setting_of names k) 22 [] level (surroundings names mid a) (frames names mid 0) (state names mid b)) (still_given old mid sought a.exits None f)
-    ∙ behind old mid sought a None f names b g (λ around. signal_class (setting_of names old.given) 22 [] level around)
-    ∙ sym (searching old mid sought a None f names b g (λ x rest y. ended (leaves x.number (value_of_word names w) landing y) rest) (signal_class (setting_of names old.given) 22 [] level (surroundings names old a)) (frames names old 0) (state names old b)
+      s.comes names b (given_behind old mid sought a.exits None names f g)
+      ∙ ap (λ k. signal_class (setting_of names k) 22 [] level (surroundings names mid a) (frames names mid 0) (state names mid b)) (still_given old mid sought a.exits None f)
+      ∙ behind old mid sought a None f names b g (λ around. signal_class (setting_of names old.given) 22 [] level around)
+      ∙ sym (searching old mid sought a None f names b g (λ x rest y. ended (leaves x.number (value_of_word names w) landing y) rest) (signal_class (setting_of names old.given) 22 [] level (surroundings names old a)) (frames names old 0) (state names old b)
       ∙ ap (λ o. some_or o (signal_class (setting_of names old.given) 22 [] level (surroundings names old a)) (λ (x : Exit) rest y. ended (leaves x.number (value_of_word names w) landing y) rest) (frames names old 0) (charged (passed_in names old sought a.exits) (state names old b))) (f.first names g));
 }
 
@@ -101,7 +101,7 @@ pub number_leaves : (old new : Machine) (e : ℕ) (exit : Option ℕ) (w : Word)
 number_leaves old new e exit w landing level a h s = record {
   given = s.given;
   comes = λ names b g. s.comes names b g
-    ∙ ap (λ o. transfer (setting_of names old.given) o (value_of_word names w) landing level (surroundings names old a) (frames names old 0) (state names old b)) (sym h);
+      ∙ ap (λ o. transfer (setting_of names old.given) o (value_of_word names w) landing level (surroundings names old a) (frames names old 0) (state names old b)) (sym h);
 }
 
 pub nowhere_leaves : (old new : Machine) (exit : Option ℕ) (w : Word) (landing : Landing) (level : ℕ) (a : Around) → exit ≡ None
@@ -110,7 +110,7 @@ pub nowhere_leaves : (old new : Machine) (exit : Option ℕ) (w : Word) (landing
 nowhere_leaves old new exit w landing level a h s = record {
   given = s.given;
   comes = λ names b g. s.comes names b g
-    ∙ ap (λ o. transfer (setting_of names old.given) o (value_of_word names w) landing level (surroundings names old a) (frames names old 0) (state names old b)) (sym h);
+      ∙ ap (λ o. transfer (setting_of names old.given) o (value_of_word names w) landing level (surroundings names old a) (frames names old 0) (state names old b)) (sym h);
 }
 
 -- what a signal that is continued does with its exit
@@ -144,11 +144,11 @@ pub continues : (old mid new : Machine) (c w : Word) (level : ℕ) (a : Around) 
 continues old mid new c w level a e f yes_it s = record {
   given = s.given ∙ still_given old mid (SignalOf c) a.exits (Some e) f;
   comes = λ names b g.
-    s.comes names b (given_behind old mid (SignalOf c) a.exits (Some e) names f g)
-    ∙ behind old mid (SignalOf c) a (Some e) f names b g (λ around frs z. moment (come_to (state_of.exit e.number (value_of_word names w) (at_segment 0))) frs z)
-    ∙ ap (λ t. (if t then ended (leaves e.number (value_of_word names w) (at_segment 0) (charged (passed_in names old (SignalOf c) a.exits) (state names old b))) (frames names old 0)
-        else signal_class (setting_of names old.given) 22 [] level (surroundings names old a) (frames names old 0) (charged (passed_in names old (SignalOf c) a.exits) (state names old b)))) (yes_it names)
-    ∙ sym (continuing old mid c w level a (Some e) f names b g
+      s.comes names b (given_behind old mid (SignalOf c) a.exits (Some e) names f g)
+      ∙ behind old mid (SignalOf c) a (Some e) f names b g (λ around frs z. moment (come_to (state_of.exit e.number (value_of_word names w) (at_segment 0))) frs z)
+      ∙ ap (λ t. (if t then ended (leaves e.number (value_of_word names w) (at_segment 0) (charged (passed_in names old (SignalOf c) a.exits) (state names old b))) (frames names old 0)
+      else signal_class (setting_of names old.given) 22 [] level (surroundings names old a) (frames names old 0) (charged (passed_in names old (SignalOf c) a.exits) (state names old b)))) (yes_it names)
+      ∙ sym (continuing old mid c w level a (Some e) f names b g
       ∙ ap (λ o. some_or o (signal_class (setting_of names old.given) 22 [] level (surroundings names old a)) (continued (setting_of names old.given) (value_of_word names w) level (surroundings names old a)) (frames names old 0) (charged (passed_in names old (SignalOf c) a.exits) (state names old b))) (f.first names g));
 }
 
@@ -159,10 +159,10 @@ pub continues_not : (old mid new : Machine) (c w : Word) (level : ℕ) (a : Arou
 continues_not old mid new c w level a e f no_it s = record {
   given = s.given ∙ still_given old mid (SignalOf c) a.exits (Some e) f;
   comes = λ names b g.
-    error_behind old mid new (SignalOf c) level a (Some e) f s names b g
-    ∙ ap (λ t. (if t then ended (leaves e.number (value_of_word names w) (at_segment 0) (charged (passed_in names old (SignalOf c) a.exits) (state names old b))) (frames names old 0)
-        else signal_class (setting_of names old.given) 22 [] level (surroundings names old a) (frames names old 0) (charged (passed_in names old (SignalOf c) a.exits) (state names old b)))) (no_it names)
-    ∙ sym (continuing old mid c w level a (Some e) f names b g
+      error_behind old mid new (SignalOf c) level a (Some e) f s names b g
+      ∙ ap (λ t. (if t then ended (leaves e.number (value_of_word names w) (at_segment 0) (charged (passed_in names old (SignalOf c) a.exits) (state names old b))) (frames names old 0)
+      else signal_class (setting_of names old.given) 22 [] level (surroundings names old a) (frames names old 0) (charged (passed_in names old (SignalOf c) a.exits) (state names old b)))) (no_it names)
+      ∙ sym (continuing old mid c w level a (Some e) f names b g
       ∙ ap (λ o. some_or o (signal_class (setting_of names old.given) 22 [] level (surroundings names old a)) (continued (setting_of names old.given) (value_of_word names w) level (surroundings names old a)) (frames names old 0) (charged (passed_in names old (SignalOf c) a.exits) (state names old b))) (f.first names g));
 }
 
@@ -172,7 +172,7 @@ pub continues_nowhere : (old mid new : Machine) (c w : Word) (level : ℕ) (a : 
 continues_nowhere old mid new c w level a f s = record {
   given = s.given ∙ still_given old mid (SignalOf c) a.exits None f;
   comes = λ names b g.
-    error_behind old mid new (SignalOf c) level a None f s names b g
-    ∙ sym (continuing old mid c w level a None f names b g
+      error_behind old mid new (SignalOf c) level a None f s names b g
+      ∙ sym (continuing old mid c w level a None f names b g
       ∙ ap (λ o. some_or o (signal_class (setting_of names old.given) 22 [] level (surroundings names old a)) (continued (setting_of names old.given) (value_of_word names w) level (surroundings names old a)) (frames names old 0) (charged (passed_in names old (SignalOf c) a.exits) (state names old b))) (f.first names g));
 }

@@ -6,14 +6,6 @@ pub mod Looking
 pub mod Pushes
 pub mod NodesInside
 pub mod Doing
-pub mod Cells
-pub mod Listed
-pub mod NewSlots
-pub mod MoreSlots
-pub mod Entering
-pub mod Bodies
-pub mod Gathered
-pub mod Judged
 pub mod Stepping
 pub mod Leaving
 pub mod Tops
@@ -36,7 +28,6 @@ pub mod BindingsFound
 pub mod MethodPlaces
 pub mod MadeFunctions
 pub mod Coded
-pub mod Applying
 pub mod Passed
 pub mod Reached
 pub mod Staying

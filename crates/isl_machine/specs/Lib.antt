@@ -12,12 +12,9 @@ pub mod Exiting
 pub mod Slots
 pub mod Sizes
 pub mod Doing
-pub mod Variables
-pub mod Entering
-pub mod Applying
-pub mod Methods
 pub mod Mains
 pub mod Passing
 pub mod Valued
 pub mod LetBodies
 pub mod Bindings
+pub mod Codes

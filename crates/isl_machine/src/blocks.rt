@@ -43,13 +43,22 @@ impl<'p> Machine<'p> {
     }
 
     /// A catch whose tag has come, with a new exit.
-    pub fn catch(&mut self, body: &'p FlatCore, tag: Word, situation: Situation) -> Result<(), NoMemory>
+    pub fn catch(
+        &mut self,
+        body: &'p FlatCore,
+        tag: Word,
+        situation: Situation,
+    ) -> Result<(), NoMemory>
         ensures { OnOk result (Steps self.old self.new (λ names s b. value_step s (catch_tag body.now (at names self.old situation)) (value_of_word names tag) (frames names self.old 0) (state names self.old b))) }
     {
         let number = self.new_exit()?;
         let link = self.next_link()?;
         let exits = situation.around.exits;
-        self.enter(Frame::Catch { number, tag, exits }, body, inside_catch(situation, link))
+        self.enter(
+            Frame::Catch { number, tag, exits },
+            body,
+            inside_catch(situation, link),
+        )
     }
 
     /// A tagbody, with a new exit.
@@ -61,7 +70,13 @@ impl<'p> Machine<'p> {
     }
 
     /// The segments of a tagbody from one of them on.
-    pub fn segments(&mut self, number: u64, list: &'p FlatCoreList, place: usize, outside: Situation) -> Result<(), NoMemory>
+    pub fn segments(
+        &mut self,
+        number: u64,
+        list: &'p FlatCoreList,
+        place: usize,
+        outside: Situation,
+    ) -> Result<(), NoMemory>
         ensures { OnOk result (Steps self.old self.new (λ names s b. segments_step s number (forms_from list.now place) (forms list.now) (inside_tagbody number (at names self.old outside)) (frames names self.old 0) (state names self.old b))) }
     {
         let link = self.next_link()?;

@@ -10,7 +10,12 @@ use isl_store::{Halt, Object, Word};
 
 impl<'p> Machine<'p> {
     /// An object of so many words is made, if there is room for it; else that is what the machine comes to.
-    pub fn build(&mut self, size: u64, besides: u64, object: Object<'p>) -> Result<Option<Word>, NoMemory>
+    pub fn build(
+        &mut self,
+        size: u64,
+        besides: u64,
+        object: Object<'p>,
+    ) -> Result<Option<Word>, NoMemory>
         ensures { IfOk result (IsBuilt self.old self.new size besides object.entry) }
     {
         match self.store.make(self.given.limit, size, besides, object) {

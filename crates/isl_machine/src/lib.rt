@@ -1,7 +1,6 @@
 // The code of the plain evaluator's machine.
 #![tactic(auto)]
 
-pub mod apply;
 pub mod blocks;
 mod body_nodes;
 pub mod bound;
@@ -22,14 +21,13 @@ pub mod locals;
 pub mod lookups;
 pub mod machine;
 pub mod main_forms;
-pub mod making;
 pub mod method_places;
 pub mod nodes;
 pub mod open;
 pub mod operands;
 pub mod outcomes;
-pub mod passing;
 pub mod own_exits;
+pub mod passing;
 pub mod places;
 pub mod remaining;
 pub mod requests;

@@ -17,7 +17,13 @@ use isl_store::Word;
 
 impl<'p> Machine<'p> {
     /// Forms in order, from one of them on; the value is that of the last one, or the given one where none is left.
-    pub fn sequence(&mut self, last: Word, list: &'p FlatCoreList, place: usize, situation: Situation) -> Result<(), NoMemory>
+    pub fn sequence(
+        &mut self,
+        last: Word,
+        list: &'p FlatCoreList,
+        place: usize,
+        situation: Situation,
+    ) -> Result<(), NoMemory>
         ensures { OnOk result (Steps self.old self.new (λ names s b. sequence_step s (value_of_word names last) (forms_from list.now place) (at names self.old situation) (frames names self.old 0) (state names self.old b))) }
     {
         match list.get(place) {
@@ -33,11 +39,20 @@ impl<'p> Machine<'p> {
     }
 
     /// Clauses from one of them on.
-    pub fn clauses(&mut self, list: &'p FlatClauseList, place: usize, situation: Situation) -> Result<(), NoMemory>
+    pub fn clauses(
+        &mut self,
+        list: &'p FlatClauseList,
+        place: usize,
+        situation: Situation,
+    ) -> Result<(), NoMemory>
         ensures { OnOk result (Steps self.old self.new (λ names s b. clauses_step s (clauses_from list.now place) (at names self.old situation) (frames names self.old 0) (state names self.old b))) }
     {
         match list.get(place) {
-            Some(clause) => self.wait(Frame::Clause(list, place, situation), &clause.test, situation),
+            Some(clause) => self.wait(
+                Frame::Clause(list, place, situation),
+                &clause.test,
+                situation,
+            ),
             None => {
                 self.gives(Word::Nil);
                 Ok(())
@@ -46,31 +61,61 @@ impl<'p> Machine<'p> {
     }
 
     /// Arguments from one of them on, of which those in front are operands.
-    pub fn arguments(&mut self, operation: Operation, list: &'p FlatCoreList, count: usize, situation: Situation) -> Result<(), NoMemory>
+    pub fn arguments(
+        &mut self,
+        operation: Operation,
+        list: &'p FlatCoreList,
+        count: usize,
+        situation: Situation,
+    ) -> Result<(), NoMemory>
         ensures { OnOk result (Steps self.old self.new (λ names s b. arguments_step s (operation_of operation) (forms_from list.now count) (top names self.old count) (at names self.old situation) (frames names self.old count) (state names self.old b))) }
     {
         match list.get(count) {
-            Some(form) => self.hold(Frame::Argument(operation, list, count, situation), form, situation),
+            Some(form) => self.hold(
+                Frame::Argument(operation, list, count, situation),
+                form,
+                situation,
+            ),
             None => self.operate(operation, count, situation),
         }
     }
 
     /// Bindings from one of them on, of which the values of those in front are operands.
-    pub fn bindings(&mut self, list: &'p FlatBindingList, count: usize, body: &'p FlatCore, situation: Situation) -> Result<(), NoMemory>
+    pub fn bindings(
+        &mut self,
+        list: &'p FlatBindingList,
+        count: usize,
+        body: &'p FlatCore,
+        situation: Situation,
+    ) -> Result<(), NoMemory>
         ensures { OnOk result (Steps self.old self.new (λ names s b. bindings_step s (bindings_from list.now count) (top names self.old count) (bindings_of list.now) body.now (at names self.old situation) (frames names self.old count) (state names self.old b))) }
     {
         match list.get(count) {
-            Some(binding) => self.hold(Frame::Binding(list, count, body, situation), &binding.value, situation),
+            Some(binding) => self.hold(
+                Frame::Binding(list, count, body, situation),
+                &binding.value,
+                situation,
+            ),
             None => self.let_body(list, count, body, situation),
         }
     }
 
     /// Dynamic bindings from one of them on, of which the values of those in front are operands.
-    pub fn dynamics(&mut self, list: &'p FlatDynBindings, count: usize, body: &'p FlatCore, situation: Situation) -> Result<(), NoMemory>
+    pub fn dynamics(
+        &mut self,
+        list: &'p FlatDynBindings,
+        count: usize,
+        body: &'p FlatCore,
+        situation: Situation,
+    ) -> Result<(), NoMemory>
         ensures { OnOk result (Steps self.old self.new (λ names s b. dynamics_step s (dynamics_from list.now count) (top names self.old count) (dynamics_of list.now) body.now (at names self.old situation) (frames names self.old count) (state names self.old b))) }
     {
         match list.get(count) {
-            Some(binding) => self.hold(Frame::DynamicValue(list, count, body, situation), &binding.value, situation),
+            Some(binding) => self.hold(
+                Frame::DynamicValue(list, count, body, situation),
+                &binding.value,
+                situation,
+            ),
             None => self.dynamic_body(list, count, body, situation),
         }
     }

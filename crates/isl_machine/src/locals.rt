@@ -57,7 +57,12 @@ impl<'p> Machine<'p> {
     }
 
     /// A local variable is set.
-    pub fn set_local(&mut self, place: VariablePlace, word: Word, situation: Situation) -> Result<(), NoMemory>
+    pub fn set_local(
+        &mut self,
+        place: VariablePlace,
+        word: Word,
+        situation: Situation,
+    ) -> Result<(), NoMemory>
         ensures { OnOk result (Steps self.old self.new (λ names s b. ended (gives (value_of_word names word) (set_to place (value_of_word names word) (at names self.old situation).environment (state names self.old b))) (frames names self.old 0))) }
     {
         self.set_variable(place, word);

@@ -1,7 +1,7 @@
 // What a run looks up in its program: the code of procedures, and the chains of calls.
 
 ghost use Rattle.std.specs.Prelude.{List, ℕ, slice_get};
-ghost use Rattle.isl_machine.specs.Applying.{IsCode};
+ghost use Rattle.isl_machine.specs.Codes.{IsCode};
 ghost use Rattle.isl_machine.specs.View.{IsGiven};
 
 use crate::given::Given;

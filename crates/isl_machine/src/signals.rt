@@ -15,7 +15,9 @@ use std::alloc::Global;
 
 // The classes of the conditions that rules signal.
 const UNBOUND_VARIABLE: ClassId = 31;
+
 const UNDEFINED_FUNCTION: ClassId = 32;
+
 const DOMAIN_ERROR: ClassId = 29;
 
 // The slots of an instance with these values.
@@ -32,7 +34,13 @@ fn slots_with(alloc: Global, words: &[Word]) -> Result<Slots, NoMemory>
 
 impl<'p> Machine<'p> {
     /// A new condition of a class, with its slots, is signalled.
-    pub fn signal(&mut self, class: ClassId, words: &[Word], level: u64, around: Around) -> Result<(), NoMemory>
+    pub fn signal(
+        &mut self,
+        class: ClassId,
+        words: &[Word],
+        level: u64,
+        around: Around,
+    ) -> Result<(), NoMemory>
         ensures { OnOk result (Steps self.old self.new (λ names s b. signal_class s class (values_of names words.now) level (surroundings names self.old around) (frames names self.old 0) (state names self.old b))) }
     {
         let slots = slots_with(self.given.alloc, words)?;
@@ -57,14 +65,25 @@ impl<'p> Machine<'p> {
     }
 
     /// A condition of a class without slots.
-    pub fn signal_class(&mut self, class: ClassId, level: u64, around: Around) -> Result<(), NoMemory>
+    pub fn signal_class(
+        &mut self,
+        class: ClassId,
+        level: u64,
+        around: Around,
+    ) -> Result<(), NoMemory>
         ensures { OnOk result (Steps self.old self.new (λ names s b. signal_class s class [] level (surroundings names self.old around) (frames names self.old 0) (state names self.old b))) }
     {
         self.signal(class, &[], level, around)
     }
 
     /// A value is not of the expected class.
-    pub fn signal_domain(&mut self, word: Word, expected: ClassId, level: u64, around: Around) -> Result<(), NoMemory>
+    pub fn signal_domain(
+        &mut self,
+        word: Word,
+        expected: ClassId,
+        level: u64,
+        around: Around,
+    ) -> Result<(), NoMemory>
         ensures { OnOk result (Steps self.old self.new (λ names s b. signal_domain s (value_of_word names word) expected level (surroundings names self.old around) (frames names self.old 0) (state names self.old b))) }
     {
         let class = self.given.class_word(expected);
@@ -72,7 +91,12 @@ impl<'p> Machine<'p> {
     }
 
     /// A name has no function.
-    pub fn signal_undefined(&mut self, name: Name, level: u64, around: Around) -> Result<(), NoMemory>
+    pub fn signal_undefined(
+        &mut self,
+        name: Name,
+        level: u64,
+        around: Around,
+    ) -> Result<(), NoMemory>
         ensures { OnOk result (Steps self.old self.new (λ names s b. signal_undefined s (text names name.0) level (surroundings names self.old around) (frames names self.old 0) (state names self.old b))) }
     {
         self.signal(UNDEFINED_FUNCTION, &[Word::Symbol(name)], level, around)

@@ -14,7 +14,12 @@ use isl_meaning::SiteId;
 
 impl<'p> Machine<'p> {
     /// A form of the file is evaluated, which has a site.
-    pub fn sited(&mut self, site: SiteId, form: &'p FlatCore, situation: Situation) -> Result<(), NoMemory>
+    pub fn sited(
+        &mut self,
+        site: SiteId,
+        form: &'p FlatCore,
+        situation: Situation,
+    ) -> Result<(), NoMemory>
         ensures { OnOk result (Steps self.old self.new (λ names s b. moment (evaluate form.now (record (at names self.old situation) { around = record (at names self.old situation).around { site = place_of_site s.program.sites site } })) (frames names self.old 0) (state names self.old b))) }
     {
         let place = self.place_of(site);

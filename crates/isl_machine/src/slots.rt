@@ -15,7 +15,10 @@ impl<'p> Machine<'p> {
     fn first_slot(&self) -> usize
         ensures { result ≡ length self.now.slots.items - self.now.current.slots }
     {
-        self.slots.as_slice().len().saturating_sub(self.current.slots)
+        self.slots
+            .as_slice()
+            .len()
+            .saturating_sub(self.current.slots)
     }
 
     /// How many slots it has.

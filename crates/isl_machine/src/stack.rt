@@ -15,7 +15,12 @@ use isl_closure::FlatCore;
 
 impl<'p> Machine<'p> {
     /// A form is evaluated above a new frame, in a situation that may link to it.
-    pub fn enter(&mut self, frame: Frame<'p>, form: &'p FlatCore, inside: Situation) -> Result<(), NoMemory>
+    pub fn enter(
+        &mut self,
+        frame: Frame<'p>,
+        form: &'p FlatCore,
+        inside: Situation,
+    ) -> Result<(), NoMemory>
         ensures { OnOk result (Steps self.old self.new (λ names s b. moment (evaluate form.now (situation_in names self.old.current (frame.entry ∷ reverse self.old.frames.items) inside)) (taken names self.old frame.entry ∷ below names self.old frame.entry) (state names self.old b))) }
     {
         self.frames.push(frame)?;
@@ -24,7 +29,12 @@ impl<'p> Machine<'p> {
     }
 
     /// A form is evaluated, for whose value a frame waits that may have operands.
-    pub fn hold(&mut self, frame: Frame<'p>, form: &'p FlatCore, situation: Situation) -> Result<(), NoMemory>
+    pub fn hold(
+        &mut self,
+        frame: Frame<'p>,
+        form: &'p FlatCore,
+        situation: Situation,
+    ) -> Result<(), NoMemory>
         requires { IsUnlinked frame ≡ true }
         ensures { OnOk result (Steps self.old self.new (λ names s b. moment (evaluate form.now (at names self.old situation)) (taken names self.old frame.entry ∷ below names self.old frame.entry) (state names self.old b))) }
     {

@@ -29,7 +29,14 @@ impl<'p> Machine<'p> {
     }
 
     // A transfer to the exit that is looked for; where there is none, a control error.
-    fn leave(&mut self, sought: Sought, word: Word, landing: Landing, level: u64, around: Around) -> Result<(), NoMemory>
+    fn leave(
+        &mut self,
+        sought: Sought,
+        word: Word,
+        landing: Landing,
+        level: u64,
+        around: Around,
+    ) -> Result<(), NoMemory>
         ensures { OnOk result (Steps self.old self.new (λ names s b. leaving s (meets names sought) (value_of_word names word) (landing_of landing) level (surroundings names self.old around) (frames names self.old 0) (state names self.old b))) }
     {
         match self.find(sought, around.exits)? {
@@ -42,7 +49,14 @@ impl<'p> Machine<'p> {
     }
 
     /// A transfer to an exit by its number, if there is one.
-    pub fn transfer(&mut self, exit: Option<u64>, word: Word, landing: Landing, level: u64, around: Around) -> Result<(), NoMemory>
+    pub fn transfer(
+        &mut self,
+        exit: Option<u64>,
+        word: Word,
+        landing: Landing,
+        level: u64,
+        around: Around,
+    ) -> Result<(), NoMemory>
         ensures { OnOk result (Steps self.old self.new (λ names s b. transfer s exit (value_of_word names word) (landing_of landing) level (surroundings names self.old around) (frames names self.old 0) (state names self.old b))) }
     {
         match exit {
@@ -52,14 +66,32 @@ impl<'p> Machine<'p> {
     }
 
     /// A transfer to the innermost catch with that tag.
-    pub fn throw_to(&mut self, tag: Word, word: Word, level: u64, around: Around) -> Result<(), NoMemory>
+    pub fn throw_to(
+        &mut self,
+        tag: Word,
+        word: Word,
+        level: u64,
+        around: Around,
+    ) -> Result<(), NoMemory>
         ensures { OnOk result (Steps self.old self.new (λ names s b. throw_to s (value_of_word names tag) (value_of_word names word) level (surroundings names self.old around) (frames names self.old 0) (state names self.old b))) }
     {
-        self.leave(Sought::CatchOf(tag), word, Landing::Segment(0), level, around)
+        self.leave(
+            Sought::CatchOf(tag),
+            word,
+            Landing::Segment(0),
+            level,
+            around,
+        )
     }
 
     /// A transfer to the innermost signal of that condition, where it may be continued.
-    pub fn continue_with(&mut self, condition: Word, word: Word, level: u64, around: Around) -> Result<(), NoMemory>
+    pub fn continue_with(
+        &mut self,
+        condition: Word,
+        word: Word,
+        level: u64,
+        around: Around,
+    ) -> Result<(), NoMemory>
         ensures { OnOk result (Steps self.old self.new (λ names s b. continue_with s (value_of_word names condition) (value_of_word names word) level (surroundings names self.old around) (frames names self.old 0) (state names self.old b))) }
     {
         match self.find(Sought::SignalOf(condition), around.exits)? {

@@ -94,7 +94,7 @@ pub returns-in-Continue : goal.returns-in-Continue
 returns-in-Continue c = begun_as c.wait-in-Continue.result _ _ c.args.situation _ _ (ap view_form c.in-Continue.is ∙ ap (λ v. continue_form c.in-Continue.condition.value v) (sym c.deref-in-Continue.ensures) ∙ ap (λ v. continue_form v c.deref-in-Continue.result.now) (sym c.deref-in-Continue-2.ensures)) c.wait-in-Continue.ensures
 
 pub returns-in-NextMethod : goal.returns-in-NextMethod
-returns-in-NextMethod c = begun_as c.next_method.result _ _ c.args.situation _ _ (ap view_form c.in-NextMethod.is) c.next_method.ensures
+returns-in-NextMethod c = begun_as c.next_method_at.result _ _ c.args.situation _ _ (ap view_form c.in-NextMethod.is) c.next_method_at.ensures
 
 pub returns-in-HasNext : goal.returns-in-HasNext
 returns-in-HasNext c = begun_as c.has_next.result _ _ c.args.situation _ _ (ap view_form c.in-HasNext.is) c.has_next.ensures

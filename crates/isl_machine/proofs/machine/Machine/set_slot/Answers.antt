@@ -13,11 +13,15 @@ returns-then-number-count c =
     let xs = m.slots.items in
     record {
       in_place = record {
-        given = refl; control = refl; frames = refl; operands = refl; activation = refl;
+        given = refl;
+        control = refl;
+        frames = refl;
+        operands = refl;
+        activation = refl;
         others = set_others xs m.current.slots c.first_slot-first.result c.args.number c.args.slot c.first_slot-first.ensures;
       };
       state_is = λ names b.
-        ap (λ f. record (state names m b) { frame = f })
-        (ap (map (slot_of names)) (set_last xs m.current.slots c.first_slot-first.result c.args.number c.args.slot c.first_slot-first.ensures)
-        ∙ map-set (slot_of names) (last_of m.current.slots xs) c.args.number c.args.slot);
+          ap (λ f. record (state names m b) { frame = f })
+          (ap (map (slot_of names)) (set_last xs m.current.slots c.first_slot-first.result c.args.number c.args.slot c.first_slot-first.ensures)
+          ∙ map-set (slot_of names) (last_of m.current.slots xs) c.args.number c.args.slot);
     }

@@ -22,9 +22,9 @@ returns-in-SlotCell c s =
     record {
       in_place = record { given = refl; control = refl; frames = refl; operands = refl; activation = refl; others = refl };
       state_is = λ names b.
-        c.set_variable.ensures names (record b { frame = frame_slots names m.current m.slots.items })
-        ∙ ap (λ o. on_state (λ y. set_at o (value_of_word names c.args.word) y) (state names m b)) (c.slot_cell-cell.ensures names)
-        ∙ ap (λ p. set_to p (value_of_word names c.args.word) (at names m s).environment (state names m b)) (sym c.in-SlotCell.is);
+          c.set_variable.ensures names (record b { frame = frame_slots names m.current m.slots.items })
+          ∙ ap (λ o. on_state (λ y. set_at o (value_of_word names c.args.word) y) (state names m b)) (c.slot_cell-cell.ensures names)
+          ∙ ap (λ p. set_to p (value_of_word names c.args.word) (at names m s).environment (state names m b)) (sym c.in-SlotCell.is);
     }
 
 pub returns-in-CapturedValue : goal.returns-in-CapturedValue
@@ -41,8 +41,8 @@ returns-in-CapturedCell c s =
     record {
       in_place = record { given = refl; control = refl; frames = refl; operands = refl; activation = refl; others = refl };
       state_is = λ names b.
-        c.set_variable-in-CapturedCell.ensures names (record b { frame = frame_slots names m.current m.slots.items })
-        ∙ ap (λ o. on_state (λ y. set_at o (value_of_word names c.args.word) y) (state names m b)) (c.captured_cell-cell.ensures names)
-        ∙ ap (λ cs. on_state (λ y. set_at (cell_in (slice_get cs c.in-CapturedCell.number)) (value_of_word names c.args.word) y) (state names m b)) (environment_captured names m.current (reverse m.frames.items) s)
-        ∙ ap (λ p. set_to p (value_of_word names c.args.word) (at names m s).environment (state names m b)) (sym c.in-CapturedCell.is);
+          c.set_variable-in-CapturedCell.ensures names (record b { frame = frame_slots names m.current m.slots.items })
+          ∙ ap (λ o. on_state (λ y. set_at o (value_of_word names c.args.word) y) (state names m b)) (c.captured_cell-cell.ensures names)
+          ∙ ap (λ cs. on_state (λ y. set_at (cell_in (slice_get cs c.in-CapturedCell.number)) (value_of_word names c.args.word) y) (state names m b)) (environment_captured names m.current (reverse m.frames.items) s)
+          ∙ ap (λ p. set_to p (value_of_word names c.args.word) (at names m s).environment (state names m b)) (sym c.in-CapturedCell.is);
     }
