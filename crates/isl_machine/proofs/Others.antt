@@ -1,6 +1,7 @@
 -- Which frames are left where those of some kinds are not meant.
 use Rattle.std.proofs.Common.{Bor, ◌≡◌, ℕ, Bool, true, false, List, Option, Some, None, is_some, refl}
 use Rattle.isl_closure.specs.declared.place.VariablePlace.{VariablePlace}
+use Rattle.isl_closure.specs.declared.place.ExitPlace.{ExitPlace}
 use Rattle.isl_closure.specs.declared.flat_core.FlatClause.{FlatClause}
 use Rattle.isl_closure.specs.declared.flat_core.FlatBinding.{FlatBinding}
 use Rattle.isl_closure.specs.declared.flat_core.FlatDynBinding.{FlatDynBinding}
@@ -79,6 +80,7 @@ pub no_other_waits : (w : Frame) → is_some (waiting_operands w) ≡ true → W
     → ((a : Bor FlatForm) (b : Situation) → w ≡ frame.AppliedFunction a b → ⊥)
     → ((a : Bor FlatForm) (b : Bor FlatForm) (c : Situation) → w ≡ frame.WhileTest a b c → ⊥)
     → ((a : Bor FlatForm) (b : Bor FlatForm) (c : Situation) → w ≡ frame.WhileBody a b c → ⊥)
+    → ((a : ExitPlace) (b : Situation) → w ≡ frame.ReturnValue a b → ⊥)
     → (w ≡ frame.LastSegment → ⊥)
     → ((a : Bor FlatForm) (b : Situation) → w ≡ frame.CatchTag a b → ⊥)
     → ((a : Bor FlatForm) (b : Situation) → w ≡ frame.ThrowTag a b → ⊥)
@@ -91,44 +93,44 @@ pub no_other_waits : (w : Frame) → is_some (waiting_operands w) ≡ true → W
     → ((a : ℕ) → w ≡ frame.MainForm a → ⊥)
     → ((a : ℕ) (b : Bor (List FlatForm)) (c : ℕ) → w ≡ frame.MainForms a b c → ⊥)
     → ⊥
-no_other_waits (frame.SetLocal p s) h j not_0 not_1 not_2 not_3 not_4 not_5 not_6 not_7 not_8 not_9 not_10 not_11 not_12 not_13 not_14 not_15 not_16 not_17 not_18 = not_0 p s refl
-no_other_waits (frame.SetGlobal n s) h j not_0 not_1 not_2 not_3 not_4 not_5 not_6 not_7 not_8 not_9 not_10 not_11 not_12 not_13 not_14 not_15 not_16 not_17 not_18 = absurd (cc)
-no_other_waits (frame.DefGlobal n) h j not_0 not_1 not_2 not_3 not_4 not_5 not_6 not_7 not_8 not_9 not_10 not_11 not_12 not_13 not_14 not_15 not_16 not_17 not_18 = absurd (cc)
-no_other_waits (frame.Sequence fs n s) h j not_0 not_1 not_2 not_3 not_4 not_5 not_6 not_7 not_8 not_9 not_10 not_11 not_12 not_13 not_14 not_15 not_16 not_17 not_18 = not_1 fs n s refl
-no_other_waits (frame.Clause cs n s) h j not_0 not_1 not_2 not_3 not_4 not_5 not_6 not_7 not_8 not_9 not_10 not_11 not_12 not_13 not_14 not_15 not_16 not_17 not_18 = not_2 cs n s refl
-no_other_waits (frame.Binding bs n b s) h j not_0 not_1 not_2 not_3 not_4 not_5 not_6 not_7 not_8 not_9 not_10 not_11 not_12 not_13 not_14 not_15 not_16 not_17 not_18 = not_3 bs n b s refl
-no_other_waits (frame.Argument o fs n s) h j not_0 not_1 not_2 not_3 not_4 not_5 not_6 not_7 not_8 not_9 not_10 not_11 not_12 not_13 not_14 not_15 not_16 not_17 not_18 = absurd (cc)
-no_other_waits (frame.DynamicValue bs n b s) h j not_0 not_1 not_2 not_3 not_4 not_5 not_6 not_7 not_8 not_9 not_10 not_11 not_12 not_13 not_14 not_15 not_16 not_17 not_18 = not_4 bs n b s refl
-no_other_waits (frame.AppliedFunction l s) h j not_0 not_1 not_2 not_3 not_4 not_5 not_6 not_7 not_8 not_9 not_10 not_11 not_12 not_13 not_14 not_15 not_16 not_17 not_18 = not_5 l s refl
-no_other_waits (frame.AppliedList f s) h j not_0 not_1 not_2 not_3 not_4 not_5 not_6 not_7 not_8 not_9 not_10 not_11 not_12 not_13 not_14 not_15 not_16 not_17 not_18 = absurd (cc)
-no_other_waits (frame.WhileTest t b s) h j not_0 not_1 not_2 not_3 not_4 not_5 not_6 not_7 not_8 not_9 not_10 not_11 not_12 not_13 not_14 not_15 not_16 not_17 not_18 = not_6 t b s refl
-no_other_waits (frame.WhileBody t b s) h j not_0 not_1 not_2 not_3 not_4 not_5 not_6 not_7 not_8 not_9 not_10 not_11 not_12 not_13 not_14 not_15 not_16 not_17 not_18 = not_7 t b s refl
-no_other_waits (frame.ReturnValue x s) h j not_0 not_1 not_2 not_3 not_4 not_5 not_6 not_7 not_8 not_9 not_10 not_11 not_12 not_13 not_14 not_15 not_16 not_17 not_18 = absurd (cc)
-no_other_waits frame.LastSegment h j not_0 not_1 not_2 not_3 not_4 not_5 not_6 not_7 not_8 not_9 not_10 not_11 not_12 not_13 not_14 not_15 not_16 not_17 not_18 = not_8 refl
-no_other_waits (frame.CatchTag b s) h j not_0 not_1 not_2 not_3 not_4 not_5 not_6 not_7 not_8 not_9 not_10 not_11 not_12 not_13 not_14 not_15 not_16 not_17 not_18 = not_9 b s refl
-no_other_waits (frame.ThrowTag f s) h j not_0 not_1 not_2 not_3 not_4 not_5 not_6 not_7 not_8 not_9 not_10 not_11 not_12 not_13 not_14 not_15 not_16 not_17 not_18 = not_10 f s refl
-no_other_waits (frame.ThrowValue t s) h j not_0 not_1 not_2 not_3 not_4 not_5 not_6 not_7 not_8 not_9 not_10 not_11 not_12 not_13 not_14 not_15 not_16 not_17 not_18 = not_11 t s refl
-no_other_waits (frame.SetDynamic n s) h j not_0 not_1 not_2 not_3 not_4 not_5 not_6 not_7 not_8 not_9 not_10 not_11 not_12 not_13 not_14 not_15 not_16 not_17 not_18 = absurd (cc)
-no_other_waits (frame.DefDynamic n) h j not_0 not_1 not_2 not_3 not_4 not_5 not_6 not_7 not_8 not_9 not_10 not_11 not_12 not_13 not_14 not_15 not_16 not_17 not_18 = absurd (cc)
-no_other_waits (frame.HandlerValue b s) h j not_0 not_1 not_2 not_3 not_4 not_5 not_6 not_7 not_8 not_9 not_10 not_11 not_12 not_13 not_14 not_15 not_16 not_17 not_18 = absurd (cc)
-no_other_waits (frame.SignalCondition f s) h j not_0 not_1 not_2 not_3 not_4 not_5 not_6 not_7 not_8 not_9 not_10 not_11 not_12 not_13 not_14 not_15 not_16 not_17 not_18 = not_12 f s refl
-no_other_waits (frame.SignalMark c s) h j not_0 not_1 not_2 not_3 not_4 not_5 not_6 not_7 not_8 not_9 not_10 not_11 not_12 not_13 not_14 not_15 not_16 not_17 not_18 = absurd (cc)
-no_other_waits (frame.ContinueCondition f s) h j not_0 not_1 not_2 not_3 not_4 not_5 not_6 not_7 not_8 not_9 not_10 not_11 not_12 not_13 not_14 not_15 not_16 not_17 not_18 = not_13 f s refl
-no_other_waits (frame.ContinueValue c s) h j not_0 not_1 not_2 not_3 not_4 not_5 not_6 not_7 not_8 not_9 not_10 not_11 not_12 not_13 not_14 not_15 not_16 not_17 not_18 = not_14 c s refl
-no_other_waits (frame.Kept o) h j not_0 not_1 not_2 not_3 not_4 not_5 not_6 not_7 not_8 not_9 not_10 not_11 not_12 not_13 not_14 not_15 not_16 not_17 not_18 = not_15 o refl
-no_other_waits (frame.Methods ms n vs l r) h j not_0 not_1 not_2 not_3 not_4 not_5 not_6 not_7 not_8 not_9 not_10 not_11 not_12 not_13 not_14 not_15 not_16 not_17 not_18 = absurd (cc)
-no_other_waits (frame.BeforeMethods r vs l q) h j not_0 not_1 not_2 not_3 not_4 not_5 not_6 not_7 not_8 not_9 not_10 not_11 not_12 not_13 not_14 not_15 not_16 not_17 not_18 = absurd (cc)
-no_other_waits (frame.PrimaryMethod r vs l q) h j not_0 not_1 not_2 not_3 not_4 not_5 not_6 not_7 not_8 not_9 not_10 not_11 not_12 not_13 not_14 not_15 not_16 not_17 not_18 = absurd (cc)
-no_other_waits (frame.HandlerReturn l q) h j not_0 not_1 not_2 not_3 not_4 not_5 not_6 not_7 not_8 not_9 not_10 not_11 not_12 not_13 not_14 not_15 not_16 not_17 not_18 = not_16 l q refl
-no_other_waits (frame.MainForm n) h j not_0 not_1 not_2 not_3 not_4 not_5 not_6 not_7 not_8 not_9 not_10 not_11 not_12 not_13 not_14 not_15 not_16 not_17 not_18 = not_17 n refl
-no_other_waits (frame.MainForms l fs n) h j not_0 not_1 not_2 not_3 not_4 not_5 not_6 not_7 not_8 not_9 not_10 not_11 not_12 not_13 not_14 not_15 not_16 not_17 not_18 = not_18 l fs n refl
-no_other_waits (frame.Block n e o) h j not_0 not_1 not_2 not_3 not_4 not_5 not_6 not_7 not_8 not_9 not_10 not_11 not_12 not_13 not_14 not_15 not_16 not_17 not_18 = absurd (cc)
-no_other_waits (frame.Catch n t e) h j not_0 not_1 not_2 not_3 not_4 not_5 not_6 not_7 not_8 not_9 not_10 not_11 not_12 not_13 not_14 not_15 not_16 not_17 not_18 = absurd (cc)
-no_other_waits (frame.Signal n c m e) h j not_0 not_1 not_2 not_3 not_4 not_5 not_6 not_7 not_8 not_9 not_10 not_11 not_12 not_13 not_14 not_15 not_16 not_17 not_18 = absurd (cc)
-no_other_waits (frame.Tagbody n fs s) h j not_0 not_1 not_2 not_3 not_4 not_5 not_6 not_7 not_8 not_9 not_10 not_11 not_12 not_13 not_14 not_15 not_16 not_17 not_18 = absurd (cc)
-no_other_waits (frame.Cleans f s) h j not_0 not_1 not_2 not_3 not_4 not_5 not_6 not_7 not_8 not_9 not_10 not_11 not_12 not_13 not_14 not_15 not_16 not_17 not_18 = absurd (cc)
-no_other_waits (frame.RestoresStack n) h j not_0 not_1 not_2 not_3 not_4 not_5 not_6 not_7 not_8 not_9 not_10 not_11 not_12 not_13 not_14 not_15 not_16 not_17 not_18 = absurd (cc)
-no_other_waits (frame.RestoresSlots saved) h j not_0 not_1 not_2 not_3 not_4 not_5 not_6 not_7 not_8 not_9 not_10 not_11 not_12 not_13 not_14 not_15 not_16 not_17 not_18 = absurd (cc)
-no_other_waits (frame.DropsSlots n) h j not_0 not_1 not_2 not_3 not_4 not_5 not_6 not_7 not_8 not_9 not_10 not_11 not_12 not_13 not_14 not_15 not_16 not_17 not_18 = absurd (cc)
-no_other_waits (frame.Handles w n) h j not_0 not_1 not_2 not_3 not_4 not_5 not_6 not_7 not_8 not_9 not_10 not_11 not_12 not_13 not_14 not_15 not_16 not_17 not_18 = absurd (cc)
-no_other_waits (frame.Binds bs n m) h j not_0 not_1 not_2 not_3 not_4 not_5 not_6 not_7 not_8 not_9 not_10 not_11 not_12 not_13 not_14 not_15 not_16 not_17 not_18 = absurd (cc)
+no_other_waits (frame.SetLocal p s) h j not_0 not_1 not_2 not_3 not_4 not_5 not_6 not_7 not_r not_8 not_9 not_10 not_11 not_12 not_13 not_14 not_15 not_16 not_17 not_18 = not_0 p s refl
+no_other_waits (frame.SetGlobal n s) h j not_0 not_1 not_2 not_3 not_4 not_5 not_6 not_7 not_r not_8 not_9 not_10 not_11 not_12 not_13 not_14 not_15 not_16 not_17 not_18 = absurd (cc)
+no_other_waits (frame.DefGlobal n) h j not_0 not_1 not_2 not_3 not_4 not_5 not_6 not_7 not_r not_8 not_9 not_10 not_11 not_12 not_13 not_14 not_15 not_16 not_17 not_18 = absurd (cc)
+no_other_waits (frame.Sequence fs n s) h j not_0 not_1 not_2 not_3 not_4 not_5 not_6 not_7 not_r not_8 not_9 not_10 not_11 not_12 not_13 not_14 not_15 not_16 not_17 not_18 = not_1 fs n s refl
+no_other_waits (frame.Clause cs n s) h j not_0 not_1 not_2 not_3 not_4 not_5 not_6 not_7 not_r not_8 not_9 not_10 not_11 not_12 not_13 not_14 not_15 not_16 not_17 not_18 = not_2 cs n s refl
+no_other_waits (frame.Binding bs n b s) h j not_0 not_1 not_2 not_3 not_4 not_5 not_6 not_7 not_r not_8 not_9 not_10 not_11 not_12 not_13 not_14 not_15 not_16 not_17 not_18 = not_3 bs n b s refl
+no_other_waits (frame.Argument o fs n s) h j not_0 not_1 not_2 not_3 not_4 not_5 not_6 not_7 not_r not_8 not_9 not_10 not_11 not_12 not_13 not_14 not_15 not_16 not_17 not_18 = absurd (cc)
+no_other_waits (frame.DynamicValue bs n b s) h j not_0 not_1 not_2 not_3 not_4 not_5 not_6 not_7 not_r not_8 not_9 not_10 not_11 not_12 not_13 not_14 not_15 not_16 not_17 not_18 = not_4 bs n b s refl
+no_other_waits (frame.AppliedFunction l s) h j not_0 not_1 not_2 not_3 not_4 not_5 not_6 not_7 not_r not_8 not_9 not_10 not_11 not_12 not_13 not_14 not_15 not_16 not_17 not_18 = not_5 l s refl
+no_other_waits (frame.AppliedList f s) h j not_0 not_1 not_2 not_3 not_4 not_5 not_6 not_7 not_r not_8 not_9 not_10 not_11 not_12 not_13 not_14 not_15 not_16 not_17 not_18 = absurd (cc)
+no_other_waits (frame.WhileTest t b s) h j not_0 not_1 not_2 not_3 not_4 not_5 not_6 not_7 not_r not_8 not_9 not_10 not_11 not_12 not_13 not_14 not_15 not_16 not_17 not_18 = not_6 t b s refl
+no_other_waits (frame.WhileBody t b s) h j not_0 not_1 not_2 not_3 not_4 not_5 not_6 not_7 not_r not_8 not_9 not_10 not_11 not_12 not_13 not_14 not_15 not_16 not_17 not_18 = not_7 t b s refl
+no_other_waits (frame.ReturnValue x s) h j not_0 not_1 not_2 not_3 not_4 not_5 not_6 not_7 not_r not_8 not_9 not_10 not_11 not_12 not_13 not_14 not_15 not_16 not_17 not_18 = not_r x s refl
+no_other_waits frame.LastSegment h j not_0 not_1 not_2 not_3 not_4 not_5 not_6 not_7 not_r not_8 not_9 not_10 not_11 not_12 not_13 not_14 not_15 not_16 not_17 not_18 = not_8 refl
+no_other_waits (frame.CatchTag b s) h j not_0 not_1 not_2 not_3 not_4 not_5 not_6 not_7 not_r not_8 not_9 not_10 not_11 not_12 not_13 not_14 not_15 not_16 not_17 not_18 = not_9 b s refl
+no_other_waits (frame.ThrowTag f s) h j not_0 not_1 not_2 not_3 not_4 not_5 not_6 not_7 not_r not_8 not_9 not_10 not_11 not_12 not_13 not_14 not_15 not_16 not_17 not_18 = not_10 f s refl
+no_other_waits (frame.ThrowValue t s) h j not_0 not_1 not_2 not_3 not_4 not_5 not_6 not_7 not_r not_8 not_9 not_10 not_11 not_12 not_13 not_14 not_15 not_16 not_17 not_18 = not_11 t s refl
+no_other_waits (frame.SetDynamic n s) h j not_0 not_1 not_2 not_3 not_4 not_5 not_6 not_7 not_r not_8 not_9 not_10 not_11 not_12 not_13 not_14 not_15 not_16 not_17 not_18 = absurd (cc)
+no_other_waits (frame.DefDynamic n) h j not_0 not_1 not_2 not_3 not_4 not_5 not_6 not_7 not_r not_8 not_9 not_10 not_11 not_12 not_13 not_14 not_15 not_16 not_17 not_18 = absurd (cc)
+no_other_waits (frame.HandlerValue b s) h j not_0 not_1 not_2 not_3 not_4 not_5 not_6 not_7 not_r not_8 not_9 not_10 not_11 not_12 not_13 not_14 not_15 not_16 not_17 not_18 = absurd (cc)
+no_other_waits (frame.SignalCondition f s) h j not_0 not_1 not_2 not_3 not_4 not_5 not_6 not_7 not_r not_8 not_9 not_10 not_11 not_12 not_13 not_14 not_15 not_16 not_17 not_18 = not_12 f s refl
+no_other_waits (frame.SignalMark c s) h j not_0 not_1 not_2 not_3 not_4 not_5 not_6 not_7 not_r not_8 not_9 not_10 not_11 not_12 not_13 not_14 not_15 not_16 not_17 not_18 = absurd (cc)
+no_other_waits (frame.ContinueCondition f s) h j not_0 not_1 not_2 not_3 not_4 not_5 not_6 not_7 not_r not_8 not_9 not_10 not_11 not_12 not_13 not_14 not_15 not_16 not_17 not_18 = not_13 f s refl
+no_other_waits (frame.ContinueValue c s) h j not_0 not_1 not_2 not_3 not_4 not_5 not_6 not_7 not_r not_8 not_9 not_10 not_11 not_12 not_13 not_14 not_15 not_16 not_17 not_18 = not_14 c s refl
+no_other_waits (frame.Kept o) h j not_0 not_1 not_2 not_3 not_4 not_5 not_6 not_7 not_r not_8 not_9 not_10 not_11 not_12 not_13 not_14 not_15 not_16 not_17 not_18 = not_15 o refl
+no_other_waits (frame.Methods ms n vs l r) h j not_0 not_1 not_2 not_3 not_4 not_5 not_6 not_7 not_r not_8 not_9 not_10 not_11 not_12 not_13 not_14 not_15 not_16 not_17 not_18 = absurd (cc)
+no_other_waits (frame.BeforeMethods r vs l q) h j not_0 not_1 not_2 not_3 not_4 not_5 not_6 not_7 not_r not_8 not_9 not_10 not_11 not_12 not_13 not_14 not_15 not_16 not_17 not_18 = absurd (cc)
+no_other_waits (frame.PrimaryMethod r vs l q) h j not_0 not_1 not_2 not_3 not_4 not_5 not_6 not_7 not_r not_8 not_9 not_10 not_11 not_12 not_13 not_14 not_15 not_16 not_17 not_18 = absurd (cc)
+no_other_waits (frame.HandlerReturn l q) h j not_0 not_1 not_2 not_3 not_4 not_5 not_6 not_7 not_r not_8 not_9 not_10 not_11 not_12 not_13 not_14 not_15 not_16 not_17 not_18 = not_16 l q refl
+no_other_waits (frame.MainForm n) h j not_0 not_1 not_2 not_3 not_4 not_5 not_6 not_7 not_r not_8 not_9 not_10 not_11 not_12 not_13 not_14 not_15 not_16 not_17 not_18 = not_17 n refl
+no_other_waits (frame.MainForms l fs n) h j not_0 not_1 not_2 not_3 not_4 not_5 not_6 not_7 not_r not_8 not_9 not_10 not_11 not_12 not_13 not_14 not_15 not_16 not_17 not_18 = not_18 l fs n refl
+no_other_waits (frame.Block n e o) h j not_0 not_1 not_2 not_3 not_4 not_5 not_6 not_7 not_r not_8 not_9 not_10 not_11 not_12 not_13 not_14 not_15 not_16 not_17 not_18 = absurd (cc)
+no_other_waits (frame.Catch n t e) h j not_0 not_1 not_2 not_3 not_4 not_5 not_6 not_7 not_r not_8 not_9 not_10 not_11 not_12 not_13 not_14 not_15 not_16 not_17 not_18 = absurd (cc)
+no_other_waits (frame.Signal n c m e) h j not_0 not_1 not_2 not_3 not_4 not_5 not_6 not_7 not_r not_8 not_9 not_10 not_11 not_12 not_13 not_14 not_15 not_16 not_17 not_18 = absurd (cc)
+no_other_waits (frame.Tagbody n fs s) h j not_0 not_1 not_2 not_3 not_4 not_5 not_6 not_7 not_r not_8 not_9 not_10 not_11 not_12 not_13 not_14 not_15 not_16 not_17 not_18 = absurd (cc)
+no_other_waits (frame.Cleans f s) h j not_0 not_1 not_2 not_3 not_4 not_5 not_6 not_7 not_r not_8 not_9 not_10 not_11 not_12 not_13 not_14 not_15 not_16 not_17 not_18 = absurd (cc)
+no_other_waits (frame.RestoresStack n) h j not_0 not_1 not_2 not_3 not_4 not_5 not_6 not_7 not_r not_8 not_9 not_10 not_11 not_12 not_13 not_14 not_15 not_16 not_17 not_18 = absurd (cc)
+no_other_waits (frame.RestoresSlots saved) h j not_0 not_1 not_2 not_3 not_4 not_5 not_6 not_7 not_r not_8 not_9 not_10 not_11 not_12 not_13 not_14 not_15 not_16 not_17 not_18 = absurd (cc)
+no_other_waits (frame.DropsSlots n) h j not_0 not_1 not_2 not_3 not_4 not_5 not_6 not_7 not_r not_8 not_9 not_10 not_11 not_12 not_13 not_14 not_15 not_16 not_17 not_18 = absurd (cc)
+no_other_waits (frame.Handles w n) h j not_0 not_1 not_2 not_3 not_4 not_5 not_6 not_7 not_r not_8 not_9 not_10 not_11 not_12 not_13 not_14 not_15 not_16 not_17 not_18 = absurd (cc)
+no_other_waits (frame.Binds bs n m) h j not_0 not_1 not_2 not_3 not_4 not_5 not_6 not_7 not_r not_8 not_9 not_10 not_11 not_12 not_13 not_14 not_15 not_16 not_17 not_18 = absurd (cc)

@@ -33,7 +33,6 @@ WantsMore (frame.SetGlobal n s) = true
 WantsMore (frame.DefGlobal n) = true
 WantsMore (frame.Argument o fs at s) = true
 WantsMore (frame.AppliedList f s) = true
-WantsMore (frame.ReturnValue x s) = true
 WantsMore (frame.SetDynamic n s) = true
 WantsMore (frame.DefDynamic n) = true
 WantsMore (frame.HandlerValue body s) = true

@@ -23,7 +23,6 @@ pub mod machine;
 pub mod main_forms;
 pub mod method_places;
 pub mod nodes;
-pub mod open;
 pub mod operands;
 pub mod outcomes;
 pub mod own_exits;

@@ -117,6 +117,7 @@ impl<'p> Machine<'p> {
                 self.goes_on(test, body, situation);
                 Ok(())
             }
+            Frame::ReturnValue(place, situation) => self.return_from(place, word, situation),
             Frame::LastSegment => {
                 self.gives(Word::Nil);
                 Ok(())

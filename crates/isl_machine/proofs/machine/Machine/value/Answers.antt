@@ -11,7 +11,7 @@ use Rattle.isl_machine.proofs.machine.Machine.value.Goals as goal
 
 pub unreachable-requires : goal.unreachable-requires
 unreachable-requires c =
-    no_other_waits c.args.frame c.requires.waits c.requires.alone c.in_default.not-SetLocal c.in_default.not-Sequence c.in_default.not-Clause c.in_default.not-Binding c.in_default.not-DynamicValue c.in_default.not-AppliedFunction c.in_default.not-WhileTest c.in_default.not-WhileBody c.in_default.not-LastSegment c.in_default.not-CatchTag c.in_default.not-ThrowTag c.in_default.not-ThrowValue c.in_default.not-SignalCondition c.in_default.not-ContinueCondition c.in_default.not-ContinueValue c.in_default.not-Kept c.in_default.not-HandlerReturn c.in_default.not-MainForm c.in_default.not-MainForms
+    no_other_waits c.args.frame c.requires.waits c.requires.alone c.in_default.not-SetLocal c.in_default.not-Sequence c.in_default.not-Clause c.in_default.not-Binding c.in_default.not-DynamicValue c.in_default.not-AppliedFunction c.in_default.not-WhileTest c.in_default.not-WhileBody c.in_default.not-ReturnValue c.in_default.not-LastSegment c.in_default.not-CatchTag c.in_default.not-ThrowTag c.in_default.not-ThrowValue c.in_default.not-SignalCondition c.in_default.not-ContinueCondition c.in_default.not-ContinueValue c.in_default.not-Kept c.in_default.not-HandlerReturn c.in_default.not-MainForm c.in_default.not-MainForms
 
 pub returns-in-SetLocal : goal.returns-in-SetLocal
 returns-in-SetLocal c =
@@ -52,6 +52,11 @@ pub returns-in-WhileBody : goal.returns-in-WhileBody
 returns-in-WhileBody c =
     framed c.args.self.now c.goes_on.new.self (λ names. value (value_of_word names c.args.word)) c.args.frame _ c.in-WhileBody.is
     (situated c.args.self.now c.goes_on.new.self c.in-WhileBody.situation (λ names s b k around. descend k (λ j. moment (evaluate (while_form c.in-WhileBody.test.now c.in-WhileBody.body.now) (record (at names c.args.self.now c.in-WhileBody.situation) { level = j }))) (frames names c.args.self.now 0) (state names c.args.self.now b)) c.goes_on.ensures)
+
+pub returns-in-ReturnValue : goal.returns-in-ReturnValue
+returns-in-ReturnValue c =
+    framed_ok c.return_from.result c.args.self.now c.return_from.new.self (λ names. value (value_of_word names c.args.word)) c.args.frame _ c.in-ReturnValue.is
+    c.return_from.ensures
 
 pub returns-in-LastSegment : goal.returns-in-LastSegment
 returns-in-LastSegment c =
