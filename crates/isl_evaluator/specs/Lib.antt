@@ -1,3 +1,4 @@
 -- How the evaluator is seen.
 pub mod Runs
 pub mod Outermost
+pub mod Stepped

@@ -3,5 +3,8 @@
 
 pub mod dynamics;
 pub mod evaluator;
+pub mod forms;
 pub mod globals;
 pub mod open;
+pub mod steps;
+pub mod values;

@@ -34,3 +34,5 @@ pub mod Staying
 pub mod Mains
 pub mod Framed
 pub mod Others
+pub mod Cells
+pub mod NewSlots

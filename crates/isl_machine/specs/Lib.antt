@@ -18,3 +18,4 @@ pub mod Valued
 pub mod LetBodies
 pub mod Bindings
 pub mod Codes
+pub mod Variables
