@@ -1,4 +1,8 @@
 -- Proofs of the evaluator.
 pub mod Lifting
 pub mod Naming
-pub mod Searching
+pub mod Running
+pub mod PassedOn
+pub mod Alone
+pub mod Stepping
+pub mod Begun
