@@ -6,3 +6,4 @@ pub mod PassedOn
 pub mod Alone
 pub mod Stepping
 pub mod Begun
+pub mod Searching

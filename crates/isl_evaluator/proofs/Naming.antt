@@ -80,7 +80,7 @@ dynamic_stands e t m n w set names written unread b s = record {
 -- a name has no value: that is signalled
 pub unbound : {T E : Type 0} (r : Result T E) (e : Evaluator) (m : Machine) (n : ℕ) (q : Situation) (pairs : Beside → List (List ℕ × Value)) (next : List (List ℕ) → Value → Step)
     → ((names : List (List ℕ)) (written unread : List ℕ) (b : Beside) → Stands names e written unread b → under_text (text names n) (pairs b) ≡ None)
-    → OnOk r (Steps e.machine m (λ names s b. signal_unbound s (text s.names n) q.level (surroundings names e.machine q.around) (frames names e.machine 0) (state names e.machine b)))
+    → OnOk r (Steps e.machine m (λ names s b. signal_unbound s (text names n) q.level (surroundings names e.machine q.around) (frames names e.machine 0) (state names e.machine b)))
     → OnOk r (Runs e (record e { machine = m }) (λ names s b.
       some_or (under_text (text s.names n) (pairs b)) (signal_unbound s (text s.names n) (at names e.machine q).level (at names e.machine q).around) (next names) (frames names e.machine 0) (state names e.machine b)))
 unfolding situation_in

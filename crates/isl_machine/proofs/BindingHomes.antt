@@ -1,7 +1,6 @@
 -- The homes of the variables of bindings, one for each.
-use Rattle.std.proofs.Common.{◌≡◌, ℕ, zero, suc, ◌<◌, ◌≤◌, sym, List, [], ◌∷◌, Option, Some, None, refl, ap, length, arith}
+use Rattle.std.proofs.Common.{◌≡◌, ℕ, zero, suc, ◌<◌, ◌≤◌, List, [], ◌∷◌, Some, None, refl, ap, length, arith}
 use Rattle.std.specs.Prelude.{slice_get, option_map}
-use Rattle.isl_closure.specs.declared.place.Home.{Home}
 use Rattle.isl_closure.specs.declared.flat_core.FlatBinding.{FlatBinding}
 use Rattle.isl_closure.specs.FlatMeaning.{binding_homes}
 use Rattle.isl_closure.specs.model.View.{bindings_of}

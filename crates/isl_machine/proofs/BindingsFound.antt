@@ -1,11 +1,10 @@
 -- Looking for the innermost binding of a name, one frame after another.
-use Rattle.std.proofs.Common.{Bor, ◌≡◌, ℕ, zero, suc, ◌+◌, ◌<◌, ◌≤◌, Bool, true, false, List, [], ◌∷◌, ◌++◌, Option, Some, None, refl, ap, sym, ◌∙◌, subst, length, drop, arith, zero-add, add_assoc}
+use Rattle.std.proofs.Common.{Bor, ◌≡◌, ℕ, ◌+◌, Bool, true, false, List, [], ◌∷◌, ◌++◌, Option, Some, None, refl, ap, sym, ◌∙◌, subst, length, drop, arith, zero-add, add_assoc}
 use Rattle.std.specs.Prelude.{reverse, slice_get, option_map, is_some, if◌then◌else◌}
 use Rattle.std.proofs.lemmas.List.{drop_all}
 use Rattle.isl_base.specs.model.DataRest.{rest_at}
-use Rattle.isl_meaning.specs.Lookup.{text, passed, numbered}
+use Rattle.isl_meaning.specs.Lookup.{text, passed}
 use Rattle.isl_closure.specs.declared.flat_core.FlatDynBinding.{FlatDynBinding}
-use Rattle.isl_closure.specs.FlatMeaning.{bound_names}
 use Rattle.isl_closure.specs.FlatState.{charged}
 use Rattle.isl_closure.specs.model.View.{dynamics_of}
 use Rattle.isl_plain.specs.Moment.{first_that}
@@ -19,7 +18,7 @@ use Rattle.isl_machine.specs.Bindings.{is_named, variable_of, bindings_in, IsBou
 use Rattle.isl_machine.specs.Chains.{Linking, chained}
 use Rattle.isl_machine.specs.Frames.{binding_link}
 use Rattle.isl_machine.specs.Links.{next_of, IsNoneNearer, IsNearest}
-use Rattle.isl_machine.specs.View.{IsCharged, IsGiven, state}
+use Rattle.isl_machine.specs.View.{IsCharged, state}
 use Rattle.isl_machine.proofs.Following.{AreLinked, none_further, one_further}
 use Rattle.isl_machine.proofs.Givens.{spelling}
 

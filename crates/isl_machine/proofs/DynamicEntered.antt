@@ -1,7 +1,7 @@
 -- A body with dynamic bindings begins above the frame that has them.
-use Rattle.std.proofs.Common.{Bor, ◌≡◌, ℕ, suc, ◌+◌, ◌<◌, ◌≤◌, List, [], ◌∷◌, ◌++◌, Option, Some, refl, ap, sym, ◌∙◌, subst, length, take, min, append_assoc, arith}
+use Rattle.std.proofs.Common.{Bor, ◌≡◌, ℕ, suc, ◌+◌, ◌<◌, ◌≤◌, List, [], ◌∷◌, ◌++◌, Some, refl, ap, sym, ◌∙◌, subst, length, take, min, append_assoc, arith}
 use Rattle.std.proofs.lemmas.List.{append-nil, take_all, map-append, length-reverse}
-use Rattle.std.specs.Prelude.{reverse, slice_get, map}
+use Rattle.std.specs.Prelude.{reverse, slice_get}
 use Rattle.isl_base.specs.model.DataRest.{take_at}
 use Rattle.isl_meaning.specs.Lookup.{numbered}
 use Rattle.isl_meaning.specs.Values.{Value}
@@ -11,9 +11,7 @@ use Rattle.isl_closure.specs.FlatMeaning.{bound_names}
 use Rattle.isl_closure.specs.FlatState.{FlatState, on_state, with_values}
 use Rattle.isl_closure.specs.model.View.{dynamics_of}
 use Rattle.isl_plain.specs.Moment.{moment, evaluate, unbinds}
-use Rattle.isl_plain.specs.Moment as machine
 use Rattle.isl_plain.specs.Step.{dynamic_let_step}
-use Rattle.isl_store.specs.declared.store.Store.{Store}
 use Rattle.isl_store.specs.declared.word.Word.{Word}
 use Rattle.isl_store.specs.Words.{value_of_word, values_of}
 use Rattle.isl_store.specs.View.{Beside, seen, Becomes}
@@ -27,7 +25,7 @@ use Rattle.isl_machine.specs.Frames.{last_of, others_of, frame_slots, situation_
 use Rattle.isl_machine.specs.Operands.{IsDropped}
 use Rattle.isl_machine.specs.Tops.{taken, below}
 use Rattle.isl_machine.specs.Variables.{AreVariables}
-use Rattle.isl_machine.specs.View.{Steps, IsGiven, setting_of, at, state, top, frames}
+use Rattle.isl_machine.specs.View.{Steps, IsGiven, at, state, top, frames}
 use Rattle.isl_machine.proofs.Linking.{over}
 use Rattle.isl_machine.proofs.Pushes.{passed_over, others_none}
 use Rattle.isl_machine.proofs.SlotLists.{last_held}

@@ -1,11 +1,11 @@
 -- What is found from a link on, by the nearest frame that links and those behind it, for links of any kind.
-use Rattle.std.proofs.Common.{◌≡◌, ℕ, suc, ◌<◌, ◌≤◌, List, [], ◌∷◌, ◌++◌, Option, Some, None, refl, ap, sym, ◌∙◌, min, arith}
-use Rattle.std.specs.Prelude.{reverse, slice_get, option_map}
+use Rattle.std.proofs.Common.{◌≡◌, ℕ, suc, ◌<◌, List, [], ◌++◌, Option, Some, None, refl, ap, sym, ◌∙◌, min, arith}
+use Rattle.std.specs.Prelude.{reverse, option_map}
 use Rattle.isl_machine.specs.declared.frame.Frame.{Frame}
 use Rattle.isl_machine.specs.declared.links.Kind.{Kind}
 use Rattle.isl_machine.specs.Chains.{Linking, chained}
 use Rattle.isl_machine.specs.Links.{next_of, IsNoneNearer, IsNearest}
-use Rattle.isl_machine.proofs.Linking.{above, above_reverse, Unlinked, nothing_near, near}
+use Rattle.isl_machine.proofs.Linking.{above_reverse, Unlinked, nothing_near, near}
 
 -- things of a kind are linked by those frames that have a link of that kind
 pub record AreLinked {X : Type 0} (kind : Kind) (of : Frame → Option (Linking X)) : Type 0 where

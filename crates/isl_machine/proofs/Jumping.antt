@@ -1,6 +1,5 @@
 -- Transfers to exits that forms name.
 use Rattle.std.proofs.Common.{◌≡◌, ℕ, List, Option, refl, ap}
-use Rattle.std.specs.Prelude.{reverse, slice_get}
 use Rattle.isl_meaning.specs.Values.{Value}
 use Rattle.isl_meaning.specs.State.{Landing}
 use Rattle.isl_closure.specs.declared.place.ExitPlace.{ExitPlace}
@@ -10,7 +9,7 @@ use Rattle.isl_machine.specs.declared.situation.Situation.{Situation}
 use Rattle.isl_machine.specs.declared.situation.Activation.{Activation}
 use Rattle.isl_machine.specs.declared.machine.Machine.{Machine}
 use Rattle.isl_machine.specs.declared.frame.Frame.{Frame}
-use Rattle.isl_machine.specs.Frames.{own_in, around_in, situation_in, environment_in}
+use Rattle.isl_machine.specs.Frames.{own_in, situation_in, environment_in}
 use Rattle.isl_machine.specs.View.{Steps, at, frames, state, surroundings}
 use Rattle.isl_machine.proofs.Going.{followed}
 

@@ -1,6 +1,6 @@
 -- A body with new variables begins above the frame that drops them.
-use Rattle.std.proofs.Common.{◌≡◌, ℕ, ◌+◌, List, [], ◌∷◌, ◌++◌, length, min, map, refl, ap, sym, ◌∙◌, subst}
-use Rattle.std.specs.Prelude.{reverse, Option, Some, None}
+use Rattle.std.proofs.Common.{◌≡◌, ℕ, ◌+◌, List, ◌∷◌, ◌++◌, length, min, refl, ap, sym, ◌∙◌, subst}
+use Rattle.std.specs.Prelude.{reverse}
 use Rattle.isl_closure.specs.declared.flat_core.FlatBinding.{FlatBinding}
 use Rattle.isl_closure.specs.FlatForm.{FlatForm}
 use Rattle.isl_closure.specs.FlatMeaning.{binding_homes}
@@ -11,7 +11,6 @@ use Rattle.isl_plain.specs.Moment as machine
 use Rattle.isl_meaning.specs.Values.{Value}
 use Rattle.isl_store.specs.declared.word.Word.{Word}
 use Rattle.isl_store.specs.Words.{value_of_word, values_of}
-use Rattle.isl_store.specs.View.{Beside}
 use Rattle.isl_machine.specs.declared.slot.Slot.{Slot}
 use Rattle.isl_machine.specs.declared.given.Given.{Given}
 use Rattle.isl_machine.specs.declared.frame.Frame.{Frame}

@@ -36,3 +36,4 @@ pub mod Framed
 pub mod Others
 pub mod Cells
 pub mod NewSlots
+pub mod LiteralValues

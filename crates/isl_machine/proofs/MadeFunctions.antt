@@ -1,16 +1,13 @@
 -- The function that a form makes is an object of the store, beside which stands what it captured.
-use Rattle.std.proofs.Common.{◌≡◌, Global, ℕ, ◌+◌, ◌<◌, List, [], ◌∷◌, ◌++◌, Option, Some, None, refl, ap, sym, ◌∙◌, subst, length, map, take, get_or, arith}
+use Rattle.std.proofs.Common.{◌≡◌, Global, ℕ, ◌+◌, ◌<◌, List, [], ◌∷◌, ◌++◌, ap, sym, ◌∙◌, subst, length, map, take, get_or, arith}
 use Rattle.std.proofs.lemmas.List.{length-map, map-append, take_more}
 use Rattle.std.specs.declared.rc.Rc.{Rc}
 use Rattle.isl_base.specs.declared.lists.ItemList.{ItemList}
-use Rattle.isl_meaning.specs.Values.{object}
-use Rattle.isl_meaning.specs.Objects.{function}
-use Rattle.isl_meaning.specs.State.{Limit, stored, value, full}
-use Rattle.isl_meaning.specs.State as base
+use Rattle.isl_meaning.specs.State.{Limit, value, full}
 use Rattle.isl_closure.specs.declared.place.FlatPart.{FlatPart}
 use Rattle.isl_closure.specs.FlatState.{FlatState, FlatEvaluated, gives, request, make_closure, captured_part}
 use Rattle.isl_closure.specs.FlatState as flat
-use Rattle.isl_plain.specs.Moment.{Setting, moment, come_to, ended}
+use Rattle.isl_plain.specs.Moment.{moment, come_to, ended}
 use Rattle.isl_store.specs.declared.word.Word.{Word}
 use Rattle.isl_store.specs.declared.object.Captured.{Captured}
 use Rattle.isl_store.specs.declared.object.Object.TheVariants.{Closure}
@@ -18,11 +15,9 @@ use Rattle.isl_store.specs.Words.{value_of_word, captured_of}
 use Rattle.isl_store.specs.View.{Beside, built, limit_of}
 use Rattle.isl_machine.specs.declared.given.Given.{Given}
 use Rattle.isl_machine.specs.declared.situation.Situation.{Situation}
-use Rattle.isl_machine.specs.declared.frame.Outcome.TheVariants.{Full}
-use Rattle.isl_machine.specs.declared.machine.Control.TheVariants.{ComeTo}
 use Rattle.isl_machine.specs.declared.machine.Machine.{Machine}
 use Rattle.isl_machine.specs.Building.{IsMade, IsDenied}
-use Rattle.isl_machine.specs.View.{Steps, IsGiven, setting_of, moment_of, at, frames, state}
+use Rattle.isl_machine.specs.View.{Steps, IsGiven, moment_of, at, frames, state}
 
 -- the meaning's way to make it
 closure_built : (names : List (List ℕ)) (limit : Limit) (p size : ℕ) (shared : Rc (ItemList Captured) Global) (cs : List flat.Captured) (z : FlatState)

@@ -1,12 +1,10 @@
 -- What methods were called with, and whether methods are left.
-use Rattle.std.proofs.Common.{◌≡◌, ℕ, suc, ◌+◌, ◌-◌, ◌<◌, ◌≤◌, List, [], ◌∷◌, Bool, true, false, Option, Some, None, refl, ap, sym, ◌∙◌, length, drop, arith, ⊎_elim}
+use Rattle.std.proofs.Common.{◌≡◌, ℕ, ◌<◌, ◌≤◌, List, [], ◌∷◌, true, false, Some, refl, ap, sym, ◌∙◌, length, drop, arith, ⊎_elim}
 use Rattle.std.proofs.lemmas.List.{length-drop}
 use Rattle.std.proofs.lemmas.Bool.{cases_lt, lt-ltb, le-ltb}
 use Rattle.std.specs.Prelude.{nat_lt}
 use Rattle.isl_meaning.specs.Objects.{Called as Chained}
 use Rattle.isl_meaning.specs.Meaning.{is_next}
-use Rattle.isl_closure.specs.FlatState.{FlatState, gives}
-use Rattle.isl_store.specs.declared.called.Called.{Called}
 use Rattle.isl_store.specs.Words.{called_or_none}
 use Rattle.isl_machine.specs.declared.situation.Situation.{Situation}
 use Rattle.isl_machine.specs.declared.situation.Activation.{Activation}

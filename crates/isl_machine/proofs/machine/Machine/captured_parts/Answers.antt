@@ -1,5 +1,5 @@
 -- One place after another.
-use Rattle.std.proofs.Common.{◌+◌, length, take, ap, sym, subst, ◌∙◌, arith}
+use Rattle.std.proofs.Common.{◌+◌, take, sym, subst, ◌∙◌, arith}
 use Rattle.std.proofs.lemmas.List.{take_all}
 use Rattle.isl_machine.proofs.MadeFunctions.{AreCaptured, one_captured}
 use Rattle.isl_machine.proofs.machine.Machine.captured_parts.Goals as goal

@@ -1,5 +1,5 @@
 -- The words of the cells are asked for one by one.
-use Rattle.std.proofs.Common.{sym, ◌∙◌, ◌≤◌, length, arith}
+use Rattle.std.proofs.Common.{sym, ◌∙◌, arith}
 use Rattle.isl_closure.specs.FlatMeaning.{binding_homes}
 use Rattle.isl_closure.specs.model.View.{bindings_of}
 use Rattle.isl_store.specs.declared.word.Word.TheVariants.{Nil}
