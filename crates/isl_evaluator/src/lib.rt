@@ -3,6 +3,9 @@
 
 pub mod dynamics;
 pub mod evaluator;
+pub mod forms;
 pub mod globals;
 pub mod open;
+pub mod steps;
 pub mod streams;
+pub mod values;

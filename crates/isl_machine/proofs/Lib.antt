@@ -6,8 +6,6 @@ pub mod Looking
 pub mod Pushes
 pub mod NodesInside
 pub mod Doing
-pub mod Cells
-pub mod NewSlots
 pub mod Stepping
 pub mod Carrying
 pub mod Leaving
@@ -26,9 +24,17 @@ pub mod OwnExits
 pub mod Jumping
 pub mod BindingHomes
 pub mod LetEntered
-pub mod LiteralValues
 pub mod DynamicEntered
 pub mod BindingsFound
 pub mod MethodPlaces
 pub mod MadeFunctions
 pub mod Coded
+pub mod Passed
+pub mod Reached
+pub mod Staying
+pub mod Mains
+pub mod Framed
+pub mod Others
+pub mod Cells
+pub mod NewSlots
+pub mod LiteralValues

@@ -1,5 +1,5 @@
 -- What a form does as it begins, once it is charged.
-use Rattle.std.specs.Prelude.{[], ◌∷◌, List, map, slice_get}
+use Rattle.std.specs.Prelude.{Bool, true, false, [], ◌∷◌, List, map, slice_get}
 use Rattle.isl_meaning.specs.Values.{nil, truth}
 use Rattle.isl_meaning.specs.State.{block_exit, at_segment}
 use Rattle.isl_meaning.specs.Lookup.{text}
@@ -11,6 +11,16 @@ use Rattle.isl_closure.specs.FlatMeaning.{with_exit}
 use Rattle.isl_plain.specs.Moment.{Setting, Situation, Step, moment, ended, evaluate, awaits, catches, cleans, call_name, call_first, compute, set_local_value, set_global_value, def_global_value, applied_function, while_test, return_value, catch_tag, throw_tag, set_dynamic_value, def_dynamic_value, handler_value, signal_condition, continue_condition}
 use Rattle.isl_plain.specs.Applications.{transfer}
 use Rattle.isl_plain.specs.Step.{literal_step, global_step, clauses_step, sequence_step, bindings_step, arguments_step, segments_step, dynamics_step, dynamic_step, next_method_step}
+
+-- whether a form wants an application as it begins, or what stands beside the machine
+abbrev pub FormWantsMore : FlatForm → Bool
+FormWantsMore (global n) = true
+FormWantsMore (dynamic n) = true
+FormWantsMore (call n fs) = true
+FormWantsMore (call_value fs) = true
+FormWantsMore (prim which fs) = true
+FormWantsMore (next_method m) = true
+FormWantsMore f = false
 
 module _ (s : Setting) where
   -- a block, and a tagbody, with a new exit

@@ -13,7 +13,10 @@ pub mod Slots
 pub mod Computing
 pub mod Sizes
 pub mod Doing
-pub mod Codes
-pub mod Variables
+pub mod Mains
+pub mod Passing
+pub mod Valued
 pub mod LetBodies
 pub mod Bindings
+pub mod Codes
+pub mod Variables

@@ -2,6 +2,7 @@
 use Rattle.std.specs.Prelude.{◌≡◌, ℕ, Bool, true, false, List, [], ◌∷◌, reverse}
 use Rattle.isl_meaning.specs.State.{Surroundings}
 use Rattle.isl_meaning.specs.Values.{Value}
+use Rattle.isl_closure.specs.FlatForm.{while_form}
 use Rattle.isl_closure.specs.FlatNodes.{tables}
 use Rattle.isl_store.specs.Spelling.{IsSpelling}
 use Rattle.isl_layout.specs.Layout.{IsLayout}
@@ -55,6 +56,7 @@ state names m b = seen names m.store (record b { frame = frame_slots names m.cur
 
 abbrev pub control_of : List (List ℕ) → Machine → Doing → Control
 control_of names m (doing.Evaluate f s) = evaluate f.now (at names m s)
+control_of names m (doing.Again test body s) = evaluate (while_form test.now body.now) (at names m s)
 control_of names m (doing.Signals c mark level around) = signals (value_of_word names c) (value_of_word names mark) level (surroundings names m around)
 control_of names m (doing.ComeTo o) = come_to (outcome_of names o)
 

@@ -44,8 +44,8 @@ pub struct Looked {
     pub passed: u64,
 }
 
-// The exit that a frame makes.
-fn made_by(frame: &Frame<'_>) -> Option<Exit>
+/// The exit that a frame makes.
+pub fn made_by(frame: &Frame<'_>) -> Option<Exit>
     ensures { (names : List (List ℕ)) → option_map (λ l. l.items) (exit_link names frame.now) ≡ option_map (λ e. exit_of names e ∷ []) result }
 {
     match frame {

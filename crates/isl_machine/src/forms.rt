@@ -1,30 +1,19 @@
-// A form begins.
+// A form begins that wants the machine alone.
 
-ghost use Rattle.std.specs.Prelude.{OnOk};
+ghost use Rattle.std.specs.Prelude.{◌≡◌, false, OnOk};
 ghost use Rattle.isl_closure.specs.FlatForm.{while_form};
 ghost use Rattle.isl_closure.specs.model.View.{view_form};
-ghost use Rattle.isl_plain.specs.Step.{form_step};
-ghost use Rattle.isl_machine.specs.Begins.{begins};
+ghost use Rattle.isl_machine.specs.Begins.{begins, FormWantsMore};
 ghost use Rattle.isl_machine.specs.View.{Steps, at, frames, state};
 
-use crate::frame::{Frame, Operation};
+use crate::frame::Frame;
 use crate::machine::Machine;
-use crate::nodes::own_nodes;
 use crate::situation::Situation;
 use isl_base::NoMemory;
 use isl_closure::{FlatCore, FlatCoreForm};
 use isl_store::Word;
 
 impl<'p> Machine<'p> {
-    /// A form begins: it is charged, and then it does its first part.
-    pub fn begin(&mut self, form: &'p FlatCore, situation: Situation) -> Result<(), NoMemory>
-        ensures { OnOk result (Steps self.old self.new (λ names s b. form_step s form.now (at names self.old situation) (frames names self.old 0) (state names self.old b))) }
-    {
-        let units = own_nodes(&form.form)?;
-        self.charge(units)?;
-        self.begin_kind(&form.form, situation)
-    }
-
     /// A loop begins, or goes on.
     pub fn turn(
         &mut self,
@@ -37,8 +26,9 @@ impl<'p> Machine<'p> {
         self.wait(Frame::WhileTest(test, body, situation), test, situation)
     }
 
-    // What a form does, once it is charged.
-    fn begin_kind(&mut self, form: &'p FlatCoreForm, situation: Situation) -> Result<(), NoMemory>
+    /// What a form does, once it is charged.
+    pub fn begin_kind(&mut self, form: &'p FlatCoreForm, situation: Situation) -> Result<(), NoMemory>
+        requires { FormWantsMore (view_form form.now) ≡ false }
         ensures { OnOk result (Steps self.old self.new (λ names s b. begins s (view_form form.now) (at names self.old situation) (frames names self.old 0) (state names self.old b))) }
     {
         match form {
@@ -49,7 +39,6 @@ impl<'p> Machine<'p> {
                 value,
                 situation,
             ),
-            FlatCoreForm::Global(name) => self.global(*name, situation),
             FlatCoreForm::SetGlobal(name, value) => self.wait(
                 Frame::SetGlobal(*name, situation),
                 value,
@@ -66,27 +55,9 @@ impl<'p> Machine<'p> {
             FlatCoreForm::MakeFunction(number, parts) => self.make_function(
                 *number, parts, situation,
             ),
-            FlatCoreForm::Call(name, list) => self.arguments(
-                Operation::CallName(*name),
-                list,
-                0,
-                situation,
-            ),
-            FlatCoreForm::CallValue(list) => self.arguments(
-                Operation::CallFirst,
-                list,
-                0,
-                situation,
-            ),
             FlatCoreForm::Apply(function, list) => self.wait(
                 Frame::AppliedFunction(list, situation),
                 function,
-                situation,
-            ),
-            FlatCoreForm::Prim(which, list) => self.arguments(
-                Operation::Compute(*which),
-                list,
-                0,
                 situation,
             ),
             FlatCoreForm::While(test, body) => self.turn(test, body, situation),
@@ -114,7 +85,6 @@ impl<'p> Machine<'p> {
                 situation,
             ),
             FlatCoreForm::DynamicLet(list, body) => self.dynamics(list, 0, body, situation),
-            FlatCoreForm::Dynamic(name) => self.dynamic(*name, situation),
             FlatCoreForm::SetDynamic(name, value) => self.wait(
                 Frame::SetDynamic(*name, situation),
                 value,
@@ -140,9 +110,14 @@ impl<'p> Machine<'p> {
                 condition,
                 situation,
             ),
-            FlatCoreForm::NextMethod(place) => self.next_method_at(*place, situation),
             FlatCoreForm::HasNext(place) => self.has_next(*place, situation),
             FlatCoreForm::Sited(site, form) => self.sited(*site, form, situation),
+            FlatCoreForm::Global(_)
+            | FlatCoreForm::Dynamic(_)
+            | FlatCoreForm::Call(..)
+            | FlatCoreForm::CallValue(_)
+            | FlatCoreForm::Prim(..)
+            | FlatCoreForm::NextMethod(_) => unreachable!(),
         }
     }
 }

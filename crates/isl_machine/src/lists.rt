@@ -1,13 +1,13 @@
 // Lists of forms: the first one is evaluated, and the others wait.
 
 ghost use Rattle.std.specs.Prelude.{OnOk};
-ghost use Rattle.isl_plain.specs.Step.{sequence_step, clauses_step, arguments_step, bindings_step, dynamics_step};
+ghost use Rattle.isl_plain.specs.Step.{sequence_step, clauses_step, bindings_step, dynamics_step};
 ghost use Rattle.isl_closure.specs.model.View.{bindings_of, dynamics_of};
 ghost use Rattle.isl_store.specs.Words.{value_of_word};
-ghost use Rattle.isl_machine.specs.Frames.{forms_from, clauses_from, bindings_from, dynamics_from, operation_of};
+ghost use Rattle.isl_machine.specs.Frames.{forms_from, clauses_from, bindings_from, dynamics_from};
 ghost use Rattle.isl_machine.specs.View.{Steps, at, top, frames, state};
 
-use crate::frame::{Frame, Operation};
+use crate::frame::Frame;
 use crate::machine::Machine;
 use crate::places::after;
 use crate::situation::Situation;
@@ -57,26 +57,6 @@ impl<'p> Machine<'p> {
                 self.gives(Word::Nil);
                 Ok(())
             }
-        }
-    }
-
-    /// Arguments from one of them on, of which those in front are operands.
-    pub fn arguments(
-        &mut self,
-        operation: Operation,
-        list: &'p FlatCoreList,
-        count: usize,
-        situation: Situation,
-    ) -> Result<(), NoMemory>
-        ensures { OnOk result (Steps self.old self.new (λ names s b. arguments_step s (operation_of operation) (forms_from list.now count) (top names self.old count) (at names self.old situation) (frames names self.old count) (state names self.old b))) }
-    {
-        match list.get(count) {
-            Some(form) => self.hold(
-                Frame::Argument(operation, list, count, situation),
-                form,
-                situation,
-            ),
-            None => self.operate(operation, count, situation),
         }
     }
 

@@ -16,10 +16,12 @@ use isl_base::NoMemory;
 use isl_closure::FlatCore;
 use isl_store::{Halt, Store, Word};
 
-/// What is done next: a form is evaluated; a condition is signalled with a mark; or an outcome goes into the innermost frame.
+/// What is done next: a form is evaluated; a loop with that test and that body goes on; a condition is signalled with a mark; or
+/// an outcome goes into the innermost frame.
 #[derive(Clone, Copy)]
 pub enum Control<'p> {
     Evaluate(&'p FlatCore, Situation),
+    Again(&'p FlatCore, &'p FlatCore, Situation),
     Signals {
         condition: Word,
         mark: Word,

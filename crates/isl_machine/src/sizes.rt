@@ -78,8 +78,8 @@ fn form_list_words(alloc: Global, list: &FlatCoreList) -> Result<ItemList<u64>, 
     Ok(words)
 }
 
-// The words of an application whose body that is.
-fn form_words(form: &FlatCore) -> Result<u64, NoMemory>
+/// The words of an application whose body that is.
+pub fn form_words(form: &FlatCore) -> Result<u64, NoMemory>
     ensures { IfOk result (λ words. words ≡ form_words form.now) }
 {
     match words_of(form_nodes(form)) {

@@ -2,8 +2,7 @@
 use Rattle.std.proofs.Common.{ap, sym, ◌∙◌}
 use Rattle.isl_closure.specs.FlatForm.{set_local, set_global, def_global, let_form, apply, while_form, block, return_from, catch_form, throw, unwind, dynamic_let, set_dynamic, def_dynamic, with_handler, signal_form, continue_form, sited}
 use Rattle.isl_closure.specs.model.View.{view_form, forms, bindings_of, dynamics_of}
-use Rattle.isl_plain.specs.Moment.{call_name, call_first, compute}
-use Rattle.isl_machine.proofs.Beginning.{begun_as, arguments_begun, bindings_begun, dynamics_begun}
+use Rattle.isl_machine.proofs.Beginning.{begun_as, bindings_begun, dynamics_begun}
 use Rattle.isl_machine.proofs.machine.Machine.begin_kind.Goals as goal
 
 pub returns-in-Literal : goal.returns-in-Literal
@@ -14,9 +13,6 @@ returns-in-Local c = begun_as c.local.result _ _ c.args.situation _ _ (ap view_f
 
 pub returns-in-SetLocal : goal.returns-in-SetLocal
 returns-in-SetLocal c = begun_as c.wait.result _ _ c.args.situation _ _ (ap view_form c.in-SetLocal.is ∙ ap (λ v. set_local c.in-SetLocal.place v) (sym c.deref.ensures)) c.wait.ensures
-
-pub returns-in-Global : goal.returns-in-Global
-returns-in-Global c = begun_as c.global.result _ _ c.args.situation _ _ (ap view_form c.in-Global.is) c.global.ensures
 
 pub returns-in-SetGlobal : goal.returns-in-SetGlobal
 returns-in-SetGlobal c = begun_as c.wait-in-SetGlobal.result _ _ c.args.situation _ _ (ap view_form c.in-SetGlobal.is ∙ ap (λ v. set_global c.in-SetGlobal.name.0 v) (sym c.deref-in-SetGlobal.ensures)) c.wait-in-SetGlobal.ensures
@@ -36,17 +32,8 @@ returns-in-Let c = begun_as c.bindings.result _ _ c.args.situation _ _ (ap view_
 pub returns-in-MakeFunction : goal.returns-in-MakeFunction
 returns-in-MakeFunction c = begun_as c.make_function.result _ _ c.args.situation _ _ (ap view_form c.in-MakeFunction.is) c.make_function.ensures
 
-pub returns-in-Call : goal.returns-in-Call
-returns-in-Call c = begun_as c.arguments.result _ _ c.args.situation _ _ (ap view_form c.in-Call.is) (arguments_begun c.arguments.result _ _ c.args.situation (call_name c.in-Call.name.0) (forms c.in-Call.list) c.arguments.ensures)
-
-pub returns-in-CallValue : goal.returns-in-CallValue
-returns-in-CallValue c = begun_as c.arguments-in-CallValue.result _ _ c.args.situation _ _ (ap view_form c.in-CallValue.is) (arguments_begun c.arguments-in-CallValue.result _ _ c.args.situation call_first (forms c.in-CallValue.list) c.arguments-in-CallValue.ensures)
-
 pub returns-in-Apply : goal.returns-in-Apply
 returns-in-Apply c = begun_as c.wait-in-Apply.result _ _ c.args.situation _ _ (ap view_form c.in-Apply.is ∙ ap (λ v. apply c.in-Apply.function.value v) (sym c.deref-in-Apply.ensures) ∙ ap (λ v. apply v c.deref-in-Apply.result.now) (sym c.deref-in-Apply-2.ensures)) c.wait-in-Apply.ensures
-
-pub returns-in-Prim : goal.returns-in-Prim
-returns-in-Prim c = begun_as c.arguments-in-Prim.result _ _ c.args.situation _ _ (ap view_form c.in-Prim.is) (arguments_begun c.arguments-in-Prim.result _ _ c.args.situation (compute c.in-Prim.which) (forms c.in-Prim.list) c.arguments-in-Prim.ensures)
 
 pub returns-in-While : goal.returns-in-While
 returns-in-While c = begun_as c.turn.result _ _ c.args.situation _ _ (ap view_form c.in-While.is ∙ ap (λ v. while_form v c.in-While.body.value) (sym c.deref-in-While.ensures) ∙ ap (λ v. while_form c.deref-in-While.result.now v) (sym c.deref-in-While-2.ensures)) c.turn.ensures
@@ -75,9 +62,6 @@ returns-in-Unwind c = begun_as c.wait-in-Unwind.result _ _ c.args.situation _ _ 
 pub returns-in-DynamicLet : goal.returns-in-DynamicLet
 returns-in-DynamicLet c = begun_as c.dynamics.result _ _ c.args.situation _ _ (ap view_form c.in-DynamicLet.is ∙ ap (λ v. dynamic_let (dynamics_of c.in-DynamicLet.list) v) (sym c.deref-in-DynamicLet.ensures)) (dynamics_begun c.dynamics.result _ _ c.args.situation (dynamics_of c.in-DynamicLet.list) c.deref-in-DynamicLet.result.now c.dynamics.ensures)
 
-pub returns-in-Dynamic : goal.returns-in-Dynamic
-returns-in-Dynamic c = begun_as c.dynamic.result _ _ c.args.situation _ _ (ap view_form c.in-Dynamic.is) c.dynamic.ensures
-
 pub returns-in-SetDynamic : goal.returns-in-SetDynamic
 returns-in-SetDynamic c = begun_as c.wait-in-SetDynamic.result _ _ c.args.situation _ _ (ap view_form c.in-SetDynamic.is ∙ ap (λ v. set_dynamic c.in-SetDynamic.name.0 v) (sym c.deref-in-SetDynamic.ensures)) c.wait-in-SetDynamic.ensures
 
@@ -92,9 +76,6 @@ returns-in-Signal c = begun_as c.wait-in-Signal.result _ _ c.args.situation _ _ 
 
 pub returns-in-Continue : goal.returns-in-Continue
 returns-in-Continue c = begun_as c.wait-in-Continue.result _ _ c.args.situation _ _ (ap view_form c.in-Continue.is ∙ ap (λ v. continue_form c.in-Continue.condition.value v) (sym c.deref-in-Continue.ensures) ∙ ap (λ v. continue_form v c.deref-in-Continue.result.now) (sym c.deref-in-Continue-2.ensures)) c.wait-in-Continue.ensures
-
-pub returns-in-NextMethod : goal.returns-in-NextMethod
-returns-in-NextMethod c = begun_as c.next_method_at.result _ _ c.args.situation _ _ (ap view_form c.in-NextMethod.is) c.next_method_at.ensures
 
 pub returns-in-HasNext : goal.returns-in-HasNext
 returns-in-HasNext c = begun_as c.has_next.result _ _ c.args.situation _ _ (ap view_form c.in-HasNext.is) c.has_next.ensures
