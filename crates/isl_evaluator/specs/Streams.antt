@@ -10,6 +10,8 @@ use Rattle.isl_store.specs.Words.{value_of_word, values_of}
 use Rattle.isl_store.specs.View.{Beside, state_of}
 use Rattle.isl_primitives.specs.declared.answer.Answer.{Answer}
 use Rattle.isl_primitives.specs.Answers.{told}
+use Rattle.isl_machine.specs.declared.frame.Operation.{Operation}
+use Rattle.isl_machine.specs.declared.frame.Operation.TheVariants.{Compute}
 use Rattle.isl_machine.specs.declared.machine.Machine.{Machine}
 use Rattle.isl_evaluator.specs.declared.evaluator.Evaluator.{Evaluator}
 use Rattle.isl_evaluator.specs.Runs.{Stands}
@@ -19,6 +21,10 @@ abbrev pub reads : Primitive → List Word → Bool
 reads p.GetByte [] = true
 reads p.PeekByte [] = true
 reads which ws = false
+
+abbrev pub operation_reads : Operation → List Word → Bool
+operation_reads (Compute which) ws = reads which ws
+operation_reads o ws = false
 
 abbrev pub is_fed : Evaluator → Bool
 is_fed e = e.ended || is_some (slice_get e.ahead.items e.taken)

@@ -6,6 +6,7 @@ pub mod evaluator;
 pub mod forms;
 pub mod globals;
 pub mod open;
+pub mod operate;
 pub mod steps;
 pub mod streams;
 pub mod values;

@@ -13,7 +13,6 @@ ghost use Rattle.isl_evaluator.specs.Runs.{Runs};
 use crate::evaluator::Evaluator;
 use isl_base::{ItemList, NoMemory};
 use isl_closure::{FlatCore, MethodPlace};
-use isl_machine::frame::Operation;
 use isl_machine::machine::Machine;
 use isl_machine::situation::{Around, Situation};
 use isl_meaning::ProcedureId;
@@ -21,13 +20,6 @@ use isl_store::{Arguments, Rest, Word};
 use std::rc::Rc;
 
 impl<'p> Evaluator<'p> {
-    /// What is done with arguments, which are the last operands. (Not written by anyone yet.)
-    pub fn operate(&mut self, operation: Operation, count: usize, situation: Situation) -> Result<(), NoMemory>
-        ensures { OnOk result (Runs self.old self.new (λ names s b. operation_step s (operation_of operation) (top names self.old.machine count) (at names self.old.machine situation) (frames names self.old.machine count) (state names self.old.machine b))) }
-    {
-        Err(NoMemory)
-    }
-
     /// The next method of a method. (By `method_at` of the machine and `next_method` of the applications.)
     pub fn next_method(&mut self, place: MethodPlace, situation: Situation) -> Result<(), NoMemory>
         ensures { OnOk result (Runs self.old self.new (λ names s b. next_method_step s (method_of place (at names self.old.machine situation).environment) (at names self.old.machine situation) (frames names self.old.machine 0) (state names self.old.machine b))) }
