@@ -9,7 +9,8 @@ ghost use Rattle.isl_evaluator.specs.Runs.{Runs};
 ghost use Rattle.isl_evaluator.specs.Streams.{reads, operation_reads, is_fed};
 
 use crate::evaluator::Evaluator;
-use isl_applying::values::{apply_name, call_first};
+use isl_applying::calls::call_named;
+use isl_applying::values::call_first;
 use isl_base::NoMemory;
 use isl_machine::computing::compute;
 use isl_machine::frame::Operation;
@@ -31,7 +32,7 @@ impl<'p> Evaluator<'p> {
         let level = situation.level;
         let around = situation.around;
         match operation {
-            Operation::CallName(name) => apply_name(&mut self.machine, name, count, level, around),
+            Operation::CallName(name) => call_named(&mut self.machine, name, count, situation),
             Operation::CallFirst => call_first(&mut self.machine, count, situation),
             Operation::Compute(which) => self.compute(which, count, level, around),
         }
