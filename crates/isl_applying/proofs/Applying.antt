@@ -1,20 +1,18 @@
 -- What is applied is entered, one level below.
-use Rattle.std.proofs.Common.{◌≡◌, ℕ, zero, suc, List, [], Option, Some, None, refl, ap, sym, ◌∙◌, subst}
+use Rattle.std.proofs.Common.{◌≡◌, ℕ, suc, List, [], Option, Some, None, ap, sym, ◌∙◌}
 use Rattle.std.specs.Prelude.{slice_get}
 use Rattle.isl_meaning.specs.Values.{Value, nil}
 use Rattle.isl_meaning.specs.State.{Surroundings, value, more}
 use Rattle.isl_closure.specs.declared.program.FlatProcedure.{FlatProcedure}
 use Rattle.isl_closure.specs.FlatState.{FlatState, gives}
-use Rattle.isl_plain.specs.Moment.{Setting, Step, Frame, moment, come_to, ended, some_or, descend}
+use Rattle.isl_plain.specs.Moment.{Setting, Frame, moment, come_to, ended, some_or, descend}
 use Rattle.isl_plain.specs.Applications.{enter, apply_procedure, apply_function}
 use Rattle.isl_store.specs.Words.{called_or_none}
-use Rattle.isl_store.specs.View.{Beside}
 use Rattle.isl_machine.specs.declared.situation.Activation.{Activation}
 use Rattle.isl_machine.specs.declared.situation.Around.{Around}
 use Rattle.isl_machine.specs.declared.lookups.Code.{Code}
 use Rattle.isl_machine.specs.declared.machine.Machine.{Machine}
 use Rattle.isl_machine.specs.View.{Steps, IsGiven, setting_of, top, frames, state, surroundings}
-use Rattle.isl_machine.specs.Sizes.{procedure_words}
 use Rattle.isl_applying.specs.Entering.{Entered, captured_in, entering}
 use Rattle.isl_machine.specs.Codes.{IsCode}
 use Rattle.isl_applying.specs.Applying.{coded, entered_option}

@@ -3,32 +3,29 @@ use Rattle.std.proofs.Common.{◌≡◌, ℕ, ◌+◌, ◌-◌, List, [], ◌∷
 use Rattle.std.specs.Prelude.{reverse, nat_lt}
 use Rattle.std.proofs.lemmas.List.{drop_all}
 use Rattle.std.proofs.lemmas.Bool.{le-ltb}
-use Rattle.isl_meaning.specs.State.{Surroundings}
 use Rattle.isl_closure.specs.FlatForm.{FlatForm}
 use Rattle.isl_closure.specs.FlatNodes.{homes}
-use Rattle.isl_closure.specs.FlatState.{FlatState, no_environment, with_slots}
+use Rattle.isl_closure.specs.FlatState.{no_environment, with_slots}
 use Rattle.isl_plain.specs.Moment.{moment, evaluate, restores_slots}
-use Rattle.isl_plain.specs.Moment as machine
 use Rattle.isl_plain.specs.Applications.{begin_body}
 use Rattle.isl_store.specs.declared.word.Word.{Word}
-use Rattle.isl_store.specs.Words.{value_of_word, values_of, called_or_none}
-use Rattle.isl_store.specs.View.{Beside, seen}
+use Rattle.isl_store.specs.Words.{values_of, called_or_none}
+use Rattle.isl_store.specs.View.{seen}
 use Rattle.isl_machine.specs.declared.slot.Slot.{Slot}
 use Rattle.isl_machine.specs.declared.frame.Frame.{Frame}
 use Rattle.isl_machine.specs.declared.frame.Frame.TheVariants.{RestoresSlots}
 use Rattle.isl_machine.specs.declared.given.Given.{Given}
 use Rattle.isl_machine.specs.declared.situation.Around.{Around}
-use Rattle.isl_machine.specs.declared.situation.Situation.{Situation}
 use Rattle.isl_machine.specs.declared.situation.Activation.{Activation}
 use Rattle.isl_machine.specs.declared.machine.Machine.{Machine}
 use Rattle.isl_applying.specs.declared.entering.Entering.{Entering}
 use Rattle.isl_machine.specs.Chains.{Linking, chained}
 use Rattle.isl_machine.specs.Frames.{last_of, others_of, slot_of, frame_slots, around_in, own_in, environment_in, situation_in, frames_in, own_link}
-use Rattle.isl_machine.specs.View.{Steps, IsGiven, setting_of, at, state, top, frames, surroundings}
+use Rattle.isl_machine.specs.View.{Steps, IsGiven, at, state, top, frames, surroundings}
 use Rattle.isl_machine.specs.Operands.{IsDropped}
 use Rattle.isl_machine.specs.Variables.{AreSlotted}
 use Rattle.isl_applying.specs.Entering.{entered_of, captured_in}
-use Rattle.isl_machine.proofs.Pushes.{one_on, others_none, LinksNothing, around_stays}
+use Rattle.isl_machine.proofs.Pushes.{one_on, others_none, around_stays}
 use Rattle.isl_applying.proofs.MoreSlots.{below_more}
 
 -- nothing is found from a link to nothing

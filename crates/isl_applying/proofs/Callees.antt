@@ -1,5 +1,5 @@
 -- Values, and the functions of names, are applied.
-use Rattle.std.proofs.Common.{◌≡◌, ℕ, List, [], ◌∷◌, Option, Some, None, refl, ap, sym, ◌∙◌}
+use Rattle.std.proofs.Common.{◌≡◌, ℕ, List, Option, Some, None, refl, ap, sym, ◌∙◌}
 use Rattle.std.specs.Prelude.{option_map}
 use Rattle.isl_meaning.specs.declared.program.FunctionRow.{FunctionRow}
 use Rattle.isl_meaning.specs.declared.program.Callee.{Callee}

@@ -1,5 +1,5 @@
 -- Generic functions are applied.
-use Rattle.std.proofs.Common.{◌≡◌, ℕ, suc, ◌+◌, ◌≤◌, List, [], ◌∷◌, length, map, take, min, Bool, true, false, Option, Some, None, refl, ap, sym, ◌∙◌, subst, arith}
+use Rattle.std.proofs.Common.{◌≡◌, ℕ, suc, ◌+◌, ◌≤◌, List, [], ◌∷◌, length, map, take, min, Bool, true, false, Option, Some, None, ap, sym, ◌∙◌}
 use Rattle.std.specs.Prelude.{slice_get, reverse, if◌then◌else◌}
 use Rattle.std.proofs.lemmas.List.{take-map}
 use Rattle.isl_meaning.specs.declared.program.GenericRow.{GenericRow}
@@ -11,7 +11,7 @@ use Rattle.isl_meaning.specs.Classes.{chain, class_of}
 use Rattle.isl_meaning.specs.Signals.{takes}
 use Rattle.isl_closure.specs.FlatNodes.{tables}
 use Rattle.isl_closure.specs.FlatState.{FlatState, gives, charged}
-use Rattle.isl_plain.specs.Moment.{Setting, Step, Frame, Moment, moment, come_to, ended, some_or, restores_stack, then_on}
+use Rattle.isl_plain.specs.Moment.{Setting, Frame, Moment, moment, come_to, ended, some_or, restores_stack, then_on}
 use Rattle.isl_plain.specs.Applications.{requested, apply_chain, apply_generic, run_chain, signal_class, signal_undefined}
 use Rattle.isl_dispatch.specs.declared.chain.Chain.{Chain as Kept}
 use Rattle.isl_dispatch.specs.Chains.{seen}
@@ -20,12 +20,12 @@ use Rattle.isl_store.specs.Words.{value_of_word, values_of}
 use Rattle.isl_store.specs.View.{Beside, limit_of}
 use Rattle.isl_machine.specs.declared.situation.Around.{Around}
 use Rattle.isl_machine.specs.declared.machine.Machine.{Machine}
-use Rattle.isl_machine.specs.Frames.{last_of, others_of, frames_in}
+use Rattle.isl_machine.specs.Frames.{last_of, frames_in}
 use Rattle.isl_machine.specs.Operands.{IsDropped}
 use Rattle.isl_machine.specs.Doing.{Fills}
 use Rattle.isl_machine.specs.View.{Steps, IsGiven, setting_of, top, frames, state, surroundings}
 use Rattle.isl_applying.specs.Entering.{HasStack}
-use Rattle.isl_applying.specs.Generics.{AreClassesOf, IsChainFor, chain_begins}
+use Rattle.isl_applying.specs.Generics.{AreClassesOf, chain_begins}
 use Rattle.isl_machine.proofs.Doing.{then_dropped, then_filled}
 use Rattle.isl_machine.proofs.Stepping.{same_moment}
 use Rattle.isl_applying.proofs.Entries.{so_many, then_stack}
@@ -45,10 +45,10 @@ pub chain_begun : (old mid dropped new : Machine) (c : Chain) (ws : List Word) (
     → Steps old new (λ names s b. chain_begins s c (top names old n) level (surroundings names old a) (frames names old n) (state names old b))
 chain_begun old mid dropped new c ws n level below a e h w st d s =
     let on : Steps mid new (λ names s b. run_chain s c (values_of names ws) below (surroundings names mid a) (frames names mid n) (state names mid b)) =
-      then_dropped mid dropped new n a (λ names s around frames z. run_chain s c (values_of names ws) below around frames z) d s in
+    then_dropped mid dropped new n a (λ names s around frames z. run_chain s c (values_of names ws) below around frames z) d s in
     let all : Steps old new (λ names s b. then_on (requested s.limit 0 (16 + n) (state names old b)) (frames names old n) (λ ignored inner.
-      run_chain s c (values_of names ws) below (surroundings names old a) (restores_stack (state names old b).state.stack ∷ frames names old n) (charged n inner))) =
-      then_stack old mid new (16 + n) n n a (λ names s vs around frames z. run_chain s c (values_of names ws) below around frames z) st on in
+    run_chain s c (values_of names ws) below (surroundings names old a) (restores_stack (state names old b).state.stack ∷ frames names old n) (charged n inner))) =
+    then_stack old mid new (16 + n) n n a (λ names s vs around frames z. run_chain s c (values_of names ws) below around frames z) st on in
     same_moment old new _ _ all (λ names b g.
     ap (λ us. then_on (requested (limit_of old.given.limit) 0 (16 + n) (state names old b)) (frames names old n) (λ ignored inner.
     run_chain (setting_of names old.given) c (values_of names us) below (surroundings names old a) (restores_stack (state names old b).state.stack ∷ frames names old n) (charged n inner))) w
@@ -61,9 +61,9 @@ pub chain_filled : (old mid new : Machine) (c : Chain) (n level below : ℕ) (a 
     → Steps old new (λ names s b. chain_begins s c (top names old n) level (surroundings names old a) (frames names old n) (state names old b))
 chain_filled old mid new c n level below a e h d x =
     let all : Steps old new (λ names s b. then_on (requested s.limit 0 (16 + n) (state names old b)) (frames names old n) (λ ignored inner.
-      run_chain s c (top names old n) below (surroundings names old a) (restores_stack (state names old b).state.stack ∷ frames names old n) (charged n inner))) =
-      then_filled old mid new n (λ names s z. requested s.limit 0 (16 + n) z)
-      (λ names s b ignored inner. run_chain s c (top names old n) below (surroundings names old a) (restores_stack (state names old b).state.stack ∷ frames names old n) (charged n inner)) d x in
+    run_chain s c (top names old n) below (surroundings names old a) (restores_stack (state names old b).state.stack ∷ frames names old n) (charged n inner))) =
+    then_filled old mid new n (λ names s z. requested s.limit 0 (16 + n) z)
+    (λ names s b ignored inner. run_chain s c (top names old n) below (surroundings names old a) (restores_stack (state names old b).state.stack ∷ frames names old n) (charged n inner)) d x in
     same_moment old new _ _ all (λ names b g.
     ap (λ m. then_on (requested (limit_of old.given.limit) 0 (16 + m) (state names old b)) (frames names old n) (λ ignored inner.
     run_chain (setting_of names old.given) c (top names old n) below (surroundings names old a) (restores_stack (state names old b).state.stack ∷ frames names old n) (charged m inner))) (sym (so_many names old n h))

@@ -1,13 +1,10 @@
 -- Words for cells are asked for one by one.
-use Rattle.std.proofs.Common.{◌≡◌, ℕ, ◌+◌, ◌≤◌, length, List, [], ◌∷◌, ◌++◌, Bool, true, false, Option, Some, None, refl, ap, sym, ◌∙◌, take, drop, arith}
-use Rattle.std.specs.Prelude.{slice_get, option_to_list, IfOk, Result, Ok, Err, if◌then◌else◌}
-use Rattle.std.proofs.lemmas.List.{take-append-drop, take_all, append-nil, length-map}
-use Rattle.isl_base.specs.model.DataRest.{take_at}
+use Rattle.std.proofs.Common.{◌≡◌, ℕ, ◌+◌, length, List, [], ◌∷◌, ◌++◌, Bool, true, false, Option, Some, None, ap, sym, arith}
+use Rattle.std.specs.Prelude.{option_to_list, IfOk, Result, Ok, Err}
+use Rattle.std.proofs.lemmas.List.{append-nil, length-map}
 use Rattle.isl_meaning.specs.Values.{nil}
-use Rattle.isl_meaning.specs.State.{Limit, full, has_room, room_left, with_words}
 use Rattle.isl_closure.specs.declared.place.Home.{Home}
-use Rattle.isl_closure.specs.declared.place.Home.TheVariants.{Slot, Cell}
-use Rattle.isl_closure.specs.FlatState.{FlatState, FlatEvaluated, on_state, gives, go_on, charged, request}
+use Rattle.isl_closure.specs.FlatState.{gives, charged, request}
 use Rattle.isl_plain.specs.Applications.{celled, recorded}
 use Rattle.isl_store.specs.declared.word.Word.TheVariants.{Nil}
 use Rattle.isl_store.specs.declared.called.Called.{Called}
@@ -16,7 +13,7 @@ use Rattle.isl_store.specs.View.{limit_of}
 use Rattle.isl_machine.specs.declared.machine.Machine.{Machine}
 use Rattle.isl_machine.specs.Doing.{Gives, Fills, IsDone}
 use Rattle.isl_machine.proofs.Cells.{both, celled_more}
-use Rattle.isl_machine.proofs.Doing.{done_alike, done_true, done_false, done_then, filled_then, alike}
+use Rattle.isl_machine.proofs.Doing.{done_alike, done_true, done_false, filled_then, alike}
 
 -- those of the required variables, and then that of the rest
 pub rest_taken : {E : Type 0} (old now new : Machine) (xs : List Home) (o : Option Home) (h : Home) (r : Bool) (q : Result Bool E) → o ≡ Some h

@@ -1,7 +1,7 @@
 -- How a generic function finds its methods: the classes of its arguments, and their chain.
 use Rattle.std.proofs.Common.{Bor, ◌≡◌, ℕ, zero, suc, ◌+◌, ◌-◌, ◌<◌, ◌≤◌, List, [], ◌∷◌, ◌++◌, length, map, take, Bool, true, false, Option, Some, None, refl, ap, sym, ◌∙◌, arith}
 use Rattle.std.specs.Prelude.{slice_get, filter, ◌&&◌, MatchOption, option_copied}
-use Rattle.std.proofs.lemmas.List.{map-append, take-map, length-append, length-take-le, length-drop}
+use Rattle.std.proofs.lemmas.List.{map-append, length-append, length-take-le, length-drop}
 use Rattle.std.proofs.lemmas.Option.{slice_get_past}
 use Rattle.isl_base.specs.model.DataRest.{take_at}
 use Rattle.isl_meaning.specs.declared.program.ProgramRows.{ProgramRows}
@@ -18,7 +18,6 @@ use Rattle.isl_dispatch.specs.OfClasses.{with_classes}
 use Rattle.isl_dispatch.specs.Chains.{seen}
 use Rattle.isl_store.specs.declared.word.Word.{Word}
 use Rattle.isl_store.specs.Words.{value_of_word, values_of}
-use Rattle.isl_store.specs.View.{Beside}
 use Rattle.isl_primitives.specs.Classing.{HasClassOf}
 use Rattle.isl_machine.specs.declared.machine.Machine.{Machine}
 use Rattle.isl_machine.specs.Frames.{frame_slots, last_of}
@@ -61,13 +60,13 @@ pub class_there : (m : Machine) (ws : List Word) (n : ℕ) (w : Word) (c : ℕ) 
 class_there m ws n w c cs h k a = record {
   count = length-append cs (c ∷ []) ∙ ap (λ i. i + 1) a.count ∙ sym (ap length (take_at ws n w h) ∙ length-append (take n ws) (w ∷ []));
   seen = λ names b.
-    let f : List Word → List ℕ = λ us. map (class_of (state names m b).state) (values_of names us) in
-    let one : c ∷ [] ≡ f (w ∷ []) = ap (λ (x : ℕ). x ∷ []) (sym (k.seen names (record b { frame = frame_slots names m.current m.slots.items }))) in
-    ap (λ xs. xs ++ c ∷ []) (a.seen names b)
-    ∙ ap (λ xs. f (take n ws) ++ xs) one
-    ∙ sym (map-append (class_of (state names m b).state) (values_of names (take n ws)) (values_of names (w ∷ [])))
-    ∙ ap (map (class_of (state names m b).state)) (sym (map-append (value_of_word names) (take n ws) (w ∷ [])))
-    ∙ ap f (sym (take_at ws n w h));
+      let f : List Word → List ℕ = λ us. map (class_of (state names m b).state) (values_of names us) in
+      let one : c ∷ [] ≡ f (w ∷ []) = ap (λ (x : ℕ). x ∷ []) (sym (k.seen names (record b { frame = frame_slots names m.current m.slots.items }))) in
+      ap (λ xs. xs ++ c ∷ []) (a.seen names b)
+      ∙ ap (λ xs. f (take n ws) ++ xs) one
+      ∙ sym (map-append (class_of (state names m b).state) (values_of names (take n ws)) (values_of names (w ∷ [])))
+      ∙ ap (map (class_of (state names m b).state)) (sym (map-append (value_of_word names) (take n ws) (w ∷ [])))
+      ∙ ap f (sym (take_at ws n w h));
 }
 
 -- as many classes as are required

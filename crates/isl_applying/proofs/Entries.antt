@@ -1,22 +1,18 @@
 -- A procedure is entered: each part is that of the definition.
-use Rattle.std.proofs.Common.{◌≡◌, ℕ, ◌+◌, ◌-◌, ◌≤◌, List, [], ◌∷◌, ◌++◌, length, map, take, drop, Bool, true, false, refl, ap, sym, ◌∙◌, subst, arith}
-use Rattle.std.specs.Prelude.{reverse, is_some}
-use Rattle.std.proofs.lemmas.List.{drop-map, length-map, map-append, take-map}
+use Rattle.std.proofs.Common.{◌≡◌, ℕ, ◌+◌, ◌-◌, ◌≤◌, List, [], ◌∷◌, ◌++◌, length, Bool, true, false, refl, ap, sym, ◌∙◌, subst, arith}
+use Rattle.std.specs.Prelude.{reverse}
+use Rattle.std.proofs.lemmas.List.{length-map}
 use Rattle.std.proofs.Common.{length-drop}
-use Rattle.isl_meaning.specs.Values.{Value, nil}
+use Rattle.isl_meaning.specs.Values.{Value}
 use Rattle.isl_meaning.specs.State.{Surroundings}
-use Rattle.isl_closure.specs.declared.flat_core.FlatCore.{FlatCore}
 use Rattle.isl_closure.specs.FlatNodes.{homes}
-use Rattle.isl_closure.specs.FlatState.{FlatState, charged, gives, with_slots}
-use Rattle.isl_plain.specs.Moment.{Setting, Step, moment, evaluate, restores_stack, restores_slots, then_on}
-use Rattle.isl_plain.specs.Moment as machine
-use Rattle.isl_plain.specs.Applications.{requested, rest_listed, variable_values, recorded, celled, listed, begin_body}
-use Rattle.isl_store.specs.declared.word.Word.{Word}
+use Rattle.isl_closure.specs.FlatState.{charged}
+use Rattle.isl_plain.specs.Moment.{Setting, Step, restores_stack, then_on}
+use Rattle.isl_plain.specs.Applications.{requested, recorded, celled, begin_body}
 use Rattle.isl_store.specs.declared.word.Word.TheVariants.{Nil}
-use Rattle.isl_store.specs.Words.{value_of_word, values_of, called_or_none}
+use Rattle.isl_store.specs.Words.{value_of_word, called_or_none}
 use Rattle.isl_store.specs.View.{Beside, limit_of}
-use Rattle.isl_machine.specs.declared.frame.Frame.{Frame}
-use Rattle.isl_machine.specs.declared.frame.Frame.TheVariants.{RestoresStack, RestoresSlots}
+use Rattle.isl_machine.specs.declared.frame.Frame.TheVariants.{RestoresStack}
 use Rattle.isl_machine.specs.declared.given.Given.{Given}
 use Rattle.isl_machine.specs.declared.situation.Around.{Around}
 use Rattle.isl_machine.specs.declared.machine.Machine.{Machine}
@@ -24,12 +20,11 @@ use Rattle.isl_applying.specs.declared.entering.Entering.{Entering}
 use Rattle.isl_machine.specs.Frames.{last_of, others_of, around_in, frames_in}
 use Rattle.isl_machine.specs.View.{Steps, IsGiven, IsCharged, setting_of, state, top, frames, surroundings}
 use Rattle.isl_machine.specs.Requests.{IsAsked}
-use Rattle.isl_machine.specs.Operands.{IsDropped, IsPushed}
+use Rattle.isl_machine.specs.Operands.{IsDropped}
 use Rattle.isl_machine.specs.Doing.{Gives, Fills, IsDone}
 use Rattle.isl_applying.specs.Entering.{HasStack, IsGivenStack, entered_of, in_words, in_rest, in_record, in_cells}
-use Rattle.isl_machine.proofs.Doing.{alike, asked_true, asked_false, done_true, done_false, then_given, then_filled}
+use Rattle.isl_machine.proofs.Doing.{asked_true, asked_false, done_true, done_false, then_given, then_filled}
 use Rattle.isl_machine.proofs.Pushes.{pushed, surroundings_stay}
-use Rattle.isl_applying.proofs.Listed.{last_last}
 
 -- the words are granted, the units counted, and the frame is there
 pub stack_given : (old mid counted new : Machine) (words all units before : ℕ) (r : Bool) → all ≡ words → IsAsked old mid 0 all r → r ≡ true → IsCharged mid counted units

@@ -7,7 +7,6 @@ use Rattle.isl_meaning.specs.Values.{Value}
 use Rattle.isl_meaning.specs.State.{Surroundings}
 use Rattle.isl_meaning.specs.Objects.{function_class}
 use Rattle.isl_meaning.specs.Primitives.{is_function}
-use Rattle.isl_meaning.specs.Classes.{fetch}
 use Rattle.isl_closure.specs.FlatState as flat
 use Rattle.isl_plain.specs.Moment.{Setting, Frame}
 use Rattle.isl_plain.specs.Applications.{apply_function, apply_object, apply_value, signal_domain}
@@ -17,10 +16,10 @@ use Rattle.isl_store.specs.declared.object.Captured.{Captured}
 use Rattle.isl_store.specs.declared.object.Object.{Object}
 use Rattle.isl_store.specs.declared.object.Object.TheVariants.{Function, Closure, Generic}
 use Rattle.isl_store.specs.Words.{value_of_word, object_of}
-use Rattle.isl_store.specs.View.{Beside, seen, state_of, IsFetched, captured_in}
+use Rattle.isl_store.specs.View.{Beside, seen, IsFetched, captured_in}
 use Rattle.isl_applying.specs.Applying.{captured_values}
 use Rattle.isl_applying.specs.declared.functions.Function.TheVariants as kind
-use Rattle.isl_applying.specs.Functions.{applied, IsFunction, IsFunctionOrNot}
+use Rattle.isl_applying.specs.Functions.{IsFunction, IsFunctionOrNot}
 
 -- a value is applied as the object that it fetches
 fetched_applied : (s : Store) (w : Word) (o : Option Object) (names : List (List ℕ)) (t : Setting) (b : Beside) (vs : List Value) (level : ℕ) (around : Surroundings) (frames : List Frame) → IsFetched s w o

@@ -1,10 +1,10 @@
 -- The first operand is applied to the others.
-use Rattle.std.proofs.Common.{◌≡◌, ℕ, suc, ◌+◌, ◌-◌, ◌<◌, ◌≤◌, List, [], ◌∷◌, ◌++◌, length, take, drop, min, Some, refl, ap, sym, ◌∙◌, subst, add-one, get_or, arith, length-drop}
+use Rattle.std.proofs.Common.{◌≡◌, ℕ, suc, ◌-◌, ◌<◌, ◌≤◌, List, [], ◌∷◌, ◌++◌, length, take, drop, min, Some, refl, ap, sym, ◌∙◌, subst, add-one, get_or, arith, length-drop}
 use Rattle.std.specs.Prelude.{reverse, slice_get}
 use Rattle.std.proofs.lemmas.Option.{slice_get_read}
 use Rattle.std.proofs.lemmas.List.{drop_all}
 use Rattle.isl_base.specs.model.DataRest.{rest_at}
-use Rattle.isl_meaning.specs.Values.{Value, nil}
+use Rattle.isl_meaning.specs.Values.{nil}
 use Rattle.isl_meaning.specs.State.{value}
 use Rattle.isl_plain.specs.Moment.{moment, come_to}
 use Rattle.isl_plain.specs.Applications.{apply_value}
@@ -45,16 +45,16 @@ pub first_called : (old mid new : Machine) (n count others : ℕ) (w : Word) (t 
 first_called old mid new n count others w t e o f s = record {
   given = s.given ∙ ap (λ (m : Machine). m.given) f.same;
   comes = λ names b g.
-    s.comes names b (let P : Given → Type 0 = λ x. IsGiven names x in subst P (sym (ap (λ (m : Machine). m.given) f.same)) g)
-    ∙ ap (λ (m : Machine). apply_value (setting_of names m.given) (value_of_word names w) (top names mid others) t.level (surroundings names m t.around)
-    (frames_in names m.current (others_of others mid.operands.items) m.slots.items (reverse m.frames.items)) (state names m b)) f.same
-    ∙ ap (λ k. apply_value (setting_of names old.given) (value_of_word names w) (top names mid k) t.level (surroundings names old t.around)
-    (frames_in names old.current (others_of k mid.operands.items) old.slots.items (reverse old.frames.items)) (state names old b)) o
-    ∙ ap (λ xs. apply_value (setting_of names old.given) (value_of_word names w) (top names mid (count - 1)) t.level (surroundings names old t.around)
-    (frames_in names old.current xs old.slots.items (reverse old.frames.items)) (state names old b)) (sym f.others ∙ held_others old.operands.items n count e)
-    ∙ ap (λ k. apply_value (setting_of names old.given) (value_of_word names w) (top names mid (count - 1)) k (surroundings names old t.around) (frames names old n) (state names old b)) (level_at names old t)
-    ∙ ap (λ k. apply_value (setting_of names old.given) (value_of_word names w) (top names mid (count - 1)) (at names old t).level k (frames names old n) (state names old b)) (around_at names old t)
-    ∙ ap (λ xs. call_value_step (setting_of names old.given) (values_of names xs) (at names old t) (frames names old n) (state names old b)) (sym f.last ∙ held_last old.operands.items n count e);
+      s.comes names b (let P : Given → Type 0 = λ x. IsGiven names x in subst P (sym (ap (λ (m : Machine). m.given) f.same)) g)
+      ∙ ap (λ (m : Machine). apply_value (setting_of names m.given) (value_of_word names w) (top names mid others) t.level (surroundings names m t.around)
+      (frames_in names m.current (others_of others mid.operands.items) m.slots.items (reverse m.frames.items)) (state names m b)) f.same
+      ∙ ap (λ k. apply_value (setting_of names old.given) (value_of_word names w) (top names mid k) t.level (surroundings names old t.around)
+      (frames_in names old.current (others_of k mid.operands.items) old.slots.items (reverse old.frames.items)) (state names old b)) o
+      ∙ ap (λ xs. apply_value (setting_of names old.given) (value_of_word names w) (top names mid (count - 1)) t.level (surroundings names old t.around)
+      (frames_in names old.current xs old.slots.items (reverse old.frames.items)) (state names old b)) (sym f.others ∙ held_others old.operands.items n count e)
+      ∙ ap (λ k. apply_value (setting_of names old.given) (value_of_word names w) (top names mid (count - 1)) k (surroundings names old t.around) (frames names old n) (state names old b)) (level_at names old t)
+      ∙ ap (λ k. apply_value (setting_of names old.given) (value_of_word names w) (top names mid (count - 1)) (at names old t).level k (frames names old n) (state names old b)) (around_at names old t)
+      ∙ ap (λ xs. call_value_step (setting_of names old.given) (values_of names xs) (at names old t) (frames names old n) (state names old b)) (sym f.last ∙ held_last old.operands.items n count e);
 }
 
 -- there is none

@@ -1,14 +1,12 @@
 -- The arguments behind the required ones have become a list.
-use Rattle.std.proofs.Common.{◌≡◌, ℕ, ◌+◌, ◌-◌, ◌≤◌, List, [], ◌∷◌, ◌++◌, length, take, drop, map, Bool, true, false, Some, None, ap, sym, ◌∙◌, subst, arith, length-append}
+use Rattle.std.proofs.Common.{◌≡◌, ℕ, ◌+◌, ◌-◌, ◌≤◌, List, [], ◌∷◌, ◌++◌, length, take, drop, Bool, true, false, Some, None, ap, sym, ◌∙◌, subst, arith, length-append}
 use Rattle.std.specs.Prelude.{reverse, is_some}
 use Rattle.std.proofs.lemmas.List.{drop-map, take-map, map-append, drop-drop, drop-take, drop-append-le, take-append-le, take-take, length-take-le}
-use Rattle.isl_meaning.specs.Values.{Value}
-use Rattle.isl_closure.specs.FlatState.{FlatState}
-use Rattle.isl_plain.specs.Moment.{Setting, then_on}
+use Rattle.isl_plain.specs.Moment.{then_on}
 use Rattle.isl_plain.specs.Applications.{rest_listed, variable_values, listed}
 use Rattle.isl_store.specs.declared.word.Word.{Word}
 use Rattle.isl_store.specs.Words.{value_of_word, values_of}
-use Rattle.isl_store.specs.View.{Beside, limit_of}
+use Rattle.isl_store.specs.View.{limit_of}
 use Rattle.isl_machine.specs.declared.situation.Around.{Around}
 use Rattle.isl_machine.specs.declared.given.Given.{Given}
 use Rattle.isl_machine.specs.declared.machine.Machine.{Machine}

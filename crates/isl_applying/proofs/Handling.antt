@@ -1,5 +1,5 @@
 -- Conditions are signalled.
-use Rattle.std.proofs.Common.{◌≡◌, ℕ, suc, ◌+◌, ◌<◌, List, [], ◌∷◌, length, Bool, true, false, Option, Some, None, refl, ap, sym, ◌∙◌, subst, arith}
+use Rattle.std.proofs.Common.{◌≡◌, ℕ, suc, ◌<◌, List, [], ◌∷◌, length, true, false, Option, Some, None, refl, ap, sym, ◌∙◌, arith}
 use Rattle.std.specs.Prelude.{reverse, if◌then◌else◌}
 use Rattle.isl_meaning.specs.Values.{Value, integer, character, symbol, nil, object}
 use Rattle.isl_meaning.specs.Objects.{Object, cons, string, vector, instance, function, closure, generic_function, class_object, input_stream, output_stream, fresh_symbol, serious_condition_class, function_class}
@@ -13,18 +13,17 @@ use Rattle.isl_closure.specs.FlatForm.{FlatForm}
 use Rattle.isl_closure.specs.FlatNodes.{tables}
 use Rattle.isl_closure.specs.FlatState.{FlatState, charged, exit_made}
 use Rattle.isl_closure.specs.FlatSignals.{marked}
-use Rattle.isl_plain.specs.Moment.{Setting, Frame, Moment, moment, evaluate, signals, come_to, awaits, catches, unbinds, handler_return}
+use Rattle.isl_plain.specs.Moment.{Moment, moment, evaluate, signals, come_to, awaits, catches, unbinds, handler_return}
 use Rattle.isl_plain.specs.Applications.{apply_value, signal_under, signal_domain}
 use Rattle.isl_plain.specs.Step.{signal_step, handler_step}
 use Rattle.isl_store.specs.declared.word.Word.{Word}
-use Rattle.isl_store.specs.Words.{value_of_word, values_of}
+use Rattle.isl_store.specs.Words.{value_of_word}
 use Rattle.isl_store.specs.View.{Beside}
 use Rattle.isl_machine.specs.declared.frame.Frame.{Frame as Kept}
 use Rattle.isl_machine.specs.declared.frame.Frame.TheVariants as frame
 use Rattle.isl_machine.specs.declared.situation.Around.{Around}
 use Rattle.isl_machine.specs.declared.situation.Situation.{Situation}
 use Rattle.isl_machine.specs.declared.situation.Activation.{Activation}
-use Rattle.isl_machine.specs.declared.slot.Slot.{Slot}
 use Rattle.isl_machine.specs.declared.machine.Machine.{Machine}
 use Rattle.isl_machine.specs.Chains.{chained}
 use Rattle.isl_machine.specs.Frames.{others_of, around_in, own_in, environment_in, situation_in, frames_in, own_link, exit_link, handler_link, binding_link}
@@ -116,10 +115,10 @@ pub handled : (old above returning pushed new : Machine) (w : Kept) (h : Handler
 handled old above returning pushed new w h c within level a e i j p x =
     let one : ArePushed returning pushed (c ∷ []) = record { operands = p.operands; same = p.same } in
     let given : Steps returning new (λ names s b. apply_value s (value_of_word names h.word) (value_of_word names c ∷ []) level (surroundings names returning within) (frames names returning 0) (state names returning b)) =
-      then_arguments returning pushed new (c ∷ []) 1 within (λ names s vs around fs z. apply_value s (value_of_word names h.word) vs level around fs z) one refl x in
+    then_arguments returning pushed new (c ∷ []) 1 within (λ names s vs around fs z. apply_value s (value_of_word names h.word) vs level around fs z) one refl x in
     let inner : Steps above new (λ names s b. apply_value s (value_of_word names h.word) (value_of_word names c ∷ []) level (surroundings names above within)
-      (awaits (handler_return level (surroundings names above within)) ∷ frames names above 0) (state names above b)) =
-      then_above above returning new (frame.HandlerReturn level within) 0 within (λ names s vs around fs z. apply_value s (value_of_word names h.word) (value_of_word names c ∷ []) level around fs z) j refl given in
+    (awaits (handler_return level (surroundings names above within)) ∷ frames names above 0) (state names above b)) =
+    then_above above returning new (frame.HandlerReturn level within) 0 within (λ names s vs around fs z. apply_value s (value_of_word names h.word) (value_of_word names c ∷ []) level around fs z) j refl given in
     same_moment old new _ _
     (after_push old above new w
     (λ m names s ws z. apply_value s (value_of_word names h.word) (value_of_word names c ∷ []) level (around_in names ws within)
@@ -138,7 +137,7 @@ pub signal_handled : (old mid counted new : Machine) (c mark : Word) (h : Handle
 signal_handled old mid counted new c mark h number level a there i k x =
     let same : counted ≡ record old { store = counted.store } = k.same ∙ ap (λ (m : Machine). record m { store = counted.store }) i.same in
     let is : (names : List (List ℕ)) (b : Beside) → state names counted b ≡ charged 1 (exit_made (marked (value_of_word names c) (value_of_word names mark) (state names old b))) =
-      λ names b. k.state_is names b ∙ ap (charged 1) (i.state_is names b) in
+    λ names b. k.state_is names b ∙ ap (charged 1) (i.state_is names b) in
     same_moment old new _ _
     (after_store old counted new (λ m names s z. handled_by names m (frame.Signal number c mark a.exits) h c level a s z)
     (λ names z. charged 1 (exit_made (marked (value_of_word names c) (value_of_word names mark) z))) same is x)
@@ -147,8 +146,8 @@ signal_handled old mid counted new c mark h number level a there i k x =
     let around : Surroundings = surroundings names old a in
     let outside : List Value = chained (handler_link names) (reverse old.frames.items) h.outside in
     let on : Surroundings → ℕ → Moment = λ within e.
-      apply_value (setting_of names old.given) (value_of_word names h.word) (value_of_word names c ∷ []) level within (awaits (handler_return level within) ∷ catches e ∷ frames names old 0)
-      (charged 1 (exit_made (marked (value_of_word names c) (value_of_word names mark) z))) in
+    apply_value (setting_of names old.given) (value_of_word names h.word) (value_of_word names c ∷ []) level within (awaits (handler_return level within) ∷ catches e ∷ frames names old 0)
+    (charged 1 (exit_made (marked (value_of_word names c) (value_of_word names mark) z))) in
     ap (λ within. on within number) (signal_around names (reverse old.frames.items) a number c mark (suc (length old.frames.items)) h.outside (ap suc (sym (length-reverse old.frames.items))))
     ∙ ap (λ (e : ℕ). on (record around { exits = record { number = e; kind = signal_exit (value_of_word names c) (value_of_word names mark) } ∷ around.exits; handlers = outside }) e) (i.number_is names b)
     ∙ sym (ap (λ hs. signal_under (setting_of names old.given) hs (value_of_word names c) (value_of_word names mark) level around (frames names old 0) z) (handlers_in names old a ∙ there.handlers names)))

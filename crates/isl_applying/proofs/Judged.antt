@@ -1,11 +1,10 @@
 -- The number of arguments is judged.
-use Rattle.std.proofs.Common.{◌≡◌, ℕ, suc, ◌+◌, ◌-◌, ◌≤◌, List, [], length, take, drop, map, Bool, true, false, ap, sym, ◌∙◌, add-one, min, arith}
+use Rattle.std.proofs.Common.{◌≡◌, ℕ, suc, ◌+◌, ◌-◌, List, [], length, take, drop, true, false, ap, sym, ◌∙◌, add-one, min, arith}
 use Rattle.std.specs.Prelude.{reverse, is_some, if◌then◌else◌}
 use Rattle.isl_meaning.specs.Objects.{program_error_class}
 use Rattle.isl_meaning.specs.Signals.{takes}
 use Rattle.isl_plain.specs.Applications.{signal_class}
 use Rattle.isl_store.specs.Words.{values_of}
-use Rattle.isl_store.specs.View.{Beside}
 use Rattle.isl_machine.specs.declared.situation.Around.{Around}
 use Rattle.isl_machine.specs.declared.machine.Machine.{Machine}
 use Rattle.isl_applying.specs.declared.entering.Entering.{Entering}

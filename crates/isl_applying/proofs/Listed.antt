@@ -1,5 +1,5 @@
 -- Lists of operands are made from their end.
-use Rattle.std.proofs.Common.{◌≡◌, ℕ, suc, ◌+◌, ◌-◌, ◌<◌, ◌≤◌, length, List, [], ◌∷◌, ◌++◌, Option, Some, None, refl, ap, sym, ◌∙◌, take, drop, map, arith}
+use Rattle.std.proofs.Common.{◌≡◌, ℕ, ◌+◌, ◌-◌, ◌<◌, ◌≤◌, length, List, [], ◌∷◌, ◌++◌, Option, Some, ap, sym, ◌∙◌, take, drop, arith}
 use Rattle.std.specs.Prelude.{slice_get}
 use Rattle.std.proofs.lemmas.List.{take-append-drop, drop-drop, drop_all, map-append}
 use Rattle.isl_base.specs.model.DataRest.{rest_at}
@@ -13,7 +13,7 @@ use Rattle.isl_store.specs.declared.word.Word.TheVariants.{Nil}
 use Rattle.isl_store.specs.Words.{value_of_word, values_of}
 use Rattle.isl_store.specs.View.{limit_of}
 use Rattle.isl_machine.specs.declared.machine.Machine.{Machine}
-use Rattle.isl_machine.specs.Frames.{last_of, others_of}
+use Rattle.isl_machine.specs.Frames.{last_of}
 use Rattle.isl_machine.specs.View.{top, state}
 use Rattle.isl_machine.specs.Doing.{Gives, Fills, Does}
 use Rattle.isl_machine.proofs.Doing.{alike, given_then, nothing_done}

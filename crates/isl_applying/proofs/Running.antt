@@ -1,12 +1,12 @@
 -- How the methods of a call run.
-use Rattle.std.proofs.Common.{Bor, Global, ◌≡◌, ◌≢◌, ℕ, suc, ◌+◌, ◌≤◌, List, [], ◌∷◌, ◌++◌, length, take, drop, add-one, Option, Some, None, refl, ap, sym, ◌∙◌, arith}
+use Rattle.std.proofs.Common.{Bor, Global, ◌≡◌, ◌≢◌, ℕ, suc, ◌+◌, ◌≤◌, List, [], ◌∷◌, ◌++◌, length, take, drop, Option, Some, None, refl, ap, sym, ◌∙◌, arith}
 use Rattle.std.specs.Prelude.{slice_get, is_some, false, true}
 use Rattle.std.proofs.lemmas.List.{drop_all, append-nil, append_assoc}
 use Rattle.std.specs.declared.rc.Rc.{Rc}
 use Rattle.isl_base.specs.declared.lists.ItemList.{ItemList}
 use Rattle.isl_base.specs.model.DataRest.{rest_at, take_at}
 use Rattle.isl_meaning.specs.Values.{Value, nil}
-use Rattle.isl_meaning.specs.Objects.{Chain, Called, control_error_class}
+use Rattle.isl_meaning.specs.Objects.{Chain, control_error_class}
 use Rattle.isl_meaning.specs.State.{Surroundings, value}
 use Rattle.isl_closure.specs.FlatState.{FlatState}
 use Rattle.isl_plain.specs.Moment.{Setting, Frame, moment, come_to, awaits, method_value, primary_method}
@@ -16,7 +16,6 @@ use Rattle.isl_store.specs.declared.called.Called.{Called as Record}
 use Rattle.isl_store.specs.declared.called.Rest.{Rest}
 use Rattle.isl_store.specs.declared.word.Word.{Word}
 use Rattle.isl_store.specs.Words.{value_of_word, values_of, called_of, rest_of, called_or_none}
-use Rattle.isl_store.specs.View.{Beside}
 use Rattle.isl_machine.specs.declared.frame.Frame.TheVariants as frame
 use Rattle.isl_machine.specs.declared.frame.Outcome.TheVariants as outcome
 use Rattle.isl_machine.specs.declared.situation.Around.{Around}

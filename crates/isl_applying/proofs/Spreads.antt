@@ -1,11 +1,11 @@
 -- The elements of a list become operands, one after another.
-use Rattle.std.proofs.Common.{◌≡◌, ℕ, zero, suc, ◌+◌, ◌-◌, ◌<◌, ◌==◌, ◌≢◌, List, [], ◌∷◌, ◌++◌, length, Bool, true, false, cond, Option, Some, None, refl, ap, sym, ◌∙◌, subst, zero-add, arith, ⊎_elim}
+use Rattle.std.proofs.Common.{◌≡◌, ℕ, suc, ◌+◌, ◌-◌, ◌<◌, ◌==◌, ◌≢◌, List, [], ◌∷◌, ◌++◌, length, Bool, true, false, cond, Some, None, refl, ap, sym, ◌∙◌, subst, zero-add, arith, ⊎_elim}
 use Rattle.std.specs.Prelude.{if◌then◌else◌, ◌||◌}
 use Rattle.std.proofs.lemmas.List.{map-append, append-nil, append_assoc, length-append, length-map}
 use Rattle.std.proofs.lemmas.Bool.{cases_eq}
 use Rattle.std.proofs.lemmas.Bool.Decides.{nat_tests}
 use Rattle.isl_meaning.specs.Values.{Value, object}
-use Rattle.isl_meaning.specs.Objects.{Object, cons, list_class, function_class}
+use Rattle.isl_meaning.specs.Objects.{cons, list_class, function_class}
 use Rattle.isl_meaning.specs.State.{State, Surroundings}
 use Rattle.isl_meaning.specs.Lookup.{is_in}
 use Rattle.isl_meaning.specs.Classes.{fetch}
@@ -22,7 +22,6 @@ use Rattle.isl_store.specs.declared.object.Object.TheVariants as made
 use Rattle.isl_store.specs.declared.store.Store.{Store}
 use Rattle.isl_store.specs.Words.{value_of_word, values_of, object_of}
 use Rattle.isl_store.specs.View.{Beside, state_of, IsFetched}
-use Rattle.isl_machine.specs.declared.situation.Around.{Around}
 use Rattle.isl_machine.specs.declared.situation.Situation.{Situation}
 use Rattle.isl_machine.specs.declared.machine.Machine.{Machine}
 use Rattle.isl_machine.specs.Frames.{frame_slots}
@@ -53,16 +52,16 @@ else_ends names n o f others seen = refl
 pub no_cons_ends : (s : Store) (w : Word) (o : Kept) (n : ℕ) → w ≡ word.Object n → IsFetched s (word.Object n) (Some o) → ((a : Word) (d : Word) → o ≡ made.Cons a d → ⊥) → EndsSo s w false
 no_cons_ends s w o n e x f = record {
   ends = λ names b others seen.
-    ap (λ u. spread_at others seen (value_of_word names u) (fetch (state_of names s b) (value_of_word names u))) e
-    ∙ ap (λ r. spread_at others seen (object n) r) (x.object names b)
-    ∙ else_ends names n o f others seen;
+      ap (λ u. spread_at others seen (value_of_word names u) (fetch (state_of names s b) (value_of_word names u))) e
+      ∙ ap (λ r. spread_at others seen (object n) r) (x.object names b)
+      ∙ else_ends names n o f others seen;
 }
 
 pub nothing_ends : (s : Store) (w : Word) (n : ℕ) → w ≡ word.Object n → IsFetched s (word.Object n) None → EndsSo s w false
 nothing_ends s w n e x = record {
   ends = λ names b others seen.
-    ap (λ u. spread_at others seen (value_of_word names u) (fetch (state_of names s b) (value_of_word names u))) e
-    ∙ ap (λ r. spread_at others seen (object n) r) (x.object names b);
+      ap (λ u. spread_at others seen (value_of_word names u) (fetch (state_of names s b) (value_of_word names u))) e
+      ∙ ap (λ r. spread_at others seen (object n) r) (x.object names b);
 }
 
 pub atom_ends : (s : Store) (w : Word) → w ≢ word.Nil → ((n : ℕ) → w ≡ word.Object n → ⊥) → EndsSo s w false
@@ -85,7 +84,7 @@ pub record Spreading (old now : Machine) (list left : Word) (count : ℕ) (membe
   pub count_is : count ≡ length more
   pub members : (k : ℕ) → member k ≡ is_in k seen
   pub left_is : (names : List (List ℕ)) (b : Beside) (fuel : ℕ)
-    → spread (count + fuel) (state names old b).state [] (value_of_word names list) ≡ behind (values_of names more) (spread fuel (state names old b).state seen (value_of_word names left))
+      → spread (count + fuel) (state names old b).state [] (value_of_word names list) ≡ behind (values_of names more) (spread fuel (state names old b).state seen (value_of_word names left))
 
 pub nothing_spread : (m : Machine) (list : Word) (member : ℕ → Bool) → ((k : ℕ) → member k ≡ false) → Spreading m m list list 0 member
 nothing_spread m list member h = record {
@@ -143,15 +142,15 @@ one_spread old now new list left car cdr count n member after h g f p u =
       count_is = ap (λ k. k + 1) h.count_is ∙ sym (length-append h.more (car ∷ []));
       members = λ k. u k ∙ in_more k n (member k) h.seen (h.members k);
       left_is = λ names b fuel.
-        let z : State = (state names old b).state in
-        let a : Value = value_of_word names car in
-        let rest : Spread = spread fuel z (n ∷ h.seen) (value_of_word names cdr) in
-        let more_fuel : count + 1 + fuel ≡ count + suc fuel = omega arith in
-        ap (λ k. spread k z [] (value_of_word names list)) more_fuel
-        ∙ h.left_is names b (suc fuel)
-        ∙ ap (behind (values_of names h.more)) (spread_one z fuel n h.seen (value_of_word names left) a (value_of_word names cdr) (ap (value_of_word names) here.is_object) (here.there names (record b { frame = frame_slots names old.current old.slots.items })) (sym (h.members n) ∙ f))
-        ∙ ap (λ xs. record { elements = xs; proper = rest.proper }) (sym (append_assoc (values_of names h.more) (a ∷ []) rest.elements))
-        ∙ ap (λ xs. behind xs rest) (sym (map-append (value_of_word names) h.more (car ∷ [])));
+          let z : State = (state names old b).state in
+          let a : Value = value_of_word names car in
+          let rest : Spread = spread fuel z (n ∷ h.seen) (value_of_word names cdr) in
+          let more_fuel : count + 1 + fuel ≡ count + suc fuel = omega arith in
+          ap (λ k. spread k z [] (value_of_word names list)) more_fuel
+          ∙ h.left_is names b (suc fuel)
+          ∙ ap (behind (values_of names h.more)) (spread_one z fuel n h.seen (value_of_word names left) a (value_of_word names cdr) (ap (value_of_word names) here.is_object) (here.there names (record b { frame = frame_slots names old.current old.slots.items })) (sym (h.members n) ∙ f))
+          ∙ ap (λ xs. record { elements = xs; proper = rest.proper }) (sym (append_assoc (values_of names h.more) (a ∷ []) rest.elements))
+          ∙ ap (λ xs. behind xs rest) (sym (map-append (value_of_word names) h.more (car ∷ [])));
     }
 
 -- so many steps are left
@@ -169,10 +168,10 @@ module _ (old now : Machine) (list left : Word) (count limit : ℕ) (member : �
     pushed = h.pushed;
     count_is = h.count_is;
     spread_is = λ names b.
-      ap (λ n. spread n (state names old b).state [] (value_of_word names list)) (steps_left k names b)
-      ∙ h.left_is names b (suc (limit - count - 1))
-      ∙ ap (behind (values_of names h.more)) (e names b (limit - count - 1))
-      ∙ ap (λ xs. record { elements = xs; proper = proper }) (append-nil (values_of names h.more));
+        ap (λ n. spread n (state names old b).state [] (value_of_word names list)) (steps_left k names b)
+        ∙ h.left_is names b (suc (limit - count - 1))
+        ∙ ap (behind (values_of names h.more)) (e names b (limit - count - 1))
+        ∙ ap (λ xs. record { elements = xs; proper = proper }) (append-nil (values_of names h.more));
   }
 
   pub spread_ended : (proper : Bool) → count < limit → EndsSo now.store left proper → IsSpread old now list (record { count = count; proper = proper })
@@ -193,10 +192,10 @@ module _ (old now : Machine) (list left : Word) (count limit : ℕ) (member : �
     pushed = h.pushed;
     count_is = h.count_is;
     spread_is = λ names b.
-      let e : length (state names old b).state.store + 1 ≡ count + 0 = (let d : limit ≡ suc (length (state names old b).state.store) = l names b in omega arith) in
-      ap (λ n. spread n (state names old b).state [] (value_of_word names list)) e
-      ∙ h.left_is names b 0
-      ∙ ap (λ xs. record { elements = xs; proper = false }) (append-nil (values_of names h.more));
+        let e : length (state names old b).state.store + 1 ≡ count + 0 = (let d : limit ≡ suc (length (state names old b).state.store) = l names b in omega arith) in
+        ap (λ n. spread n (state names old b).state [] (value_of_word names list)) e
+        ∙ h.left_is names b 0
+        ∙ ap (λ xs. record { elements = xs; proper = false }) (append-nil (values_of names h.more));
   }
 
 -- a function is applied to the elements
@@ -232,9 +231,9 @@ pub list_applied : (old mid counted new : Machine) (f list : Word) (x : Pushed) 
     → Steps old new (λ names s b. apply_step s (value_of_word names f) (value_of_word names list) (at names old t) (frames names old 0) (state names old b))
 list_applied old mid counted new f list x t is p proper k s =
     let on : Steps mid new (λ names s b. apply_value s (value_of_word names f) (top names mid x.count) t.level (surroundings names mid t.around) (frames names mid x.count) (charged x.count (state names mid b))) =
-      after_store mid counted new (λ m names s z. apply_value s (value_of_word names f) (top names m x.count) t.level (surroundings names m t.around) (frames names m x.count) z) (λ names z. charged x.count z) k.same k.state_is s in
+    after_store mid counted new (λ m names s z. apply_value s (value_of_word names f) (top names m x.count) t.level (surroundings names m t.around) (frames names m x.count) z) (λ names z. charged x.count z) k.same k.state_is s in
     let all : Steps old new (λ names s b. apply_value s (value_of_word names f) (values_of names p.more) t.level (surroundings names old t.around) (frames names old 0) (charged x.count (state names old b))) =
-      then_arguments old mid new p.more x.count t.around (λ names s vs around frames z. apply_value s (value_of_word names f) vs t.level around frames (charged x.count z)) p.pushed p.count_is on in
+    then_arguments old mid new p.more x.count t.around (λ names s vs around frames z. apply_value s (value_of_word names f) vs t.level around frames (charged x.count z)) p.pushed p.count_is on in
     same_moment old new _ _ all (λ names b g.
     ap (λ n. apply_value (setting_of names old.given) (value_of_word names f) (values_of names p.more) t.level (surroundings names old t.around) (frames names old 0) (charged n (state names old b))) (so_many_elements names p.more x.count p.count_is)
     ∙ ap (λ q. list_applied_at names (setting_of names old.given) b old f list t t.level (surroundings names old t.around) true (record { elements = values_of names p.more; proper = q })) (sym proper)
@@ -246,11 +245,11 @@ pub list_not_proper : (old mid counted dropped new : Machine) (f list : Word) (x
     → Steps old new (λ names s b. apply_step s (value_of_word names f) (value_of_word names list) (at names old t) (frames names old 0) (state names old b))
 list_not_proper old mid counted dropped new f list x t is p proper k d s =
     let fewer : Steps counted new (λ names s b. signal_domain s (value_of_word names list) list_class t.level (surroundings names counted t.around) (frames names counted x.count) (state names counted b)) =
-      then_dropped counted dropped new x.count t.around (λ names s around frames z. signal_domain s (value_of_word names list) list_class t.level around frames z) d s in
+    then_dropped counted dropped new x.count t.around (λ names s around frames z. signal_domain s (value_of_word names list) list_class t.level around frames z) d s in
     let on : Steps mid new (λ names s b. signal_domain s (value_of_word names list) list_class t.level (surroundings names mid t.around) (frames names mid x.count) (charged x.count (state names mid b))) =
-      after_store mid counted new (λ m names s z. signal_domain s (value_of_word names list) list_class t.level (surroundings names m t.around) (frames names m x.count) z) (λ names z. charged x.count z) k.same k.state_is fewer in
+    after_store mid counted new (λ m names s z. signal_domain s (value_of_word names list) list_class t.level (surroundings names m t.around) (frames names m x.count) z) (λ names z. charged x.count z) k.same k.state_is fewer in
     let all : Steps old new (λ names s b. signal_domain s (value_of_word names list) list_class t.level (surroundings names old t.around) (frames names old 0) (charged x.count (state names old b))) =
-      then_arguments old mid new p.more x.count t.around (λ names s vs around frames z. signal_domain s (value_of_word names list) list_class t.level around frames (charged x.count z)) p.pushed p.count_is on in
+    then_arguments old mid new p.more x.count t.around (λ names s vs around frames z. signal_domain s (value_of_word names list) list_class t.level around frames (charged x.count z)) p.pushed p.count_is on in
     same_moment old new _ _ all (λ names b g.
     ap (λ n. signal_domain (setting_of names old.given) (value_of_word names list) list_class t.level (surroundings names old t.around) (frames names old 0) (charged n (state names old b))) (so_many_elements names p.more x.count p.count_is)
     ∙ ap (λ q. list_applied_at names (setting_of names old.given) b old f list t t.level (surroundings names old t.around) true (record { elements = values_of names p.more; proper = q })) (sym proper)

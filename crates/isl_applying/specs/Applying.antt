@@ -1,8 +1,7 @@
 -- What is applied, and what code finds of it.
-use Rattle.std.specs.Prelude.{ℕ, List, [], ◌∷◌, map, Option, Some, None}
+use Rattle.std.specs.Prelude.{ℕ, List, map, Option, Some, None}
 use Rattle.isl_meaning.specs.Values.{Value, nil}
 use Rattle.isl_meaning.specs.State.{Surroundings}
-use Rattle.isl_closure.specs.declared.program.FlatProcedure.{FlatProcedure}
 use Rattle.isl_closure.specs.FlatState.{gives}
 use Rattle.isl_closure.specs.FlatState as flat
 use Rattle.isl_plain.specs.Moment.{Setting, Step, ended, some_or, descend}

@@ -24,7 +24,7 @@ pub record GoesOn (s : Store) (w : Word) (n : ℕ) (car cdr : Word) : Type 0 whe
 -- or it ends there
 pub record EndsSo (s : Store) (w : Word) (proper : Bool) : Type 0 where
   pub ends : (names : List (List ℕ)) (b : Beside) (others : ℕ → Value → Spread) (seen : List ℕ)
-    → spread_at others seen (value_of_word names w) (fetch (state_of names s b) (value_of_word names w)) ≡ record { elements = []; proper = proper }
+      → spread_at others seen (value_of_word names w) (fetch (state_of names s b) (value_of_word names w)) ≡ record { elements = []; proper = proper }
 
 abbrev pub IsPart : Store → Word → Part → Type 0
 IsPart s w (Cons n car cdr) = GoesOn s w n car cdr
@@ -41,4 +41,4 @@ pub record IsSpread (old new : Machine) (list : Word) (s : Pushed) : Type 0 wher
   pub pushed : ArePushed old new more
   pub count_is : s.count ≡ length more
   pub spread_is : (names : List (List ℕ)) (b : Beside)
-    → spread (length (state names old b).state.store + 1) (state names old b).state [] (value_of_word names list) ≡ record { elements = values_of names more; proper = s.proper }
+      → spread (length (state names old b).state.store + 1) (state names old b).state [] (value_of_word names list) ≡ record { elements = values_of names more; proper = s.proper }

@@ -7,8 +7,8 @@ ghost use Rattle.isl_machine.specs.View.{Steps, top, frames, state, surroundings
 ghost use Rattle.isl_applying.specs.Entering.{entered_of, entering, in_words, in_rest, in_record, in_cells, IsGivenStack};
 
 use crate::arguments::make_list;
-use crate::classes::PROGRAM_ERROR;
 use crate::cells::{take_procedure_cells, take_record};
+use crate::classes::PROGRAM_ERROR;
 use crate::variables::add_variables;
 use isl_base::NoMemory;
 use isl_closure::FlatProcedure;

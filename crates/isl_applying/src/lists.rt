@@ -30,7 +30,13 @@ pub fn apply_list(
     let elements = push_elements(machine, list)?;
     machine.charge(elements.count as u64)?;
     if elements.proper {
-        apply_value(machine, function, elements.count, situation.level, situation.around)
+        apply_value(
+            machine,
+            function,
+            elements.count,
+            situation.level,
+            situation.around,
+        )
     } else {
         machine.drop_operands(elements.count);
         machine.signal_domain(list, LIST, situation.level, situation.around)

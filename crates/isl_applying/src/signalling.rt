@@ -131,7 +131,11 @@ pub fn signal_condition(
 ) -> Result<(), NoMemory>
     ensures { OnOk result (Steps machine.old machine.new (λ names s b. signal_step s (value_of_word names condition) (value_of_word names mark) (at names machine.old situation) (frames names machine.old 0) (state names machine.old b))) }
 {
-    if machine.given.primitives.is_condition(&machine.store, condition) {
+    if machine
+        .given
+        .primitives
+        .is_condition(&machine.store, condition)
+    {
         machine.control = Control::Signals {
             condition,
             mark,
@@ -140,7 +144,12 @@ pub fn signal_condition(
         };
         Ok(())
     } else {
-        machine.signal_domain(condition, SERIOUS_CONDITION, situation.level, situation.around)
+        machine.signal_domain(
+            condition,
+            SERIOUS_CONDITION,
+            situation.level,
+            situation.around,
+        )
     }
 }
 

@@ -1,5 +1,5 @@
 -- The list is made from its end.
-use Rattle.std.proofs.Common.{◌≡◌, ◌+◌, ◌≤◌, Some, None, ap, arith}
+use Rattle.std.proofs.Common.{◌≡◌, ◌+◌, Some, ap, arith}
 use Rattle.isl_plain.specs.Applications.{listed}
 use Rattle.isl_store.specs.View.{limit_of}
 use Rattle.isl_machine.specs.View.{top}

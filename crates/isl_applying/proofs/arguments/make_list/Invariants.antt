@@ -1,5 +1,4 @@
 -- The list of the last operands, so many as were taken.
-use Rattle.std.proofs.Common.{length, ◌≤◌, ◌≡◌}
 use Rattle.isl_plain.specs.Applications.{listed}
 use Rattle.isl_store.specs.View.{limit_of}
 use Rattle.isl_machine.specs.View.{top}

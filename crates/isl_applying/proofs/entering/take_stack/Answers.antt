@@ -1,6 +1,5 @@
 -- The words are asked for, the arguments counted, and a frame gives them back.
 use Rattle.std.proofs.Common.{refl, arith}
-use Rattle.isl_machine.specs.Frames.{frame_slots}
 use Rattle.isl_applying.proofs.Entries.{stack_given, stack_filled}
 use Rattle.isl_applying.proofs.entering.take_stack.Goals as goal
 

@@ -1,5 +1,5 @@
 -- A level is needed, and then something to enter.
-use Rattle.std.proofs.Common.{◌≡◌, ◌-◌, suc, ap, arith}
+use Rattle.std.proofs.Common.{ap, arith}
 use Rattle.isl_machine.proofs.Stepping.{on_ok}
 use Rattle.isl_applying.proofs.Applying.{no_level, no_code, code_entered}
 use Rattle.isl_applying.specs.Applying.{entered_option}

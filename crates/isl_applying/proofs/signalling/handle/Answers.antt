@@ -1,6 +1,5 @@
 -- The handler is applied above both frames.
-use Rattle.std.proofs.Common.{◌≡◌, ℕ, ap, ◌∙◌}
-use Rattle.isl_machine.specs.declared.situation.Around.{Around}
+use Rattle.std.proofs.Common.{ℕ, ap, ◌∙◌}
 use Rattle.isl_machine.proofs.Stepping.{on_ok}
 use Rattle.isl_applying.proofs.Handling.{handled}
 use Rattle.isl_applying.proofs.signalling.handle.Goals as goal

@@ -1,5 +1,5 @@
 -- The first operand is applied to the others, if there is one.
-use Rattle.std.proofs.Common.{◌≡◌, ◌-◌, arith}
+use Rattle.std.proofs.Common.{arith}
 use Rattle.isl_machine.proofs.Stepping.{on_ok}
 use Rattle.isl_applying.proofs.Firsts.{first_called, none_called}
 use Rattle.isl_applying.proofs.values.call_first.Goals as goal
