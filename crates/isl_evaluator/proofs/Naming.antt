@@ -1,5 +1,5 @@
 -- Variables of names: what stands in the evaluator's tables is what the meaning finds.
-use Rattle.std.proofs.Common.{◌≡◌, ℕ, List, ◌∷◌, Option, Some, None, Result, Ok, Err, OnOk, refl, ap, sym, ◌∙◌, subst}
+use Rattle.std.proofs.Common.{◌≡◌, ℕ, List, ◌∷◌, Option, None, Result, Ok, Err, OnOk, ap, sym, ◌∙◌}
 use Rattle.isl_meaning.specs.Lookup.{text, under_text}
 use Rattle.isl_meaning.specs.Values.{Value}
 use Rattle.isl_plain.specs.Applications.{signal_unbound}
@@ -20,7 +20,7 @@ use Rattle.isl_evaluator.proofs.Lifting.{beside_another}
 -- the machine alone has gone on, and the tables say where
 pub went : (e : Evaluator) (m : Machine) (f g : List (List ℕ) → Setting → Beside → Moment) → Steps e.machine m f
     → ((names : List (List ℕ)) (written unread : List ℕ) (b : Beside) → IsGiven names e.machine.given → Stands names e written unread b
-      → f names (setting_of names e.machine.given) b ≡ g names (setting_of names e.machine.given) b)
+    → f names (setting_of names e.machine.given) b ≡ g names (setting_of names e.machine.given) b)
     → Runs e (record e { machine = m }) g
 went e m f g s same = record {
   given = s.given;
@@ -35,7 +35,7 @@ went e m f g s same = record {
 pub went_with : (e new : Evaluator) (f g : List (List ℕ) → Setting → Beside → Moment) (h : List (List ℕ) → Beside → Beside) → Steps e.machine new.machine f
     → ((names : List (List ℕ)) (written unread : List ℕ) (b : Beside) → Stands names e written unread b → Stands names new written unread (h names b))
     → ((names : List (List ℕ)) (written unread : List ℕ) (b : Beside) → Stands names e written unread b
-      → f names (setting_of names e.machine.given) (h names b) ≡ g names (setting_of names e.machine.given) b)
+    → f names (setting_of names e.machine.given) (h names b) ≡ g names (setting_of names e.machine.given) b)
     → Runs e new g
 went_with e new f g h s stands same = record {
   given = s.given;
@@ -55,7 +55,8 @@ with_dynamic n w names b = record b { dynamics = (text names n, value_of_word na
 
 pub global_stands : (e : Evaluator) (t : NamedValues) (m : Machine) (n : ℕ) (w : Word)
     → ((names : List (List ℕ)) (pairs : List (List ℕ × Value)) → Holds names e.globals pairs → Holds names t ((text names n, value_of_word names w) ∷ pairs))
-    → (names : List (List ℕ)) (written unread : List ℕ) (b : Beside) → Stands names e written unread b → Stands names (record e { machine = m; globals = t }) written unread (with_global n w names b)
+    → (names : List (List ℕ)) (written unread : List ℕ) (b : Beside) → Stands names e written unread b
+    → Stands names (record e { machine = m; globals = t }) written unread (with_global n w names b)
 global_stands e t m n w set names written unread b s = record {
   globals = set names b.globals s.globals;
   dynamics = s.dynamics;
@@ -67,7 +68,8 @@ global_stands e t m n w set names written unread b s = record {
 
 pub dynamic_stands : (e : Evaluator) (t : NamedValues) (m : Machine) (n : ℕ) (w : Word)
     → ((names : List (List ℕ)) (pairs : List (List ℕ × Value)) → Holds names e.dynamics pairs → Holds names t ((text names n, value_of_word names w) ∷ pairs))
-    → (names : List (List ℕ)) (written unread : List ℕ) (b : Beside) → Stands names e written unread b → Stands names (record e { machine = m; dynamics = t }) written unread (with_dynamic n w names b)
+    → (names : List (List ℕ)) (written unread : List ℕ) (b : Beside) → Stands names e written unread b
+    → Stands names (record e { machine = m; dynamics = t }) written unread (with_dynamic n w names b)
 dynamic_stands e t m n w set names written unread b s = record {
   globals = s.globals;
   dynamics = set names b.dynamics s.dynamics;
@@ -78,14 +80,19 @@ dynamic_stands e t m n w set names written unread b s = record {
 }
 
 -- a name has no value: that is signalled
-pub unbound : {T E : Type 0} (r : Result T E) (e : Evaluator) (m : Machine) (n : ℕ) (q : Situation) (pairs : Beside → List (List ℕ × Value)) (next : List (List ℕ) → Value → Step)
+pub unbound : {T E : Type 0} (r : Result T E) (e : Evaluator) (m : Machine) (n : ℕ) (q : Situation) (pairs : Beside → List (List ℕ × Value))
+    (next : List (List ℕ) → Setting → Value → Step)
     → ((names : List (List ℕ)) (written unread : List ℕ) (b : Beside) → Stands names e written unread b → under_text (text names n) (pairs b) ≡ None)
-    → OnOk r (Steps e.machine m (λ names s b. signal_unbound s (text names n) q.level (surroundings names e.machine q.around) (frames names e.machine 0) (state names e.machine b)))
+    → OnOk r (Steps e.machine m (λ names s b. signal_unbound s (text names n) q.level (surroundings names e.machine q.around) (frames names e.machine 0)
+    (state names e.machine b)))
     → OnOk r (Runs e (record e { machine = m }) (λ names s b.
-      some_or (under_text (text s.names n) (pairs b)) (signal_unbound s (text s.names n) (at names e.machine q).level (at names e.machine q).around) (next names) (frames names e.machine 0) (state names e.machine b)))
+    some_or (under_text (text s.names n) (pairs b)) (signal_unbound s (text s.names n) (at names e.machine q).level (at names e.machine q).around)
+    (next names s) (frames names e.machine 0) (state names e.machine b)))
 unfolding situation_in
 unbound (Err x) e m n q pairs next none s = tt
 unbound (Ok x) e m n q pairs next none s =
     went e m _ _ s (λ names written unread b k st.
-    sym (ap (λ (o : Option Value). some_or o (signal_unbound (setting_of names e.machine.given) (text names n) q.level (surroundings names e.machine q.around)) (next names) (frames names e.machine 0) (state names e.machine b))
+    sym (ap (λ (o : Option Value). some_or o
+    (signal_unbound (setting_of names e.machine.given) (text names n) q.level (surroundings names e.machine q.around))
+    (next names (setting_of names e.machine.given)) (frames names e.machine 0) (state names e.machine b))
     (none names written unread b st)))

@@ -38,12 +38,19 @@ impl<'p> Evaluator<'p> {
                 self.machine.gives(word);
                 Ok(())
             }
-            None => self.machine.signal_unbound(name, situation.level, situation.around),
+            None => self
+                .machine
+                .signal_unbound(name, situation.level, situation.around),
         }
     }
 
     /// A dynamic variable is set: that of its innermost binding, or its outermost value.
-    pub fn set_dynamic(&mut self, name: Name, word: Word, situation: Situation) -> Result<(), NoMemory>
+    pub fn set_dynamic(
+        &mut self,
+        name: Name,
+        word: Word,
+        situation: Situation,
+    ) -> Result<(), NoMemory>
         ensures { OnOk result (Runs self.old self.new (λ names s b. set_dynamic_step s (text s.names name.0) (value_of_word names word) (at names self.old.machine situation) (frames names self.old.machine 0) (state names self.old.machine b))) }
     {
         match self.machine.find_binding(name, situation.around.bindings)? {
@@ -57,7 +64,12 @@ impl<'p> Evaluator<'p> {
     }
 
     // The outermost value is set.
-    fn set_outermost(&mut self, name: Name, word: Word, situation: Situation) -> Result<(), NoMemory>
+    fn set_outermost(
+        &mut self,
+        name: Name,
+        word: Word,
+        situation: Situation,
+    ) -> Result<(), NoMemory>
         ensures { OnOk result (Runs self.old self.new (λ names s b. set_outermost_step s (text s.names name.0) (value_of_word names word) (at names self.old.machine situation) (frames names self.old.machine 0) (state names self.old.machine b))) }
     {
         match self.dynamics.get(name) {
@@ -66,7 +78,9 @@ impl<'p> Evaluator<'p> {
                 self.machine.gives(word);
                 Ok(())
             }
-            None => self.machine.signal_unbound(name, situation.level, situation.around),
+            None => self
+                .machine
+                .signal_unbound(name, situation.level, situation.around),
         }
     }
 

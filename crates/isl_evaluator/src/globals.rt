@@ -23,12 +23,19 @@ impl<'p> Evaluator<'p> {
                 self.machine.gives(word);
                 Ok(())
             }
-            None => self.machine.signal_unbound(name, situation.level, situation.around),
+            None => self
+                .machine
+                .signal_unbound(name, situation.level, situation.around),
         }
     }
 
     /// A global variable is set.
-    pub fn set_global(&mut self, name: Name, word: Word, situation: Situation) -> Result<(), NoMemory>
+    pub fn set_global(
+        &mut self,
+        name: Name,
+        word: Word,
+        situation: Situation,
+    ) -> Result<(), NoMemory>
         ensures { OnOk result (Runs self.old self.new (λ names s b. set_global_step s (text s.names name.0) (value_of_word names word) (at names self.old.machine situation) (frames names self.old.machine 0) (state names self.old.machine b))) }
     {
         match self.globals.get(name) {
@@ -37,7 +44,9 @@ impl<'p> Evaluator<'p> {
                 self.machine.gives(word);
                 Ok(())
             }
-            None => self.machine.signal_unbound(name, situation.level, situation.around),
+            None => self
+                .machine
+                .signal_unbound(name, situation.level, situation.around),
         }
     }
 

@@ -66,7 +66,7 @@ pub fn signal_under(machine: &mut Machine<'_>, condition: Word, mark: Word, leve
 
 /// Methods one after another, from one of a list on.
 pub fn apply_each<'p>(machine: &mut Machine<'p>, list: &'p ItemList<ProcedureId>, at: usize, arguments: Rc<Arguments>, level: u64, around: Around) -> Result<(), NoMemory>
-    ensures { OnOk result (Steps machine.old machine.new (λ names s b. apply_each s (drop at list.now) (values_of names arguments.entry.value) level (surroundings names machine.old around) (frames names machine.old 0) (state names machine.old b))) }
+    ensures { OnOk result (Steps machine.old machine.new (λ names s b. apply_each s (drop at list.now) (values_of names arguments.value) level (surroundings names machine.old around) (frames names machine.old 0) (state names machine.old b))) }
 {
     drop(arguments);
     Err(NoMemory)
@@ -74,7 +74,7 @@ pub fn apply_each<'p>(machine: &mut Machine<'p>, list: &'p ItemList<ProcedureId>
 
 /// The before methods are done. (The crate of applications says this of the list of primary methods.)
 pub fn after_before<'p>(machine: &mut Machine<'p>, rest: Rest<'p>, arguments: Rc<Arguments>, word: Word, level: u64, around: Around) -> Result<(), NoMemory>
-    ensures { OnOk result (Steps machine.old machine.new (λ names s b. value_step s (before_wait (rest_of rest.entry) (rest_of rest.entry).primary (values_of names arguments.entry.value) level (surroundings names machine.old around)) (value_of_word names word) (frames names machine.old 0) (state names machine.old b))) }
+    ensures { OnOk result (Steps machine.old machine.new (λ names s b. value_step s (before_wait (rest_of rest.entry) (rest_of rest.entry).primary (values_of names arguments.value) level (surroundings names machine.old around)) (value_of_word names word) (frames names machine.old 0) (state names machine.old b))) }
 {
     drop(arguments);
     Err(NoMemory)
@@ -82,7 +82,7 @@ pub fn after_before<'p>(machine: &mut Machine<'p>, rest: Rest<'p>, arguments: Rc
 
 /// The primary method has a value.
 pub fn after_primary<'p>(machine: &mut Machine<'p>, rest: Rest<'p>, arguments: Rc<Arguments>, word: Word, level: u64, around: Around) -> Result<(), NoMemory>
-    ensures { OnOk result (Steps machine.old machine.new (λ names s b. value_step s (primary_method (rest_of rest.entry).after (values_of names arguments.entry.value) level (surroundings names machine.old around)) (value_of_word names word) (frames names machine.old 0) (state names machine.old b))) }
+    ensures { OnOk result (Steps machine.old machine.new (λ names s b. value_step s (primary_method (rest_of rest.entry).after (values_of names arguments.value) level (surroundings names machine.old around)) (value_of_word names word) (frames names machine.old 0) (state names machine.old b))) }
 {
     drop(arguments);
     Err(NoMemory)

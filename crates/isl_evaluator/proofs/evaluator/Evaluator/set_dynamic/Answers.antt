@@ -1,5 +1,5 @@
 -- The variable of the innermost binding, or the outermost value.
-use Rattle.std.proofs.Common.{Some, None, subst}
+use Rattle.std.proofs.Common.{Some, subst}
 use Rattle.std.proofs.lemmas.Result.{on_ok_weaker}
 use Rattle.isl_meaning.specs.Lookup.{text, set_at}
 use Rattle.isl_closure.specs.FlatState.{gives, on_state}
@@ -18,8 +18,10 @@ returns-in-Some c =
     let n = c.args.name.0 in
     let mid = c.find_binding.new.self in
     let m = c.gives.new.self in
-    found_runs e mid m n c.in-Some.number q (λ names v frs z. ended (gives (value_of_word names c.args.word) (on_state (λ y. set_at (Some v) (value_of_word names c.args.word) y) z)) frs) (λ names s. set_outermost_step s (text names n) (value_of_word names c.args.word) (at names e.machine q))
-    (subst (IsBindingFound e.machine mid n q.around.bindings) c.in-Some.is c.in_ok-find_binding.ensures)
+    found_runs e mid m n c.in-Some.number q
+    (λ names v frs z. ended (gives (value_of_word names c.args.word) (on_state (λ y. set_at (Some v) (value_of_word names c.args.word) y) z)) frs)
+    (λ names s. set_outermost_step s (text s.names n) (value_of_word names c.args.word) (at names e.machine q))
+    (subst (IsBindingFound e.machine mid n q.around.bindings) c.in-Some.is c.in_ok-number.ensures)
     (variable_set mid m c.set_variable.new.self c.in-Some.number c.args.word c.set_variable.ensures c.gives.ensures)
 
 pub returns-in-None : goal.returns-in-None
@@ -29,6 +31,8 @@ returns-in-None c =
     let n = c.args.name.0 in
     let mid = c.find_binding.new.self in
     on_ok_weaker c.set_outermost.result
-    (unfound_runs e c.set_outermost.new.self mid n q (λ names v frs z. ended (gives (value_of_word names c.args.word) (on_state (λ y. set_at (Some v) (value_of_word names c.args.word) y) z)) frs) (λ names s at_q. set_outermost_step s (text names n) (value_of_word names c.args.word) at_q)
-    (subst (IsBindingFound e.machine mid n q.around.bindings) c.in-None.is c.in_ok-find_binding.ensures))
+    (unfound_runs e c.set_outermost.new.self mid n q
+    (λ names v frs z. ended (gives (value_of_word names c.args.word) (on_state (λ y. set_at (Some v) (value_of_word names c.args.word) y) z)) frs)
+    (λ names s at_q. set_outermost_step s (text s.names n) (value_of_word names c.args.word) at_q)
+    (subst (IsBindingFound e.machine mid n q.around.bindings) c.in-None.is c.in_ok-number.ensures))
     c.set_outermost.ensures

@@ -19,13 +19,15 @@ returns-in_ok-set-in-Some c =
     (global_stands e c.set.new.self c.gives.new.self n c.args.word c.in_ok-set-in-Some.ensures.ok)
     (λ names written unread b st.
     sym (ap (λ o. some_or o (signal_unbound (setting_of names e.machine.given) (text names n) (at names e.machine q).level (at names e.machine q).around)
-      (λ old rest y. ended (gives (value_of_word names c.args.word) (on_state (λ (x : State). record x { globals = (text names n, value_of_word names c.args.word) ∷ x.globals }) y)) rest)
-      (frames names e.machine 0) (state names e.machine b))
+    (λ old rest y. ended (gives (value_of_word names c.args.word)
+    (on_state (λ (x : State). record x { globals = (text names n, value_of_word names c.args.word) ∷ x.globals }) y)) rest)
+    (frames names e.machine 0) (state names e.machine b))
     (c.in-Some.ensures names b.globals st.globals)))
 
 pub returns-in-None : goal.returns-in-None
 returns-in-None c =
     let n = c.args.name.0 in
     unbound c.signal_unbound.result c.args.self.now c.signal_unbound.new.self n c.args.situation (λ b. b.globals)
-    (λ names old rest y. ended (gives (value_of_word names c.args.word) (on_state (λ (x : State). record x { globals = (text names n, value_of_word names c.args.word) ∷ x.globals }) y)) rest)
+    (λ names s old rest y. ended (gives (value_of_word names c.args.word)
+    (on_state (λ (x : State). record x { globals = (text s.names n, value_of_word names c.args.word) ∷ x.globals }) y)) rest)
     (λ names written unread b st. c.in-None.ensures names b.globals st.globals) c.signal_unbound.ensures
