@@ -1,5 +1,5 @@
 -- Looking for the innermost binding of a name, one frame after another.
-use Rattle.std.proofs.Common.{Bor, ◌≡◌, ℕ, ◌+◌, Bool, true, false, List, [], ◌∷◌, ◌++◌, Option, Some, None, refl, ap, sym, ◌∙◌, subst, length, drop, arith, zero-add, add_assoc}
+use Rattle.std.proofs.Common.{◌≡◌, ℕ, ◌+◌, Bool, true, false, List, [], ◌∷◌, ◌++◌, Option, Some, None, refl, ap, sym, ◌∙◌, length, drop, arith, zero-add, add_assoc}
 use Rattle.std.specs.Prelude.{reverse, slice_get, option_map, is_some, if◌then◌else◌}
 use Rattle.std.proofs.lemmas.List.{drop_all}
 use Rattle.isl_base.specs.model.DataRest.{rest_at}
@@ -69,76 +69,19 @@ binding_next names (frame.Binds bs n m) = refl
 pub bindings_linked : (names : List (List ℕ)) → AreLinked Bindings (binding_link names)
 bindings_linked names = record { next_is = binding_next names }
 
--- other frames bind nothing
-pub binds_only : (names : List (List ℕ)) (w : Frame) → ((bs : Bor (List FlatDynBinding)) (first next : ℕ) → w ≡ frame.Binds bs first next → ⊥) → binding_link names w ≡ None
-binds_only names (frame.SetLocal p s) h = refl
-binds_only names (frame.SetGlobal n s) h = refl
-binds_only names (frame.DefGlobal n) h = refl
-binds_only names (frame.Sequence fs n s) h = refl
-binds_only names (frame.Clause cs n s) h = refl
-binds_only names (frame.Binding bs n b s) h = refl
-binds_only names (frame.Argument o fs n s) h = refl
-binds_only names (frame.DynamicValue bs n b s) h = refl
-binds_only names (frame.AppliedFunction l s) h = refl
-binds_only names (frame.AppliedList f s) h = refl
-binds_only names (frame.WhileTest t b s) h = refl
-binds_only names (frame.WhileBody t b s) h = refl
-binds_only names (frame.ReturnValue x s) h = refl
-binds_only names frame.LastSegment h = refl
-binds_only names (frame.CatchTag b s) h = refl
-binds_only names (frame.ThrowTag f s) h = refl
-binds_only names (frame.ThrowValue t s) h = refl
-binds_only names (frame.SetDynamic n s) h = refl
-binds_only names (frame.DefDynamic n) h = refl
-binds_only names (frame.HandlerValue b s) h = refl
-binds_only names (frame.SignalCondition f s) h = refl
-binds_only names (frame.SignalMark c s) h = refl
-binds_only names (frame.ContinueCondition f s) h = refl
-binds_only names (frame.ContinueValue c s) h = refl
-binds_only names (frame.Kept o) h = refl
-binds_only names (frame.Methods ms n vs l r) h = refl
-binds_only names (frame.BeforeMethods r vs l q) h = refl
-binds_only names (frame.PrimaryMethod r vs l q) h = refl
-binds_only names (frame.HandlerReturn l q) h = refl
-binds_only names (frame.MainForm n) h = refl
-binds_only names (frame.MainForms l fs n) h = refl
-binds_only names (frame.Block n e o) h = refl
-binds_only names (frame.Catch n t e) h = refl
-binds_only names (frame.Signal n c m e) h = refl
-binds_only names (frame.Tagbody n fs s) h = refl
-binds_only names (frame.Cleans f s) h = refl
-binds_only names (frame.RestoresStack n) h = refl
-binds_only names (frame.RestoresSlots saved) h = refl
-binds_only names (frame.DropsSlots n) h = refl
-binds_only names (frame.Handles w n) h = refl
-binds_only names (frame.Binds bs n m) h = absurd (h bs n m refl)
-
-pub nothing_bound : (names : List (List ℕ)) (n : ℕ) (w : Frame) (bound : Bound) → ((bs : Bor (List FlatDynBinding)) (first next : ℕ) → w ≡ frame.Binds bs first next → ⊥)
-    → IsBoundBy names n w bound
-nothing_bound names n w bound h = record {
-  bound_by = λ l e. let none : binding_link names w ≡ None = binds_only names w h in absurd (cc);
-}
-
-pub list_bound : (names : List (List ℕ)) (n : ℕ) (w : Frame) (bs : Bor (List FlatDynBinding)) (first next : ℕ) (bound : Bound) → w ≡ frame.Binds bs first next
-    → IsBound names n (bindings_in names (dynamics_of bs.now) first) bound → IsBoundBy names n w bound
-list_bound names n w bs first next bound e is = record {
-  bound_by = λ l h.
-    let same : Some (record { items = bindings_in names (dynamics_of bs.now) first; next = next }) ≡ Some l = sym (ap (binding_link names) e) ∙ h in
-    let items : bindings_in names (dynamics_of bs.now) first ≡ l.items = cc in
-    let P : List (List ℕ × ℕ) → Type 0 = λ xs. IsBound names n xs bound in subst P items is;
-}
-
 -- in a list: how far it was searched
 pub record IsSought (names : List (List ℕ)) (n : ℕ) (bs : List FlatDynBinding) (at : ℕ) : Type 0 where
-  pub variable : (first : ℕ) → variable_of names n (bindings_in names (dynamics_of bs) first) ≡ variable_of names n (bindings_in names (dynamics_of (drop at bs)) (first + at))
-  pub count : (first : ℕ) → passed (is_named names n) (bindings_in names (dynamics_of bs) first) ≡ at + passed (is_named names n) (bindings_in names (dynamics_of (drop at bs)) (first + at))
+  pub variable : (first : ℕ) → variable_of names n (bindings_in names (dynamics_of bs) first)
+      ≡ variable_of names n (bindings_in names (dynamics_of (drop at bs)) (first + at))
+  pub count : (first : ℕ) → passed (is_named names n) (bindings_in names (dynamics_of bs) first)
+      ≡ at + passed (is_named names n) (bindings_in names (dynamics_of (drop at bs)) (first + at))
 
 pub seeking_begins : (names : List (List ℕ)) (n : ℕ) (bs : List FlatDynBinding) → IsSought names n bs 0
 seeking_begins names n bs = record {
   variable = λ first. ap (λ k. variable_of names n (bindings_in names (dynamics_of bs) k)) (let e : first ≡ first + 0 = omega arith in e);
   count = λ first.
-    ap (λ k. passed (is_named names n) (bindings_in names (dynamics_of bs) k)) (let e : first ≡ first + 0 = omega arith in e)
-    ∙ sym (zero-add (passed (is_named names n) (bindings_in names (dynamics_of bs) (first + 0))));
+      ap (λ k. passed (is_named names n) (bindings_in names (dynamics_of bs) k)) (let e : first ≡ first + 0 = omega arith in e)
+      ∙ sym (zero-add (passed (is_named names n) (bindings_in names (dynamics_of bs) (first + 0))));
 }
 
 module _ (names : List (List ℕ)) (n : ℕ) (bs : List FlatDynBinding) (at : ℕ) (b : FlatDynBinding) (there : slice_get bs at ≡ Some b) where
@@ -147,34 +90,41 @@ module _ (names : List (List ℕ)) (n : ℕ) (bs : List FlatDynBinding) (at : �
       ≡ (text names b.name.0, first + at) ∷ bindings_in names (dynamics_of (drop (at + 1) bs)) (first + (at + 1))
   left_bindings first =
       ap (λ xs. bindings_in names (dynamics_of xs) (first + at)) (rest_at bs at b there)
-      ∙ ap (λ k. (text names b.name.0, first + at) ∷ bindings_in names (dynamics_of (drop (at + 1) bs)) k) (let e : first + at + 1 ≡ first + (at + 1) = omega arith in e)
+      ∙ ap (λ k. (text names b.name.0, first + at) ∷ bindings_in names (dynamics_of (drop (at + 1) bs)) k)
+      (let e : first + at + 1 ≡ first + (at + 1) = omega arith in e)
 
   -- a binding of another name
   pub seeking_goes : is_named names n (text names b.name.0, 0) ≡ false → IsSought names n bs at → IsSought names n bs (at + 1)
   seeking_goes other s = record {
     variable = λ first.
-      s.variable first ∙ ap (variable_of names n) (left_bindings first)
-      ∙ ap (λ t. option_map (λ (x : List ℕ × ℕ). x.1) (if t then Some (text names b.name.0, first + at) else first_that (is_named names n) (bindings_in names (dynamics_of (drop (at + 1) bs)) (first + (at + 1))))) other;
+        s.variable first ∙ ap (variable_of names n) (left_bindings first)
+        ∙ ap (λ t. option_map (λ (x : List ℕ × ℕ). x.1)
+        (if t then Some (text names b.name.0, first + at) else first_that (is_named names n)
+        (bindings_in names (dynamics_of (drop (at + 1) bs)) (first + (at + 1))))) other;
     count = λ first.
-      let left : List (List ℕ × ℕ) = bindings_in names (dynamics_of (drop (at + 1) bs)) (first + (at + 1)) in
-      let one : passed (is_named names n) (bindings_in names (dynamics_of (drop at bs)) (first + at)) ≡ 1 + passed (is_named names n) left =
+        let left : List (List ℕ × ℕ) = bindings_in names (dynamics_of (drop (at + 1) bs)) (first + (at + 1)) in
+        let one : passed (is_named names n) (bindings_in names (dynamics_of (drop at bs)) (first + at)) ≡ 1 + passed (is_named names n) left =
         ap (passed (is_named names n)) (left_bindings first) ∙ ap (λ t. (if t then 1 else 1 + passed (is_named names n) left)) other in
-      let so_far : passed (is_named names n) (bindings_in names (dynamics_of bs) first) ≡ at + passed (is_named names n) (bindings_in names (dynamics_of (drop at bs)) (first + at)) = s.count first in
-      omega arith;
+        let so_far : passed (is_named names n) (bindings_in names (dynamics_of bs) first)
+        ≡ at + passed (is_named names n) (bindings_in names (dynamics_of (drop at bs)) (first + at)) = s.count first in
+        omega arith;
   }
 
   -- one of the name
   pub is_there : is_named names n (text names b.name.0, 0) ≡ true → IsSought names n bs at → IsThere names n bs at
   is_there this s = record {
     variable = λ first.
-      s.variable first ∙ ap (variable_of names n) (left_bindings first)
-      ∙ ap (λ t. option_map (λ (x : List ℕ × ℕ). x.1) (if t then Some (text names b.name.0, first + at) else first_that (is_named names n) (bindings_in names (dynamics_of (drop (at + 1) bs)) (first + (at + 1))))) this;
+        s.variable first ∙ ap (variable_of names n) (left_bindings first)
+        ∙ ap (λ t. option_map (λ (x : List ℕ × ℕ). x.1)
+        (if t then Some (text names b.name.0, first + at) else first_that (is_named names n)
+        (bindings_in names (dynamics_of (drop (at + 1) bs)) (first + (at + 1))))) this;
     passed_so_many = λ first.
-      let left : List (List ℕ × ℕ) = bindings_in names (dynamics_of (drop (at + 1) bs)) (first + (at + 1)) in
-      let one : passed (is_named names n) (bindings_in names (dynamics_of (drop at bs)) (first + at)) ≡ 1 =
+        let left : List (List ℕ × ℕ) = bindings_in names (dynamics_of (drop (at + 1) bs)) (first + (at + 1)) in
+        let one : passed (is_named names n) (bindings_in names (dynamics_of (drop at bs)) (first + at)) ≡ 1 =
         ap (passed (is_named names n)) (left_bindings first) ∙ ap (λ t. (if t then 1 else 1 + passed (is_named names n) left)) this in
-      let so_far : passed (is_named names n) (bindings_in names (dynamics_of bs) first) ≡ at + passed (is_named names n) (bindings_in names (dynamics_of (drop at bs)) (first + at)) = s.count first in
-      omega arith;
+        let so_far : passed (is_named names n) (bindings_in names (dynamics_of bs) first)
+        ≡ at + passed (is_named names n) (bindings_in names (dynamics_of (drop at bs)) (first + at)) = s.count first in
+        omega arith;
   }
 
 -- none is left
@@ -184,10 +134,11 @@ is_nowhere names n bs at e s =
     record {
       variable = λ first. s.variable first ∙ ap (λ xs. variable_of names n (bindings_in names (dynamics_of xs) (first + at))) none;
       passed_so_many = λ first.
-        let so_far : passed (is_named names n) (bindings_in names (dynamics_of bs) first) ≡ at + passed (is_named names n) (bindings_in names (dynamics_of (drop at bs)) (first + at)) = s.count first in
-        let nothing : passed (is_named names n) (bindings_in names (dynamics_of (drop at bs)) (first + at)) ≡ 0 =
+          let so_far : passed (is_named names n) (bindings_in names (dynamics_of bs) first)
+          ≡ at + passed (is_named names n) (bindings_in names (dynamics_of (drop at bs)) (first + at)) = s.count first in
+          let nothing : passed (is_named names n) (bindings_in names (dynamics_of (drop at bs)) (first + at)) ≡ 0 =
           ap (λ xs. passed (is_named names n) (bindings_in names (dynamics_of xs) (first + at))) none in
-        omega arith;
+          omega arith;
     }
 
 -- in two lists, one after the other
@@ -205,14 +156,17 @@ found_in_front names n v (x ∷ xs) ys h = by (is_named names n x) refl (found_i
         (rw e ((behind rest).0), rw e (ap (λ k. 1 + k) ((behind rest).1)))
 
 none_in_front : (names : List (List ℕ)) (n : ℕ) (xs ys : List (List ℕ × ℕ)) → variable_of names n xs ≡ None
-    → (variable_of names n (xs ++ ys) ≡ variable_of names n ys) × (passed (is_named names n) (xs ++ ys) ≡ passed (is_named names n) xs + passed (is_named names n) ys)
+    → (variable_of names n (xs ++ ys) ≡ variable_of names n ys) ×
+    (passed (is_named names n) (xs ++ ys) ≡ passed (is_named names n) xs + passed (is_named names n) ys)
 none_in_front names n [] ys h = (refl, sym (zero-add (passed (is_named names n) ys)))
 none_in_front names n (x ∷ xs) ys h = by (is_named names n x) refl (none_in_front names n xs ys)
   where
     by : (t : Bool) → is_named names n x ≡ t
         → (variable_of names n xs ≡ None
-        → (variable_of names n (xs ++ ys) ≡ variable_of names n ys) × (passed (is_named names n) (xs ++ ys) ≡ passed (is_named names n) xs + passed (is_named names n) ys))
-        → (variable_of names n (x ∷ xs ++ ys) ≡ variable_of names n ys) × (passed (is_named names n) (x ∷ xs ++ ys) ≡ passed (is_named names n) (x ∷ xs) + passed (is_named names n) ys)
+        → (variable_of names n (xs ++ ys) ≡ variable_of names n ys) ×
+        (passed (is_named names n) (xs ++ ys) ≡ passed (is_named names n) xs + passed (is_named names n) ys))
+        → (variable_of names n (x ∷ xs ++ ys) ≡ variable_of names n ys) ×
+        (passed (is_named names n) (x ∷ xs ++ ys) ≡ passed (is_named names n) (x ∷ xs) + passed (is_named names n) ys)
     by true e behind = let some : Some x.1 ≡ None = rw e at h in absurd (cc)
     by false e behind =
         let rest : variable_of names n xs ≡ None = rw e at h in
@@ -230,7 +184,8 @@ pub frames_begin : (names : List (List ℕ)) (n : ℕ) (items : List Frame) (lin
 frames_begin names n items link = record { variable = refl; so_far = sym (zero-add (passed (is_named names n) (around_from names items link))) }
 
 -- the bindings of the nearest frame, and those behind it
-nearest_bindings : (names : List (List ℕ)) (n : ℕ) (items : List Frame) (left behind : ℕ) (w : Frame) (here : Bound) → IsNearest Bindings items left w behind → IsBoundBy names n w here
+nearest_bindings : (names : List (List ℕ)) (n : ℕ) (items : List Frame) (left behind : ℕ) (w : Frame) (here : Bound)
+    → IsNearest Bindings items left w behind → IsBoundBy names n w here
     → (xs : List (List ℕ × ℕ)) × (around_from names items left ≡ xs ++ around_from names items behind) × IsBound names n xs here
 nearest_bindings names n items left behind w here near bound = by (binding_link names w) refl
   where
@@ -240,18 +195,24 @@ nearest_bindings names n items left behind w here near bound = by (binding_link 
         let links : next_of Bindings w ≡ Some near.next = near.links in
         let none : next_of Bindings w ≡ None = binding_next names w ∙ ap (option_map (λ (l : Linking (List ℕ × ℕ)). l.next)) e in
         absurd (cc)
-    by (Some l) e =
-        (l.items, one_further Bindings (binding_link names) items left behind w l.items (bindings_linked names) near (ap (option_map (λ (l : Linking (List ℕ × ℕ)). l.items)) e), bound.bound_by l e)
+    by (Some l) e = (
+      l.items,
+      one_further Bindings (binding_link names) items left behind w l.items (bindings_linked names) near
+          (ap (option_map (λ (l : Linking (List ℕ × ℕ)). l.items)) e),
+      bound.bound_by l e,
+    )
 
 pub frames_go : (names : List (List ℕ)) (n : ℕ) (items : List Frame) (link left behind count more : ℕ) (w : Frame) (here : Bound)
-    → more ≡ count + here.passed → here.variable ≡ None → IsSeeking names n items link left count → IsNearest Bindings items left w behind → IsBoundBy names n w here
+    → more ≡ count + here.passed → here.variable ≡ None → IsSeeking names n items link left count → IsNearest Bindings items left w behind
+    → IsBoundBy names n w here
     → IsSeeking names n items link behind more
 frames_go names n items link left behind count more w here e none s near bound =
     let (xs, there, is) = nearest_bindings names n items left behind w here near bound in
     let front = none_in_front names n xs (around_from names items behind) (is.variable ∙ none) in
     let here_passed : here.passed ≡ passed (is_named names n) xs = is.passed_so_many in
-    let two : passed (is_named names n) (around_from names items left) ≡ passed (is_named names n) xs + passed (is_named names n) (around_from names items behind) =
-      ap (passed (is_named names n)) there ∙ front.1 in
+    let two : passed (is_named names n) (around_from names items left)
+    ≡ passed (is_named names n) xs + passed (is_named names n) (around_from names items behind) =
+    ap (passed (is_named names n)) there ∙ front.1 in
     let so_far : passed (is_named names n) (around_from names items link) ≡ count + passed (is_named names n) (around_from names items left) = s.so_far in
     record {
       variable = s.variable ∙ ap (variable_of names n) there ∙ front.0;
@@ -259,7 +220,8 @@ frames_go names n items link left behind count more w here e none s near bound =
     }
 
 pub frames_found : (names : List (List ℕ)) (n : ℕ) (items : List Frame) (link left behind count more v : ℕ) (w : Frame) (here : Bound)
-    → more ≡ count + here.passed → here.variable ≡ Some v → IsSeeking names n items link left count → IsNearest Bindings items left w behind → IsBoundBy names n w here
+    → more ≡ count + here.passed → here.variable ≡ Some v → IsSeeking names n items link left count → IsNearest Bindings items left w behind
+    → IsBoundBy names n w here
     → IsBound names n (around_from names items link) (record { variable = here.variable; passed = more })
 frames_found names n items link left behind count more v w here e some s near bound =
     let (xs, there, is) = nearest_bindings names n items left behind w here near bound in
@@ -272,7 +234,8 @@ frames_found names n items link left behind count more v w here e some s near bo
       passed_so_many = omega arith;
     }
 
-pub frames_end : (names : List (List ℕ)) (n : ℕ) (items : List Frame) (link left count : ℕ) → IsSeeking names n items link left count → IsNoneNearer Bindings items 0 left
+pub frames_end : (names : List (List ℕ)) (n : ℕ) (items : List Frame) (link left count : ℕ) → IsSeeking names n items link left count
+    → IsNoneNearer Bindings items 0 left
     → IsBound names n (around_from names items link) (record { variable = None; passed = count })
 frames_end names n items link left count s none =
     let nothing : around_from names items left ≡ [] = none_further Bindings (binding_link names) items left (bindings_linked names) none in
@@ -294,7 +257,8 @@ none_there None e = refl
 
 -- those that were passed are counted
 pub binding_counted : (old new : Machine) (n link : ℕ) (bound : Bound)
-    → ((names : List (List ℕ)) → IsSpelling names old.given.spellings → IsBound names n (around_from names old.frames.items link) bound) → IsCharged old new bound.passed
+    → ((names : List (List ℕ)) → IsSpelling names old.given.spellings → IsBound names n (around_from names old.frames.items link) bound)
+    → IsCharged old new bound.passed
     → IsBindingFound old new n link bound.variable
 binding_counted old new n link bound is c = record {
   same = c.same;

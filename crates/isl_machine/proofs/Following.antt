@@ -1,5 +1,5 @@
 -- What is found from a link on, by the nearest frame that links and those behind it, for links of any kind.
-use Rattle.std.proofs.Common.{◌≡◌, ℕ, suc, ◌<◌, List, [], ◌++◌, Option, Some, None, refl, ap, sym, ◌∙◌, min, arith}
+use Rattle.std.proofs.Common.{◌≡◌, ℕ, suc, List, [], ◌++◌, Option, Some, None, refl, ap, sym, ◌∙◌, min}
 use Rattle.std.specs.Prelude.{reverse, option_map}
 use Rattle.isl_machine.specs.declared.frame.Frame.{Frame}
 use Rattle.isl_machine.specs.declared.links.Kind.{Kind}
@@ -18,19 +18,22 @@ not_linked {X = X} kind of w a h = by (of w) (sym (a.next_is w) ∙ h)
     by None e = refl
     by (Some l) e = absurd (cc)
 
-unlinked : {X : Type 0} (kind : Kind) (of : Frame → Option (Linking X)) (items : List Frame) (low high : ℕ) → AreLinked kind of → IsNoneNearer kind items low high
+unlinked : {X : Type 0} (kind : Kind) (of : Frame → Option (Linking X)) (items : List Frame) (low high : ℕ) → AreLinked kind of
+    → IsNoneNearer kind items low high
     → Unlinked of (reverse items) low high
 unlinked kind of items low high a f = record {
   none = λ i w l h e. not_linked kind of w a (f i w l h (sym (above_reverse items i) ∙ e));
 }
 
 -- nothing is left
-pub none_further : {X : Type 0} (kind : Kind) (of : Frame → Option (Linking X)) (items : List Frame) (link : ℕ) → AreLinked kind of → IsNoneNearer kind items 0 link
+pub none_further : {X : Type 0} (kind : Kind) (of : Frame → Option (Linking X)) (items : List Frame) (link : ℕ) → AreLinked kind of
+    → IsNoneNearer kind items 0 link
     → chained of (reverse items) link ≡ []
 none_further kind of items link a f = nothing_near of (reverse items) link (unlinked kind of items 0 link a f)
 
 -- the things of the nearest frame that links, and those behind it
-pub one_further : {X : Type 0} (kind : Kind) (of : Frame → Option (Linking X)) (items : List Frame) (link behind : ℕ) (w : Frame) (xs : List X) → AreLinked kind of
+pub one_further : {X : Type 0} (kind : Kind) (of : Frame → Option (Linking X)) (items : List Frame) (link behind : ℕ) (w : Frame) (xs : List X)
+    → AreLinked kind of
     → IsNearest kind items link w behind → option_map (λ (l : Linking X). l.items) (of w) ≡ Some xs
     → chained of (reverse items) link ≡ xs ++ chained of (reverse items) behind
 one_further {X = X} kind of items link behind w xs a n made = by (of w) refl (sym (a.next_is w) ∙ n.links) made
@@ -53,10 +56,3 @@ has_things {X = X} kind of items link behind w a n h = by (of w) (sym (a.next_is
     by : (o : Option (Linking X)) → option_map (λ (l : Linking X). l.next) o ≡ Some n.next → option_map (λ (l : Linking X). l.items) o ≡ None → ⊥
     by None e f = cc
     by (Some l) e f = cc
-
--- the link behind is below
-pub falls : (kind : Kind) (items : List Frame) (link behind : ℕ) (w : Frame) → IsNearest kind items link w behind → behind < link
-falls kind items link behind w n =
-    let e : behind ≡ min n.next n.place = n.capped in
-    let b : n.place < link = n.below in
-    omega arith

@@ -22,9 +22,11 @@ own_exits names a ws s = refl
 pub transferred : (old new : Machine) (place : ExitPlace) (exit : Option ℕ) (v : List (List ℕ) → Value) (landing : Landing) (s : Situation)
     → ((names : List (List ℕ)) → exit ≡ exit_of place (at names old s).environment)
     → Steps old new (λ names t b. transfer t exit (v names) landing s.level (surroundings names old s.around) (frames names old 0) (state names old b))
-    → Steps old new (λ names t b. transfer t (exit_of place (at names old s).environment) (v names) landing (at names old s).level (at names old s).around (frames names old 0) (state names old b))
+    → Steps old new (λ names t b. transfer t (exit_of place (at names old s).environment) (v names) landing (at names old s).level (at names old s).around
+    (frames names old 0) (state names old b))
 unfolding situation_in
 transferred old new place exit v landing s is x =
     followed old new (λ names t b. transfer t exit (v names) landing s.level (surroundings names old s.around) (frames names old 0) (state names old b))
-    (λ names t b. transfer t (exit_of place (at names old s).environment) (v names) landing (at names old s).level (at names old s).around (frames names old 0) (state names old b)) x
+    (λ names t b. transfer t (exit_of place (at names old s).environment) (v names) landing (at names old s).level (at names old s).around
+    (frames names old 0) (state names old b)) x
     (λ names t b. ap (λ e. transfer t e (v names) landing s.level (surroundings names old s.around) (frames names old 0) (state names old b)) (is names))

@@ -15,7 +15,7 @@ use Rattle.isl_machine.specs.Chains.{Linking, chained}
 use Rattle.isl_machine.specs.Frames.{exit_link}
 use Rattle.isl_machine.specs.Links.{next_of, IsNoneNearer, IsNearest}
 use Rattle.isl_machine.specs.Exits.{exit_of, meets, IsFirst, IsLookedFor}
-use Rattle.isl_machine.proofs.Linking.{above, above_reverse, Unlinked, nothing_near, near}
+use Rattle.isl_machine.proofs.Following.{AreLinked, none_further, one_further, has_things}
 
 -- the exits are those of frames that link exits
 next_exit : (names : List (List ℕ)) (w : Frame) → next_of Exits w ≡ option_map (λ (l : Linking Exit). l.next) (exit_link names w)
@@ -61,37 +61,18 @@ next_exit names (frame.RestoresSlots saved) = refl
 next_exit names (frame.Handles w n) = refl
 next_exit names (frame.Binds bs n m) = refl
 
-no_exit : (names : List (List ℕ)) (w : Frame) → next_of Exits w ≡ None → exit_link names w ≡ None
-no_exit names w h = by (exit_link names w) (sym (next_exit names w) ∙ h)
-  where
-    by : (o : Option (Linking Exit)) → option_map (λ (l : Linking Exit). l.next) o ≡ None → o ≡ None
-    by None e = refl
-    by (Some l) e = absurd (cc)
-
-unlinked : (names : List (List ℕ)) (items : List Frame) (low high : ℕ) → IsNoneNearer Exits items low high → Unlinked (exit_link names) (reverse items) low high
-unlinked names items low high f = record {
-  none = λ i w l h e. no_exit names w (f i w l h (sym (above_reverse items i) ∙ e));
-}
+pub exits_linked : (names : List (List ℕ)) → AreLinked Exits (exit_link names)
+exits_linked names = record { next_is = next_exit names }
 
 -- no exit is left
 pub none_left : (names : List (List ℕ)) (items : List Frame) (link : ℕ) → IsNoneNearer Exits items 0 link → chained (exit_link names) (reverse items) link ≡ []
-none_left names items link f = nothing_near (exit_link names) (reverse items) link (unlinked names items 0 link f)
+none_left names items link f = none_further Exits (exit_link names) items link (exits_linked names) f
 
 -- the innermost one, and those behind it
 pub first_left : (names : List (List ℕ)) (items : List Frame) (link behind : ℕ) (w : Frame) (e : Here) → IsNearest Exits items link w behind
     → option_map (λ (l : Linking Exit). l.items) (exit_link names w) ≡ Some (exit_of names e ∷ [])
     → chained (exit_link names) (reverse items) link ≡ exit_of names e ∷ chained (exit_link names) (reverse items) behind
-first_left names items link behind w e n made = by (exit_link names w) refl (sym (next_exit names w) ∙ n.links) made
-  where
-    by : (o : Option (Linking Exit)) → exit_link names w ≡ o → option_map (λ (l : Linking Exit). l.next) o ≡ Some n.next → option_map (λ (l : Linking Exit). l.items) o ≡ Some (exit_of names e ∷ [])
-        → chained (exit_link names) (reverse items) link ≡ exit_of names e ∷ chained (exit_link names) (reverse items) behind
-    by None is next here = absurd (cc)
-    by (Some l) is next here =
-        let same : l.items ≡ exit_of names e ∷ [] = cc in
-        let on : l.next ≡ n.next = cc in
-        near (exit_link names) (reverse items) link n.place w l (above_reverse items n.place ∙ n.there) n.below is (unlinked names items (suc n.place) link n.innermost)
-        ∙ ap (λ xs. xs ++ chained (exit_link names) (reverse items) (min l.next n.place)) same
-        ∙ ap (λ m. exit_of names e ∷ chained (exit_link names) (reverse items) m) (ap (λ m. min m n.place) on ∙ sym n.capped)
+first_left names items link behind w e n made = one_further Exits (exit_link names) items link behind w (exit_of names e ∷ []) (exits_linked names) n made
 
 -- how far the search has come
 pub record IsLooking (names : List (List ℕ)) (sought : Sought) (items : List Frame) (link left count : ℕ) : Type 0 where
@@ -151,8 +132,4 @@ found_none names sought items link left count l n =
 -- a frame that links exits makes one
 pub makes_one : (names : List (List ℕ)) (items : List Frame) (link behind : ℕ) (w : Frame) → IsNearest Exits items link w behind
     → option_map (λ (l : Linking Exit). l.items) (exit_link names w) ≡ None → ⊥
-makes_one names items link behind w n h = by (exit_link names w) (sym (next_exit names w) ∙ n.links) h
-  where
-    by : (o : Option (Linking Exit)) → option_map (λ (l : Linking Exit). l.next) o ≡ Some n.next → option_map (λ (l : Linking Exit). l.items) o ≡ None → ⊥
-    by None a b = cc
-    by (Some l) a b = cc
+makes_one names items link behind w n h = has_things Exits (exit_link names) items link behind w (exits_linked names) n h

@@ -12,7 +12,8 @@ use Rattle.isl_machine.specs.declared.frame.Frame.{Frame}
 use Rattle.isl_machine.specs.Frames.{situation_in, environment_in}
 
 -- the method of an environment
-pub own_method : (names : List (List ℕ)) (a : Activation) (ws : List Frame) (s : Situation) → called_or_none names a.method ≡ (situation_in names a ws s).environment.method
+pub own_method : (names : List (List ℕ)) (a : Activation) (ws : List Frame) (s : Situation)
+    → called_or_none names a.method ≡ (situation_in names a ws s).environment.method
 unfolding situation_in environment_in
 own_method names a ws s = refl
 

@@ -56,11 +56,11 @@ cell_slotted old new n w t s c e l v = record {
   count = c;
   same = e ∙ ap (λ (u : Store). record old { slots = new.slots; current = record old.current { slots = new.current.slots }; store = u }) (sym (ap (λ (m : Machine). m.store) e));
   state_is = λ names b.
-    ap (λ (m : Machine). state names m b) e
-    ∙ ap (λ xs. seen names t (record b { frame = xs }))
-    (ap (λ xs. map (slot_of names) (last_of new.current.slots xs)) s ∙ frame_more names old.current.slots new.current.slots old.slots.items (slot.Cell n) c)
-    ∙ v names (record b { frame = frame_slots names old.current old.slots.items ++ holds_cell n ∷ [] })
-    ∙ ap (λ m. record (with_values (value_of_word names w ∷ []) (state names old b)) { frame = frame_slots names old.current old.slots.items ++ holds_cell m ∷ [] }) (l names (record b { frame = frame_slots names old.current old.slots.items }));
+      ap (λ (m : Machine). state names m b) e
+      ∙ ap (λ xs. seen names t (record b { frame = xs }))
+      (ap (λ xs. map (slot_of names) (last_of new.current.slots xs)) s ∙ frame_more names old.current.slots new.current.slots old.slots.items (slot.Cell n) c)
+      ∙ v names (record b { frame = frame_slots names old.current old.slots.items ++ holds_cell n ∷ [] })
+      ∙ ap (λ m. record (with_values (value_of_word names w ∷ []) (state names old b)) { frame = frame_slots names old.current old.slots.items ++ holds_cell m ∷ [] }) (l names (record b { frame = frame_slots names old.current old.slots.items }));
 }
 
 pub cell_made : {E : Type 0} (old new : Machine) (h : Home) (n : ℕ) (w : Word) (t : Store) (r : Result Unit E) → h ≡ Cell
@@ -101,11 +101,11 @@ one_made old now new hs ws at h w e k f s = record {
   count = omega (arith, f.count, s.count, length-append f.more (s.slot ∷ []));
   same = s.same ∙ ap (λ (m : Machine). record m { slots = new.slots; current = record m.current { slots = new.current.slots }; store = new.store }) f.same;
   left = λ names b.
-    ap (with_slots (drop (at + 1) hs) (values_of names (drop (at + 1) ws))) (s.state_is names b)
-    ∙ sym (slots_more h (drop (at + 1) hs) (value_of_word names w) (values_of names (drop (at + 1) ws)) (state names now b))
-    ∙ ap (λ xs. with_slots xs (value_of_word names w ∷ values_of names (drop (at + 1) ws)) (state names now b)) (sym (rest_at hs at h e))
-    ∙ ap (λ xs. with_slots (drop at hs) (values_of names xs) (state names now b)) (sym (rest_at ws at w k))
-    ∙ f.left names b;
+      ap (with_slots (drop (at + 1) hs) (values_of names (drop (at + 1) ws))) (s.state_is names b)
+      ∙ sym (slots_more h (drop (at + 1) hs) (value_of_word names w) (values_of names (drop (at + 1) ws)) (state names now b))
+      ∙ ap (λ xs. with_slots xs (value_of_word names w ∷ values_of names (drop (at + 1) ws)) (state names now b)) (sym (rest_at hs at h e))
+      ∙ ap (λ xs. with_slots (drop at hs) (values_of names xs) (state names now b)) (sym (rest_at ws at w k))
+      ∙ f.left names b;
 }
 
 finished : (old now : Machine) (hs : List Home) (ws : List Word) (at : ℕ) → Filling old now hs ws at

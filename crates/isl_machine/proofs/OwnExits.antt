@@ -108,7 +108,8 @@ pub record IsCounting (items : List Frame) (link left count : ℕ) : Type 0 wher
 pub count_begins : (items : List Frame) (link : ℕ) → IsCounting items link link 0
 count_begins items link = record { so_far = sym (zero-add (length (chained own_link (reverse items) link))) }
 
-pub count_goes : (items : List Frame) (link left behind count more : ℕ) (w : Frame) → more ≡ suc count → IsCounting items link left count → IsNearest Own items left w behind
+pub count_goes : (items : List Frame) (link left behind count more : ℕ) (w : Frame) → more ≡ suc count → IsCounting items link left count
+    → IsNearest Own items left w behind
     → IsCounting items link behind more
 count_goes items link left behind count more w e c n = by (own_link w) refl
   where
@@ -120,14 +121,15 @@ count_goes items link left behind count more w e c n = by (own_link w) refl
     by (Some l) is =
         let made : option_map (λ (l : Linking ℕ). l.items) (own_link w) ≡ Some l.items = ap (option_map (λ (l : Linking ℕ). l.items)) is in
         let single : Some (length l.items) ≡ Some 1 =
-          sym (ap (option_map (λ (l : Linking ℕ). length l.items)) is) ∙ one_each w ∙ ap (option_map (λ (l : Linking ℕ). 1)) is in
+        sym (ap (option_map (λ (l : Linking ℕ). length l.items)) is) ∙ one_each w ∙ ap (option_map (λ (l : Linking ℕ). 1)) is in
         let one : length l.items ≡ 1 = cc in
         let there : length (chained own_link (reverse items) left) ≡ length l.items + length (chained own_link (reverse items) behind) =
-          ap length (one_further Own own_link items left behind w l.items own_linked n made) ∙ length-append l.items (chained own_link (reverse items) behind) in
+        ap length (one_further Own own_link items left behind w l.items own_linked n made) ∙ length-append l.items (chained own_link (reverse items) behind) in
         let so_far : length (chained own_link (reverse items) link) ≡ count + length (chained own_link (reverse items) left) = c.so_far in
         record { so_far = omega arith }
 
-pub count_ends : (items : List Frame) (link left count : ℕ) → IsCounting items link left count → IsNoneNearer Own items 0 left → count ≡ length (chained own_link (reverse items) link)
+pub count_ends : (items : List Frame) (link left count : ℕ) → IsCounting items link left count → IsNoneNearer Own items 0 left
+    → count ≡ length (chained own_link (reverse items) link)
 count_ends items link left count c n =
     let none : length (chained own_link (reverse items) left) ≡ 0 = ap length (none_further Own own_link items left own_linked n) in
     let so_far : length (chained own_link (reverse items) link) ≡ count + length (chained own_link (reverse items) left) = c.so_far in
@@ -136,9 +138,6 @@ count_ends items link left count c n =
 -- how far they are passed
 pub record IsPassing (items : List Frame) (link others left more : ℕ) : Type 0 where
   pub same : slice_get (chained own_link (reverse items) link) others ≡ slice_get (chained own_link (reverse items) left) more
-
-pub passing_begins : (items : List Frame) (link others : ℕ) → IsPassing items link others link others
-passing_begins items link others = record { same = refl }
 
 -- the nearest frame has one exit, which is found, or none
 nearest_one : (items : List Frame) (left behind : ℕ) (w : Frame) (o : Option ℕ) → IsNearest Own items left w behind
@@ -152,7 +151,8 @@ nearest_one items left behind w None near made = by (own_link w) (sym (own_next 
     by None e f = absurd (cc)
     by (Some l) e f = absurd (cc)
 
-pub found_there : (items : List Frame) (link others left behind more : ℕ) (w : Frame) (o : Option ℕ) → more ≡ 0 → IsPassing items link others left more → IsNearest Own items left w behind
+pub found_there : (items : List Frame) (link others left behind more : ℕ) (w : Frame) (o : Option ℕ) → more ≡ 0 → IsPassing items link others left more
+    → IsNearest Own items left w behind
     → option_map (λ (l : Linking ℕ). l.items) (own_link w) ≡ option_map (λ (n : ℕ). n ∷ []) o
     → o ≡ slice_get (chained own_link (reverse items) link) others
 found_there items link others left behind more w o zero_left p n made =
@@ -165,7 +165,8 @@ past_first (x ∷ []) ys zero e h = absurd (omega arith)
 past_first [] ys n e h = absurd (omega arith)
 past_first (x ∷ y ∷ xs) ys n e h = absurd (omega arith)
 
-pub passing_goes : (items : List Frame) (link others left behind more : ℕ) (w : Frame) → 0 < more → IsPassing items link others left more → IsNearest Own items left w behind
+pub passing_goes : (items : List Frame) (link others left behind more : ℕ) (w : Frame) → 0 < more → IsPassing items link others left more
+    → IsNearest Own items left w behind
     → IsPassing items link others behind (more - 1)
 passing_goes items link others left behind more w h p n = by (own_link w) refl
   where
@@ -177,13 +178,13 @@ passing_goes items link others left behind more w h p n = by (own_link w) refl
     by (Some l) is =
         let made : option_map (λ (l : Linking ℕ). l.items) (own_link w) ≡ Some l.items = ap (option_map (λ (l : Linking ℕ). l.items)) is in
         let single : Some (length l.items) ≡ Some 1 =
-          sym (ap (option_map (λ (l : Linking ℕ). length l.items)) is) ∙ one_each w ∙ ap (option_map (λ (l : Linking ℕ). 1)) is in
+        sym (ap (option_map (λ (l : Linking ℕ). length l.items)) is) ∙ one_each w ∙ ap (option_map (λ (l : Linking ℕ). 1)) is in
         let one : length l.items ≡ 1 = cc in
         record {
           same =
-            p.same
-            ∙ ap (λ xs. slice_get xs more) (one_further Own own_link items left behind w l.items own_linked n made)
-            ∙ past_first l.items (chained own_link (reverse items) behind) more one h;
+              p.same
+              ∙ ap (λ xs. slice_get xs more) (one_further Own own_link items left behind w l.items own_linked n made)
+              ∙ past_first l.items (chained own_link (reverse items) behind) more one h;
         }
 
 pub passing_ends : (items : List Frame) (link others left more : ℕ) → IsPassing items link others left more → IsNoneNearer Own items 0 left

@@ -72,7 +72,12 @@ fn bound_by(frame: &Frame<'_>, name: Name, spellings: Spellings) -> Result<Bound
 }
 
 // The first one of a list, where the variables have numbers from that one on.
-fn bound_in(list: &FlatDynBindings, first: usize, name: Name, spellings: Spellings) -> Result<Bound, NoMemory>
+fn bound_in(
+    list: &FlatDynBindings,
+    first: usize,
+    name: Name,
+    spellings: Spellings,
+) -> Result<Bound, NoMemory>
     ensures { IfOk result (λ bound. (names : List (List ℕ)) → IsSpelling names spellings → IsBound names name.0 (bindings_in names (dynamics_of list.now) first) bound) }
 {
     match place_in(list, name, spellings) {

@@ -16,7 +16,13 @@ use isl_closure::{FlatCore, FlatDynBindings};
 impl<'p> Machine<'p> {
     /// The values of dynamic bindings are there, which are the last operands: they become variables, and the body is
     /// evaluated with the bindings around it.
-    pub fn dynamic_body(&mut self, list: &'p FlatDynBindings, count: usize, body: &'p FlatCore, situation: Situation) -> Result<(), NoMemory>
+    pub fn dynamic_body(
+        &mut self,
+        list: &'p FlatDynBindings,
+        count: usize,
+        body: &'p FlatCore,
+        situation: Situation,
+    ) -> Result<(), NoMemory>
         ensures { OnOk result (Steps self.old self.new (λ names s b. dynamic_let_step s (dynamics_of list.now) body.now (top names self.old count) (at names self.old situation) (frames names self.old count) (state names self.old b))) }
     {
         let first = self.store.variable_count();

@@ -17,7 +17,12 @@ use std::rc::Rc;
 
 impl<'p> Machine<'p> {
     /// The function of a procedure is made, with what it captures.
-    pub fn make_function(&mut self, procedure: usize, parts: &'p FlatPartList, situation: Situation) -> Result<(), NoMemory>
+    pub fn make_function(
+        &mut self,
+        procedure: usize,
+        parts: &'p FlatPartList,
+        situation: Situation,
+    ) -> Result<(), NoMemory>
         ensures { OnOk result (Steps self.old self.new (λ names s b. ended (make_closure s.limit procedure (map (captured_part (at names self.old situation).environment (state names self.old b)) parts.now) (state names self.old b) (λ v after. gives v after)) (frames names self.old 0))) }
     {
         let captured = self.captured_parts(parts, situation)?;
@@ -33,7 +38,11 @@ impl<'p> Machine<'p> {
     }
 
     // What is captured of these places.
-    fn captured_parts(&self, parts: &FlatPartList, situation: Situation) -> Result<CapturedList<'p>, NoMemory>
+    fn captured_parts(
+        &self,
+        parts: &FlatPartList,
+        situation: Situation,
+    ) -> Result<CapturedList<'p>, NoMemory>
         ensures { IfOk result (λ list. (names : List (List ℕ)) (b : Beside) → map (captured_of names) list ≡ map (captured_part (at names self.now situation).environment (state names self.now b)) parts.now) }
     {
         let mut list = ItemList::new(self.given.alloc);

@@ -29,18 +29,40 @@ impl<'p> Machine<'p> {
     }
 
     /// A transfer to a segment of a tagbody.
-    pub fn go(&mut self, exit: ExitPlace, segment: u32, situation: Situation) -> Result<(), NoMemory>
+    pub fn go(
+        &mut self,
+        exit: ExitPlace,
+        segment: u32,
+        situation: Situation,
+    ) -> Result<(), NoMemory>
         ensures { OnOk result (Steps self.old self.new (λ names s b. transfer s (exit_of exit (at names self.old situation).environment) nil (at_segment segment) (at names self.old situation).level (at names self.old situation).around (frames names self.old 0) (state names self.old b))) }
     {
         let number = self.exit_at(exit, situation)?;
-        self.transfer(number, Word::Nil, Landing::Segment(segment), situation.level, situation.around)
+        self.transfer(
+            number,
+            Word::Nil,
+            Landing::Segment(segment),
+            situation.level,
+            situation.around,
+        )
     }
 
     /// A transfer out of a block, which has that value.
-    pub fn return_from(&mut self, place: ExitPlace, word: Word, situation: Situation) -> Result<(), NoMemory>
+    pub fn return_from(
+        &mut self,
+        place: ExitPlace,
+        word: Word,
+        situation: Situation,
+    ) -> Result<(), NoMemory>
         ensures { OnOk result (Steps self.old self.new (λ names s b. value_step s (return_value place (at names self.old situation)) (value_of_word names word) (frames names self.old 0) (state names self.old b))) }
     {
         let number = self.exit_at(place, situation)?;
-        self.transfer(number, word, Landing::Segment(0), situation.level, situation.around)
+        self.transfer(
+            number,
+            word,
+            Landing::Segment(0),
+            situation.level,
+            situation.around,
+        )
     }
 }

@@ -14,7 +14,13 @@ use isl_closure::{FlatBindingList, FlatCore};
 
 impl<'p> Machine<'p> {
     /// The values of bindings are there, which are the last operands: the variables are made, and the body is evaluated.
-    pub fn let_body(&mut self, list: &'p FlatBindingList, count: usize, body: &'p FlatCore, situation: Situation) -> Result<(), NoMemory>
+    pub fn let_body(
+        &mut self,
+        list: &'p FlatBindingList,
+        count: usize,
+        body: &'p FlatCore,
+        situation: Situation,
+    ) -> Result<(), NoMemory>
         ensures { OnOk result (Steps self.old self.new (λ names s b. let_step s (bindings_of list.now) body.now (top names self.old count) (at names self.old situation) (frames names self.old count) (state names self.old b))) }
     {
         if self.take_binding_cells(list)? {
@@ -26,7 +32,13 @@ impl<'p> Machine<'p> {
     }
 
     // The words of the cells are there: the variables are made, and the body is evaluated.
-    fn enter_let(&mut self, list: &'p FlatBindingList, count: usize, body: &'p FlatCore, situation: Situation) -> Result<(), NoMemory>
+    fn enter_let(
+        &mut self,
+        list: &'p FlatBindingList,
+        count: usize,
+        body: &'p FlatCore,
+        situation: Situation,
+    ) -> Result<(), NoMemory>
         ensures { OnOk result (Steps self.old self.new (λ names s b. let_enters (bindings_of list.now) body.now (top names self.old count) (at names self.old situation) (frames names self.old count) (state names self.old b))) }
     {
         let before = self.slot_count();

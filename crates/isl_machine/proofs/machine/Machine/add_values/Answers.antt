@@ -13,7 +13,8 @@ loop-at-init c = adding_begins c.args.self.now (last_of c.args.count c.args.self
 pub loop-at-preserved : goal.loop-at-preserved
 loop-at-preserved c =
     adding_goes c.args.self.now c.loop-at.self _ (last_of c.args.count c.args.self.now.operands.items) c.loop-at.at c.operand_at-word.result
-    (from_last c.args.self.now.operands.items c.args.count c.loop-at.at (c.len.result - c.args.count + c.loop-at.at) c.operand_at-word.result c.requires (omega arith)
+    (from_last c.args.self.now.operands.items c.args.count c.loop-at.at (c.len.result - c.args.count + c.loop-at.at) c.operand_at-word.result c.requires
+    (omega arith)
     (sym (ap (λ (m : Machine). slice_get m.operands.items (c.len.result - c.args.count + c.loop-at.at)) c.loop-at.invariant.same) ∙ c.operand_at-word.ensures))
     c.loop-at.invariant refl c.in_ok-add_variable.ensures.ok
 

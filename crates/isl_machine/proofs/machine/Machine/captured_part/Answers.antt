@@ -17,4 +17,5 @@ returns-in_ok-exit-in-Exit c names b =
 pub returns-in_ok-method-in-Method : goal.returns-in_ok-method-in-Method
 returns-in_ok-method-in-Method c names b =
     let m = c.args.self.now in
-    ap of_method (c.in_ok-method-in-Method.ensures names c.args.situation) ∙ ap (captured_part (at names m c.args.situation).environment (state names m b)) (sym c.in-Method.is)
+    ap of_method (c.in_ok-method-in-Method.ensures names c.args.situation)
+    ∙ ap (captured_part (at names m c.args.situation).environment (state names m b)) (sym c.in-Method.is)

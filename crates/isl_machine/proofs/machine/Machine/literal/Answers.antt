@@ -20,20 +20,24 @@ use Rattle.isl_machine.proofs.machine.Machine.literal.Goals as goal
 pub returns-in-None : goal.returns-in-None
 returns-in-None c =
     let m = c.args.self.now in
-    literal_is m c.gives.new.self c.args.id c.args.situation None Nil (slice_get_past m.given.program.now.literals c.args.id c.in-None.ensures) (λ names fs z g. refl) c.gives.ensures
+    literal_is m c.gives.new.self c.args.id c.args.situation None Nil (slice_get_past m.given.program.now.literals c.args.id c.in-None.ensures)
+    (λ names fs z g. refl) c.gives.ensures
 
 pub returns-in-Some-Datum : goal.returns-in-Some-Datum
 returns-in-Some-Datum c =
     let m = c.args.self.now in
-    literal_is m c.gives-in-Some-Datum.new.self c.args.id c.args.situation (Some (row.Datum c.in-Some-Datum.field-0-0)) c.literal_word.result (c.in-Some-Datum.ensures ∙ ap Some c.in-Some-Datum.field-0-is)
+    literal_is m c.gives-in-Some-Datum.new.self c.args.id c.args.situation (Some (row.Datum c.in-Some-Datum.field-0-0)) c.literal_word.result
+    (c.in-Some-Datum.ensures ∙ ap Some c.in-Some-Datum.field-0-is)
     (λ names fs z g. ap (λ v. moment (come_to (value v)) fs z)
-    (c.literal_word.ensures names (tables m.given.program.now) c.in-Some-Datum.field-0-0 (layout names m.given g) (c.in-Some-Datum.ensures ∙ ap Some c.in-Some-Datum.field-0-is)))
+    (c.literal_word.ensures names (tables m.given.program.now) c.in-Some-Datum.field-0-0 (layout names m.given g)
+    (c.in-Some-Datum.ensures ∙ ap Some c.in-Some-Datum.field-0-is)))
     c.gives-in-Some-Datum.ensures
 
 pub returns-in-Some-Class : goal.returns-in-Some-Class
 returns-in-Some-Class c =
     let m = c.args.self.now in
-    literal_is m c.gives-in-Some-Class.new.self c.args.id c.args.situation (Some (row.Class c.in-Some-Class.class)) c.class_word.result (c.in-Some-Class.ensures ∙ ap Some c.in-Some-Class.field-0-is)
+    literal_is m c.gives-in-Some-Class.new.self c.args.id c.args.situation (Some (row.Class c.in-Some-Class.class)) c.class_word.result
+    (c.in-Some-Class.ensures ∙ ap Some c.in-Some-Class.field-0-is)
     (λ names fs z g. ap (λ v. moment (come_to (value v)) fs z) (c.class_word.ensures names (tables m.given.program.now) (layout names m.given g)))
     c.gives-in-Some-Class.ensures
 
@@ -42,7 +46,8 @@ returns-in-Some c =
     let m = c.args.self.now in
     let q = c.args.situation in
     let n = c.in-Some-Function.name in
-    literal_is m c.gives-in-Some.new.self c.args.id q (Some (row.Function n)) c.function_word.result (c.in-Some-Function.ensures ∙ ap Some c.in-Some-Function.field-0-is)
+    literal_is m c.gives-in-Some.new.self c.args.id q (Some (row.Function n)) c.function_word.result
+    (c.in-Some-Function.ensures ∙ ap Some c.in-Some-Function.field-0-is)
     (λ names fs z g.
     ap (λ v. moment (come_to (value v)) fs z) (c.function_word.ensures names (tables m.given.program.now) (layout names m.given g))
     ∙ named_function (function_row names m.given.program.now.functions (text names n.0)) c.in-Some.field-0
@@ -55,6 +60,7 @@ pub returns-in-None-callee : goal.returns-in-None-callee
 returns-in-None-callee c =
     let m = c.args.self.now in
     on_ok c.signal_undefined.result _ _
-    (undefined_literal m c.signal_undefined.new.self c.args.id c.args.situation c.in-Some-Function.name (c.in-Some-Function.ensures ∙ ap Some c.in-Some-Function.field-0-is)
+    (undefined_literal m c.signal_undefined.new.self c.args.id c.args.situation c.in-Some-Function.name
+    (c.in-Some-Function.ensures ∙ ap Some c.in-Some-Function.field-0-is)
     (λ names g. c.in-None-callee.ensures names (tables m.given.program.now) (layout names m.given g)))
     c.signal_undefined.ensures

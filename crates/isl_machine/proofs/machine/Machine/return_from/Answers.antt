@@ -8,5 +8,6 @@ use Rattle.isl_machine.proofs.machine.Machine.return_from.Goals as goal
 pub returns : goal.returns
 returns c =
     on_ok_weaker c.transfer.result
-    (transferred c.args.self.now c.transfer.new.self c.args.place c.in_ok-number.number (λ names. value_of_word names c.args.word) (at_segment 0) c.args.situation c.in_ok-number.ensures)
+    (transferred c.args.self.now c.transfer.new.self c.args.place c.in_ok-number.number (λ names. value_of_word names c.args.word)
+    (at_segment 0) c.args.situation c.in_ok-number.ensures)
     c.transfer.ensures

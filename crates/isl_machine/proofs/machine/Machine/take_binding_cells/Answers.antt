@@ -26,4 +26,5 @@ loop-at-preserved c =
 
 pub returns : goal.returns
 returns c =
-    all_taken c.args.self.now c.loop-at.self (binding_homes (bindings_of c.args.list.now)) c.loop-at.at (omega (arith, homes_counted c.args.list.now)) c.loop-at.invariant
+    all_taken c.args.self.now c.loop-at.self (binding_homes (bindings_of c.args.list.now)) c.loop-at.at
+    (omega (arith, homes_counted c.args.list.now)) c.loop-at.invariant

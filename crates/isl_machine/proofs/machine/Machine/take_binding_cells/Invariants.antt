@@ -9,4 +9,5 @@ use Rattle.isl_machine.specs.Doing.{Gives}
 use Rattle.isl_machine.proofs.machine.Machine.take_binding_cells.Given as goal
 
 abbrev pub invariant-loop-at : goal.invariant-loop-at
-invariant-loop-at l = Gives l.initial.self l.self (λ names z. celled (limit_of l.initial.self.given.limit) (take l.at (binding_homes (bindings_of l.list))) z) Nil
+invariant-loop-at l = Gives l.initial.self l.self
+    (λ names z. celled (limit_of l.initial.self.given.limit) (take l.at (binding_homes (bindings_of l.list))) z) Nil
