@@ -26,7 +26,7 @@ use Rattle.isl_machine.specs.Chains.{Linking, chained}
 use Rattle.isl_machine.specs.Frames.{last_of, others_of, slot_of, frame_slots, around_in, own_in, environment_in, situation_in, frames_in, own_link}
 use Rattle.isl_machine.specs.View.{Steps, IsGiven, setting_of, at, state, top, frames, surroundings}
 use Rattle.isl_machine.specs.Operands.{IsDropped}
-use Rattle.isl_applying.specs.Variables.{AreSlotted}
+use Rattle.isl_machine.specs.Variables.{AreSlotted}
 use Rattle.isl_applying.specs.Entering.{entered_of, captured_in}
 use Rattle.isl_machine.proofs.Pushes.{one_on, others_none, LinksNothing, around_stays}
 use Rattle.isl_applying.proofs.MoreSlots.{below_more}

@@ -3,6 +3,7 @@ use Rattle.std.proofs.Common.{Bor, ◌≡◌, ℕ, zero, suc, ◌+◌, ◌-◌, 
 use Rattle.std.specs.Prelude.{slice_get, filter, ◌&&◌, MatchOption, option_copied}
 use Rattle.std.proofs.lemmas.List.{map-append, take-map, length-append, length-take-le, length-drop}
 use Rattle.std.proofs.lemmas.Option.{slice_get_past}
+use Rattle.isl_base.specs.model.DataRest.{take_at}
 use Rattle.isl_meaning.specs.declared.program.ProgramRows.{ProgramRows}
 use Rattle.isl_meaning.specs.declared.program.ClassRow.{ClassRow}
 use Rattle.isl_meaning.specs.declared.program.GenericRow.{GenericRow}
@@ -23,7 +24,6 @@ use Rattle.isl_machine.specs.declared.machine.Machine.{Machine}
 use Rattle.isl_machine.specs.Frames.{frame_slots, last_of}
 use Rattle.isl_machine.specs.View.{state}
 use Rattle.isl_applying.specs.Generics.{HasPast, AreBelow, AreClassesOf, IsChainFor}
-use Rattle.isl_applying.proofs.Running.{take_there}
 
 -- nothing is below what is no class
 past_below : (program : ProgramRows) (c m : ℕ) → length program.classes ≤ c → is_below program c m ≡ false
@@ -59,7 +59,7 @@ no_class m = record { count = refl; seen = λ names b. refl }
 pub class_there : (m : Machine) (ws : List Word) (n : ℕ) (w : Word) (c : ℕ) (cs : List ℕ) → slice_get ws n ≡ Some w → HasClassOf m.store w c → AreClassesOf m (take n ws) cs
     → AreClassesOf m (take (n + 1) ws) (cs ++ c ∷ [])
 class_there m ws n w c cs h k a = record {
-  count = length-append cs (c ∷ []) ∙ ap (λ i. i + 1) a.count ∙ sym (ap length (take_there ws n w h) ∙ length-append (take n ws) (w ∷ []));
+  count = length-append cs (c ∷ []) ∙ ap (λ i. i + 1) a.count ∙ sym (ap length (take_at ws n w h) ∙ length-append (take n ws) (w ∷ []));
   seen = λ names b.
     let f : List Word → List ℕ = λ us. map (class_of (state names m b).state) (values_of names us) in
     let one : c ∷ [] ≡ f (w ∷ []) = ap (λ (x : ℕ). x ∷ []) (sym (k.seen names (record b { frame = frame_slots names m.current m.slots.items }))) in
@@ -67,7 +67,7 @@ class_there m ws n w c cs h k a = record {
     ∙ ap (λ xs. f (take n ws) ++ xs) one
     ∙ sym (map-append (class_of (state names m b).state) (values_of names (take n ws)) (values_of names (w ∷ [])))
     ∙ ap (map (class_of (state names m b).state)) (sym (map-append (value_of_word names) (take n ws) (w ∷ [])))
-    ∙ ap f (sym (take_there ws n w h));
+    ∙ ap f (sym (take_at ws n w h));
 }
 
 -- as many classes as are required

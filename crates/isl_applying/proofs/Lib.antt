@@ -1,6 +1,5 @@
 pub mod CellWords
 pub mod Listed
-pub mod NewSlots
 pub mod MoreSlots
 pub mod Entries
 pub mod Bodies
@@ -17,3 +16,5 @@ pub mod Handlers
 pub mod Handling
 pub mod Callees
 pub mod Spreads
+pub mod Firsts
+pub mod NamedCalls

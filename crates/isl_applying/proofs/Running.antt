@@ -1,12 +1,10 @@
 -- How the methods of a call run.
-use Rattle.std.proofs.Common.{Bor, Global, ◌≡◌, ◌≢◌, ℕ, ◌+◌, ◌≤◌, List, [], ◌∷◌, ◌++◌, length, take, drop, add-one, Option, Some, None, refl, ap, sym, ◌∙◌, arith}
-use Rattle.std.specs.Prelude.{slice_get, is_none, false, true}
+use Rattle.std.proofs.Common.{Bor, Global, ◌≡◌, ◌≢◌, ℕ, suc, ◌+◌, ◌≤◌, List, [], ◌∷◌, ◌++◌, length, take, drop, add-one, Option, Some, None, refl, ap, sym, ◌∙◌, arith}
+use Rattle.std.specs.Prelude.{slice_get, is_some, false, true}
 use Rattle.std.proofs.lemmas.List.{drop_all, append-nil, append_assoc}
-use Rattle.std.proofs.Math.Seq.{take-suc}
-use Rattle.std.proofs.lemmas.Option.{slice_get_within, get_or_from_slice_get}
 use Rattle.std.specs.declared.rc.Rc.{Rc}
 use Rattle.isl_base.specs.declared.lists.ItemList.{ItemList}
-use Rattle.isl_base.specs.model.DataRest.{rest_at}
+use Rattle.isl_base.specs.model.DataRest.{rest_at, take_at}
 use Rattle.isl_meaning.specs.Values.{Value, nil}
 use Rattle.isl_meaning.specs.Objects.{Chain, Called, control_error_class}
 use Rattle.isl_meaning.specs.State.{Surroundings, value}
@@ -38,13 +36,9 @@ use Rattle.isl_applying.proofs.Situations.{level_at, around_at}
 pub none_pushed : (m : Machine) → ArePushed m m []
 none_pushed m = record { operands = sym (append-nil m.operands.items); same = refl }
 
-pub take_there : (ws : List Word) (n : ℕ) (w : Word) → slice_get ws n ≡ Some w → take (n + 1) ws ≡ take n ws ++ w ∷ []
-take_there ws n w h =
-    ap (λ k. take k ws) (add-one n) ∙ take-suc ws n w (slice_get_within ws n w h) ∙ ap (λ x. take n ws ++ x ∷ []) (get_or_from_slice_get ws n w w h)
-
 pub one_pushed : (old mid new : Machine) (ws : List Word) (n : ℕ) (w : Word) → slice_get ws n ≡ Some w → ArePushed old mid (take n ws) → IsPushed mid new w → ArePushed old new (take (n + 1) ws)
 one_pushed old mid new ws n w h p q = record {
-  operands = q.operands ∙ ap (λ xs. xs ++ w ∷ []) p.operands ∙ append_assoc old.operands.items (take n ws) (w ∷ []) ∙ ap (λ xs. old.operands.items ++ xs) (sym (take_there ws n w h));
+  operands = q.operands ∙ ap (λ xs. xs ++ w ∷ []) p.operands ∙ append_assoc old.operands.items (take n ws) (w ∷ []) ∙ ap (λ xs. old.operands.items ++ xs) (sym (take_at ws n w h));
   same = q.same ∙ ap (λ (m : Machine). record m { operands = new.operands }) p.same;
 }
 
@@ -56,9 +50,11 @@ method_applied old mid new i count level c a h e s =
     then_arguments old mid new c.arguments.value count a (λ names s vs around frames z. apply_procedure s i (called_or_none names (Some c)) vs level around frames z) h e s
 
 -- one of the methods that run one after another
-pub each_applied : (s : Setting) (ms : List ℕ) (n m : ℕ) (vs : List Value) (level : ℕ) (around : Surroundings) (frames : List Frame) (z : FlatState) → slice_get ms n ≡ Some m
-    → apply_procedure s m None vs level around (awaits (method_value (drop (n + 1) ms) vs level around) ∷ frames) z ≡ apply_each s (drop n ms) vs level around frames z
-each_applied s ms n m vs level around frames z h = ap (λ ks. apply_each s ks vs level around frames z) (sym (rest_at ms n m h))
+pub each_applied : (s : Setting) (ms : List ℕ) (n next m : ℕ) (vs : List Value) (level : ℕ) (around : Surroundings) (frames : List Frame) (z : FlatState) → slice_get ms n ≡ Some m → next ≡ n + 1
+    → apply_procedure s m None vs level around (awaits (method_value (drop next ms) vs level around) ∷ frames) z ≡ apply_each s (drop n ms) vs level around frames z
+each_applied s ms n next m vs level around frames z h e =
+    ap (λ k. apply_procedure s m None vs level around (awaits (method_value (drop k ms) vs level around) ∷ frames) z) e
+    ∙ ap (λ ks. apply_each s ks vs level around frames z) (sym (rest_at ms n m h))
 
 pub none_applied : (s : Setting) (ms : List ℕ) (n : ℕ) (vs : List Value) (level : ℕ) (around : Surroundings) (frames : List Frame) (z : FlatState) → drop n ms ≡ []
     → apply_each s [] vs level around frames z ≡ apply_each s (drop n ms) vs level around frames z
@@ -101,11 +97,11 @@ before_runs : (s : Setting) (c : Chain) (ms : List ℕ) (vs : List Value) (level
 before_runs s c [] vs level around frames z h = absurd (h refl)
 before_runs s c (m ∷ ms) vs level around frames z h = refl
 
-pub some_primary : (r : Rest) (o : Option Next) → IsNextPrimary r o → is_none o ≡ false → (rest_of r).primary ≢ []
+pub some_primary : (r : Rest) (o : Option Next) → IsNextPrimary r o → is_some o ≡ true → (rest_of r).primary ≢ []
 some_primary r None h e = absurd (cc)
 some_primary r (Some x) h e = λ q. absurd (cc)
 
-pub none_primary : (r : Rest) (o : Option Next) → IsNextPrimary r o → is_none o ≡ true → (rest_of r).primary ≡ []
+pub none_primary : (r : Rest) (o : Option Next) → IsNextPrimary r o → is_some o ≡ false → (rest_of r).primary ≡ []
 none_primary r None h e = h
 none_primary r (Some x) h e = absurd (cc)
 
@@ -149,17 +145,17 @@ after_goes old mid new r kept w ms level a are h s =
     ap (λ ks. apply_each (setting_of names old.given) ks (values_of names kept.value) level (surroundings names old a) (waiting names old (frame.Kept (outcome.Value w)) ∷ frames names old 0) (state names old b)) are)
 
 -- one method, above those behind it
-pub each_goes : (old pushed mid new : Machine) (list : Bor (List ℕ)) (n m count level : ℕ) (kept : Rc (ItemList Word) Global) (a : Around) → slice_get list.now n ≡ Some m
-    → ArePushed old pushed kept.value → count ≡ length kept.value → IsAbove pushed mid (frame.Methods list (n + 1) kept level a)
+pub each_goes : (old pushed mid new : Machine) (list : Bor (List ℕ)) (n next m count level : ℕ) (kept : Rc (ItemList Word) Global) (a : Around) → slice_get list.now n ≡ Some m → next ≡ suc n
+    → ArePushed old pushed kept.value → count ≡ length kept.value → IsAbove pushed mid (frame.Methods list next kept level a)
     → Steps mid new (λ names s b. apply_procedure s m None (top names mid count) level (surroundings names mid a) (frames names mid count) (state names mid b))
     → Steps old new (λ names s b. apply_each s (drop n list.now) (values_of names kept.value) level (surroundings names old a) (frames names old 0) (state names old b))
-each_goes old pushed mid new list n m count level kept a there p e h s =
+each_goes old pushed mid new list n next m count level kept a there is_next p e h s =
     let on : Steps pushed new (λ names s b. apply_procedure s m None (top names pushed count) level (surroundings names pushed a)
-    (awaits (method_value (drop (n + 1) list.now) (values_of names kept.value) level (surroundings names pushed a)) ∷ frames names pushed count) (state names pushed b)) =
-    then_above pushed mid new (frame.Methods list (n + 1) kept level a) count a (λ names s vs around frames z. apply_procedure s m None vs level around frames z) h refl s in
+    (awaits (method_value (drop next list.now) (values_of names kept.value) level (surroundings names pushed a)) ∷ frames names pushed count) (state names pushed b)) =
+    then_above pushed mid new (frame.Methods list next kept level a) count a (λ names s vs around frames z. apply_procedure s m None vs level around frames z) h refl s in
     same_moment old new _ _
-    (then_arguments old pushed new kept.value count a (λ names s vs around frames z. apply_procedure s m None vs level around (awaits (method_value (drop (n + 1) list.now) (values_of names kept.value) level around) ∷ frames) z) p e on)
-    (λ names b g. each_applied (setting_of names old.given) list.now n m (values_of names kept.value) level (surroundings names old a) (frames names old 0) (state names old b) there)
+    (then_arguments old pushed new kept.value count a (λ names s vs around frames z. apply_procedure s m None vs level around (awaits (method_value (drop next list.now) (values_of names kept.value) level around) ∷ frames) z) p e on)
+    (λ names b g. each_applied (setting_of names old.given) list.now n next m (values_of names kept.value) level (surroundings names old a) (frames names old 0) (state names old b) there (omega (arith, is_next)))
 
 pub none_goes : (old new : Machine) (list : Bor (List ℕ)) (n level : ℕ) (ws : List Word) (a : Around) → length list.now ≤ n
     → Steps old new (λ names s b. moment (come_to (value nil)) (frames names old 0) (state names old b))

@@ -1,7 +1,9 @@
 -- The elements of a list become operands, one after another.
-use Rattle.std.proofs.Common.{◌≡◌, ℕ, zero, suc, ◌+◌, ◌-◌, ◌<◌, ◌==◌, ◌≢◌, List, [], ◌∷◌, ◌++◌, length, Bool, true, false, Option, Some, None, refl, ap, sym, ◌∙◌, subst, zero-add, arith}
+use Rattle.std.proofs.Common.{◌≡◌, ℕ, zero, suc, ◌+◌, ◌-◌, ◌<◌, ◌==◌, ◌≢◌, List, [], ◌∷◌, ◌++◌, length, Bool, true, false, cond, Option, Some, None, refl, ap, sym, ◌∙◌, subst, zero-add, arith, ⊎_elim}
 use Rattle.std.specs.Prelude.{if◌then◌else◌, ◌||◌}
 use Rattle.std.proofs.lemmas.List.{map-append, append-nil, append_assoc, length-append, length-map}
+use Rattle.std.proofs.lemmas.Bool.{cases_eq}
+use Rattle.std.proofs.lemmas.Bool.Decides.{nat_tests}
 use Rattle.isl_meaning.specs.Values.{Value, object}
 use Rattle.isl_meaning.specs.Objects.{Object, cons, list_class, function_class}
 use Rattle.isl_meaning.specs.State.{State, Surroundings}
@@ -36,10 +38,10 @@ use Rattle.isl_applying.proofs.Above.{then_arguments}
 use Rattle.isl_applying.proofs.Situations.{level_at, around_at}
 
 -- what a list goes on with
-pub cons_on : (s : Store) (w : Word) (o : Kept) (n : ℕ) (car cdr : Word) → w ≡ word.Object n → IsFetched s w (Some o) → o ≡ made.Cons car cdr → GoesOn s w n car cdr
+pub cons_on : (s : Store) (w : Word) (o : Kept) (n : ℕ) (car cdr : Word) → w ≡ word.Object n → IsFetched s (word.Object n) (Some o) → o ≡ made.Cons car cdr → GoesOn s w n car cdr
 cons_on s w o n car cdr e x h = record {
   is_object = e;
-  there = λ names b. x.object names b ∙ ap (λ p. Some (object_of names p)) h;
+  there = λ names b. ap (λ u. fetch (state_of names s b) (value_of_word names u)) e ∙ x.object names b ∙ ap (λ p. Some (object_of names p)) h;
 }
 
 -- or how it ends
@@ -48,19 +50,19 @@ else_ends : (names : List (List ℕ)) (n : ℕ) (o : Kept) → ((a : Word) (d : 
 else_ends names n (made.Cons a d) f others seen = absurd (f a d refl)
 else_ends names n o f others seen = refl
 
-pub no_cons_ends : (s : Store) (w : Word) (o : Kept) (n : ℕ) → w ≡ word.Object n → IsFetched s w (Some o) → ((a : Word) (d : Word) → o ≡ made.Cons a d → ⊥) → EndsSo s w false
+pub no_cons_ends : (s : Store) (w : Word) (o : Kept) (n : ℕ) → w ≡ word.Object n → IsFetched s (word.Object n) (Some o) → ((a : Word) (d : Word) → o ≡ made.Cons a d → ⊥) → EndsSo s w false
 no_cons_ends s w o n e x f = record {
   ends = λ names b others seen.
-    ap (λ r. spread_at others seen (value_of_word names w) r) (x.object names b)
-    ∙ ap (λ u. spread_at others seen (value_of_word names u) (Some (object_of names o))) e
+    ap (λ u. spread_at others seen (value_of_word names u) (fetch (state_of names s b) (value_of_word names u))) e
+    ∙ ap (λ r. spread_at others seen (object n) r) (x.object names b)
     ∙ else_ends names n o f others seen;
 }
 
-pub nothing_ends : (s : Store) (w : Word) (n : ℕ) → w ≡ word.Object n → IsFetched s w None → EndsSo s w false
+pub nothing_ends : (s : Store) (w : Word) (n : ℕ) → w ≡ word.Object n → IsFetched s (word.Object n) None → EndsSo s w false
 nothing_ends s w n e x = record {
   ends = λ names b others seen.
-    ap (λ r. spread_at others seen (value_of_word names w) r) (x.object names b)
-    ∙ ap (λ u. spread_at others seen (value_of_word names u) None) e;
+    ap (λ u. spread_at others seen (value_of_word names u) (fetch (state_of names s b) (value_of_word names u))) e
+    ∙ ap (λ r. spread_at others seen (object n) r) (x.object names b);
 }
 
 pub atom_ends : (s : Store) (w : Word) → w ≢ word.Nil → ((n : ℕ) → w ≡ word.Object n → ⊥) → EndsSo s w false
@@ -115,11 +117,19 @@ spread_again z fuel n seen v a d e h k =
     ∙ ap (λ x. spread_at (λ i d. spread fuel z (i ∷ seen) d) seen x (Some (cons a d))) e
     ∙ ap (λ (t : Bool). if t then (let r : Spread = record { elements = []; proper = false } in r) else behind (a ∷ []) (spread fuel z (n ∷ seen) d)) k
 
-in_more : (k n : ℕ) (m : Bool) (seen : List ℕ) → m ≡ is_in k seen → (if k == n then true else m) ≡ is_in k (n ∷ seen)
-in_more k n m seen h = elim (k == n) as (λ t. (if t then true else m) ≡ (t || is_in k seen)) [ true ↦ refl | false ↦ h ]
+swapped : (k n : ℕ) → (n == k) ≡ (k == n)
+swapped k n =
+    ⊎_elim
+    (λ (e : n ≡ k). let there : (n == k) ≡ true = grind (arith, nat_tests) in let back : (k == n) ≡ true = grind (arith, nat_tests) in there ∙ sym back)
+    (λ (e : n ≢ k). let there : (n == k) ≡ false = grind (arith, nat_tests) in let back : (k == n) ≡ false = grind (arith, nat_tests) in there ∙ sym back)
+    (cases_eq n k)
+
+in_more : (k n : ℕ) (m : Bool) (seen : List ℕ) → m ≡ is_in k seen → cond (n == k) true m ≡ is_in k (n ∷ seen)
+in_more k n m seen h =
+    ap (λ t. cond t true m) (swapped k n) ∙ elim (k == n) as (λ t. cond t true m ≡ (t || is_in k seen)) [ true ↦ refl | false ↦ h ]
 
 pub one_spread : (old now new : Machine) (list left car cdr : Word) (count n : ℕ) (member after : ℕ → Bool) → Spreading old now list left count member → GoesOn now.store left n car cdr
-    → member n ≡ false → IsPushed now new car → ((k : ℕ) → after k ≡ (if k == n then true else member k))
+    → member n ≡ false → IsPushed now new car → ((k : ℕ) → after k ≡ cond (n == k) true (member k))
     → Spreading old new list cdr (count + 1) after
 one_spread old now new list left car cdr count n member after h g f p u =
     let here : GoesOn old.store left n car cdr = subst (λ s. GoesOn s left n car cdr) (same_store old now h.more h.pushed) g in

@@ -1,4 +1,3 @@
-pub mod Variables
 pub mod Entering
 pub mod Applying
 pub mod Methods
@@ -6,3 +5,4 @@ pub mod Functions
 pub mod Generics
 pub mod Signalling
 pub mod Spreading
+pub mod Firsts

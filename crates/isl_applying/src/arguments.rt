@@ -1,6 +1,6 @@
 // The arguments of an application, which are the last operands.
 
-ghost use Rattle.std.specs.Prelude.{◌≡◌, ◌<◌, ◌≤◌, Some, slice_get, min, IfOk, length};
+ghost use Rattle.std.specs.Prelude.{◌≤◌, IfOk, length};
 ghost use Rattle.isl_plain.specs.Applications.{listed};
 ghost use Rattle.isl_store.specs.View.{limit_of};
 ghost use Rattle.isl_machine.specs.Doing.{Does};
@@ -11,21 +11,6 @@ use isl_base::NoMemory;
 use isl_machine::machine::Machine;
 use isl_store::Word;
 
-/// So many operands, or all that there are.
-pub fn held(machine: &Machine<'_>, operands: usize) -> usize
-    ensures { result ≡ min operands (length machine.now.operands.items) }
-{
-    operands.min(machine.operands.len())
-}
-
-/// The operand at that place, from the first one on.
-pub fn operand(machine: &Machine<'_>, at: usize) -> Word
-    requires { at < length machine.now.operands.items }
-    ensures { slice_get machine.now.operands.items at ≡ Some result }
-{
-    machine.operands[at]
-}
-
 /// A list of the last operands, so many as that, is made from its end. They stay.
 pub fn make_list(machine: &mut Machine<'_>, count: usize) -> Result<Option<Word>, NoMemory>
     requires { count ≤ length machine.old.operands.items }
@@ -34,7 +19,7 @@ pub fn make_list(machine: &mut Machine<'_>, count: usize) -> Result<Option<Word>
     let held = machine.operands.len();
     let mut tail = Word::Nil;
     for taken in 0..count {
-        let item = operand(machine, held - 1 - taken);
+        let item = machine.operand_at(held - 1 - taken);
         match make_cons(machine, item, tail)? {
             Some(word) => tail = word,
             None => return Ok(None),

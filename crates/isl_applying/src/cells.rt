@@ -1,6 +1,6 @@
 // Words for the cells of new variables, and for what a method keeps of its call.
 
-ghost use Rattle.std.specs.Prelude.{IfOk, [], ◌∷◌};
+ghost use Rattle.std.specs.Prelude.{IfOk};
 ghost use Rattle.isl_closure.specs.FlatNodes.{homes};
 ghost use Rattle.isl_plain.specs.Applications.{celled, recorded};
 ghost use Rattle.isl_store.specs.Words.{called_or_none};
@@ -9,7 +9,7 @@ ghost use Rattle.isl_machine.specs.Doing.{IsDone};
 
 use crate::making::take_heap;
 use isl_base::NoMemory;
-use isl_closure::{FlatProcedure, Home, HomeList};
+use isl_closure::{FlatProcedure, HomeList};
 use isl_machine::machine::Machine;
 use isl_store::Called;
 
@@ -21,21 +21,11 @@ pub fn take_cells(machine: &mut Machine<'_>, homes: &HomeList) -> Result<bool, N
         let Some(home) = homes.get(at) else {
             unreachable!()
         };
-        if !take_cell(machine, *home)? {
+        if !machine.take_home(*home)? {
             return Ok(false);
         }
     }
     Ok(true)
-}
-
-/// A word and a unit for a variable, where it lives in a cell.
-pub fn take_cell(machine: &mut Machine<'_>, home: Home) -> Result<bool, NoMemory>
-    ensures { IfOk result (IsDone machine.old machine.new (λ names z. celled (limit_of machine.old.given.limit) (home ∷ []) z)) }
-{
-    match home {
-        Home::Slot => Ok(true),
-        Home::Cell => take_heap(machine, 1),
-    }
 }
 
 /// Those of all variables of a procedure.
@@ -49,7 +39,7 @@ pub fn take_procedure_cells(
         return Ok(false);
     }
     match procedure.rest {
-        Some(home) => take_cell(machine, home),
+        Some(home) => machine.take_home(home),
         None => Ok(true),
     }
 }

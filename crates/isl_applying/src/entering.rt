@@ -6,7 +6,8 @@ ghost use Rattle.isl_plain.specs.Applications.{begin_body};
 ghost use Rattle.isl_machine.specs.View.{Steps, top, frames, state, surroundings};
 ghost use Rattle.isl_applying.specs.Entering.{entered_of, entering, in_words, in_rest, in_record, in_cells, IsGivenStack};
 
-use crate::arguments::{held, make_list};
+use crate::arguments::make_list;
+use crate::classes::PROGRAM_ERROR;
 use crate::cells::{take_procedure_cells, take_record};
 use crate::variables::add_variables;
 use isl_base::NoMemory;
@@ -15,9 +16,6 @@ use isl_machine::frame::Frame;
 use isl_machine::machine::Machine;
 use isl_machine::situation::{Activation, Around, Situation};
 use std::mem;
-
-/// The class of conditions for a wrong number of arguments.
-pub const PROGRAM_ERROR: usize = 24;
 
 /// What is entered: a procedure, the words of the stack that its body takes, and its activation, which has no slots yet.
 #[derive(Drop)]
@@ -38,7 +36,7 @@ pub fn enter_procedure<'p>(
     requires { level + 1 < 2 ^ 64 }
     ensures { OnOk result (Steps machine.old machine.new (λ names s b. entering s (entered_of names procedure.entry) (top names machine.old operands) level (surroundings names machine.old around) (frames names machine.old operands) (state names machine.old b))) }
 {
-    let count = held(machine, operands);
+    let count = machine.held_operands(operands);
     if takes(procedure.procedure, count) {
         take_words(machine, procedure, count, level, around)
     } else {

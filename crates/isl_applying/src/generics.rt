@@ -11,8 +11,8 @@ ghost use Rattle.isl_machine.specs.Frames.{last_of};
 ghost use Rattle.isl_machine.specs.View.{Steps, IsGiven, top, frames, state, surroundings};
 ghost use Rattle.isl_applying.specs.Generics.{AreBelow, AreClassesOf, IsChainFor, chain_begins};
 
-use crate::arguments::{held, operand};
-use crate::entering::{PROGRAM_ERROR, take_stack};
+use crate::classes::PROGRAM_ERROR;
+use crate::entering::take_stack;
 use crate::methods::run_chain;
 use crate::procedures::{end_levels, give_nil};
 use isl_base::{ItemList, NoMemory};
@@ -39,7 +39,7 @@ pub fn apply_generic(
         give_nil(machine, operands);
         return Ok(());
     };
-    let count = held(machine, operands);
+    let count = machine.held_operands(operands);
     if takes(row, count) {
         dispatch(machine, number, row, count, level, around)
     } else {
@@ -94,7 +94,7 @@ fn classes_of(machine: &Machine<'_>, count: usize, required: usize) -> Result<Cl
     let first = machine.operands.len() - count;
     let mut classes = ItemList::new(machine.given.alloc);
     for at in 0..required {
-        let word = operand(machine, first + at);
+        let word = machine.operand_at(first + at);
         classes.push(class_of(&machine.store, word))?;
     }
     Ok(classes)

@@ -2,7 +2,9 @@
 #![tactic(auto)]
 
 pub mod arguments;
+pub mod calls;
 pub mod cells;
+pub mod classes;
 pub mod entering;
 pub mod functions;
 pub mod generics;

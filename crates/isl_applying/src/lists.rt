@@ -5,18 +5,14 @@ ghost use Rattle.isl_plain.specs.Step.{apply_step};
 ghost use Rattle.isl_store.specs.Words.{value_of_word};
 ghost use Rattle.isl_machine.specs.View.{Steps, at, frames, state};
 
+use crate::classes::{FUNCTION, LIST};
 use crate::functions::is_function;
-use crate::spreading::spread;
+use crate::spreading::push_elements;
 use crate::values::apply_value;
 use isl_base::NoMemory;
 use isl_machine::machine::Machine;
 use isl_machine::situation::Situation;
-use isl_meaning::ClassId;
 use isl_store::Word;
-
-// The classes of functions and of lists.
-const FUNCTION: ClassId = 6;
-const LIST: ClassId = 8;
 
 /// A function is applied to the elements of a list; what is no function, and what is no list that ends, is not of the
 /// expected class.
@@ -31,7 +27,7 @@ pub fn apply_list(
     if !is_function(&machine.store, function) {
         return machine.signal_domain(function, FUNCTION, situation.level, situation.around);
     }
-    let elements = spread(machine, list)?;
+    let elements = push_elements(machine, list)?;
     machine.charge(elements.count as u64)?;
     if elements.proper {
         apply_value(machine, function, elements.count, situation.level, situation.around)

@@ -8,18 +8,17 @@ ghost use Rattle.isl_store.specs.Words.{value_of_word, values_of, called_of, cal
 ghost use Rattle.isl_machine.specs.View.{Steps, at, frames, state, surroundings};
 ghost use Rattle.isl_applying.specs.Methods.{IsNextAround, IsNextPrimary, IsAfterBefore, after_before, ArePushed};
 
+use crate::classes::CONTROL_ERROR;
 use crate::procedures::apply_procedure;
 use isl_base::{ItemList, NoMemory};
 use isl_dispatch::Chain;
 use isl_machine::frame::{Frame, Outcome};
 use isl_machine::machine::Machine;
+use isl_machine::places::after;
 use isl_machine::situation::{Around, Situation};
-use isl_meaning::{ClassId, ProcedureId};
+use isl_meaning::ProcedureId;
 use isl_store::{Arguments, Called, Rest, Word};
 use std::rc::Rc;
-
-// The class of conditions that a missing next method signals.
-const CONTROL_ERROR: ClassId = 22;
 
 /// A method that comes next, and what is left behind it.
 #[derive(Clone, Copy)]
@@ -88,8 +87,9 @@ fn apply_next<'p>(
     let Some(number) = list.get(at) else {
         unreachable!()
     };
+    let next = after(at)?;
     let count = push_arguments(machine, &arguments)?;
-    machine.push_frame(Frame::Methods(list, at + 1, arguments, level, around))?;
+    machine.push_frame(Frame::Methods(list, next, arguments, level, around))?;
     apply_procedure(machine, *number, None, count, level, around)
 }
 

@@ -8,6 +8,7 @@ ghost use Rattle.isl_machine.specs.Frames.{handler_link};
 ghost use Rattle.isl_machine.specs.View.{Steps, at, frames, state, surroundings};
 ghost use Rattle.isl_applying.specs.Signalling.{IsSignalled, IsInnermost, handled_by};
 
+use crate::classes::{FUNCTION, SERIOUS_CONDITION};
 use crate::functions::is_function;
 use crate::values::apply_value;
 use isl_base::NoMemory;
@@ -16,12 +17,7 @@ use isl_machine::frame::{Frame, Landing, Outcome};
 use isl_machine::links::Kind;
 use isl_machine::machine::{Control, Machine};
 use isl_machine::situation::{Around, Situation};
-use isl_meaning::ClassId;
 use isl_store::Word;
-
-// The classes of functions and of serious conditions.
-const FUNCTION: ClassId = 6;
-const SERIOUS_CONDITION: ClassId = 18;
 
 /// A handler, and a link to those outside it.
 #[derive(Clone, Copy)]

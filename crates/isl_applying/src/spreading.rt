@@ -25,7 +25,7 @@ pub struct Spread {
 }
 
 /// The elements of a list become operands, up to a cons that was passed before.
-pub fn spread(machine: &mut Machine<'_>, list: Word) -> Result<Spread, NoMemory>
+pub fn push_elements(machine: &mut Machine<'_>, list: Word) -> Result<Spread, NoMemory>
     ensures { IfOk result (λ s. IsSpread machine.old machine.new list s) }
 {
     let mut seen = HashSet::new(machine.given.alloc);

@@ -1,25 +1,24 @@
 // Values, and the functions of names, are applied.
 
-ghost use Rattle.std.specs.Prelude.{◌≡◌, ◌∷◌, [], OnOk, IfOk, option_map, List, ℕ};
-ghost use Rattle.isl_meaning.specs.declared.program.FunctionRow.{FunctionRow};
+ghost use Rattle.std.specs.Prelude.{◌<◌, ◌≤◌, OnOk, length};
 ghost use Rattle.isl_meaning.specs.Lookup.{text};
 ghost use Rattle.isl_meaning.specs.Literals.{function_row};
 ghost use Rattle.isl_plain.specs.Applications.{apply_value, apply_callee, apply_row};
 ghost use Rattle.isl_store.specs.Words.{value_of_word};
-ghost use Rattle.isl_machine.specs.View.{Steps, IsGiven, top, frames, state, surroundings};
+ghost use Rattle.isl_machine.specs.View.{Steps, at, top, frames, state, surroundings};
+ghost use Rattle.isl_plain.specs.Step.{call_value_step};
 ghost use Rattle.isl_applying.specs.Functions.{applied};
+ghost use Rattle.isl_applying.specs.Firsts.{IsFirst};
 
+use crate::classes::FUNCTION;
 use crate::functions::{Function, function_of};
 use crate::generics::apply_generic;
-use crate::procedures::{apply_function, apply_procedure};
+use crate::procedures::{apply_function, apply_procedure, give_nil};
 use isl_base::{Name, NoMemory};
 use isl_machine::machine::Machine;
-use isl_machine::situation::Around;
-use isl_meaning::{Callee, ClassId};
+use isl_machine::situation::{Around, Situation};
+use isl_meaning::Callee;
 use isl_store::Word;
-
-// The class of functions.
-const FUNCTION: ClassId = 6;
 
 /// A value, which is to be a function, is applied to the last operands, so many as that.
 pub fn apply_value(
@@ -96,4 +95,31 @@ pub fn apply_name(
             machine.signal_undefined(name, level, around)
         }
     }
+}
+
+/// The first one of the last operands, so many as that, is applied to the others.
+pub fn call_first(
+    machine: &mut Machine<'_>,
+    operands: usize,
+    situation: Situation,
+) -> Result<(), NoMemory>
+    ensures { OnOk result (Steps machine.old machine.new (λ names s b. call_value_step s (top names machine.old operands) (at names machine.old situation) (frames names machine.old operands) (state names machine.old b))) }
+{
+    let count = machine.held_operands(operands);
+    let Some(others) = count.checked_sub(1) else {
+        give_nil(machine, operands);
+        return Ok(());
+    };
+    let function = take_first(machine, count);
+    apply_value(machine, function, others, situation.level, situation.around)
+}
+
+// The first one of the last operands goes.
+fn take_first(machine: &mut Machine<'_>, count: usize) -> Word
+    requires some { 0 < count }
+    requires held { count ≤ length machine.old.operands.items }
+    ensures { IsFirst machine.old machine.new count result }
+{
+    let place = machine.operands.len() - count;
+    machine.operands.remove(place)
 }

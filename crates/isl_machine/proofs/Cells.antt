@@ -46,7 +46,7 @@ same_limit : (old now new : Machine) (xs ys : List Home) (r : Bool) → Gives ol
 same_limit old now new xs ys r a d =
     done_alike now new _ _ r (λ names z. ap (λ (m : Machine). celled (limit_of m.given.limit) ys z) a.same) d
 
-both : (old now new : Machine) (xs ys : List Home) (r : Bool) → Gives old now (λ names z. celled (limit_of old.given.limit) xs z) Nil
+pub both : (old now new : Machine) (xs ys : List Home) (r : Bool) → Gives old now (λ names z. celled (limit_of old.given.limit) xs z) Nil
     → IsDone now new (λ names z. celled (limit_of now.given.limit) ys z) r → IsDone old new (λ names z. celled (limit_of old.given.limit) (xs ++ ys) z) r
 both old now new xs ys r a d =
     done_alike old new _ _ r (λ names z. sym (celled_more (limit_of old.given.limit) xs ys z))

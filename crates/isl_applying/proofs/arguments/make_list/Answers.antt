@@ -13,14 +13,14 @@ loop-taken-init c = none_listed c.args.machine.now
 pub loop-taken-preserved : goal.loop-taken-preserved
 loop-taken-preserved c =
     does_some c.args.machine.now c.make_cons.new.machine _ c.in_ok-word.field-0 c.in-Some.word
-    (one_listed c.args.machine.now c.loop-taken.machine c.make_cons.new.machine c.loop-taken.taken _ c.operand-item.result c.loop-taken.tail c.in_ok-word.field-0 (omega arith) (omega arith) c.operand-item.ensures c.loop-taken.invariant c.in_ok-word.ensures)
+    (one_listed c.args.machine.now c.loop-taken.machine c.make_cons.new.machine c.loop-taken.taken _ c.operand_at-item.result c.loop-taken.tail c.in_ok-word.field-0 (omega arith) (omega arith) c.operand_at-item.ensures c.loop-taken.invariant c.in_ok-word.ensures)
     c.in-Some.is
 
 pub returns-in-None : goal.returns-in-None
 returns-in-None c =
     list_filled c.args.machine.now c.make_cons.new.machine c.args.count (c.loop-taken.taken + 1) (omega arith) c.requires
     (does_none c.args.machine.now c.make_cons.new.machine _ c.in_ok-word.field-0
-    (one_listed c.args.machine.now c.loop-taken.machine c.make_cons.new.machine c.loop-taken.taken _ c.operand-item.result c.loop-taken.tail c.in_ok-word.field-0 (omega arith) (omega arith) c.operand-item.ensures c.loop-taken.invariant c.in_ok-word.ensures)
+    (one_listed c.args.machine.now c.loop-taken.machine c.make_cons.new.machine c.loop-taken.taken _ c.operand_at-item.result c.loop-taken.tail c.in_ok-word.field-0 (omega arith) (omega arith) c.operand_at-item.ensures c.loop-taken.invariant c.in_ok-word.ensures)
     c.in-None.is)
 
 pub returns : goal.returns

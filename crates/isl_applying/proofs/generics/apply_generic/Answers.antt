@@ -12,11 +12,11 @@ returns-in_default c =
 pub returns-then-takes : goal.returns-then-takes
 returns-then-takes c =
     on_ok c.dispatch.result _ _
-    (generic_taken c.args.machine.now c.dispatch.new.machine c.in-Some.row.now c.args.number c.args.operands c.held-count.result c.args.level c.args.around c.in-Some.ensures c.held-count.ensures (sym c.takes.ensures ∙ c.if-takes.true))
+    (generic_taken c.args.machine.now c.dispatch.new.machine c.in-Some.row.now c.args.number c.args.operands c.held_operands-count.result c.args.level c.args.around c.in-Some.ensures c.held_operands-count.ensures (sym c.takes.ensures ∙ c.if-takes.true))
     c.dispatch.ensures
 
 pub returns-else-takes : goal.returns-else-takes
 returns-else-takes c =
     on_ok c.signal_class.result _ _
-    (generic_not_taken c.args.machine.now c.drop_operands.new.self c.signal_class.new.self c.in-Some.row.now c.args.number c.args.operands c.held-count.result c.args.level c.args.around c.in-Some.ensures c.held-count.ensures (sym c.takes.ensures ∙ c.if-takes.false) c.drop_operands.ensures)
+    (generic_not_taken c.args.machine.now c.drop_operands.new.self c.signal_class.new.self c.in-Some.row.now c.args.number c.args.operands c.held_operands-count.result c.args.level c.args.around c.in-Some.ensures c.held_operands-count.ensures (sym c.takes.ensures ∙ c.if-takes.false) c.drop_operands.ensures)
     c.signal_class.ensures

@@ -19,5 +19,5 @@ returns-then-branch c =
 
 pub returns-else-branch : goal.returns-else-branch
 returns-else-branch c =
-    chain_filled c.args.machine.now c.take_stack.new.machine c.drop_operands.new.self (seen c.args.chain.now) c.args.count c.args.level c.in-Some.below c.args.around
-    (omega (arith, c.in-Some.ensures)) c.requires (no_stack _ _ _ _ _ c.in_ok-take_stack.ensures c.if-branch.false) c.drop_operands.ensures
+    chain_filled c.args.machine.now c.take_stack.new.machine c.drop_operands-else-branch.new.self (seen c.args.chain.now) c.args.count c.args.level c.in-Some.below c.args.around
+    (omega (arith, c.in-Some.ensures)) c.requires (no_stack _ _ _ _ _ c.in_ok-take_stack.ensures c.if-branch.false) c.drop_operands-else-branch.ensures

@@ -1,7 +1,7 @@
 -- The variables that are passed are made.
 use Rattle.isl_closure.specs.FlatNodes.{homes}
 use Rattle.isl_machine.specs.Frames.{last_of}
-use Rattle.isl_applying.proofs.NewSlots.{Filling}
+use Rattle.isl_machine.proofs.NewSlots.{Filling}
 use Rattle.isl_applying.proofs.variables.add_variables.Given as goal
 
 abbrev pub invariant-loop-at : goal.invariant-loop-at
