@@ -7,3 +7,4 @@ pub mod Alone
 pub mod Stepping
 pub mod Begun
 pub mod Searching
+pub mod MethodsLeft

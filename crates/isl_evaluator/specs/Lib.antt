@@ -2,3 +2,4 @@
 pub mod Runs
 pub mod Outermost
 pub mod Stepped
+pub mod Started

@@ -10,6 +10,7 @@ ghost use Rattle.isl_machine.specs.View.{at, top, frames, state};
 ghost use Rattle.isl_evaluator.specs.Runs.{Runs};
 
 use crate::evaluator::Evaluator;
+use isl_applying::calls::next_method_at;
 use isl_base::NoMemory;
 use isl_closure::{FlatCore, FlatCoreForm, FlatCoreList};
 use isl_machine::frame::{Frame, Operation};
@@ -44,7 +45,7 @@ impl<'p> Evaluator<'p> {
             FlatCoreForm::Call(name, list) => self.arguments(Operation::CallName(*name), list, 0, situation),
             FlatCoreForm::CallValue(list) => self.arguments(Operation::CallFirst, list, 0, situation),
             FlatCoreForm::Prim(which, list) => self.arguments(Operation::Compute(*which), list, 0, situation),
-            FlatCoreForm::NextMethod(place) => self.next_method(*place, situation),
+            FlatCoreForm::NextMethod(place) => next_method_at(&mut self.machine, *place, situation),
             _ => self.machine.begin_kind(form, situation),
         }
     }

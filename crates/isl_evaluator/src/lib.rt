@@ -6,5 +6,7 @@ pub mod evaluator;
 pub mod forms;
 pub mod globals;
 pub mod open;
+pub mod operations;
+pub mod starting;
 pub mod steps;
 pub mod values;

@@ -11,7 +11,7 @@ ghost use Rattle.isl_evaluator.specs.Runs.{Runs};
 ghost use Rattle.isl_evaluator.specs.Stepped.{IsStepped, IsTopTaken};
 
 use crate::evaluator::Evaluator;
-use crate::open::signal_under;
+use isl_applying::signalling::signal_under;
 use isl_base::NoMemory;
 use isl_machine::frame::{Frame, Outcome};
 use isl_machine::machine::Control;

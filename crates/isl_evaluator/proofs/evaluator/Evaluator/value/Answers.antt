@@ -1,7 +1,11 @@
 -- Each place does what its kind does.
 use Rattle.std.proofs.Common.{refl}
 use Rattle.isl_meaning.specs.State.{value}
-use Rattle.isl_store.specs.Words.{value_of_word}
+use Rattle.std.proofs.lemmas.Result.{on_ok_weaker}
+use Rattle.isl_store.specs.Words.{value_of_word, values_of, rest_of}
+use Rattle.isl_machine.specs.View.{frames, state, surroundings}
+use Rattle.isl_machine.proofs.Going.{followed}
+use Rattle.isl_evaluator.proofs.MethodsLeft.{before_is}
 use Rattle.isl_evaluator.proofs.Alone.{left_alone}
 use Rattle.isl_evaluator.proofs.Lifting.{lifted_ok}
 use Rattle.isl_evaluator.proofs.Running.{runs_framed}
@@ -61,7 +65,10 @@ returns-in-Methods c =
 pub returns-in-BeforeMethods : goal.returns-in-BeforeMethods
 returns-in-BeforeMethods c =
     runs_framed c.after_before.result c.args.self.now (record c.args.self.now { machine = c.after_before.new.machine }) (λ names. value (value_of_word names c.args.word)) c.args.frame _ c.in-BeforeMethods.is
-    (lifted_ok c.after_before.result c.args.self.now (record c.args.self.now { machine = c.after_before.new.machine }) _ refl c.after_before.ensures)
+    (lifted_ok c.after_before.result c.args.self.now (record c.args.self.now { machine = c.after_before.new.machine }) _ refl
+    (on_ok_weaker c.after_before.result (λ x. followed _ _ _ _ x (λ names s b.
+      before_is s (rest_of c.in-BeforeMethods.rest) (rest_of c.in-BeforeMethods.rest).primary (values_of names c.in-BeforeMethods.arguments.value) (value_of_word names c.args.word) c.in-BeforeMethods.level (surroundings names c.args.self.now.machine c.in-BeforeMethods.around)
+      (frames names c.args.self.now.machine 0) (state names c.args.self.now.machine b))) c.after_before.ensures))
 
 pub returns-in-PrimaryMethod : goal.returns-in-PrimaryMethod
 returns-in-PrimaryMethod c =
