@@ -9,9 +9,11 @@ use Rattle.isl_closure.specs.declared.flat_core.FlatCoreForm.TheVariants as kind
 use Rattle.isl_closure.specs.FlatForm.{FlatForm, FlatForms}
 use Rattle.isl_closure.specs.model.View.{view_form}
 use Rattle.isl_plain.specs.Moment.{Operation}
-use Rattle.isl_plain.specs.Step.{arguments_step}
+use Rattle.isl_plain.specs.Step.{arguments_step, operation_step}
 use Rattle.isl_store.specs.Words.{values_of}
+use Rattle.isl_machine.specs.declared.frame.Operation.{Operation as Doing}
 use Rattle.isl_machine.specs.declared.situation.Situation.{Situation}
+use Rattle.isl_machine.specs.Frames.{operation_of}
 use Rattle.isl_machine.specs.declared.machine.Machine.{Machine}
 use Rattle.isl_machine.specs.Begins.{begins, FormWantsMore}
 use Rattle.isl_machine.specs.View.{at, top, frames, state}
@@ -76,3 +78,10 @@ pub arguments_begun : {T E : Type 0} (r : Result T E) (old new : Evaluator) (p :
     → OnOk r (Runs old new (λ names s b. arguments_step s o fs [] (at names old.machine p) (frames names old.machine 0) (state names old.machine b)))
 arguments_begun r old new p o fs x =
     on_ok_weaker r (λ y. runs_on old new _ _ y (λ names s b. ap (λ vs. arguments_step s o fs vs (at names old.machine p) (frames names old.machine 0) (state names old.machine b)) (none_on_top names old.machine))) x
+
+-- the operation is that one
+pub operation_is : {T E : Type 0} (r : Result T E) (old new : Evaluator) (n : ℕ) (p : Situation) (o q : Doing) → o ≡ q
+    → OnOk r (Runs old new (λ names s b. operation_step s (operation_of q) (top names old.machine n) (at names old.machine p) (frames names old.machine n) (state names old.machine b)))
+    → OnOk r (Runs old new (λ names s b. operation_step s (operation_of o) (top names old.machine n) (at names old.machine p) (frames names old.machine n) (state names old.machine b)))
+operation_is r old new n p o q e x =
+    subst (λ k. OnOk r (Runs old new (λ names s b. operation_step s (operation_of k) (top names old.machine n) (at names old.machine p) (frames names old.machine n) (state names old.machine b)))) (sym e) x

@@ -9,3 +9,5 @@ pub mod Stepping
 pub mod Begun
 pub mod Searching
 pub mod Quiet
+pub mod MethodsLeft
+pub mod Fed

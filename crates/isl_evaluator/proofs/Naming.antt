@@ -1,5 +1,5 @@
 -- Variables of names: what stands in the evaluator's tables is what the meaning finds.
-use Rattle.std.proofs.Common.{◌≡◌, ℕ, List, ◌∷◌, Option, Some, None, Result, Ok, Err, OnOk, refl, ap, sym, ◌∙◌, subst}
+use Rattle.std.proofs.Common.{◌≡◌, ℕ, List, ◌∷◌, Option, None, Result, Ok, Err, OnOk, ap, sym, ◌∙◌}
 use Rattle.isl_meaning.specs.Lookup.{text, under_text}
 use Rattle.isl_meaning.specs.Values.{Value}
 use Rattle.isl_plain.specs.Applications.{signal_unbound}

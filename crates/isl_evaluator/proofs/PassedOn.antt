@@ -1,7 +1,8 @@
 -- An outcome that is no value comes to a place that waits for one.
 use Rattle.std.proofs.Common.{◌≡◌, ℕ, Bool, true, false, List, [], ◌∷◌, Option, Some, None, refl, ap, sym, ◌∙◌, ◌⊎◌, ⊎_elim}
+use Rattle.isl_meaning.specs.Values.{Value}
 use Rattle.isl_closure.specs.FlatState.{FlatState}
-use Rattle.isl_plain.specs.Moment.{Setting, Wait, Frame as Above, moment, come_to, awaits}
+use Rattle.isl_plain.specs.Moment.{Setting, Moment, Frame as Above, moment, come_to, then_on_from}
 use Rattle.isl_plain.specs.Step.{outcome_step}
 use Rattle.isl_store.specs.declared.word.Word.{Word}
 use Rattle.isl_machine.specs.declared.frame.Landing.{Landing}
@@ -21,12 +22,12 @@ no_value (outcome.Exit e w l) h = refl
 no_value (outcome.Full asked left) h = refl
 no_value outcome.More h = refl
 
-passed_on : (names : List (List ℕ)) (s : Setting) (w : Wait) (o : Outcome) (frames : List Above) (z : FlatState) → IsValue o ≡ false
-    → moment (come_to (outcome_of names o)) frames z ≡ outcome_step s (awaits w) (outcome_of names o) frames z
-passed_on names s w (outcome.Value x) frames z h = absurd (cc)
-passed_on names s w (outcome.Exit e x l) frames z h = refl
-passed_on names s w (outcome.Full asked left) frames z h = refl
-passed_on names s w outcome.More frames z h = refl
+passed_on : (names : List (List ℕ)) (o : Outcome) (frames : List Above) (z : FlatState) (next : Value → FlatState → Moment) → IsValue o ≡ false
+    → moment (come_to (outcome_of names o)) frames z ≡ then_on_from (outcome_of names o) z frames next
+passed_on names (outcome.Value x) frames z next h = absurd (cc)
+passed_on names (outcome.Exit e x l) frames z next h = refl
+passed_on names (outcome.Full asked left) frames z next h = refl
+passed_on names outcome.More frames z next h = refl
 
 -- so many operands as it has
 fewer : (names : List (List ℕ)) (m : Machine) (o : Outcome) (z : FlatState) (k n : ℕ) → Some k ≡ Some n
@@ -35,37 +36,37 @@ fewer names m o z k n e = let same : n ≡ k = cc in ap (λ j. moment (come_to (
 
 pub passes : (names : List (List ℕ)) (s : Setting) (m : Machine) (w : Frame) (n : ℕ) (o : Outcome) (z : FlatState) → waiting_operands w ≡ Some n → IsValue o ≡ false
     → moment (come_to (outcome_of names o)) (frames names m n) z ≡ outcome_step s (taken names m w) (outcome_of names o) (below names m w) z
-passes names s m (frame.SetLocal of_p of_s) n o z e h = fewer names m o z 0 n e ∙ passed_on names s _ o (frames names m 0) z h
-passes names s m (frame.SetGlobal of_n of_s) n o z e h = fewer names m o z 0 n e ∙ passed_on names s _ o (frames names m 0) z h
-passes names s m (frame.DefGlobal of_n) n o z e h = fewer names m o z 0 n e ∙ passed_on names s _ o (frames names m 0) z h
-passes names s m (frame.Sequence of_fs of_n of_s) n o z e h = fewer names m o z 0 n e ∙ passed_on names s _ o (frames names m 0) z h
-passes names s m (frame.Clause of_cs of_n of_s) n o z e h = fewer names m o z 0 n e ∙ passed_on names s _ o (frames names m 0) z h
-passes names s m (frame.Binding of_bs of_n of_b of_s) n o z e h = fewer names m o z of_n n e ∙ passed_on names s _ o (frames names m of_n) z h
-passes names s m (frame.Argument of_o of_fs of_n of_s) n o z e h = fewer names m o z of_n n e ∙ passed_on names s _ o (frames names m of_n) z h
-passes names s m (frame.DynamicValue of_bs of_n of_b of_s) n o z e h = fewer names m o z of_n n e ∙ passed_on names s _ o (frames names m of_n) z h
-passes names s m (frame.AppliedFunction of_l of_s) n o z e h = fewer names m o z 0 n e ∙ passed_on names s _ o (frames names m 0) z h
-passes names s m (frame.AppliedList of_f of_s) n o z e h = fewer names m o z 0 n e ∙ passed_on names s _ o (frames names m 0) z h
-passes names s m (frame.WhileTest of_t of_b of_s) n o z e h = fewer names m o z 0 n e ∙ passed_on names s _ o (frames names m 0) z h
-passes names s m (frame.WhileBody of_t of_b of_s) n o z e h = fewer names m o z 0 n e ∙ passed_on names s _ o (frames names m 0) z h
-passes names s m (frame.ReturnValue of_x of_s) n o z e h = fewer names m o z 0 n e ∙ passed_on names s _ o (frames names m 0) z h
-passes names s m frame.LastSegment n o z e h = fewer names m o z 0 n e ∙ passed_on names s _ o (frames names m 0) z h
-passes names s m (frame.CatchTag of_b of_s) n o z e h = fewer names m o z 0 n e ∙ passed_on names s _ o (frames names m 0) z h
-passes names s m (frame.ThrowTag of_f of_s) n o z e h = fewer names m o z 0 n e ∙ passed_on names s _ o (frames names m 0) z h
-passes names s m (frame.ThrowValue of_t of_s) n o z e h = fewer names m o z 0 n e ∙ passed_on names s _ o (frames names m 0) z h
-passes names s m (frame.SetDynamic of_n of_s) n o z e h = fewer names m o z 0 n e ∙ passed_on names s _ o (frames names m 0) z h
-passes names s m (frame.DefDynamic of_n) n o z e h = fewer names m o z 0 n e ∙ passed_on names s _ o (frames names m 0) z h
-passes names s m (frame.HandlerValue of_b of_s) n o z e h = fewer names m o z 0 n e ∙ passed_on names s _ o (frames names m 0) z h
-passes names s m (frame.SignalCondition of_f of_s) n o z e h = fewer names m o z 0 n e ∙ passed_on names s _ o (frames names m 0) z h
-passes names s m (frame.SignalMark of_c of_s) n o z e h = fewer names m o z 0 n e ∙ passed_on names s _ o (frames names m 0) z h
-passes names s m (frame.ContinueCondition of_f of_s) n o z e h = fewer names m o z 0 n e ∙ passed_on names s _ o (frames names m 0) z h
-passes names s m (frame.ContinueValue of_c of_s) n o z e h = fewer names m o z 0 n e ∙ passed_on names s _ o (frames names m 0) z h
-passes names s m (frame.Kept of_o) n o z e h = fewer names m o z 0 n e ∙ passed_on names s _ o (frames names m 0) z h
-passes names s m (frame.Methods of_ms of_n of_vs of_l of_r) n o z e h = fewer names m o z 0 n e ∙ passed_on names s _ o (frames names m 0) z h
-passes names s m (frame.BeforeMethods of_r of_vs of_l of_q) n o z e h = fewer names m o z 0 n e ∙ passed_on names s _ o (frames names m 0) z h
-passes names s m (frame.PrimaryMethod of_r of_vs of_l of_q) n o z e h = fewer names m o z 0 n e ∙ passed_on names s _ o (frames names m 0) z h
-passes names s m (frame.HandlerReturn of_l of_q) n o z e h = fewer names m o z 0 n e ∙ passed_on names s _ o (frames names m 0) z h
-passes names s m (frame.MainForm of_n) n o z e h = fewer names m o z 0 n e ∙ passed_on names s _ o (frames names m 0) z h
-passes names s m (frame.MainForms of_l of_fs of_n) n o z e h = fewer names m o z 0 n e ∙ passed_on names s _ o (frames names m 0) z h
+passes names s m (frame.SetLocal of_p of_s) n o z e h = fewer names m o z 0 n e ∙ passed_on names o (frames names m 0) z _ h
+passes names s m (frame.SetGlobal of_n of_s) n o z e h = fewer names m o z 0 n e ∙ passed_on names o (frames names m 0) z _ h
+passes names s m (frame.DefGlobal of_n) n o z e h = fewer names m o z 0 n e ∙ passed_on names o (frames names m 0) z _ h
+passes names s m (frame.Sequence of_fs of_n of_s) n o z e h = fewer names m o z 0 n e ∙ passed_on names o (frames names m 0) z _ h
+passes names s m (frame.Clause of_cs of_n of_s) n o z e h = fewer names m o z 0 n e ∙ passed_on names o (frames names m 0) z _ h
+passes names s m (frame.Binding of_bs of_n of_b of_s) n o z e h = fewer names m o z of_n n e ∙ passed_on names o (frames names m of_n) z _ h
+passes names s m (frame.Argument of_o of_fs of_n of_s) n o z e h = fewer names m o z of_n n e ∙ passed_on names o (frames names m of_n) z _ h
+passes names s m (frame.DynamicValue of_bs of_n of_b of_s) n o z e h = fewer names m o z of_n n e ∙ passed_on names o (frames names m of_n) z _ h
+passes names s m (frame.AppliedFunction of_l of_s) n o z e h = fewer names m o z 0 n e ∙ passed_on names o (frames names m 0) z _ h
+passes names s m (frame.AppliedList of_f of_s) n o z e h = fewer names m o z 0 n e ∙ passed_on names o (frames names m 0) z _ h
+passes names s m (frame.WhileTest of_t of_b of_s) n o z e h = fewer names m o z 0 n e ∙ passed_on names o (frames names m 0) z _ h
+passes names s m (frame.WhileBody of_t of_b of_s) n o z e h = fewer names m o z 0 n e ∙ passed_on names o (frames names m 0) z _ h
+passes names s m (frame.ReturnValue of_x of_s) n o z e h = fewer names m o z 0 n e ∙ passed_on names o (frames names m 0) z _ h
+passes names s m frame.LastSegment n o z e h = fewer names m o z 0 n e ∙ passed_on names o (frames names m 0) z _ h
+passes names s m (frame.CatchTag of_b of_s) n o z e h = fewer names m o z 0 n e ∙ passed_on names o (frames names m 0) z _ h
+passes names s m (frame.ThrowTag of_f of_s) n o z e h = fewer names m o z 0 n e ∙ passed_on names o (frames names m 0) z _ h
+passes names s m (frame.ThrowValue of_t of_s) n o z e h = fewer names m o z 0 n e ∙ passed_on names o (frames names m 0) z _ h
+passes names s m (frame.SetDynamic of_n of_s) n o z e h = fewer names m o z 0 n e ∙ passed_on names o (frames names m 0) z _ h
+passes names s m (frame.DefDynamic of_n) n o z e h = fewer names m o z 0 n e ∙ passed_on names o (frames names m 0) z _ h
+passes names s m (frame.HandlerValue of_b of_s) n o z e h = fewer names m o z 0 n e ∙ passed_on names o (frames names m 0) z _ h
+passes names s m (frame.SignalCondition of_f of_s) n o z e h = fewer names m o z 0 n e ∙ passed_on names o (frames names m 0) z _ h
+passes names s m (frame.SignalMark of_c of_s) n o z e h = fewer names m o z 0 n e ∙ passed_on names o (frames names m 0) z _ h
+passes names s m (frame.ContinueCondition of_f of_s) n o z e h = fewer names m o z 0 n e ∙ passed_on names o (frames names m 0) z _ h
+passes names s m (frame.ContinueValue of_c of_s) n o z e h = fewer names m o z 0 n e ∙ passed_on names o (frames names m 0) z _ h
+passes names s m (frame.Kept of_o) n o z e h = fewer names m o z 0 n e ∙ passed_on names o (frames names m 0) z _ h
+passes names s m (frame.Methods of_ms of_n of_vs of_l of_r) n o z e h = fewer names m o z 0 n e ∙ passed_on names o (frames names m 0) z _ h
+passes names s m (frame.BeforeMethods of_r of_vs of_l of_q) n o z e h = fewer names m o z 0 n e ∙ passed_on names o (frames names m 0) z _ h
+passes names s m (frame.PrimaryMethod of_r of_vs of_l of_q) n o z e h = fewer names m o z 0 n e ∙ passed_on names o (frames names m 0) z _ h
+passes names s m (frame.HandlerReturn of_l of_q) n o z e h = fewer names m o z 0 n e ∙ passed_on names o (frames names m 0) z _ h
+passes names s m (frame.MainForm of_n) n o z e h = fewer names m o z 0 n e ∙ passed_on names o (frames names m 0) z _ h
+passes names s m (frame.MainForms of_l of_fs of_n) n o z e h = fewer names m o z 0 n e ∙ passed_on names o (frames names m 0) z _ h
 passes names s m (frame.Block of_n of_e of_o) n o z e h = absurd (cc)
 passes names s m (frame.Catch of_n of_t of_e) n o z e h = absurd (cc)
 passes names s m (frame.Signal of_n of_c of_m of_e) n o z e h = absurd (cc)

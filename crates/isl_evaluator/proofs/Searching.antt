@@ -1,5 +1,5 @@
 -- Dynamic variables: the innermost binding is found by the machine, and those that are passed are counted.
-use Rattle.std.proofs.Common.{◌≡◌, ℕ, List, [], ◌∷◌, Option, Some, None, refl, ap, sym, ◌∙◌, subst}
+use Rattle.std.proofs.Common.{◌≡◌, ℕ, List, Option, Some, None, refl, ap, sym, ◌∙◌, subst}
 use Rattle.std.specs.Prelude.{reverse, option_map}
 use Rattle.isl_meaning.specs.Lookup.{passed, value_at, set_at}
 use Rattle.isl_meaning.specs.State.{value}
@@ -19,7 +19,7 @@ use Rattle.isl_machine.specs.Chains.{chained}
 use Rattle.isl_machine.specs.Frames.{binding_link, situation_in, around_in, frame_slots}
 use Rattle.isl_machine.specs.View.{Steps, IsGiven, setting_of, at, frames, state}
 use Rattle.isl_evaluator.specs.declared.evaluator.Evaluator.{Evaluator}
-use Rattle.isl_evaluator.specs.Runs.{Stands, IsAt, Runs}
+use Rattle.isl_evaluator.specs.Runs.{IsAt, Runs}
 use Rattle.isl_evaluator.proofs.Lifting.{beside_another}
 
 -- the bindings that are around

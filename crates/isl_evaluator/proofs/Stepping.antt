@@ -1,5 +1,5 @@
 -- A step: what the machine is about to do is done.
-use Rattle.std.proofs.Common.{◌≡◌, ℕ, List, [], ◌∷◌, ◌++◌, Option, Some, None, refl, ap, sym, ◌∙◌, reverse, subst}
+use Rattle.std.proofs.Common.{◌≡◌, ℕ, ◌+◌, length, MatchOption, option_to_list, arith, List, [], ◌∷◌, ◌++◌, Option, Some, None, refl, ap, sym, ◌∙◌, reverse, subst}
 use Rattle.isl_plain.specs.Moment.{Setting, Moment, come_to}
 use Rattle.isl_plain.specs.Moment as machine
 use Rattle.isl_plain.specs.Step.{step, control_step, outcome_step}
@@ -69,4 +69,23 @@ stepped old new k next e is x = record {
   next = next;
   is_next = λ names s b. about_to old.machine k e names s b ∙ is names s b;
   comes = x;
+}
+
+-- the frame on top was taken away, if there is one
+nothing : {X : Type 0} (xs : List X) → length xs ≡ 0 → xs ≡ []
+nothing [] h = refl
+nothing (x ∷ xs) h = absurd (omega arith)
+
+pub top_is : (old new : Evaluator) (r : Option Frame) → new ≡ record old { machine = record old.machine { frames = new.machine.frames } }
+    → old.machine.frames.items ≡ new.machine.frames.items ++ option_to_list r
+    → (n k : ℕ) → n ≡ length old.machine.frames.items → k ≡ length new.machine.frames.items → MatchOption r ((n ≡ 0) × (k ≡ 0)) (λ w. k + 1 ≡ n)
+    → IsTopTaken old new r
+top_is old new None same items n k long short cases = record {
+  none = nothing old.machine.frames.items (sym long ∙ cases.0);
+  frames = nothing new.machine.frames.items (sym short ∙ cases.1) ∙ sym (nothing old.machine.frames.items (sym long ∙ cases.0));
+  same = same;
+}
+top_is old new (Some w) same items n k long short cases = record {
+  popped = record { frames = items; same = ap (λ (e : Evaluator). e.machine) same };
+  same = same ∙ ap (λ m. record old { machine = m }) (sym (ap (λ (e : Evaluator). e.machine) same));
 }

@@ -3,3 +3,4 @@ pub mod Runs
 pub mod Outermost
 pub mod Streams
 pub mod Stepped
+pub mod Started

@@ -5,6 +5,7 @@ use Rattle.isl_meaning.specs.declared.primitive.Primitive.TheVariants as p
 use Rattle.isl_meaning.specs.declared.program.ProgramRows.{ProgramRows}
 use Rattle.isl_meaning.specs.Classes.{fetch}
 use Rattle.isl_meaning.specs.Primitives.{primitive, as_stream, as_character}
+use Rattle.isl_closure.specs.FlatForm.{FlatForm, prim}
 use Rattle.isl_store.specs.declared.word.Word.{Word}
 use Rattle.isl_store.specs.Words.{value_of_word, values_of}
 use Rattle.isl_store.specs.View.{Beside, state_of}
@@ -12,19 +13,33 @@ use Rattle.isl_primitives.specs.declared.answer.Answer.{Answer}
 use Rattle.isl_primitives.specs.Answers.{told}
 use Rattle.isl_machine.specs.declared.frame.Operation.{Operation}
 use Rattle.isl_machine.specs.declared.frame.Operation.TheVariants.{Compute}
+use Rattle.isl_machine.specs.declared.machine.Control.{Control}
+use Rattle.isl_machine.specs.declared.machine.Control.TheVariants.{Evaluate}
 use Rattle.isl_machine.specs.declared.machine.Machine.{Machine}
 use Rattle.isl_evaluator.specs.declared.evaluator.Evaluator.{Evaluator}
 use Rattle.isl_evaluator.specs.Runs.{Stands}
 
 -- whether a primitive with these arguments takes from what is read, or looks at it; and whether something is there, or nothing is left to read
+abbrev pub is_reading : Primitive → Bool
+is_reading p.GetByte = true
+is_reading p.PeekByte = true
+is_reading which = false
+
 abbrev pub reads : Primitive → List Word → Bool
-reads p.GetByte [] = true
-reads p.PeekByte [] = true
-reads which ws = false
+reads which [] = is_reading which
+reads which (w ∷ ws) = false
 
 abbrev pub operation_reads : Operation → List Word → Bool
 operation_reads (Compute which) ws = reads which ws
 operation_reads o ws = false
+
+abbrev pub form_reads : FlatForm → Bool
+form_reads (prim which fs) = is_reading which
+form_reads f = false
+
+abbrev pub control_reads : Control → Bool
+control_reads (Evaluate f s) = form_reads f.now
+control_reads c = false
 
 abbrev pub is_fed : Evaluator → Bool
 is_fed e = e.ended || is_some (slice_get e.ahead.items e.taken)

@@ -1,6 +1,6 @@
 // One step of the evaluator.
 
-ghost use Rattle.std.specs.Prelude.{◌≡◌, Some, OnOk, IfOk};
+ghost use Rattle.std.specs.Prelude.{◌≡◌, true, Some, OnOk, IfOk};
 ghost use Rattle.isl_plain.specs.Step.{outcome_step};
 ghost use Rattle.isl_machine.specs.declared.machine.Control.TheVariants.{ComeTo};
 ghost use Rattle.isl_machine.specs.Frames.{outcome_of};
@@ -8,18 +8,20 @@ ghost use Rattle.isl_machine.specs.Passing.{waiting_operands};
 ghost use Rattle.isl_machine.specs.Tops.{taken, below};
 ghost use Rattle.isl_machine.specs.View.{state};
 ghost use Rattle.isl_evaluator.specs.Runs.{Runs};
+ghost use Rattle.isl_evaluator.specs.Streams.{control_reads, is_fed};
 ghost use Rattle.isl_evaluator.specs.Stepped.{IsStepped, IsTopTaken};
 
 use crate::evaluator::Evaluator;
-use crate::open::signal_under;
+use isl_applying::signalling::signal_under;
 use isl_base::NoMemory;
 use isl_machine::frame::{Frame, Outcome};
 use isl_machine::machine::Control;
 use isl_machine::passing::waiting_operands;
 
 impl<'p> Evaluator<'p> {
-    /// One step; whether there was one, which is not so where the machine has ended.
+    /// One step; whether there was one, which is not so where the machine has ended. What it reads is there.
     pub fn step(&mut self) -> Result<bool, NoMemory>
+        requires { control_reads self.old.machine.control ≡ true → is_fed self.old ≡ true }
         ensures { IfOk result (IsStepped self.old self.new) }
     {
         match self.machine.control {

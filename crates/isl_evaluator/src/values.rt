@@ -11,7 +11,9 @@ ghost use Rattle.isl_machine.specs.View.{at, top, frames, state};
 ghost use Rattle.isl_evaluator.specs.Runs.{Runs};
 
 use crate::evaluator::Evaluator;
-use crate::open::{after_before, after_primary, apply_each, apply_list, signal_condition, with_handler};
+use isl_applying::lists::apply_list;
+use isl_applying::methods::{after_before, after_primary, apply_each};
+use isl_applying::signalling::{signal_condition, with_handler};
 use isl_base::NoMemory;
 use isl_closure::FlatCoreList;
 use isl_machine::frame::{Frame, Operation};
@@ -44,7 +46,7 @@ impl<'p> Evaluator<'p> {
             Frame::HandlerValue(body, situation) => with_handler(&mut self.machine, word, body, situation),
             Frame::SignalMark(condition, situation) => signal_condition(&mut self.machine, condition, word, situation),
             Frame::Methods(list, place, arguments, level, around) => apply_each(&mut self.machine, list, place, arguments, level, around),
-            Frame::BeforeMethods(rest, arguments, level, around) => after_before(&mut self.machine, rest, arguments, word, level, around),
+            Frame::BeforeMethods(rest, arguments, level, around) => after_before(&mut self.machine, rest, arguments, level, around),
             Frame::PrimaryMethod(rest, arguments, level, around) => after_primary(&mut self.machine, rest, arguments, word, level, around),
             other => self.machine.value(other, word),
         }

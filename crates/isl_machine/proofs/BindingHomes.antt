@@ -1,6 +1,6 @@
 -- The homes of the variables of bindings, one for each.
 use Rattle.std.proofs.Common.{◌≡◌, ℕ, zero, suc, ◌<◌, ◌≤◌, List, [], ◌∷◌, Some, None, refl, ap, length, arith}
-use Rattle.std.specs.Prelude.{slice_get, option_map}
+use Rattle.std.specs.Prelude.{slice_get}
 use Rattle.isl_closure.specs.declared.flat_core.FlatBinding.{FlatBinding}
 use Rattle.isl_closure.specs.FlatMeaning.{binding_homes}
 use Rattle.isl_closure.specs.model.View.{bindings_of}
@@ -8,11 +8,6 @@ use Rattle.isl_closure.specs.model.View.{bindings_of}
 pub homes_counted : (bs : List FlatBinding) → length (binding_homes (bindings_of bs)) ≡ length bs
 homes_counted [] = refl
 homes_counted (b ∷ bs) = ap suc (homes_counted bs)
-
-pub home_of : (bs : List FlatBinding) (n : ℕ) → slice_get (binding_homes (bindings_of bs)) n ≡ option_map (λ (b : FlatBinding). b.home) (slice_get bs n)
-home_of [] n = refl
-home_of (b ∷ bs) zero = refl
-home_of (b ∷ bs) (suc n) = home_of bs n
 
 pub home_there : (bs : List FlatBinding) (n : ℕ) → n < length bs → slice_get (binding_homes (bindings_of bs)) n ≡ None → ⊥
 home_there [] n h e = absurd (omega arith)

@@ -1,5 +1,5 @@
 -- Looking for the innermost binding of a name, one frame after another.
-use Rattle.std.proofs.Common.{Bor, ◌≡◌, ℕ, ◌+◌, Bool, true, false, List, [], ◌∷◌, ◌++◌, Option, Some, None, refl, ap, sym, ◌∙◌, subst, length, drop, arith, zero-add, add_assoc}
+use Rattle.std.proofs.Common.{◌≡◌, ℕ, ◌+◌, Bool, true, false, List, [], ◌∷◌, ◌++◌, Option, Some, None, refl, ap, sym, ◌∙◌, length, drop, arith, zero-add, add_assoc}
 use Rattle.std.specs.Prelude.{reverse, slice_get, option_map, is_some, if◌then◌else◌}
 use Rattle.std.proofs.lemmas.List.{drop_all}
 use Rattle.isl_base.specs.model.DataRest.{rest_at}
@@ -68,67 +68,6 @@ binding_next names (frame.Binds bs n m) = refl
 
 pub bindings_linked : (names : List (List ℕ)) → AreLinked Bindings (binding_link names)
 bindings_linked names = record { next_is = binding_next names }
-
--- other frames bind nothing
-pub binds_only : (names : List (List ℕ)) (w : Frame) → ((bs : Bor (List FlatDynBinding)) (first next : ℕ) → w ≡ frame.Binds bs first next → ⊥)
-    → binding_link names w ≡ None
-binds_only names (frame.SetLocal p s) h = refl
-binds_only names (frame.SetGlobal n s) h = refl
-binds_only names (frame.DefGlobal n) h = refl
-binds_only names (frame.Sequence fs n s) h = refl
-binds_only names (frame.Clause cs n s) h = refl
-binds_only names (frame.Binding bs n b s) h = refl
-binds_only names (frame.Argument o fs n s) h = refl
-binds_only names (frame.DynamicValue bs n b s) h = refl
-binds_only names (frame.AppliedFunction l s) h = refl
-binds_only names (frame.AppliedList f s) h = refl
-binds_only names (frame.WhileTest t b s) h = refl
-binds_only names (frame.WhileBody t b s) h = refl
-binds_only names (frame.ReturnValue x s) h = refl
-binds_only names frame.LastSegment h = refl
-binds_only names (frame.CatchTag b s) h = refl
-binds_only names (frame.ThrowTag f s) h = refl
-binds_only names (frame.ThrowValue t s) h = refl
-binds_only names (frame.SetDynamic n s) h = refl
-binds_only names (frame.DefDynamic n) h = refl
-binds_only names (frame.HandlerValue b s) h = refl
-binds_only names (frame.SignalCondition f s) h = refl
-binds_only names (frame.SignalMark c s) h = refl
-binds_only names (frame.ContinueCondition f s) h = refl
-binds_only names (frame.ContinueValue c s) h = refl
-binds_only names (frame.Kept o) h = refl
-binds_only names (frame.Methods ms n vs l r) h = refl
-binds_only names (frame.BeforeMethods r vs l q) h = refl
-binds_only names (frame.PrimaryMethod r vs l q) h = refl
-binds_only names (frame.HandlerReturn l q) h = refl
-binds_only names (frame.MainForm n) h = refl
-binds_only names (frame.MainForms l fs n) h = refl
-binds_only names (frame.Block n e o) h = refl
-binds_only names (frame.Catch n t e) h = refl
-binds_only names (frame.Signal n c m e) h = refl
-binds_only names (frame.Tagbody n fs s) h = refl
-binds_only names (frame.Cleans f s) h = refl
-binds_only names (frame.RestoresStack n) h = refl
-binds_only names (frame.RestoresSlots saved) h = refl
-binds_only names (frame.DropsSlots n) h = refl
-binds_only names (frame.Handles w n) h = refl
-binds_only names (frame.Binds bs n m) h = absurd (h bs n m refl)
-
-pub nothing_bound : (names : List (List ℕ)) (n : ℕ) (w : Frame) (bound : Bound)
-    → ((bs : Bor (List FlatDynBinding)) (first next : ℕ) → w ≡ frame.Binds bs first next → ⊥)
-    → IsBoundBy names n w bound
-nothing_bound names n w bound h = record {
-  bound_by = λ l e. let none : binding_link names w ≡ None = binds_only names w h in absurd (cc);
-}
-
-pub list_bound : (names : List (List ℕ)) (n : ℕ) (w : Frame) (bs : Bor (List FlatDynBinding)) (first next : ℕ) (bound : Bound) → w ≡ frame.Binds bs first next
-    → IsBound names n (bindings_in names (dynamics_of bs.now) first) bound → IsBoundBy names n w bound
-list_bound names n w bs first next bound e is = record {
-  bound_by = λ l h.
-      let same : Some (record { items = bindings_in names (dynamics_of bs.now) first; next = next }) ≡ Some l = sym (ap (binding_link names) e) ∙ h in
-      let items : bindings_in names (dynamics_of bs.now) first ≡ l.items = cc in
-      let P : List (List ℕ × ℕ) → Type 0 = λ xs. IsBound names n xs bound in subst P items is;
-}
 
 -- in a list: how far it was searched
 pub record IsSought (names : List (List ℕ)) (n : ℕ) (bs : List FlatDynBinding) (at : ℕ) : Type 0 where

@@ -1,5 +1,5 @@
 -- What is found from a link on, by the nearest frame that links and those behind it, for links of any kind.
-use Rattle.std.proofs.Common.{◌≡◌, ℕ, suc, ◌<◌, List, [], ◌++◌, Option, Some, None, refl, ap, sym, ◌∙◌, min, arith}
+use Rattle.std.proofs.Common.{◌≡◌, ℕ, suc, List, [], ◌++◌, Option, Some, None, refl, ap, sym, ◌∙◌, min}
 use Rattle.std.specs.Prelude.{reverse, option_map}
 use Rattle.isl_machine.specs.declared.frame.Frame.{Frame}
 use Rattle.isl_machine.specs.declared.links.Kind.{Kind}
@@ -56,10 +56,3 @@ has_things {X = X} kind of items link behind w a n h = by (of w) (sym (a.next_is
     by : (o : Option (Linking X)) → option_map (λ (l : Linking X). l.next) o ≡ Some n.next → option_map (λ (l : Linking X). l.items) o ≡ None → ⊥
     by None e f = cc
     by (Some l) e f = cc
-
--- the link behind is below
-pub falls : (kind : Kind) (items : List Frame) (link behind : ℕ) (w : Frame) → IsNearest kind items link w behind → behind < link
-falls kind items link behind w n =
-    let e : behind ≡ min n.next n.place = n.capped in
-    let b : n.place < link = n.below in
-    omega arith

@@ -5,7 +5,7 @@ use Rattle.std.specs.declared.rc.Rc.{Rc}
 use Rattle.isl_base.specs.declared.lists.ItemList.{ItemList}
 use Rattle.isl_meaning.specs.State.{Limit, value, full}
 use Rattle.isl_closure.specs.declared.place.FlatPart.{FlatPart}
-use Rattle.isl_closure.specs.FlatState.{FlatState, FlatEvaluated, gives, request, make_closure, captured_part}
+use Rattle.isl_closure.specs.FlatState.{FlatState, gives, make_closure, captured_part}
 use Rattle.isl_closure.specs.FlatState as flat
 use Rattle.isl_plain.specs.Moment.{moment, come_to, ended}
 use Rattle.isl_store.specs.declared.word.Word.{Word}

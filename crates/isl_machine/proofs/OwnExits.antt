@@ -139,9 +139,6 @@ count_ends items link left count c n =
 pub record IsPassing (items : List Frame) (link others left more : ℕ) : Type 0 where
   pub same : slice_get (chained own_link (reverse items) link) others ≡ slice_get (chained own_link (reverse items) left) more
 
-pub passing_begins : (items : List Frame) (link others : ℕ) → IsPassing items link others link others
-passing_begins items link others = record { same = refl }
-
 -- the nearest frame has one exit, which is found, or none
 nearest_one : (items : List Frame) (left behind : ℕ) (w : Frame) (o : Option ℕ) → IsNearest Own items left w behind
     → option_map (λ (l : Linking ℕ). l.items) (own_link w) ≡ option_map (λ (n : ℕ). n ∷ []) o

@@ -1,5 +1,5 @@
 -- The form is charged, and then does what it does.
-use Rattle.std.proofs.Common.{ap, ◌∙◌}
+use Rattle.std.proofs.Common.{ap, sym, ◌∙◌}
 use Rattle.std.proofs.lemmas.Result.{on_ok_weaker}
 use Rattle.isl_closure.specs.FlatState.{charged}
 use Rattle.isl_closure.specs.model.View.{view_form}
@@ -9,6 +9,7 @@ use Rattle.isl_machine.specs.Begins.{begins}
 use Rattle.isl_machine.specs.View.{at, frames, state}
 use Rattle.isl_machine.proofs.Beginning.{form_begins}
 use Rattle.isl_evaluator.proofs.Running.{runs_from}
+use Rattle.isl_evaluator.specs.Streams.{form_reads}
 use Rattle.isl_evaluator.proofs.evaluator.Evaluator.begin.Goals as goal
 
 pub returns : goal.returns
@@ -26,3 +27,6 @@ returns c =
       ∙ form_begins s f (at names m p) (frames names m 0) (state names m b)
       ∙ ap (λ k. form_step s k (at names m p) (frames names m 0) (state names m b)) c.form.view_is))
     c.begin_kind.ensures
+
+pub begin_kind-requires : goal.begin_kind-requires
+begin_kind-requires c = λ r. c.requires (sym (ap form_reads c.form.view_is) ∙ r)

@@ -1,5 +1,5 @@
 -- The variable of the innermost binding, or the outermost value.
-use Rattle.std.proofs.Common.{Some, None, subst}
+use Rattle.std.proofs.Common.{Some, subst}
 use Rattle.std.proofs.lemmas.Result.{on_ok_weaker}
 use Rattle.isl_meaning.specs.Lookup.{text, value_at}
 use Rattle.isl_closure.specs.FlatState.{gives}

@@ -1,5 +1,5 @@
 -- What the machine is about to do is done.
-use Rattle.std.proofs.Common.{refl}
+use Rattle.std.proofs.Common.{refl, ap, ◌∙◌}
 use Rattle.isl_plain.specs.Applications.{signal_under}
 use Rattle.isl_plain.specs.Step.{form_step}
 use Rattle.isl_closure.specs.FlatForm.{while_form}
@@ -7,6 +7,7 @@ use Rattle.isl_store.specs.Words.{value_of_word}
 use Rattle.isl_machine.specs.View.{at, frames, state, surroundings}
 use Rattle.isl_evaluator.proofs.Lifting.{lifted}
 use Rattle.isl_evaluator.proofs.Stepping.{stepped}
+use Rattle.isl_evaluator.specs.Streams.{control_reads}
 use Rattle.isl_evaluator.proofs.evaluator.Evaluator.step.Goals as goal
 
 pub returns-in_ok-begin-in-Evaluate : goal.returns-in_ok-begin-in-Evaluate
@@ -28,3 +29,6 @@ returns-in_ok-signal_under-in-Signals c =
     (λ names s b. signal_under s (surroundings names e.machine c.in-Signals.around).handlers (value_of_word names c.in-Signals.condition) (value_of_word names c.in-Signals.mark) c.in-Signals.level (surroundings names e.machine c.in-Signals.around) (frames names e.machine 0) (state names e.machine b))
     c.in-Signals.is (λ names s b. refl)
     (lifted e (record e { machine = c.signal_under.new.machine }) _ refl c.in_ok-signal_under-in-Signals.ensures)
+
+pub begin-requires : goal.begin-requires
+begin-requires c = λ r. c.requires (ap control_reads c.in-Evaluate.is ∙ r)

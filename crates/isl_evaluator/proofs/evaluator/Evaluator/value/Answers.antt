@@ -1,14 +1,21 @@
 -- Each place does what its kind does.
 use Rattle.std.proofs.Common.{refl}
 use Rattle.isl_meaning.specs.State.{value}
-use Rattle.isl_store.specs.Words.{value_of_word}
+use Rattle.std.proofs.lemmas.Result.{on_ok_weaker}
+use Rattle.isl_store.specs.Words.{value_of_word, values_of, rest_of}
+use Rattle.isl_machine.specs.View.{frames, state, surroundings}
+use Rattle.isl_machine.proofs.Going.{followed}
+use Rattle.isl_evaluator.proofs.MethodsLeft.{before_is}
 use Rattle.isl_evaluator.proofs.Alone.{left_alone}
 use Rattle.isl_evaluator.proofs.Lifting.{lifted_ok}
 use Rattle.isl_evaluator.proofs.Running.{runs_framed}
 use Rattle.isl_evaluator.proofs.evaluator.Evaluator.value.Goals as goal
 
-pub value-requires-alone : goal.value-requires-alone
-value-requires-alone c = left_alone c.args.frame c.in-other.not-SetGlobal c.in-other.not-DefGlobal c.in-other.not-Argument c.in-other.not-AppliedList c.in-other.not-SetDynamic c.in-other.not-DefDynamic c.in-other.not-HandlerValue c.in-other.not-SignalMark c.in-other.not-Methods c.in-other.not-BeforeMethods c.in-other.not-PrimaryMethod
+pub value-requires : goal.value-requires
+value-requires c = record {
+  waits = c.requires;
+  alone = left_alone c.args.frame c.in_default.not-SetGlobal c.in_default.not-DefGlobal c.in_default.not-Argument c.in_default.not-AppliedList c.in_default.not-SetDynamic c.in_default.not-DefDynamic c.in_default.not-HandlerValue c.in_default.not-SignalMark c.in_default.not-Methods c.in_default.not-BeforeMethods c.in_default.not-PrimaryMethod;
+}
 
 pub returns-in-SetGlobal : goal.returns-in-SetGlobal
 returns-in-SetGlobal c =
@@ -58,12 +65,15 @@ returns-in-Methods c =
 pub returns-in-BeforeMethods : goal.returns-in-BeforeMethods
 returns-in-BeforeMethods c =
     runs_framed c.after_before.result c.args.self.now (record c.args.self.now { machine = c.after_before.new.machine }) (λ names. value (value_of_word names c.args.word)) c.args.frame _ c.in-BeforeMethods.is
-    (lifted_ok c.after_before.result c.args.self.now (record c.args.self.now { machine = c.after_before.new.machine }) _ refl c.after_before.ensures)
+    (lifted_ok c.after_before.result c.args.self.now (record c.args.self.now { machine = c.after_before.new.machine }) _ refl
+    (on_ok_weaker c.after_before.result (λ x. followed _ _ _ _ x (λ names s b.
+      before_is s (rest_of c.in-BeforeMethods.rest) (rest_of c.in-BeforeMethods.rest).primary (values_of names c.in-BeforeMethods.arguments.value) (value_of_word names c.args.word) c.in-BeforeMethods.level (surroundings names c.args.self.now.machine c.in-BeforeMethods.around)
+      (frames names c.args.self.now.machine 0) (state names c.args.self.now.machine b))) c.after_before.ensures))
 
 pub returns-in-PrimaryMethod : goal.returns-in-PrimaryMethod
 returns-in-PrimaryMethod c =
     runs_framed c.after_primary.result c.args.self.now (record c.args.self.now { machine = c.after_primary.new.machine }) (λ names. value (value_of_word names c.args.word)) c.args.frame _ c.in-PrimaryMethod.is
     (lifted_ok c.after_primary.result c.args.self.now (record c.args.self.now { machine = c.after_primary.new.machine }) _ refl c.after_primary.ensures)
 
-pub returns-in-other : goal.returns-in-other
-returns-in-other c = lifted_ok c.value.result c.args.self.now (record c.args.self.now { machine = c.value.new.self }) _ refl c.value.ensures
+pub returns-in_default : goal.returns-in_default
+returns-in_default c = lifted_ok c.value.result c.args.self.now (record c.args.self.now { machine = c.value.new.self }) _ refl c.value.ensures
