@@ -8,3 +8,4 @@ pub mod Stepping
 pub mod Begun
 pub mod Searching
 pub mod MethodsLeft
+pub mod Outset
