@@ -12,9 +12,11 @@ use Rattle.isl_store.specs.NamedValues.{Holds}
 use Rattle.isl_store.specs.Spelling.{IsSpelling}
 use Rattle.isl_store.specs.View.{Beside, seen}
 use Rattle.isl_layout.specs.Layout.{IsLaidOut}
+use Rattle.isl_machine.specs.declared.frame.Frame.{Frame}
 use Rattle.isl_machine.specs.declared.frame.Frame.TheVariants as frame
 use Rattle.isl_machine.specs.declared.frame.Outcome.TheVariants.{Value}
 use Rattle.isl_machine.specs.declared.given.Given.{Given}
+use Rattle.isl_machine.specs.declared.slot.Slot.{Slot}
 use Rattle.isl_machine.specs.declared.machine.Control.TheVariants.{ComeTo}
 use Rattle.isl_machine.specs.declared.machine.Machine.{Machine}
 use Rattle.isl_machine.specs.Frames.{last_of, others_of, slot_of, frames_in}
@@ -34,6 +36,19 @@ pub record IsFirst (given : Given) (store : Store) (level : ℕ) (m : Machine) :
   pub slots : m.slots.items ≡ []
   pub store_is : m.store ≡ store
 
+pub first_of : (given : Given) (store : Store) (level : ℕ) (m : Machine) (main : Bor (List FlatForm)) (before : List Frame)
+    → m.frames.items ≡ before ++ frame.MainForms level main 0 ∷ [] → before ≡ [] → main.now ≡ given.program.now.main
+    → m.given ≡ given → m.control ≡ ComeTo (Value Nil) → m.slots.items ≡ [] → m.store ≡ store → IsFirst given store level m
+first_of given store level m main before pushed none main_is given_is control slots store_is = record {
+  given_is = given_is;
+  control = control;
+  main = main;
+  main_is = main_is;
+  frames = pushed ∙ ap (λ ws. ws ++ frame.MainForms level main 0 ∷ []) none;
+  slots = slots;
+  store_is = store_is;
+}
+
 only_frame : (names : List (List ℕ)) (given : Given) (store : Store) (level : ℕ) (m : Machine) → IsFirst given store level m
     → frames names m 0 ≡ awaits (main_forms level given.program.now.main) ∷ []
 unfolding frames_in
@@ -49,7 +64,7 @@ first_state_is : (names : List (List ℕ)) (given : Given) (store : Store) (leve
     → state names m b ≡ seen names store (record b { frame = [] })
 first_state_is names given store level m b f =
     ap (λ xs. seen names m.store (record b { frame = map (slot_of names) (last_of m.current.slots xs) })) f.slots
-    ∙ ap (λ xs. seen names m.store (record b { frame = map (slot_of names) xs })) (done [] (length [] - m.current.slots) (omega arith))
+    ∙ ap (λ xs. seen names m.store (record b { frame = map (slot_of names) xs })) (let none : List Slot = [] in done none (length none - m.current.slots) (omega arith))
     ∙ ap (λ s. seen names s (record b { frame = [] })) f.store_is
 
 pub started : (given : Given) (store : Store) (level : ℕ) (e : Evaluator) → IsFirst given store level e.machine
@@ -64,7 +79,7 @@ started given store level e f globals dynamics printed at_start ahead not_ended 
       dynamics = dynamics names spelling;
       printed = sym printed;
       at_start = at_start;
-      input = sym (ap (λ xs. drop e.taken xs ++ input) ahead ∙ ap (λ xs. xs ++ input) (done [] e.taken (omega arith)));
+      input = sym (ap (λ xs. drop e.taken xs ++ input) ahead ∙ ap (λ xs. xs ++ input) (let none : List ℕ = [] in done none e.taken (omega arith)));
       ended = λ h. absurd (cc);
     } in
     record {
