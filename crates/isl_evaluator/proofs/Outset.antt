@@ -73,21 +73,21 @@ pub started : (given : Given) (store : Store) (level : ℕ) (e : Evaluator) → 
 started given store level e f globals dynamics printed at_start ahead not_ended = record {
   is_given = f.given_is;
   comes = λ names input spelling laid.
-    let b : Beside = record { globals = []; dynamics = []; input = input; printed = []; frame = [] } in
-    let stands : Stands names e [] input b = record {
-      globals = globals names spelling;
-      dynamics = dynamics names spelling;
-      printed = sym printed;
-      at_start = at_start;
-      input = sym (ap (λ xs. drop e.taken xs ++ input) ahead ∙ ap (λ xs. xs ++ input) (let none : List ℕ = [] in done none e.taken (omega arith)));
-      ended = λ h. absurd (cc);
-    } in
-    record {
-      beside = b;
-      stands = stands;
-      is =
-        ap (λ k. moment (control_of names e.machine k) (frames names e.machine 0) (state names e.machine b)) f.control
-        ∙ ap (λ fs. moment (come_to (value nil)) fs (state names e.machine b)) (only_frame names given store level e.machine f)
-        ∙ ap (λ z. moment (come_to (value nil)) (awaits (main_forms level given.program.now.main) ∷ []) z) (first_state_is names given store level e.machine b f ∙ laid.objects b);
-    };
+      let b : Beside = record { globals = []; dynamics = []; input = input; printed = []; frame = [] } in
+      let stands : Stands names e [] input b = record {
+        globals = globals names spelling;
+        dynamics = dynamics names spelling;
+        printed = sym printed;
+        at_start = at_start;
+        input = sym (ap (λ xs. drop e.taken xs ++ input) ahead ∙ ap (λ xs. xs ++ input) (let none : List ℕ = [] in done none e.taken (omega arith)));
+        ended = λ h. absurd (cc);
+      } in
+      record {
+        beside = b;
+        stands = stands;
+        is =
+            ap (λ k. moment (control_of names e.machine k) (frames names e.machine 0) (state names e.machine b)) f.control
+            ∙ ap (λ fs. moment (come_to (value nil)) fs (state names e.machine b)) (only_frame names given store level e.machine f)
+            ∙ ap (λ z. moment (come_to (value nil)) (awaits (main_forms level given.program.now.main) ∷ []) z) (first_state_is names given store level e.machine b f ∙ laid.objects b);
+      };
 }

@@ -13,7 +13,12 @@ use isl_meaning::Primitive;
 
 impl<'p> Evaluator<'p> {
     /// A primitive computes with arguments, which are the last operands.
-    pub fn compute(&mut self, which: Primitive, count: usize, situation: Situation) -> Result<(), NoMemory>
+    pub fn compute(
+        &mut self,
+        which: Primitive,
+        count: usize,
+        situation: Situation,
+    ) -> Result<(), NoMemory>
         ensures { OnOk result (Runs self.old self.new (λ names s b. operation_step s (compute which) (top names self.old.machine count) (at names self.old.machine situation) (frames names self.old.machine count) (state names self.old.machine b))) }
     {
         Err(NoMemory)

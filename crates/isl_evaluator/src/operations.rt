@@ -15,7 +15,12 @@ use isl_machine::situation::Situation;
 
 impl<'p> Evaluator<'p> {
     /// What is done with arguments, which are the last operands.
-    pub fn operate(&mut self, operation: Operation, count: usize, situation: Situation) -> Result<(), NoMemory>
+    pub fn operate(
+        &mut self,
+        operation: Operation,
+        count: usize,
+        situation: Situation,
+    ) -> Result<(), NoMemory>
         ensures { OnOk result (Runs self.old self.new (λ names s b. operation_step s (operation_of operation) (top names self.old.machine count) (at names self.old.machine situation) (frames names self.old.machine count) (state names self.old.machine b))) }
     {
         match operation {
