@@ -37,7 +37,7 @@ one_there : (xs : List Word) (x : Word) (n : ℕ) → last_of (suc n) (xs ++ x �
 one_there xs x n e =
     let all : length (xs ++ x ∷ []) ≡ length xs + 1 = length-append xs (x ∷ []) in
     let left : length (last_of (suc n) (xs ++ x ∷ [])) ≡ length (xs ++ x ∷ []) - (length (xs ++ x ∷ []) - suc n) =
-      length-drop (length (xs ++ x ∷ []) - suc n) (xs ++ x ∷ []) in
+    length-drop (length (xs ++ x ∷ []) - suc n) (xs ++ x ∷ []) in
     let none : length (last_of (suc n) (xs ++ x ∷ [])) ≡ 0 = ap length e in
     absurd (omega arith)
 

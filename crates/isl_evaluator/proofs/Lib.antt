@@ -11,3 +11,4 @@ pub mod Searching
 pub mod Quiet
 pub mod MethodsLeft
 pub mod Fed
+pub mod Outset

@@ -29,8 +29,8 @@ pub runs_on : (old new : Evaluator) (f g : List (List ℕ) → Setting → Besid
 runs_on old new f g x h = record {
   given = x.given;
   comes = λ names written unread b k st.
-    let a : IsAt names new written unread (f names (setting_of names old.machine.given) b) = x.comes names written unread b k st in
-    record { beside = a.beside; stands = a.stands; is = a.is ∙ h names (setting_of names old.machine.given) b };
+      let a : IsAt names new written unread (f names (setting_of names old.machine.given) b) = x.comes names written unread b k st in
+      record { beside = a.beside; stands = a.stands; is = a.is ∙ h names (setting_of names old.machine.given) b };
 }
 
 -- from an evaluator whose machine alone is another, which is given the same
@@ -40,9 +40,9 @@ pub runs_from : (old : Evaluator) (mid : Machine) (new : Evaluator) (f g : List 
 runs_from old mid new f g e x h = record {
   given = x.given ∙ e;
   comes = λ names written unread b k st.
-    let P : Given → Type 0 = λ y. IsGiven names y in
-    let a : IsAt names new written unread (f names (setting_of names mid.given) b) = x.comes names written unread b (subst P (sym e) k) (beside_another names old mid written unread b st) in
-    record { beside = a.beside; stands = a.stands; is = a.is ∙ ap (λ y. f names (setting_of names y) b) e ∙ h names (setting_of names old.machine.given) b };
+      let P : Given → Type 0 = λ y. IsGiven names y in
+      let a : IsAt names new written unread (f names (setting_of names mid.given) b) = x.comes names written unread b (subst P (sym e) k) (beside_another names old mid written unread b st) in
+      record { beside = a.beside; stands = a.stands; is = a.is ∙ ap (λ y. f names (setting_of names y) b) e ∙ h names (setting_of names old.machine.given) b };
 }
 
 -- the frame is that one

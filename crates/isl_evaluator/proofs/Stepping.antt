@@ -44,7 +44,7 @@ popped_off names old mid w p =
     ap (λ is. frames_in names old.current (others_of 0 old.operands.items) old.slots.items (reverse is)) p.frames
     ∙ on_top names old.current (others_of 0 old.operands.items) old.slots.items mid.frames.items w
     ∙ ap (λ os. frame_in names old.current (reverse mid.frames.items) (values_of names (last_of (operands_of w) os)) (frame_slots names (activation_below old.current w) (slots_below old.current old.slots.items w)) w
-      ∷ frames_in names (activation_below old.current w) (others_of (operands_of w) os) (slots_below old.current old.slots.items w) (reverse mid.frames.items)) (others_none old.operands.items)
+    ∷ frames_in names (activation_below old.current w) (others_of (operands_of w) os) (slots_below old.current old.slots.items w) (reverse mid.frames.items)) (others_none old.operands.items)
     ∙ ap (λ (m : Machine). taken names m w ∷ below names m w) (sym p.same)
 
 pub left : (old mid new : Evaluator) (o : Outcome) (w : Frame) → old.machine.control ≡ ComeTo o → HadTop old mid w
@@ -53,12 +53,12 @@ pub left : (old mid new : Evaluator) (o : Outcome) (w : Frame) → old.machine.c
 left old mid new o w e h x = record {
   next = λ names s b. outcome_step s (taken names mid.machine w) (outcome_of names o) (below names mid.machine w) (state names mid.machine b);
   is_next = λ names s b.
-    about_to old.machine (ComeTo o) e names s b
-    ∙ ap (λ fs. control_step s (come_to (outcome_of names o)) fs (state names old.machine b)) (popped_off names old.machine mid.machine w h.popped)
-    ∙ ap (λ (m : Machine). Some (outcome_step s (taken names mid.machine w) (outcome_of names o) (below names mid.machine w) (state names m b))) (sym h.popped.same);
+      about_to old.machine (ComeTo o) e names s b
+      ∙ ap (λ fs. control_step s (come_to (outcome_of names o)) fs (state names old.machine b)) (popped_off names old.machine mid.machine w h.popped)
+      ∙ ap (λ (m : Machine). Some (outcome_step s (taken names mid.machine w) (outcome_of names o) (below names mid.machine w) (state names m b))) (sym h.popped.same);
   comes =
-    let f : List (List ℕ) → Setting → Beside → Moment = λ names s b. outcome_step s (taken names mid.machine w) (outcome_of names o) (below names mid.machine w) (state names mid.machine b) in
-    runs_from old mid.machine new f f (ap (λ (m : Machine). m.given) h.popped.same) (subst (λ y. Runs y new f) h.same x) (λ names s b. refl);
+      let f : List (List ℕ) → Setting → Beside → Moment = λ names s b. outcome_step s (taken names mid.machine w) (outcome_of names o) (below names mid.machine w) (state names mid.machine b) in
+      runs_from old mid.machine new f f (ap (λ (m : Machine). m.given) h.popped.same) (subst (λ y. Runs y new f) h.same x) (λ names s b. refl);
 }
 
 -- what was done is what was about to be done

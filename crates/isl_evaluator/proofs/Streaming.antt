@@ -54,27 +54,27 @@ pub streamed_told : (old mid new : Evaluator) (down : Machine) (which : Primitiv
 streamed_told old mid new down which n level around a h d same t =
     let all : down ≡ record old.machine { operands = down.operands } = d.same ∙ ap (λ (m : Machine). record m { operands = down.operands }) h.machine in
     let operands : others_of 0 down.operands.items ≡ others_of n old.machine.operands.items =
-      others_none down.operands.items ∙ d.operands ∙ ap (λ (m : Machine). others_of n m.operands.items) h.machine in
+    others_none down.operands.items ∙ d.operands ∙ ap (λ (m : Machine). others_of n m.operands.items) h.machine in
     let given_is : down.given ≡ old.machine.given = ap (λ (m : Machine). m.given) all in
     record {
       given = t.given ∙ given_is;
       comes = λ names written unread b g s.
-        let q : IsAnsweredBeside names mid written unread b which (last_of n old.machine.operands.items) a = h.comes names written unread b s in
-        let answer : Answer = primitive names (tables old.machine.given.program.now) which (top names old.machine n) (state names old.machine b).state in
-        record {
-          beside = q.beside;
-          stands = subst (λ e. Stands names e written unread q.beside) (sym same) (beside_another names mid new.machine written unread q.beside q.stands);
-          is =
-            t.comes names q.beside (carried names a (state names down q.beside)) (let P : Given → Type 0 = λ x. IsGiven names x in subst P (sym given_is) g) refl
-            ∙ ap (λ (m : Machine). carry (setting_of names m.given) (carried names a (state names m q.beside)) level (surroundings names m around) (frames names m 0)) all
-            ∙ ap (λ os. carry (setting_of names old.machine.given) (carried names a (state names old.machine q.beside)) level (surroundings names old.machine around)
-              (frames_in names old.machine.current os old.machine.slots.items (reverse old.machine.frames.items))) operands
-            ∙ ap (λ r. carry (setting_of names old.machine.given) r level (surroundings names old.machine around) (frames names old.machine n))
-              (sym (ap (λ x. carried_out (limit_of old.machine.given.limit) x (state names old.machine b))
-              (subst (λ (m : Machine). primitive names (tables old.machine.given.program.now) which (top names old.machine n) (state_of names m.store b) ≡ told names a (state_of names m.store q.beside)) h.machine
-              (q.told (tables old.machine.given.program.now))) ∙ told_left (limit_of old.machine.given.limit) names old.machine b q.beside a))
-            ∙ answered_so (setting_of names old.machine.given) answer level (surroundings names old.machine around) (frames names old.machine n) (state names old.machine b);
-        };
+          let q : IsAnsweredBeside names mid written unread b which (last_of n old.machine.operands.items) a = h.comes names written unread b s in
+          let answer : Answer = primitive names (tables old.machine.given.program.now) which (top names old.machine n) (state names old.machine b).state in
+          record {
+            beside = q.beside;
+            stands = subst (λ e. Stands names e written unread q.beside) (sym same) (beside_another names mid new.machine written unread q.beside q.stands);
+            is =
+                t.comes names q.beside (carried names a (state names down q.beside)) (let P : Given → Type 0 = λ x. IsGiven names x in subst P (sym given_is) g) refl
+                ∙ ap (λ (m : Machine). carry (setting_of names m.given) (carried names a (state names m q.beside)) level (surroundings names m around) (frames names m 0)) all
+                ∙ ap (λ os. carry (setting_of names old.machine.given) (carried names a (state names old.machine q.beside)) level (surroundings names old.machine around)
+                (frames_in names old.machine.current os old.machine.slots.items (reverse old.machine.frames.items))) operands
+                ∙ ap (λ r. carry (setting_of names old.machine.given) r level (surroundings names old.machine around) (frames names old.machine n))
+                (sym (ap (λ x. carried_out (limit_of old.machine.given.limit) x (state names old.machine b))
+                (subst (λ (m : Machine). primitive names (tables old.machine.given.program.now) which (top names old.machine n) (state_of names m.store b) ≡ told names a (state_of names m.store q.beside)) h.machine
+                (q.told (tables old.machine.given.program.now))) ∙ told_left (limit_of old.machine.given.limit) names old.machine b q.beside a))
+                ∙ answered_so (setting_of names old.machine.given) answer level (surroundings names old.machine around) (frames names old.machine n) (state names old.machine b);
+          };
     }
 
 pub streamed_told_ok : {E : Type 0} (r : Result Unit E) (old mid new : Evaluator) (down : Machine) (which : Primitive) (n level : ℕ) (around : Around) (a : Told)
@@ -135,19 +135,19 @@ taken_byte : (e : Evaluator) (x : ℕ) → slice_get e.ahead.items e.taken ≡ S
 taken_byte e x i = record {
   machine = refl;
   comes = λ names written unread b s.
-    let input : b.input ≡ x ∷ (drop (suc e.taken) e.ahead.items ++ unread) = s.input ∙ next_there e.ahead.items unread e.taken x i in
-    record {
-      beside = record b { input = other_bytes b.input };
-      stands = record {
-        globals = s.globals;
-        dynamics = s.dynamics;
-        printed = s.printed;
-        at_start = s.at_start;
-        input = ap other_bytes input ∙ next_place (λ k. drop k e.ahead.items ++ unread) e.taken;
-        ended = s.ended;
+      let input : b.input ≡ x ∷ (drop (suc e.taken) e.ahead.items ++ unread) = s.input ∙ next_there e.ahead.items unread e.taken x i in
+      record {
+        beside = record b { input = other_bytes b.input };
+        stands = record {
+          globals = s.globals;
+          dynamics = s.dynamics;
+          printed = s.printed;
+          at_start = s.at_start;
+          input = ap other_bytes input ∙ next_place (λ k. drop k e.ahead.items ++ unread) e.taken;
+          ended = s.ended;
+        };
+        told = λ rows. ap (λ v. result v (state_of names e.machine.store (record b { input = other_bytes b.input }))) (ap first_byte input);
       };
-      told = λ rows. ap (λ v. result v (state_of names e.machine.store (record b { input = other_bytes b.input }))) (ap first_byte input);
-    };
 }
 
 pub taken_one : (e : Evaluator) (x : ℕ) (w : Word) → w ≡ Integer (pos x) → slice_get e.ahead.items e.taken ≡ Some x
@@ -158,12 +158,12 @@ pub taken_none : (e : Evaluator) → slice_get e.ahead.items e.taken ≡ None �
 taken_none e n fed = record {
   machine = refl;
   comes = λ names written unread b s.
-    let input : b.input ≡ [] = s.input ∙ none_left e unread n fed s.ended in
-    record {
-      beside = b;
-      stands = s;
-      told = λ rows. ap (λ ys. result (first_byte ys) (state_of names e.machine.store (record b { input = other_bytes ys }))) input ∙ ap (λ ys. result (integer (negsuc 0)) (state_of names e.machine.store (record b { input = ys }))) (sym input);
-    };
+      let input : b.input ≡ [] = s.input ∙ none_left e unread n fed s.ended in
+      record {
+        beside = b;
+        stands = s;
+        told = λ rows. ap (λ ys. result (first_byte ys) (state_of names e.machine.store (record b { input = other_bytes ys }))) input ∙ ap (λ ys. result (integer (negsuc 0)) (state_of names e.machine.store (record b { input = ys }))) (sym input);
+      };
 }
 
 -- what the store has under a word
@@ -214,10 +214,10 @@ put_done old new v w q code granted h k x = record {
     beside = record b { printed = b.printed ++ code ∷ [] };
     stands = x.stands names written unread b s;
     told = λ rows.
-      subst (λ (m : Machine). primitive names rows p.PutChar (values_of names (v ∷ w ∷ [])) (state_of names m.store b)
-      ≡ result nil (state_of names m.store (record b { printed = b.printed ++ code ∷ [] }))) (sym x.machine)
-      (put_there names rows old.machine b v w q (Some code) h (k.is names)
-      ∙ ap (λ r. put_character names v r w (Some code) (state_of names old.machine.store b)) granted);
+        subst (λ (m : Machine). primitive names rows p.PutChar (values_of names (v ∷ w ∷ [])) (state_of names m.store b)
+        ≡ result nil (state_of names m.store (record b { printed = b.printed ++ code ∷ [] }))) (sym x.machine)
+        (put_there names rows old.machine b v w q (Some code) h (k.is names)
+        ∙ ap (λ r. put_character names v r w (Some code) (state_of names old.machine.store b)) granted);
   };
 }
 

@@ -30,7 +30,12 @@ impl<'p> Evaluator<'p> {
     }
 
     /// A loop goes on, as it began.
-    pub fn again(&mut self, test: &'p FlatCore, body: &'p FlatCore, situation: Situation) -> Result<(), NoMemory>
+    pub fn again(
+        &mut self,
+        test: &'p FlatCore,
+        body: &'p FlatCore,
+        situation: Situation,
+    ) -> Result<(), NoMemory>
         ensures { OnOk result (Runs self.old self.new (λ names s b. form_step s (while_form test.now body.now) (at names self.old.machine situation) (frames names self.old.machine 0) (state names self.old.machine b))) }
     {
         self.machine.charge(1)?;
@@ -45,21 +50,46 @@ impl<'p> Evaluator<'p> {
         match form {
             FlatCoreForm::Global(name) => self.global(*name, situation),
             FlatCoreForm::Dynamic(name) => self.dynamic(*name, situation),
-            FlatCoreForm::Call(name, list) => self.arguments(Operation::CallName(*name), list, 0, situation),
-            FlatCoreForm::CallValue(list) => self.arguments(Operation::CallFirst, list, 0, situation),
-            FlatCoreForm::Prim(which, list) => self.arguments(Operation::Compute(*which), list, 0, situation),
+            FlatCoreForm::Call(name, list) => self.arguments(
+                Operation::CallName(*name),
+                list,
+                0,
+                situation,
+            ),
+            FlatCoreForm::CallValue(list) => self.arguments(
+                Operation::CallFirst,
+                list,
+                0,
+                situation,
+            ),
+            FlatCoreForm::Prim(which, list) => self.arguments(
+                Operation::Compute(*which),
+                list,
+                0,
+                situation,
+            ),
             FlatCoreForm::NextMethod(place) => next_method_at(&mut self.machine, *place, situation),
             _ => self.machine.begin_kind(form, situation),
         }
     }
 
     /// Arguments from one of them on, of which those in front are operands.
-    pub fn arguments(&mut self, operation: Operation, list: &'p FlatCoreList, count: usize, situation: Situation) -> Result<(), NoMemory>
+    pub fn arguments(
+        &mut self,
+        operation: Operation,
+        list: &'p FlatCoreList,
+        count: usize,
+        situation: Situation,
+    ) -> Result<(), NoMemory>
         requires { operation_reads operation (last_of count self.old.machine.operands.items) ≡ true → is_fed self.old ≡ true }
         ensures { OnOk result (Runs self.old self.new (λ names s b. arguments_step s (operation_of operation) (forms_from list.now count) (top names self.old.machine count) (at names self.old.machine situation) (frames names self.old.machine count) (state names self.old.machine b))) }
     {
         match list.get(count) {
-            Some(form) => self.machine.hold(Frame::Argument(operation, list, count, situation), form, situation),
+            Some(form) => self.machine.hold(
+                Frame::Argument(operation, list, count, situation),
+                form,
+                situation,
+            ),
             None => self.operate(operation, count, situation),
         }
     }

@@ -1,11 +1,11 @@
 // The evaluator of flat programs: the machine, with what stands beside it.
 #![tactic(auto)]
 
+pub mod computing;
 pub mod dynamics;
 pub mod evaluator;
 pub mod forms;
 pub mod globals;
-pub mod computing;
 pub mod operations;
 pub mod starting;
 pub mod steps;

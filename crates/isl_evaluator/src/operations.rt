@@ -16,7 +16,12 @@ use isl_machine::situation::Situation;
 
 impl<'p> Evaluator<'p> {
     /// What is done with arguments, which are the last operands. What a primitive reads is there.
-    pub fn operate(&mut self, operation: Operation, count: usize, situation: Situation) -> Result<(), NoMemory>
+    pub fn operate(
+        &mut self,
+        operation: Operation,
+        count: usize,
+        situation: Situation,
+    ) -> Result<(), NoMemory>
         requires { operation_reads operation (last_of count self.old.machine.operands.items) ≡ true → is_fed self.old ≡ true }
         ensures { OnOk result (Runs self.old self.new (λ names s b. operation_step s (operation_of operation) (top names self.old.machine count) (at names self.old.machine situation) (frames names self.old.machine count) (state names self.old.machine b))) }
     {

@@ -15,7 +15,7 @@ impl<'p> Evaluator<'p> {
     /// The evaluator before the main forms of a program, with so many levels, over a store of the objects that are there before
     /// the first form.
     pub fn start(given: Given<'p>, store: Store<'p>, level: u64) -> Result<Evaluator<'p>, NoMemory>
-        ensures { IfOk result (λ evaluator. IsStarted given store.entry level evaluator) }
+        ensures { IfOk result (λ evaluator. IsStarted given.entry store.entry level evaluator) }
     {
         let mut frames = Vec::new(given.alloc);
         frames.push(Frame::MainForms(level, &given.program.main, 0))?;

@@ -76,7 +76,12 @@ impl<'p> Evaluator<'p> {
     }
 
     // An outcome comes to a place that waits for a value; it passes any other on.
-    fn come_to_place(&mut self, frame: Frame<'p>, operands: usize, outcome: Outcome) -> Result<(), NoMemory>
+    fn come_to_place(
+        &mut self,
+        frame: Frame<'p>,
+        operands: usize,
+        outcome: Outcome,
+    ) -> Result<(), NoMemory>
         requires { waiting_operands frame ≡ Some operands }
         ensures { OnOk result (Runs self.old self.new (λ names s b. outcome_step s (taken names self.old.machine frame.entry) (outcome_of names outcome) (below names self.old.machine frame.entry) (state names self.old.machine b))) }
     {

@@ -25,6 +25,7 @@ use isl_store::{Object, Store, Word};
 
 // The classes that are expected of arguments.
 const CHARACTER: ClassId = 5;
+
 const STREAM: ClassId = 14;
 
 // The byte that ends a line.
@@ -32,7 +33,13 @@ const LINE_END: u8 = 10;
 
 impl<'p> Evaluator<'p> {
     /// A primitive of the streams computes with the last operands, which go. What it reads is there.
-    pub fn stream(&mut self, which: Stream, count: usize, level: u64, around: Around) -> Result<(), NoMemory>
+    pub fn stream(
+        &mut self,
+        which: Stream,
+        count: usize,
+        level: u64,
+        around: Around,
+    ) -> Result<(), NoMemory>
         requires { reads (stream_of which) (last_of count self.old.machine.operands.items) ≡ true → is_fed self.old ≡ true }
         ensures { OnOk result (Runs self.old self.new (λ names s b. computed s (stream_of which) (top names self.old.machine count) level (surroundings names self.old.machine around) (frames names self.old.machine count) (state names self.old.machine b))) }
     {
@@ -93,7 +100,13 @@ impl<'p> Evaluator<'p> {
 
     // A character is put on a stream, which is the standard output or not.
     #[tactic(auto, using(crate::proofs::Streaming::put_on_input))]
-    fn put_byte(&mut self, is_output: bool, stream: Word, word: Word, code: u8) -> Result<Answer, NoMemory>
+    fn put_byte(
+        &mut self,
+        is_output: bool,
+        stream: Word,
+        word: Word,
+        code: u8,
+    ) -> Result<Answer, NoMemory>
         requires stream { IsStream self.old.machine stream is_output }
         requires character { IsCharacter word code }
         ensures { IfOk result (IsStreamed self.old self.new p.PutChar (stream ∷ word ∷ [])) }

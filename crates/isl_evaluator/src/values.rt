@@ -23,7 +23,14 @@ use isl_store::Word;
 
 impl<'p> Evaluator<'p> {
     // An argument has its value, which is an operand more.
-    fn argument_value(&mut self, operation: Operation, list: &'p FlatCoreList, count: usize, word: Word, situation: Situation) -> Result<(), NoMemory>
+    fn argument_value(
+        &mut self,
+        operation: Operation,
+        list: &'p FlatCoreList,
+        count: usize,
+        word: Word,
+        situation: Situation,
+    ) -> Result<(), NoMemory>
         ensures { OnOk result (Runs self.old self.new (λ names s b. arguments_step s (operation_of operation) (forms_from list.now (suc count)) (top names self.old.machine count ++ value_of_word names word ∷ []) (at names self.old.machine situation) (frames names self.old.machine count) (state names self.old.machine b))) }
     {
         let next = after(count)?;
@@ -39,15 +46,52 @@ impl<'p> Evaluator<'p> {
         match frame {
             Frame::SetGlobal(name, situation) => self.set_global(name, word, situation),
             Frame::DefGlobal(name) => self.define_global(name, word),
-            Frame::Argument(operation, list, count, situation) => self.argument_value(operation, list, count, word, situation),
-            Frame::AppliedList(function, situation) => apply_list(&mut self.machine, function, word, situation),
+            Frame::Argument(operation, list, count, situation) => self.argument_value(
+                operation, list, count, word, situation,
+            ),
+            Frame::AppliedList(function, situation) => apply_list(
+                &mut self.machine,
+                function,
+                word,
+                situation,
+            ),
             Frame::SetDynamic(name, situation) => self.set_dynamic(name, word, situation),
             Frame::DefDynamic(name) => self.define_dynamic(name, word),
-            Frame::HandlerValue(body, situation) => with_handler(&mut self.machine, word, body, situation),
-            Frame::SignalMark(condition, situation) => signal_condition(&mut self.machine, condition, word, situation),
-            Frame::Methods(list, place, arguments, level, around) => apply_each(&mut self.machine, list, place, arguments, level, around),
-            Frame::BeforeMethods(rest, arguments, level, around) => after_before(&mut self.machine, rest, arguments, level, around),
-            Frame::PrimaryMethod(rest, arguments, level, around) => after_primary(&mut self.machine, rest, arguments, word, level, around),
+            Frame::HandlerValue(body, situation) => with_handler(
+                &mut self.machine,
+                word,
+                body,
+                situation,
+            ),
+            Frame::SignalMark(condition, situation) => signal_condition(
+                &mut self.machine,
+                condition,
+                word,
+                situation,
+            ),
+            Frame::Methods(list, place, arguments, level, around) => apply_each(
+                &mut self.machine,
+                list,
+                place,
+                arguments,
+                level,
+                around,
+            ),
+            Frame::BeforeMethods(rest, arguments, level, around) => after_before(
+                &mut self.machine,
+                rest,
+                arguments,
+                level,
+                around,
+            ),
+            Frame::PrimaryMethod(rest, arguments, level, around) => after_primary(
+                &mut self.machine,
+                rest,
+                arguments,
+                word,
+                level,
+                around,
+            ),
             other => self.machine.value(other, word),
         }
     }

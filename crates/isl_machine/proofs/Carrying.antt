@@ -64,19 +64,19 @@ pub told_dropped : (old mid down new : Machine) (which : Primitive) (n level : �
 told_dropped old mid down new which n level a r h d t =
     let all : down ≡ record old { store = mid.store; operands = down.operands } = d.same ∙ ap (λ (m : Machine). record m { operands = down.operands }) h.same in
     let operands : others_of 0 down.operands.items ≡ others_of n old.operands.items =
-      others_none down.operands.items ∙ d.operands ∙ ap (λ (m : Machine). others_of n m.operands.items) h.same in
+    others_none down.operands.items ∙ d.operands ∙ ap (λ (m : Machine). others_of n m.operands.items) h.same in
     let given_is : down.given ≡ old.given = ap (λ (m : Machine). m.given) all in
     record {
       given = t.given ∙ given_is;
       comes = λ names b g.
-        let answer : Answer = primitive names (tables old.given.program.now) which (top names old n) (state names old b).state in
-        let left : Carried = carried_out (limit_of old.given.limit) answer (state names old b) in
-        let same_state : state names down b ≡ state names mid b = ap (λ (m : Machine). state names m b) d.same in
-        t.comes names b left (let P : Given → Type 0 = λ x. IsGiven names x in subst P (sym given_is) g)
-        (subst (λ z. Comes names r z left) (sym same_state) (h.comes names b g))
-        ∙ ap (λ (m : Machine). carry (setting_of names m.given) left level (surroundings names m a) (frames names m 0)) all
-        ∙ ap (λ os. carry (setting_of names old.given) left level (surroundings names old a) (frames_in names old.current os old.slots.items (reverse old.frames.items))) operands
-        ∙ carried (setting_of names old.given) answer level (surroundings names old a) (frames names old n) (state names old b);
+          let answer : Answer = primitive names (tables old.given.program.now) which (top names old n) (state names old b).state in
+          let left : Carried = carried_out (limit_of old.given.limit) answer (state names old b) in
+          let same_state : state names down b ≡ state names mid b = ap (λ (m : Machine). state names m b) d.same in
+          t.comes names b left (let P : Given → Type 0 = λ x. IsGiven names x in subst P (sym given_is) g)
+          (subst (λ z. Comes names r z left) (sym same_state) (h.comes names b g))
+          ∙ ap (λ (m : Machine). carry (setting_of names m.given) left level (surroundings names m a) (frames names m 0)) all
+          ∙ ap (λ os. carry (setting_of names old.given) left level (surroundings names old a) (frames_in names old.current os old.slots.items (reverse old.frames.items))) operands
+          ∙ carried (setting_of names old.given) answer level (surroundings names old a) (frames names old n) (state names old b);
     }
 
 -- an answer is told by a step that does what is left of it

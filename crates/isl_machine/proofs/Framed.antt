@@ -64,14 +64,14 @@ after_operand old mid new n next w a f e p x =
     record {
       given = x.given ∙ given_is;
       comes = λ names b g.
-        let tops : List Word → List Value = λ os. values_of names os in
-        x.comes names b (let P : Given → Type 0 = λ y. IsGiven names y in subst P (sym given_is) g)
-        ∙ ap (λ k. f names (setting_of names mid.given) k (top names mid k) (at names mid a) (frames names mid k) (state names mid b)) e
-        ∙ ap (λ (m : Machine). f names (setting_of names m.given) (suc n) (tops (last_of (suc n) mid.operands.items)) (at names m a) (frames_in names m.current (others_of (suc n) mid.operands.items) m.slots.items (reverse m.frames.items)) (state names m b)) p.same
-        ∙ ap (λ os. f names (setting_of names old.given) (suc n) (tops (last_of (suc n) os)) (at names old a) (frames_in names old.current (others_of (suc n) os) old.slots.items (reverse old.frames.items)) (state names old b)) p.operands
-        ∙ ap (λ os. f names (setting_of names old.given) (suc n) (tops os) (at names old a) (frames_in names old.current (others_of (suc n) (old.operands.items ++ w ∷ [])) old.slots.items (reverse old.frames.items)) (state names old b)) (last_more old.operands.items n w)
-        ∙ ap (λ vs. f names (setting_of names old.given) (suc n) vs (at names old a) (frames_in names old.current (others_of (suc n) (old.operands.items ++ w ∷ [])) old.slots.items (reverse old.frames.items)) (state names old b)) (map-append (value_of_word names) (last_of n old.operands.items) (w ∷ []))
-        ∙ ap (λ os. f names (setting_of names old.given) (suc n) (top names old n ++ value_of_word names w ∷ []) (at names old a) (frames_in names old.current os old.slots.items (reverse old.frames.items)) (state names old b)) (others_more old.operands.items n w);
+          let tops : List Word → List Value = λ os. values_of names os in
+          x.comes names b (let P : Given → Type 0 = λ y. IsGiven names y in subst P (sym given_is) g)
+          ∙ ap (λ k. f names (setting_of names mid.given) k (top names mid k) (at names mid a) (frames names mid k) (state names mid b)) e
+          ∙ ap (λ (m : Machine). f names (setting_of names m.given) (suc n) (tops (last_of (suc n) mid.operands.items)) (at names m a) (frames_in names m.current (others_of (suc n) mid.operands.items) m.slots.items (reverse m.frames.items)) (state names m b)) p.same
+          ∙ ap (λ os. f names (setting_of names old.given) (suc n) (tops (last_of (suc n) os)) (at names old a) (frames_in names old.current (others_of (suc n) os) old.slots.items (reverse old.frames.items)) (state names old b)) p.operands
+          ∙ ap (λ os. f names (setting_of names old.given) (suc n) (tops os) (at names old a) (frames_in names old.current (others_of (suc n) (old.operands.items ++ w ∷ [])) old.slots.items (reverse old.frames.items)) (state names old b)) (last_more old.operands.items n w)
+          ∙ ap (λ vs. f names (setting_of names old.given) (suc n) vs (at names old a) (frames_in names old.current (others_of (suc n) (old.operands.items ++ w ∷ [])) old.slots.items (reverse old.frames.items)) (state names old b)) (map-append (value_of_word names) (last_of n old.operands.items) (w ∷ []))
+          ∙ ap (λ os. f names (setting_of names old.given) (suc n) (top names old n ++ value_of_word names w ∷ []) (at names old a) (frames_in names old.current os old.slots.items (reverse old.frames.items)) (state names old b)) (others_more old.operands.items n w);
     }
 
 -- the test of a loop, and of a clause

@@ -6,10 +6,10 @@ ghost use Rattle.isl_primitives.specs.Groups.{is_streaming};
 ghost use Rattle.isl_machine.specs.View.{Steps, top, frames, state, surroundings};
 ghost use Rattle.isl_machine.specs.Computing.{IsAnswered, IsTold, computed};
 
-use isl_base::NoMemory;
 use crate::frame::Outcome;
 use crate::machine::Machine;
 use crate::situation::Around;
+use isl_base::NoMemory;
 use isl_meaning::Primitive;
 use isl_primitives::Answer;
 use isl_store::Halt;

@@ -27,7 +27,11 @@ impl<'p> Machine<'p> {
     }
 
     /// What a form does, once it is charged.
-    pub fn begin_kind(&mut self, form: &'p FlatCoreForm, situation: Situation) -> Result<(), NoMemory>
+    pub fn begin_kind(
+        &mut self,
+        form: &'p FlatCoreForm,
+        situation: Situation,
+    ) -> Result<(), NoMemory>
         requires { FormWantsMore (view_form form.now) ≡ false }
         ensures { OnOk result (Steps self.old self.new (λ names s b. begins s (view_form form.now) (at names self.old situation) (frames names self.old 0) (state names self.old b))) }
     {

@@ -32,7 +32,13 @@ const CONTROL_ERROR: ClassId = 22;
 
 impl<'p> Machine<'p> {
     // The test of a clause has a value.
-    fn clause_value(&mut self, list: &'p FlatClauseList, place: usize, word: Word, situation: Situation) -> Result<(), NoMemory>
+    fn clause_value(
+        &mut self,
+        list: &'p FlatClauseList,
+        place: usize,
+        word: Word,
+        situation: Situation,
+    ) -> Result<(), NoMemory>
         ensures { OnOk result (Steps self.old self.new (λ names s b. value_step s (clause_wait (slice_get list.now place) (clauses_from list.now (suc place)) (at names self.old situation)) (value_of_word names word) (frames names self.old 0) (state names self.old b))) }
     {
         if is_true(word) {
@@ -59,7 +65,14 @@ impl<'p> Machine<'p> {
     }
 
     // A binding has its value, which is an operand more.
-    fn binding_value(&mut self, list: &'p FlatBindingList, count: usize, body: &'p FlatCore, word: Word, situation: Situation) -> Result<(), NoMemory>
+    fn binding_value(
+        &mut self,
+        list: &'p FlatBindingList,
+        count: usize,
+        body: &'p FlatCore,
+        word: Word,
+        situation: Situation,
+    ) -> Result<(), NoMemory>
         ensures { OnOk result (Steps self.old self.new (λ names s b. bindings_step s (bindings_from list.now (suc count)) (top names self.old count ++ value_of_word names word ∷ []) (bindings_of list.now) body.now (at names self.old situation) (frames names self.old count) (state names self.old b))) }
     {
         let next = after(count)?;
@@ -68,7 +81,14 @@ impl<'p> Machine<'p> {
     }
 
     // A dynamic binding has its value, which is an operand more.
-    fn dynamic_value(&mut self, list: &'p FlatDynBindings, count: usize, body: &'p FlatCore, word: Word, situation: Situation) -> Result<(), NoMemory>
+    fn dynamic_value(
+        &mut self,
+        list: &'p FlatDynBindings,
+        count: usize,
+        body: &'p FlatCore,
+        word: Word,
+        situation: Situation,
+    ) -> Result<(), NoMemory>
         ensures { OnOk result (Steps self.old self.new (λ names s b. dynamics_step s (dynamics_from list.now (suc count)) (top names self.old count ++ value_of_word names word ∷ []) (dynamics_of list.now) body.now (at names self.old situation) (frames names self.old count) (state names self.old b))) }
     {
         let next = after(count)?;
@@ -77,7 +97,13 @@ impl<'p> Machine<'p> {
     }
 
     // The test of a loop has a value.
-    fn loop_value(&mut self, test: &'p FlatCore, body: &'p FlatCore, word: Word, situation: Situation) -> Result<(), NoMemory>
+    fn loop_value(
+        &mut self,
+        test: &'p FlatCore,
+        body: &'p FlatCore,
+        word: Word,
+        situation: Situation,
+    ) -> Result<(), NoMemory>
         ensures { OnOk result (Steps self.old self.new (λ names s b. value_step s (machine.while_test test.now body.now (at names self.old situation)) (value_of_word names word) (frames names self.old 0) (state names self.old b))) }
     {
         if is_true(word) {
@@ -108,10 +134,20 @@ impl<'p> Machine<'p> {
         match frame {
             Frame::SetLocal(place, situation) => self.set_local(place, word, situation),
             Frame::Sequence(list, place, situation) => self.sequence(word, list, place, situation),
-            Frame::Clause(list, place, situation) => self.clause_value(list, place, word, situation),
-            Frame::Binding(list, count, body, situation) => self.binding_value(list, count, body, word, situation),
-            Frame::DynamicValue(list, count, body, situation) => self.dynamic_value(list, count, body, word, situation),
-            Frame::AppliedFunction(list, situation) => self.wait(Frame::AppliedList(word, situation), list, situation),
+            Frame::Clause(list, place, situation) => self.clause_value(
+                list, place, word, situation,
+            ),
+            Frame::Binding(list, count, body, situation) => self.binding_value(
+                list, count, body, word, situation,
+            ),
+            Frame::DynamicValue(list, count, body, situation) => self.dynamic_value(
+                list, count, body, word, situation,
+            ),
+            Frame::AppliedFunction(list, situation) => self.wait(
+                Frame::AppliedList(word, situation),
+                list,
+                situation,
+            ),
             Frame::WhileTest(test, body, situation) => self.loop_value(test, body, word, situation),
             Frame::WhileBody(test, body, situation) => {
                 self.goes_on(test, body, situation);
@@ -123,11 +159,33 @@ impl<'p> Machine<'p> {
                 Ok(())
             }
             Frame::CatchTag(body, situation) => self.catch(body, word, situation),
-            Frame::ThrowTag(form, situation) => self.wait(Frame::ThrowValue(word, situation), form, situation),
-            Frame::ThrowValue(tag, situation) => self.throw_to(tag, word, situation.level, situation.around),
-            Frame::SignalCondition(mark, situation) => self.wait(Frame::SignalMark(word, situation), mark, situation),
-            Frame::ContinueCondition(form, situation) => self.wait(Frame::ContinueValue(word, situation), form, situation),
-            Frame::ContinueValue(condition, situation) => self.continue_with(condition, word, situation.level, situation.around),
+            Frame::ThrowTag(form, situation) => self.wait(
+                Frame::ThrowValue(word, situation),
+                form,
+                situation,
+            ),
+            Frame::ThrowValue(tag, situation) => self.throw_to(
+                tag,
+                word,
+                situation.level,
+                situation.around,
+            ),
+            Frame::SignalCondition(mark, situation) => self.wait(
+                Frame::SignalMark(word, situation),
+                mark,
+                situation,
+            ),
+            Frame::ContinueCondition(form, situation) => self.wait(
+                Frame::ContinueValue(word, situation),
+                form,
+                situation,
+            ),
+            Frame::ContinueValue(condition, situation) => self.continue_with(
+                condition,
+                word,
+                situation.level,
+                situation.around,
+            ),
             Frame::Kept(outcome) => {
                 self.come_to(outcome);
                 Ok(())

@@ -17,8 +17,8 @@ returns c =
     record {
       same = refl;
       comes = λ names b g.
-        subst (λ (ws : List Word). Comes names c.compute.result (state names (record m { store = c.compute.new.store }) b)
-        (carried_out (limit_of m.given.limit) (primitive names (tables m.given.program.now) c.args.which (values_of names ws) (state names m b).state) (state names m b)))
-        (last_piece m.operands.items c.deref.result.now c.args.count c.first_of-first.result c.deref.ensures.value c.first_of-first.ensures)
-        (c.compute.ensures.comes names (tables m.given.program.now) (record b { frame = frame_slots names m.current m.slots.items }) g.fitted);
+          subst (λ (ws : List Word). Comes names c.compute.result (state names (record m { store = c.compute.new.store }) b)
+          (carried_out (limit_of m.given.limit) (primitive names (tables m.given.program.now) c.args.which (values_of names ws) (state names m b).state) (state names m b)))
+          (last_piece m.operands.items c.deref.result.now c.args.count c.first_of-first.result c.deref.ensures.value c.first_of-first.ensures)
+          (c.compute.ensures.comes names (tables m.given.program.now) (record b { frame = frame_slots names m.current m.slots.items }) g.fitted);
     }

@@ -20,7 +20,7 @@ returns c =
     (λ x. runs_from e c.charge.new.self (record e { machine = c.turn.new.self }) _ _ (ap (λ (n : Machine). n.given) c.in_ok-charge.ensures.same)
     (lifted (record e { machine = c.charge.new.self }) (record e { machine = c.turn.new.self }) _ refl x)
     (λ names s b.
-      ap (λ (n : Machine). begins s f (at names n p) (frames names n 0) (state names c.charge.new.self b)) c.in_ok-charge.ensures.same
-      ∙ ap (λ z. begins s f (at names m p) (frames names m 0) z) (c.in_ok-charge.ensures.state_is names b)
-      ∙ form_begins s f (at names m p) (frames names m 0) (state names m b)))
+    ap (λ (n : Machine). begins s f (at names n p) (frames names n 0) (state names c.charge.new.self b)) c.in_ok-charge.ensures.same
+    ∙ ap (λ z. begins s f (at names m p) (frames names m 0) z) (c.in_ok-charge.ensures.state_is names b)
+    ∙ form_begins s f (at names m p) (frames names m 0) (state names m b)))
     c.turn.ensures

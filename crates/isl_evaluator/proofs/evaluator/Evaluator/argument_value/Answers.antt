@@ -14,7 +14,7 @@ returns c =
     on_ok_weaker c.arguments.result
     (λ x. runs_from e c.push_operand.new.self c.arguments.new.self _ _ (ap (λ (m : Machine). m.given) c.in_ok-push_operand.ensures.same) x
     (λ names s b. operand_seen e.machine c.push_operand.new.self c.args.count c.in_ok-next.next c.args.word c.args.situation
-      (λ k vs p fs z. arguments_step s (operation_of c.args.operation) (forms_from c.args.list.now k) vs p fs z) c.in_ok-next.ensures c.in_ok-push_operand.ensures names b))
+    (λ k vs p fs z. arguments_step s (operation_of c.args.operation) (forms_from c.args.list.now k) vs p fs z) c.in_ok-next.ensures c.in_ok-push_operand.ensures names b))
     c.arguments.ensures
 
 pub arguments-requires : goal.arguments-requires

@@ -21,11 +21,11 @@ returns c =
     on_ok_weaker c.begin_kind.result
     (λ x. runs_from e c.charge.new.self c.begin_kind.new.self _ _ (ap (λ (n : Machine). n.given) c.in_ok-charge.ensures.same) x
     (λ names s b.
-      ap (λ (n : Machine). begins s f (at names n p) (frames names n 0) (state names c.charge.new.self b)) c.in_ok-charge.ensures.same
-      ∙ ap (λ z. begins s f (at names m p) (frames names m 0) z) (c.in_ok-charge.ensures.state_is names b)
-      ∙ ap (λ n. begins s f (at names m p) (frames names m 0) (charged n (state names m b))) c.in_ok-units.ensures
-      ∙ form_begins s f (at names m p) (frames names m 0) (state names m b)
-      ∙ ap (λ k. form_step s k (at names m p) (frames names m 0) (state names m b)) c.form.view_is))
+    ap (λ (n : Machine). begins s f (at names n p) (frames names n 0) (state names c.charge.new.self b)) c.in_ok-charge.ensures.same
+    ∙ ap (λ z. begins s f (at names m p) (frames names m 0) z) (c.in_ok-charge.ensures.state_is names b)
+    ∙ ap (λ n. begins s f (at names m p) (frames names m 0) (charged n (state names m b))) c.in_ok-units.ensures
+    ∙ form_begins s f (at names m p) (frames names m 0) (state names m b)
+    ∙ ap (λ k. form_step s k (at names m p) (frames names m 0) (state names m b)) c.form.view_is))
     c.begin_kind.ensures
 
 pub begin_kind-requires : goal.begin_kind-requires

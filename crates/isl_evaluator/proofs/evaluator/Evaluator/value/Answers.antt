@@ -67,8 +67,8 @@ returns-in-BeforeMethods c =
     runs_framed c.after_before.result c.args.self.now (record c.args.self.now { machine = c.after_before.new.machine }) (λ names. value (value_of_word names c.args.word)) c.args.frame _ c.in-BeforeMethods.is
     (lifted_ok c.after_before.result c.args.self.now (record c.args.self.now { machine = c.after_before.new.machine }) _ refl
     (on_ok_weaker c.after_before.result (λ x. followed _ _ _ _ x (λ names s b.
-      before_is s (rest_of c.in-BeforeMethods.rest) (rest_of c.in-BeforeMethods.rest).primary (values_of names c.in-BeforeMethods.arguments.value) (value_of_word names c.args.word) c.in-BeforeMethods.level (surroundings names c.args.self.now.machine c.in-BeforeMethods.around)
-      (frames names c.args.self.now.machine 0) (state names c.args.self.now.machine b))) c.after_before.ensures))
+    before_is s (rest_of c.in-BeforeMethods.rest) (rest_of c.in-BeforeMethods.rest).primary (values_of names c.in-BeforeMethods.arguments.value) (value_of_word names c.args.word) c.in-BeforeMethods.level (surroundings names c.args.self.now.machine c.in-BeforeMethods.around)
+    (frames names c.args.self.now.machine 0) (state names c.args.self.now.machine b))) c.after_before.ensures))
 
 pub returns-in-PrimaryMethod : goal.returns-in-PrimaryMethod
 returns-in-PrimaryMethod c =

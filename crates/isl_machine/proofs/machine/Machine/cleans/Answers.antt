@@ -15,8 +15,8 @@ returns-in-Value c =
     let m = c.args.self.now in
     on_ok_weaker c.wait.result
     (λ x. followed _ _ _ _ x (λ names s b.
-      ap (λ o. moment (evaluate c.args.cleanup.now (at names m c.args.situation)) (awaits (kept (outcome_of names o)) ∷ frames names m 0) (state names m b)) c.in-Value.is
-      ∙ ap (λ o. cleanup_step s c.args.cleanup.now (at names m c.args.situation) (outcome_of names o) (frames names m 0) (state names m b)) (sym c.in-Value.is)))
+    ap (λ o. moment (evaluate c.args.cleanup.now (at names m c.args.situation)) (awaits (kept (outcome_of names o)) ∷ frames names m 0) (state names m b)) c.in-Value.is
+    ∙ ap (λ o. cleanup_step s c.args.cleanup.now (at names m c.args.situation) (outcome_of names o) (frames names m 0) (state names m b)) (sym c.in-Value.is)))
     c.wait.ensures
 
 pub returns-in-Exit : goal.returns-in-Exit
@@ -24,9 +24,9 @@ returns-in-Exit c =
     let m = c.args.self.now in
     on_ok_weaker c.wait-in-Exit.result
     (λ x. followed _ _ _ _ x (λ names s b.
-      ap (λ i. moment (evaluate c.args.cleanup.now (at names m i)) (awaits (kept (outcome_of names (outcome.Exit c.in-Exit.exit c.in-Exit.field-1 c.in-Exit.field-2))) ∷ frames names m 0) (state names m b)) c.with_exits.ensures
-      ∙ ap (λ p. moment (evaluate c.args.cleanup.now p) (awaits (kept (outcome_of names (outcome.Exit c.in-Exit.exit c.in-Exit.field-1 c.in-Exit.field-2))) ∷ frames names m 0) (state names m b)) (without_inner names m c.in-Exit.exit c.exits_from-exits.result c.args.situation (c.exits_from-exits.ensures names))
-      ∙ ap (λ o. cleanup_step s c.args.cleanup.now (at names m c.args.situation) (outcome_of names o) (frames names m 0) (state names m b)) (sym c.in-Exit.is)))
+    ap (λ i. moment (evaluate c.args.cleanup.now (at names m i)) (awaits (kept (outcome_of names (outcome.Exit c.in-Exit.exit c.in-Exit.field-1 c.in-Exit.field-2))) ∷ frames names m 0) (state names m b)) c.with_exits.ensures
+    ∙ ap (λ p. moment (evaluate c.args.cleanup.now p) (awaits (kept (outcome_of names (outcome.Exit c.in-Exit.exit c.in-Exit.field-1 c.in-Exit.field-2))) ∷ frames names m 0) (state names m b)) (without_inner names m c.in-Exit.exit c.exits_from-exits.result c.args.situation (c.exits_from-exits.ensures names))
+    ∙ ap (λ o. cleanup_step s c.args.cleanup.now (at names m c.args.situation) (outcome_of names o) (frames names m 0) (state names m b)) (sym c.in-Exit.is)))
     c.wait-in-Exit.ensures
 
 pub returns-in-Full : goal.returns-in-Full

@@ -19,7 +19,7 @@ returns c =
     record {
       given = refl;
       comes = λ names b k.
-        ap (λ i. moment (evaluate f (at names m i)) (frames names m 0) (state names m b)) c.at_level.ensures
-        ∙ ap (λ p. moment (evaluate f p) (frames names m 0) (state names m b)) (at_another names m c.args.situation c.in-Some.below)
-        ∙ one_level_less (λ k. moment (evaluate f (record (at names m c.args.situation) { level = k }))) c.args.situation.level c.in-Some.below (frames names m 0) (state names m b) less;
+          ap (λ i. moment (evaluate f (at names m i)) (frames names m 0) (state names m b)) c.at_level.ensures
+          ∙ ap (λ p. moment (evaluate f p) (frames names m 0) (state names m b)) (at_another names m c.args.situation c.in-Some.below)
+          ∙ one_level_less (λ k. moment (evaluate f (record (at names m c.args.situation) { level = k }))) c.args.situation.level c.in-Some.below (frames names m 0) (state names m b) less;
     }

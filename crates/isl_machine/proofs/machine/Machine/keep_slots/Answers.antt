@@ -14,11 +14,15 @@ returns c =
     let fewer : c.args.count < length xs - c.saturating_sub-first.result = omega arith in
     record {
       in_place = record {
-        given = refl; control = refl; frames = refl; operands = refl; activation = refl;
+        given = refl;
+        control = refl;
+        frames = refl;
+        operands = refl;
+        activation = refl;
         others = ap (others_of c.args.count) c.truncate.ensures.items ∙ keep_others xs m.current.slots c.saturating_sub-first.result c.args.count first fewer;
       };
       state_is = λ names b.
-        ap (λ f. record (state names m b) { frame = f })
-        (ap (map (slot_of names)) (ap (last_of c.args.count) c.truncate.ensures.items ∙ keep_last xs m.current.slots c.saturating_sub-first.result c.args.count first fewer)
-        ∙ sym (take-map (slot_of names) c.args.count (last_of m.current.slots xs)));
+          ap (λ f. record (state names m b) { frame = f })
+          (ap (map (slot_of names)) (ap (last_of c.args.count) c.truncate.ensures.items ∙ keep_last xs m.current.slots c.saturating_sub-first.result c.args.count first fewer)
+          ∙ sym (take-map (slot_of names) c.args.count (last_of m.current.slots xs)));
     }

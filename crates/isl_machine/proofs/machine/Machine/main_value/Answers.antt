@@ -13,6 +13,6 @@ returns c =
     record {
       given = c.gives.ensures.given;
       comes = λ names b k.
-        c.gives.ensures.comes names b k
-        ∙ ap (λ z. ended (gives (value_of_word names c.args.word) z) (frames names m 0)) (c.set_stack.ensures names (record b { frame = frame_slots names m.current m.slots.items }));
+          c.gives.ensures.comes names b k
+          ∙ ap (λ z. ended (gives (value_of_word names c.args.word) z) (frames names m 0)) (c.set_stack.ensures names (record b { frame = frame_slots names m.current m.slots.items }));
     }

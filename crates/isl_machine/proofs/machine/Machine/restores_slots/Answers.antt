@@ -14,6 +14,6 @@ returns c =
     record {
       given = c.come_to.ensures.given;
       comes = λ names b k.
-        c.come_to.ensures.comes names b k
-        ∙ ap (λ xs. moment (come_to (outcome_of names c.args.outcome)) (frames_in names saved (others_of 0 m.operands.items) xs (reverse m.frames.items)) (seen names m.store (record b { frame = frame_slots names saved xs }))) slots;
+          c.come_to.ensures.comes names b k
+          ∙ ap (λ xs. moment (come_to (outcome_of names c.args.outcome)) (frames_in names saved (others_of 0 m.operands.items) xs (reverse m.frames.items)) (seen names m.store (record b { frame = frame_slots names saved xs }))) slots;
     }

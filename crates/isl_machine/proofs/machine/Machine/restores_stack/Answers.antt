@@ -11,6 +11,6 @@ returns c =
     record {
       given = c.come_to.ensures.given;
       comes = λ names b k.
-        c.come_to.ensures.comes names b k
-        ∙ ap (λ z. moment (come_to (outcome_of names c.args.outcome)) (frames names m 0) z) (c.set_stack.ensures names (record b { frame = frame_slots names m.current m.slots.items }));
+          c.come_to.ensures.comes names b k
+          ∙ ap (λ z. moment (come_to (outcome_of names c.args.outcome)) (frames names m 0) z) (c.set_stack.ensures names (record b { frame = frame_slots names m.current m.slots.items }));
     }

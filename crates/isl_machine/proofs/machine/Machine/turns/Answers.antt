@@ -16,9 +16,9 @@ returns-then-exit-number c =
     let all = forms c.args.segments.now in
     on_ok_weaker c.turns_to.result
     (λ x. followed _ _ _ _ x (λ names s b.
-      turned s c.args.number c.in-Exit.exit c.args.outside.level all (inside_tagbody c.args.number (at names m c.args.outside)) (value_of_word names c.in-Exit.field-1) (landing_of c.in-Exit.landing) (frames names m 0) (state names m b)
-      (level_in names m c.args.number c.args.outside) c.if-exit-number.true
-      ∙ ap (λ o. turn_step s c.args.number all (inside_tagbody c.args.number (at names m c.args.outside)) (outcome_of names o) (frames names m 0) (state names m b)) (sym c.in-Exit.is)))
+    turned s c.args.number c.in-Exit.exit c.args.outside.level all (inside_tagbody c.args.number (at names m c.args.outside)) (value_of_word names c.in-Exit.field-1) (landing_of c.in-Exit.landing) (frames names m 0) (state names m b)
+    (level_in names m c.args.number c.args.outside) c.if-exit-number.true
+    ∙ ap (λ o. turn_step s c.args.number all (inside_tagbody c.args.number (at names m c.args.outside)) (outcome_of names o) (frames names m 0) (state names m b)) (sym c.in-Exit.is)))
     c.turns_to.ensures
 
 pub returns-else-exit-number : goal.returns-else-exit-number
@@ -26,8 +26,8 @@ returns-else-exit-number c =
     let m = c.args.self.now in
     let all = forms c.args.segments.now in
     followed _ _ _ _ c.come_to.ensures (λ names s b.
-      not_turned s c.args.number c.in-Exit.exit all (inside_tagbody c.args.number (at names m c.args.outside)) (value_of_word names c.in-Exit.field-1) (landing_of c.in-Exit.landing) (frames names m 0) (state names m b) c.if-exit-number.false
-      ∙ ap (λ o. turn_step s c.args.number all (inside_tagbody c.args.number (at names m c.args.outside)) (outcome_of names o) (frames names m 0) (state names m b)) (sym c.in-Exit.is))
+    not_turned s c.args.number c.in-Exit.exit all (inside_tagbody c.args.number (at names m c.args.outside)) (value_of_word names c.in-Exit.field-1) (landing_of c.in-Exit.landing) (frames names m 0) (state names m b) c.if-exit-number.false
+    ∙ ap (λ o. turn_step s c.args.number all (inside_tagbody c.args.number (at names m c.args.outside)) (outcome_of names o) (frames names m 0) (state names m b)) (sym c.in-Exit.is))
 
 pub returns-in-Value : goal.returns-in-Value
 returns-in-Value c =

@@ -21,9 +21,9 @@ returns c =
     let less : c.args.outside.level ≡ suc c.in-Some.below = omega (arith, c.in-Some.ensures) in
     on_ok_weaker c.segments.result
     (λ x. followed _ _ _ _ x (λ names s b.
-      ap (λ i. segments_step s c.args.number (forms_from c.args.segments.now c.segment_of-place.result) all (inside_tagbody c.args.number (at names m i)) (frames names m 0) (state names m b)) c.at_level.ensures
-      ∙ ap (λ k. segments_step s c.args.number (forms_from c.args.segments.now k) all (inside_tagbody c.args.number (at names m (record c.args.outside { level = c.in-Some.below }))) (frames names m 0) (state names m b)) c.segment_of-place.ensures
-      ∙ ap (λ left. segments_step s c.args.number left all (inside_tagbody c.args.number (at names m (record c.args.outside { level = c.in-Some.below }))) (frames names m 0) (state names m b)) (segments_left (segment_of (landing_of c.args.landing)) c.args.segments.now)
-      ∙ ap (λ p. segments_step s c.args.number (from_segment (segment_of (landing_of c.args.landing)) all) all p (frames names m 0) (state names m b)) (lower names m c.args.number c.in-Some.below c.args.outside)
-      ∙ one_level_less (λ k. segments_step s c.args.number (from_segment (segment_of (landing_of c.args.landing)) all) all (record (inside_tagbody c.args.number (at names m c.args.outside)) { level = k })) c.args.outside.level c.in-Some.below (frames names m 0) (state names m b) less))
+    ap (λ i. segments_step s c.args.number (forms_from c.args.segments.now c.segment_of-place.result) all (inside_tagbody c.args.number (at names m i)) (frames names m 0) (state names m b)) c.at_level.ensures
+    ∙ ap (λ k. segments_step s c.args.number (forms_from c.args.segments.now k) all (inside_tagbody c.args.number (at names m (record c.args.outside { level = c.in-Some.below }))) (frames names m 0) (state names m b)) c.segment_of-place.ensures
+    ∙ ap (λ left. segments_step s c.args.number left all (inside_tagbody c.args.number (at names m (record c.args.outside { level = c.in-Some.below }))) (frames names m 0) (state names m b)) (segments_left (segment_of (landing_of c.args.landing)) c.args.segments.now)
+    ∙ ap (λ p. segments_step s c.args.number (from_segment (segment_of (landing_of c.args.landing)) all) all p (frames names m 0) (state names m b)) (lower names m c.args.number c.in-Some.below c.args.outside)
+    ∙ one_level_less (λ k. segments_step s c.args.number (from_segment (segment_of (landing_of c.args.landing)) all) all (record (inside_tagbody c.args.number (at names m c.args.outside)) { level = k })) c.args.outside.level c.in-Some.below (frames names m 0) (state names m b) less))
     c.segments.ensures
