@@ -195,6 +195,13 @@ impl<'p> Store<'p> {
         }
     }
 
+    /// How many variables there are.
+    pub fn variable_count(&self) -> usize
+        ensures { (names : List (List ℕ)) (b : Beside) → result ≡ length (seen names self.now b).state.variables }
+    {
+        self.variables.len()
+    }
+
     /// A new variable, and its number.
     pub fn add_variable(&mut self, word: Word) -> Result<usize, NoMemory>
         ensures number { IfOk result (λ n. (names : List (List ℕ)) (b : Beside) → n ≡ length (seen names self.old b).state.variables) }

@@ -1,0 +1,12 @@
+-- The words are asked for, the arguments counted, and a frame gives them back.
+use Rattle.std.proofs.Common.{refl, arith}
+use Rattle.isl_applying.proofs.Entries.{stack_given, stack_filled}
+use Rattle.isl_applying.proofs.entering.take_stack.Goals as goal
+
+pub returns-then-not-branch : goal.returns-then-not-branch
+returns-then-not-branch c = stack_filled c.args.machine.now c.ask.new.self _ c.in-Some.all _ (omega (arith, c.in-Some.ensures)) c.in_ok-ask.ensures c.if-not-branch.true
+
+pub returns : goal.returns
+returns c =
+    stack_given c.args.machine.now c.ask.new.self c.charge.new.self _ _ c.in-Some.all c.args.count c.stack-before.result _ (omega (arith, c.in-Some.ensures)) c.in_ok-ask.ensures c.if-not-branch.false c.in_ok-charge.ensures refl c.in_ok-push.ensures.items
+    (λ names b. c.stack-before.ensures names b)

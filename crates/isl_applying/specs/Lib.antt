@@ -1,0 +1,8 @@
+pub mod Entering
+pub mod Applying
+pub mod Methods
+pub mod Functions
+pub mod Generics
+pub mod Signalling
+pub mod Spreading
+pub mod Firsts

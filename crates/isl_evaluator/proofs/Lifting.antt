@@ -1,0 +1,36 @@
+-- What the machine alone does, the evaluator does.
+use Rattle.std.proofs.Common.{◌≡◌, ℕ, List, Result, Ok, Err, OnOk, ap, sym, subst}
+use Rattle.isl_plain.specs.Moment.{Setting, Moment}
+use Rattle.isl_store.specs.View.{Beside}
+use Rattle.isl_machine.specs.declared.machine.Machine.{Machine}
+use Rattle.isl_machine.specs.View.{Steps}
+use Rattle.isl_evaluator.specs.declared.evaluator.Evaluator.{Evaluator}
+use Rattle.isl_evaluator.specs.Runs.{Stands, Runs}
+
+-- what stands beside a machine stands beside another one
+pub beside_another : (names : List (List ℕ)) (e : Evaluator) (m : Machine) (written unread : List ℕ) (b : Beside) → Stands names e written unread b
+    → Stands names (record e { machine = m }) written unread b
+beside_another names e m written unread b s = record {
+  globals = s.globals;
+  dynamics = s.dynamics;
+  printed = s.printed;
+  at_start = s.at_start;
+  input = s.input;
+  ended = s.ended;
+}
+
+pub lifted : (old new : Evaluator) (f : List (List ℕ) → Setting → Beside → Moment) → new ≡ record old { machine = new.machine }
+    → Steps old.machine new.machine f → Runs old new f
+lifted old new f same x = record {
+  given = x.given;
+  comes = λ names written unread b k s. record {
+    beside = b;
+    stands = subst (λ e. Stands names e written unread b) (sym same) (beside_another names old new.machine written unread b s);
+    is = x.comes names b k;
+  };
+}
+
+pub lifted_ok : {T E : Type 0} (r : Result T E) (old new : Evaluator) (f : List (List ℕ) → Setting → Beside → Moment) → new ≡ record old { machine = new.machine }
+    → OnOk r (Steps old.machine new.machine f) → OnOk r (Runs old new f)
+lifted_ok (Ok x) old new f same s = lifted old new f same s
+lifted_ok (Err e) old new f same s = s

@@ -1,0 +1,13 @@
+// The evaluator of flat programs: the machine, with what stands beside it.
+#![tactic(auto)]
+
+pub mod computing;
+pub mod dynamics;
+pub mod evaluator;
+pub mod forms;
+pub mod globals;
+pub mod operations;
+pub mod starting;
+pub mod steps;
+pub mod streams;
+pub mod values;

@@ -1,0 +1,14 @@
+-- What the environment of an activation has captured.
+use Rattle.std.proofs.Common.{◌≡◌, ℕ, List, [], Option, Some, None, refl, sym, ap, ◌∙◌, map}
+use Rattle.isl_store.specs.declared.object.Captured.{Captured}
+use Rattle.isl_store.specs.Words.{captured_of}
+use Rattle.isl_machine.specs.declared.situation.Situation.{Situation}
+use Rattle.isl_machine.specs.declared.situation.Activation.{Activation}
+use Rattle.isl_machine.specs.declared.frame.Frame.{Frame}
+use Rattle.isl_machine.specs.Frames.{situation_in, environment_in}
+use Rattle.isl_machine.specs.Slots.{captured_list}
+
+pub environment_captured : (names : List (List ℕ)) (a : Activation) (ws : List Frame) (s : Situation) → map (captured_of names) (captured_list a) ≡ (situation_in names a ws s).environment.captured
+unfolding situation_in environment_in
+environment_captured names a ws s =
+    elim a.captured as (λ o. map (captured_of names) (elim o [ None ↦ [] | Some cs ↦ cs.value ]) ≡ elim o [ None ↦ [] | Some cs ↦ map (captured_of names) cs.value ]) [ None ↦ refl | Some cs ↦ refl ]

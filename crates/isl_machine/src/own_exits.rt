@@ -1,0 +1,65 @@
+// The exits of the activation that runs, which its code names by their numbers from the outermost one on.
+
+ghost use Rattle.std.specs.Prelude.{◌≡◌, ◌∷◌, [], IfOk, length, option_map, reverse, slice_get};
+ghost use Rattle.isl_machine.specs.Chains.{chained};
+ghost use Rattle.isl_machine.specs.Frames.{own_link, own_in};
+
+use crate::frame::Frame;
+use crate::links::Kind;
+use crate::machine::Machine;
+use crate::places::after;
+use isl_base::NoMemory;
+
+// The number of the exit that a frame makes for its own activation.
+fn own_number(frame: &Frame<'_>) -> Option<u64>
+    ensures { option_map (λ l. l.items) (own_link frame.now) ≡ option_map (λ n. n ∷ []) result }
+{
+    match frame {
+        Frame::Block { number, .. } => Some(*number),
+        Frame::Tagbody { number, .. } => Some(*number),
+        _ => None,
+    }
+}
+
+impl<'p> Machine<'p> {
+    /// The exit of that number, where a link goes to the innermost one.
+    pub fn own_exit(&self, link: usize, number: usize) -> Result<Option<u64>, NoMemory>
+        ensures { IfOk result (λ exit. exit ≡ slice_get (own_in (reverse self.now.frames.items) link) number) }
+    {
+        let count = self.own_count(link)?;
+        if number < count {
+            Ok(self.own_behind(link, count - 1 - number))
+        } else {
+            Ok(None)
+        }
+    }
+
+    // How many there are from a link on.
+    fn own_count(&self, link: usize) -> Result<usize, NoMemory>
+        ensures { IfOk result (λ count. count ≡ length (chained own_link (reverse self.now.frames.items) link)) }
+    {
+        let mut left = link;
+        let mut count = 0;
+        while let Some((_frame, behind)) = self.nearest(Kind::Own, left) {
+            count = after(count)?;
+            left = behind;
+        }
+        Ok(count)
+    }
+
+    // The exit behind so many others, from a link on.
+    fn own_behind(&self, link: usize, others: usize) -> Option<u64>
+        ensures { result ≡ slice_get (chained own_link (reverse self.now.frames.items) link) others }
+    {
+        let mut left = link;
+        let mut more = others;
+        while let Some((frame, behind)) = self.nearest(Kind::Own, left) {
+            if more == 0 {
+                return own_number(frame);
+            }
+            more -= 1;
+            left = behind;
+        }
+        None
+    }
+}
