@@ -1,5 +1,5 @@
 -- What comes to a frame that was on top, by its kind.
-use Rattle.std.proofs.Common.{Bor, ◌≡◌, ◌≤◌, ℕ, suc, List, [], ◌∷◌, ◌++◌, Option, Some, None, Bool, true, false, Result, OnOk, refl, ap, sym, ◌∙◌, subst, reverse, map, length, MatchOption, option_copied}
+use Rattle.std.proofs.Common.{Bor, ◌≡◌, ◌≤◌, ℕ, suc, List, [], ◌∷◌, ◌++◌, Option, Some, None, true, false, Result, OnOk, refl, ap, sym, ◌∙◌, subst, reverse, length, MatchOption, option_copied}
 use Rattle.std.specs.Prelude.{slice_get}
 use Rattle.std.proofs.lemmas.Option.{slice_get_past}
 use Rattle.std.proofs.lemmas.List.{map-append}

@@ -1,5 +1,5 @@
 -- A main form begins above the frames that wait for it.
-use Rattle.std.proofs.Common.{Bor, ◌≡◌, ℕ, suc, ◌+◌, ◌-◌, ◌<◌, false, List, [], ◌∷◌, ◌++◌, None, length, drop, map, Option, refl, ap, sym, ◌∙◌, subst, arith}
+use Rattle.std.proofs.Common.{Bor, ◌≡◌, ℕ, suc, ◌-◌, ◌<◌, false, List, [], ◌∷◌, ◌++◌, None, length, drop, map, Option, refl, ap, sym, ◌∙◌, subst, arith}
 use Rattle.std.specs.Prelude.{reverse, nat_lt}
 use Rattle.std.proofs.lemmas.List.{drop_all, length-reverse}
 use Rattle.std.proofs.lemmas.Bool.{le-ltb}
@@ -8,7 +8,7 @@ use Rattle.isl_meaning.specs.State.{main_surroundings, value, full}
 use Rattle.isl_meaning.specs.Values.{nil}
 use Rattle.isl_closure.specs.FlatForm.{FlatForm}
 use Rattle.isl_closure.specs.FlatNodes.{nodes}
-use Rattle.isl_closure.specs.FlatState.{FlatState, FlatEvaluated, no_environment}
+use Rattle.isl_closure.specs.FlatState.{FlatEvaluated, no_environment}
 use Rattle.isl_plain.specs.Moment.{moment, evaluate, come_to, awaits, main_form, main_forms, restores_slots, then_on}
 use Rattle.isl_plain.specs.Moment as machine
 use Rattle.isl_plain.specs.Applications.{requested}

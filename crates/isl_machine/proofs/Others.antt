@@ -1,5 +1,5 @@
 -- Which frames are left where those of some kinds are not meant.
-use Rattle.std.proofs.Common.{Bor, ◌≡◌, ℕ, Bool, true, false, List, Option, Some, None, is_some, refl}
+use Rattle.std.proofs.Common.{Bor, ◌≡◌, ℕ, true, false, List, None, is_some, refl}
 use Rattle.isl_closure.specs.declared.place.VariablePlace.{VariablePlace}
 use Rattle.isl_closure.specs.declared.place.ExitPlace.{ExitPlace}
 use Rattle.isl_closure.specs.declared.flat_core.FlatClause.{FlatClause}

@@ -1,5 +1,5 @@
 -- What a form does as it begins, once it is charged.
-use Rattle.std.specs.Prelude.{Bool, true, false, [], ◌∷◌, List, map, slice_get}
+use Rattle.std.specs.Prelude.{Bool, true, false, [], ◌∷◌, map, slice_get}
 use Rattle.isl_meaning.specs.Values.{nil, truth}
 use Rattle.isl_meaning.specs.State.{block_exit, at_segment}
 use Rattle.isl_meaning.specs.Lookup.{text}

@@ -1,7 +1,7 @@
 -- Each form does what its kind does.
 use Rattle.std.proofs.Common.{ap, sym, ◌∙◌}
 use Rattle.isl_closure.specs.FlatForm.{set_local, set_global, def_global, let_form, apply, while_form, block, return_from, catch_form, throw, unwind, dynamic_let, set_dynamic, def_dynamic, with_handler, signal_form, continue_form, sited}
-use Rattle.isl_closure.specs.model.View.{view_form, forms, bindings_of, dynamics_of}
+use Rattle.isl_closure.specs.model.View.{view_form, bindings_of, dynamics_of}
 use Rattle.isl_machine.proofs.Beginning.{begun_as, bindings_begun, dynamics_begun}
 use Rattle.isl_machine.proofs.machine.Machine.begin_kind.Goals as goal
 

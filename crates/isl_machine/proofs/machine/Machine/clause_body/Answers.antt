@@ -1,5 +1,5 @@
 -- The clause has a body, or not.
-use Rattle.std.proofs.Common.{Some, ap, sym, ◌∙◌, option_copied}
+use Rattle.std.proofs.Common.{ap, sym, ◌∙◌, option_copied}
 use Rattle.isl_closure.specs.model.View.{maybe_form}
 use Rattle.isl_plain.specs.Step.{clause_body_step}
 use Rattle.isl_store.specs.Words.{value_of_word}

@@ -1,5 +1,5 @@
 -- The test was true, or not.
-use Rattle.std.proofs.Common.{◌≡◌, suc, ap, sym, ◌∙◌, option_copied}
+use Rattle.std.proofs.Common.{suc, ap, sym, ◌∙◌}
 use Rattle.std.specs.Prelude.{slice_get}
 use Rattle.std.proofs.lemmas.Result.{on_ok_weaker}
 use Rattle.isl_plain.specs.Step.{clauses_step}

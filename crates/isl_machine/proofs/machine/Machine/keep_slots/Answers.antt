@@ -1,5 +1,5 @@
 -- The slots behind those that stay are gone.
-use Rattle.std.proofs.Common.{◌≡◌, ◌+◌, ◌-◌, ◌<◌, length, map, refl, ap, sym, ◌∙◌, arith}
+use Rattle.std.proofs.Common.{◌≡◌, ◌-◌, ◌<◌, length, map, refl, ap, sym, ◌∙◌, arith}
 use Rattle.std.proofs.lemmas.List.{take-map}
 use Rattle.isl_machine.specs.Frames.{slot_of, last_of, others_of}
 use Rattle.isl_machine.specs.View.{state}

@@ -1,5 +1,5 @@
 -- A level less, and the segments from there on.
-use Rattle.std.proofs.Common.{ap, sym, ◌∙◌, suc, arith, ◌≡◌}
+use Rattle.std.proofs.Common.{ap, ◌∙◌, suc, arith, ◌≡◌}
 use Rattle.std.proofs.lemmas.Result.{on_ok_weaker}
 use Rattle.isl_closure.specs.FlatMeaning.{from_segment}
 use Rattle.isl_closure.specs.model.View.{forms}
