@@ -1,19 +1,25 @@
 -- What is read is there.
 use Rattle.std.proofs.Math.Seq.{drop-length}
-use Rattle.std.proofs.Common.{◌≡◌, ℕ, suc, ◌+◌, ◌-◌, Bool, true, false, List, [], ◌∷◌, ◌++◌, length, drop, Result, Ok, Err, OnOk, ⊥, ap, sym, ◌∙◌, subst, refl, arith, length-drop, length-append}
+use Rattle.std.proofs.lemmas.Result.{on_ok_weaker}
+use Rattle.std.proofs.Common.{◌≡◌, ℕ, suc, ◌+◌, ◌-◌, Bool, true, false, List, [], ◌∷◌, ◌++◌, length, drop, Result, OnOk, ap, sym, ◌∙◌, refl, arith, length-drop, length-append}
 use Rattle.isl_meaning.specs.declared.primitive.Primitive.{Primitive}
 use Rattle.isl_closure.specs.FlatForm.{FlatForm, FlatForms, prim}
-use Rattle.isl_plain.specs.Moment.{compute}
+use Rattle.isl_meaning.specs.Values.{Value}
+use Rattle.isl_closure.specs.FlatState.{FlatState}
+use Rattle.isl_plain.specs.Moment.{Setting, compute}
+use Rattle.isl_plain.specs.Moment as plain
 use Rattle.isl_plain.specs.Step.{operation_step}
 use Rattle.isl_store.specs.declared.word.Word.{Word}
 use Rattle.isl_machine.specs.declared.frame.Operation.{Operation}
 use Rattle.isl_machine.specs.declared.frame.Operation.TheVariants.{CallName, CallFirst, Compute}
+use Rattle.isl_machine.specs.declared.machine.Machine.{Machine}
 use Rattle.isl_machine.specs.declared.situation.Situation.{Situation}
 use Rattle.isl_machine.specs.Computing.{computed}
-use Rattle.isl_machine.specs.Frames.{last_of}
+use Rattle.isl_machine.specs.Frames.{last_of, situation_in}
 use Rattle.isl_machine.specs.View.{at, top, frames, state, surroundings}
 use Rattle.isl_evaluator.specs.declared.evaluator.Evaluator.{Evaluator}
 use Rattle.isl_evaluator.specs.Runs.{Runs}
+use Rattle.isl_evaluator.proofs.Running.{runs_on}
 use Rattle.isl_evaluator.specs.Streams.{reads, is_reading, operation_reads, form_reads, is_fed}
 
 -- none are the last none
@@ -45,9 +51,16 @@ pub argument_given : (o : Operation) (xs ys : List Word) (x : Word) (n k : ℕ) 
 argument_given o xs ys x n k e is h =
     one_there xs x n (none_given o (last_of (suc n) (xs ++ x ∷ [])) (sym (ap (λ m. operation_reads o (last_of m (xs ++ x ∷ []))) is) ∙ sym (ap (λ zs. operation_reads o (last_of k zs)) e) ∙ h))
 
--- a primitive of the streams computes
-pub stream_computes : {E : Type 0} (r : Result Unit E) (old new : Evaluator) (q which : Primitive) (n : ℕ) (at_situation : Situation) → q ≡ which
-    → OnOk r (Runs old new (λ names s b. computed s q (top names old.machine n) at_situation.level (surroundings names old.machine at_situation.around) (frames names old.machine n) (state names old.machine b)))
-    → OnOk r (Runs old new (λ names s b. operation_step s (compute which) (top names old.machine n) (at names old.machine at_situation) (frames names old.machine n) (state names old.machine b)))
-stream_computes r old new q which n p is x =
-    subst (λ w. OnOk r (Runs old new (λ names s b. computed s w (top names old.machine n) p.level (surroundings names old.machine p.around) (frames names old.machine n) (state names old.machine b)))) is x
+-- a primitive computes in a situation
+computed_at : (names : List (List ℕ)) (s : Setting) (m : Machine) (which : Primitive) (vs : List Value) (p : Situation) (frames : List plain.Frame) (z : FlatState)
+    → computed s which vs p.level (surroundings names m p.around) frames z ≡ operation_step s (compute which) vs (at names m p) frames z
+unfolding situation_in
+computed_at names s m which vs p frames z = refl
+
+pub computes : {E : Type 0} (r : Result Unit E) (old new : Evaluator) (q which : Primitive) (n : ℕ) (p : Situation) → q ≡ which
+    → OnOk r (Runs old new (λ names s b. computed s q (top names old.machine n) p.level (surroundings names old.machine p.around) (frames names old.machine n) (state names old.machine b)))
+    → OnOk r (Runs old new (λ names s b. operation_step s (compute which) (top names old.machine n) (at names old.machine p) (frames names old.machine n) (state names old.machine b)))
+computes r old new q which n p is x =
+    on_ok_weaker r (λ y. runs_on old new _ _ y (λ names s b.
+    ap (λ w. computed s w (top names old.machine n) p.level (surroundings names old.machine p.around) (frames names old.machine n) (state names old.machine b)) is
+    ∙ computed_at names s old.machine which (top names old.machine n) p (frames names old.machine n) (state names old.machine b))) x

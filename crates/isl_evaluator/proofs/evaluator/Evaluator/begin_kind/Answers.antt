@@ -32,5 +32,5 @@ returns-in-NextMethod c = runs_begun c.next_method_at.result _ _ c.args.situatio
 pub returns-in_default : goal.returns-in_default
 returns-in_default c = lifted_ok c.begin_kind.result c.args.self.now (record c.args.self.now { machine = c.begin_kind.new.self }) _ refl c.begin_kind.ensures
 
-pub arguments-in-Prim-requires : goal.arguments-in-Prim-requires
-arguments-in-Prim-requires c = prim_fed c.args.self.now (view_form c.args.form.now) c.in-Prim.which (forms c.in-Prim.list) c.args.self.now.machine.operands.items (ap view_form c.in-Prim.is) c.requires
+pub arguments-requires-in-Prim : goal.arguments-requires-in-Prim
+arguments-requires-in-Prim c = prim_fed c.args.self.now (view_form c.args.form.now) c.in-Prim.which (forms c.in-Prim.list) c.args.self.now.machine.operands.items (ap view_form c.in-Prim.is) c.requires

@@ -3,7 +3,7 @@ use Rattle.std.proofs.Common.{ap, sym, ◌∙◌}
 use Rattle.isl_machine.specs.Frames.{last_of}
 use Rattle.isl_primitives.specs.Groups.{stream_of}
 use Rattle.isl_evaluator.specs.Streams.{reads}
-use Rattle.isl_evaluator.proofs.Fed.{stream_computes}
+use Rattle.isl_evaluator.proofs.Fed.{computes}
 use Rattle.isl_evaluator.proofs.evaluator.Evaluator.compute.Goals as goal
 
 pub stream-requires : goal.stream-requires
@@ -11,5 +11,5 @@ stream-requires c = λ r. c.requires (ap (λ p. reads p (last_of c.args.count c.
 
 pub returns-in-Some : goal.returns-in-Some
 returns-in-Some c =
-    stream_computes c.stream.result c.args.self.now c.stream.new.self (stream_of c.in-Some.stream) c.args.which c.args.count c.args.situation c.in-Some.ensures
+    computes c.stream.result c.args.self.now c.stream.new.self (stream_of c.in-Some.stream) c.args.which c.args.count c.args.situation c.in-Some.ensures
     c.stream.ensures
