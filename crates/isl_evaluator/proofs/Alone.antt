@@ -1,5 +1,5 @@
 -- The frames that are left to the machine alone.
-use Rattle.std.proofs.Common.{Bor, Global, ◌≡◌, ℕ, Bool, true, false, List, refl}
+use Rattle.std.proofs.Common.{Bor, Global, ◌≡◌, ℕ, false, List, refl}
 use Rattle.std.specs.declared.rc.Rc.{Rc}
 use Rattle.isl_base.specs.declared.lists.ItemList.{ItemList}
 use Rattle.isl_base.specs.declared.datum.Name.{Name}

@@ -1,5 +1,5 @@
 -- A form begins: what wants more than the machine, and what is left to the machine alone.
-use Rattle.std.proofs.Common.{◌≡◌, ℕ, ◌-◌, Bool, false, List, [], length, Result, OnOk, refl, ap, sym, subst, arith}
+use Rattle.std.proofs.Common.{◌≡◌, ℕ, ◌-◌, false, List, [], length, Result, OnOk, refl, ap, sym, subst, arith}
 use Rattle.std.proofs.lemmas.Result.{on_ok_weaker}
 use Rattle.isl_base.specs.declared.datum.Name.{Name}
 use Rattle.isl_meaning.specs.declared.primitive.Primitive.{Primitive}

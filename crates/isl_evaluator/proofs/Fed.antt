@@ -1,7 +1,7 @@
 -- What is read is there.
 use Rattle.std.proofs.Math.Seq.{drop-length}
 use Rattle.std.proofs.lemmas.Result.{on_ok_weaker}
-use Rattle.std.proofs.Common.{◌≡◌, ℕ, suc, ◌+◌, ◌-◌, Bool, true, false, List, [], ◌∷◌, ◌++◌, length, drop, Result, OnOk, ap, sym, ◌∙◌, refl, arith, length-drop, length-append}
+use Rattle.std.proofs.Common.{◌≡◌, ℕ, suc, ◌+◌, ◌-◌, true, List, [], ◌∷◌, ◌++◌, length, drop, Result, OnOk, ap, sym, ◌∙◌, refl, arith, length-drop, length-append}
 use Rattle.isl_meaning.specs.declared.primitive.Primitive.{Primitive}
 use Rattle.isl_closure.specs.FlatForm.{FlatForm, FlatForms, prim}
 use Rattle.isl_meaning.specs.Values.{Value}
@@ -20,7 +20,7 @@ use Rattle.isl_machine.specs.View.{at, top, frames, state, surroundings}
 use Rattle.isl_evaluator.specs.declared.evaluator.Evaluator.{Evaluator}
 use Rattle.isl_evaluator.specs.Runs.{Runs}
 use Rattle.isl_evaluator.proofs.Running.{runs_on}
-use Rattle.isl_evaluator.specs.Streams.{reads, is_reading, operation_reads, form_reads, is_fed}
+use Rattle.isl_evaluator.specs.Streams.{reads, operation_reads, form_reads, is_fed}
 
 -- none are the last none
 last_none : (xs : List Word) → last_of 0 xs ≡ []

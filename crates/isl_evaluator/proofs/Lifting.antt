@@ -1,5 +1,5 @@
 -- What the machine alone does, the evaluator does.
-use Rattle.std.proofs.Common.{◌≡◌, ℕ, List, Result, Ok, Err, OnOk, ap, sym, subst}
+use Rattle.std.proofs.Common.{◌≡◌, ℕ, List, Result, Ok, Err, OnOk, sym, subst}
 use Rattle.isl_plain.specs.Moment.{Setting, Moment}
 use Rattle.isl_store.specs.View.{Beside}
 use Rattle.isl_machine.specs.declared.machine.Machine.{Machine}

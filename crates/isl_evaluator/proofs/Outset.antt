@@ -1,17 +1,14 @@
 -- The evaluator before its first step is at the start.
-use Rattle.std.proofs.Common.{Bor, ◌≡◌, ℕ, Bool, true, false, List, [], ◌∷◌, ◌++◌, refl, ap, sym, ◌∙◌, drop, length, map, reverse, ◌-◌, arith}
+use Rattle.std.proofs.Common.{Bor, ◌≡◌, ℕ, true, false, List, [], ◌∷◌, ◌++◌, refl, ap, sym, ◌∙◌, drop, length, map, reverse, ◌-◌, arith}
 use Rattle.isl_meaning.specs.State.{value}
 use Rattle.isl_meaning.specs.Values.{nil}
 use Rattle.isl_closure.specs.FlatForm.{FlatForm}
 use Rattle.isl_plain.specs.Moment.{moment, come_to, awaits, main_forms}
-use Rattle.isl_plain.specs.Moment as machine
-use Rattle.isl_plain.specs.Run.{start}
 use Rattle.isl_store.specs.declared.store.Store.{Store}
 use Rattle.isl_store.specs.declared.word.Word.TheVariants.{Nil}
 use Rattle.isl_store.specs.NamedValues.{Holds}
 use Rattle.isl_store.specs.Spelling.{IsSpelling}
 use Rattle.isl_store.specs.View.{Beside, seen}
-use Rattle.isl_layout.specs.Layout.{IsLaidOut}
 use Rattle.isl_machine.specs.declared.frame.Frame.{Frame}
 use Rattle.isl_machine.specs.declared.frame.Frame.TheVariants as frame
 use Rattle.isl_machine.specs.declared.frame.Outcome.TheVariants.{Value}
@@ -20,7 +17,7 @@ use Rattle.isl_machine.specs.declared.slot.Slot.{Slot}
 use Rattle.isl_machine.specs.declared.machine.Control.TheVariants.{ComeTo}
 use Rattle.isl_machine.specs.declared.machine.Machine.{Machine}
 use Rattle.isl_machine.specs.Frames.{last_of, others_of, slot_of, frames_in}
-use Rattle.isl_machine.specs.View.{setting_of, control_of, frames, state, moment_of}
+use Rattle.isl_machine.specs.View.{control_of, frames, state}
 use Rattle.isl_machine.proofs.Leftover.{done}
 use Rattle.isl_evaluator.specs.declared.evaluator.Evaluator.{Evaluator}
 use Rattle.isl_evaluator.specs.Runs.{Stands}

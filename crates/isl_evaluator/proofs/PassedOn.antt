@@ -1,5 +1,5 @@
 -- An outcome that is no value comes to a place that waits for one.
-use Rattle.std.proofs.Common.{◌≡◌, ℕ, Bool, true, false, List, [], ◌∷◌, Option, Some, None, refl, ap, sym, ◌∙◌, ◌⊎◌, ⊎_elim}
+use Rattle.std.proofs.Common.{◌≡◌, ℕ, false, List, Some, refl, ap, ◌∙◌, ◌⊎◌, ⊎_elim}
 use Rattle.isl_meaning.specs.Values.{Value}
 use Rattle.isl_closure.specs.FlatState.{FlatState}
 use Rattle.isl_plain.specs.Moment.{Setting, Moment, Frame as Above, moment, come_to, then_on_from}

@@ -1,5 +1,5 @@
 -- Primitives of all groups but one read and write no stream.
-use Rattle.std.proofs.Common.{◌≡◌, Bool, false, refl, ap, ◌∙◌, sym}
+use Rattle.std.proofs.Common.{◌≡◌, false, refl, ap, ◌∙◌, sym}
 use Rattle.isl_meaning.specs.declared.primitive.Primitive.{Primitive}
 use Rattle.isl_primitives.specs.Groups.{arithmetic_of, comparison_of, kind_of, part_of, length_primitive_of, element_of, element_set_of, search_of, zero_of, one_of, two_of, primitive_of, is_streaming}
 use Rattle.isl_primitives.specs.declared.group.Kind.{Kind}

@@ -1,5 +1,5 @@
 -- What the evaluator has come to, from what it has come to in parts.
-use Rattle.std.proofs.Common.{◌≡◌, ℕ, suc, List, [], ◌∷◌, ◌++◌, Result, OnOk, ap, sym, ◌∙◌, subst, reverse, map}
+use Rattle.std.proofs.Common.{◌≡◌, ℕ, suc, List, [], ◌∷◌, ◌++◌, Result, OnOk, ap, sym, ◌∙◌, subst, reverse}
 use Rattle.std.proofs.lemmas.List.{map-append}
 use Rattle.isl_meaning.specs.State.{Outcome}
 use Rattle.isl_meaning.specs.Values.{Value}
@@ -20,7 +20,7 @@ use Rattle.isl_machine.specs.Tops.{taken, below}
 use Rattle.isl_machine.specs.View.{IsGiven, setting_of, at, top, frames, state}
 use Rattle.isl_machine.proofs.SlotLists.{last_more, others_more}
 use Rattle.isl_evaluator.specs.declared.evaluator.Evaluator.{Evaluator}
-use Rattle.isl_evaluator.specs.Runs.{Stands, IsAt, Runs}
+use Rattle.isl_evaluator.specs.Runs.{IsAt, Runs}
 use Rattle.isl_evaluator.proofs.Lifting.{beside_another}
 
 -- the same moment, said in another way

@@ -1,9 +1,7 @@
 -- A step: what the machine is about to do is done.
 use Rattle.std.proofs.Common.{◌≡◌, ℕ, ◌+◌, length, MatchOption, option_to_list, arith, List, [], ◌∷◌, ◌++◌, Option, Some, None, refl, ap, sym, ◌∙◌, reverse, subst}
 use Rattle.isl_plain.specs.Moment.{Setting, Moment, come_to}
-use Rattle.isl_plain.specs.Moment as machine
 use Rattle.isl_plain.specs.Step.{step, control_step, outcome_step}
-use Rattle.isl_store.specs.declared.word.Word.{Word}
 use Rattle.isl_store.specs.Words.{values_of}
 use Rattle.isl_store.specs.View.{Beside}
 use Rattle.isl_machine.specs.declared.frame.Frame.{Frame}

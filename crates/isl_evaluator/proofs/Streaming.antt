@@ -7,13 +7,12 @@ use Rattle.std.specs.Prelude.{slice_get, is_some}
 use Rattle.isl_meaning.specs.declared.primitive.Primitive.{Primitive}
 use Rattle.isl_meaning.specs.declared.primitive.Primitive.TheVariants as p
 use Rattle.isl_meaning.specs.declared.program.ProgramRows.{ProgramRows}
-use Rattle.isl_meaning.specs.Values.{Value, truth, integer, nil}
+use Rattle.isl_meaning.specs.Values.{truth, integer, nil}
 use Rattle.isl_meaning.specs.State.{State, Limit}
 use Rattle.isl_meaning.specs.Objects.{stream_class, character_class}
 use Rattle.isl_meaning.specs.Classes.{fetch}
 use Rattle.isl_meaning.specs.Primitives.{Answer, result, domain_error, needs, primitive, as_stream, as_character, first_byte, other_bytes, is_fresh_line}
 use Rattle.isl_closure.specs.FlatNodes.{tables}
-use Rattle.isl_plain.specs.Moment.{Setting, Moment}
 use Rattle.isl_store.specs.declared.word.Word.{Word}
 use Rattle.isl_store.specs.declared.word.Word.TheVariants.{Integer, Nil}
 use Rattle.isl_store.specs.Words.{value_of_word, values_of, object_of}

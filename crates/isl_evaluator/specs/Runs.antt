@@ -1,6 +1,6 @@
 -- **The evaluator at a moment**: its machine is that of the definitions beside what the evaluator has for variables and streams; and
 -- what an operation makes of it.
-use Rattle.std.specs.Prelude.{◌≡◌, ℕ, Bool, true, List, [], ◌++◌, drop}
+use Rattle.std.specs.Prelude.{◌≡◌, ℕ, true, List, [], ◌++◌, drop}
 use Rattle.isl_meaning.specs.Primitives.{is_fresh_line}
 use Rattle.isl_plain.specs.Moment.{Setting, Moment}
 use Rattle.isl_store.specs.NamedValues.{Holds}

@@ -1,5 +1,5 @@
 -- The frames below stay what they are when the slots of the activation that runs change.
-use Rattle.std.proofs.Common.{◌≡◌, ℕ, List, [], ◌∷◌, refl, sym, ap, ◌∙◌, reverse}
+use Rattle.std.proofs.Common.{◌≡◌, ℕ, List, [], ◌∷◌, refl, ap, ◌∙◌, reverse}
 use Rattle.isl_closure.specs.FlatState.{FlatState}
 use Rattle.isl_plain.specs.Moment.{Setting, Moment, restores_slots}
 use Rattle.isl_plain.specs.Moment as machine

@@ -1,6 +1,5 @@
 -- What the environment of an activation has captured.
-use Rattle.std.proofs.Common.{◌≡◌, ℕ, List, [], Option, Some, None, refl, sym, ap, ◌∙◌, map}
-use Rattle.isl_store.specs.declared.object.Captured.{Captured}
+use Rattle.std.proofs.Common.{◌≡◌, ℕ, List, [], Some, None, refl, map}
 use Rattle.isl_store.specs.Words.{captured_of}
 use Rattle.isl_machine.specs.declared.situation.Situation.{Situation}
 use Rattle.isl_machine.specs.declared.situation.Activation.{Activation}

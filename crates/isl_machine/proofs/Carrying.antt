@@ -24,7 +24,7 @@ use Rattle.isl_machine.specs.declared.situation.Around.{Around}
 use Rattle.isl_machine.specs.declared.machine.Machine.{Machine}
 use Rattle.isl_machine.specs.Operands.{IsDropped}
 use Rattle.isl_machine.specs.Frames.{last_of, others_of, frames_in}
-use Rattle.isl_machine.specs.View.{Steps, IsGiven, setting_of, moment_of, state, top, frames, surroundings}
+use Rattle.isl_machine.specs.View.{Steps, IsGiven, setting_of, state, top, frames, surroundings}
 use Rattle.isl_machine.proofs.Pushes.{others_none}
 use Rattle.isl_machine.proofs.Doing.{over_ok}
 use Rattle.isl_machine.specs.Computing.{computed, carry, IsAnswered, IsTold}

@@ -1,12 +1,11 @@
 -- Conditions that are made and signalled.
-use Rattle.std.proofs.Common.{◌≡◌, ℕ, ◌+◌, ◌<◌, List, [], ◌∷◌, ◌++◌, Option, Some, Ok, refl, ap, sym, ◌∙◌, length, take, map, get_or, arith}
+use Rattle.std.proofs.Common.{◌≡◌, ℕ, ◌+◌, ◌<◌, List, [], ◌∷◌, ◌++◌, Option, Some, refl, ap, sym, ◌∙◌, length, take, map, get_or}
 use Rattle.std.proofs.lemmas.List.{take_more, map-append}
-use Rattle.std.specs.Prelude.{slice_get, reverse}
-use Rattle.isl_meaning.specs.Values.{Value, nil}
+use Rattle.isl_meaning.specs.Values.{nil}
 use Rattle.isl_meaning.specs.Objects.{instance}
 use Rattle.isl_meaning.specs.State.{Surroundings, full}
 use Rattle.isl_closure.specs.FlatState.{FlatState, FlatEvaluated, gives}
-use Rattle.isl_plain.specs.Moment.{Frame, Moment, moment, signals, come_to, then_on}
+use Rattle.isl_plain.specs.Moment.{Frame, moment, signals, come_to, then_on}
 use Rattle.isl_plain.specs.Applications.{made}
 use Rattle.isl_meaning.specs.Primitives.{instance_words}
 use Rattle.isl_closure.specs.FlatNodes.{tables}
@@ -22,7 +21,7 @@ use Rattle.isl_store.specs.declared.word.Word.{Word}
 use Rattle.isl_store.specs.declared.word.Word.TheVariants.{Nil}
 use Rattle.isl_store.specs.declared.object.Instance.{Instance}
 use Rattle.isl_store.specs.declared.object.Object.TheVariants as made_as
-use Rattle.isl_store.specs.Words.{value_of_word, values_of, value_or_none, slots_of}
+use Rattle.isl_store.specs.Words.{value_of_word, values_of, slots_of}
 use Rattle.isl_store.specs.View.{built, limit_of}
 
 -- one slot more

@@ -1,5 +1,5 @@
 -- The parts of forms are as many as their lists are long.
-use Rattle.std.proofs.Common.{◌≡◌, ℕ, suc, ◌+◌, List, [], ◌∷◌, refl, sym, ap, ◌∙◌, length, add-one, arith}
+use Rattle.std.proofs.Common.{◌≡◌, List, [], ◌∷◌, refl, length, arith}
 use Rattle.isl_closure.specs.FlatForm.{FlatForm}
 use Rattle.isl_closure.specs.FlatNodes.{count_forms, count_clauses, count_bindings, count_dynamics}
 use Rattle.isl_closure.specs.declared.flat_core.FlatClause.{FlatClause}

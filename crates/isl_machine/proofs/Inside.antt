@@ -1,14 +1,12 @@
 -- Situations and frames inside blocks, tagbodies and catches.
-use Rattle.std.proofs.Common.{Bor, ◌≡◌, ℕ, suc, ◌<◌, List, [], ◌∷◌, ◌++◌, refl, sym, ap, ◌∙◌, length, reverse, arith}
+use Rattle.std.proofs.Common.{Bor, ◌≡◌, ℕ, suc, ◌<◌, List, [], ◌∷◌, ◌++◌, refl, ap, ◌∙◌, length, arith}
 use Rattle.std.proofs.lemmas.Grind.{reverse_onto}
 use Rattle.isl_base.specs.declared.place.Place.{Place}
-use Rattle.isl_meaning.specs.Values.{Value, nil}
-use Rattle.isl_meaning.specs.State.{block_exit, tagbody_exit, catch_exit}
+use Rattle.isl_meaning.specs.Values.{nil}
+use Rattle.isl_meaning.specs.State.{block_exit, catch_exit}
 use Rattle.isl_meaning.specs.Meaning.{with_turns}
 use Rattle.isl_closure.specs.FlatForm.{FlatForm, FlatForms}
 use Rattle.isl_closure.specs.FlatState.{FlatState, exit_made}
-use Rattle.isl_closure.specs.FlatSignals.{inside}
-use Rattle.isl_closure.specs.FlatMeaning.{with_exit}
 use Rattle.isl_closure.specs.model.View.{forms}
 use Rattle.isl_plain.specs.Moment.{Setting, moment, evaluate, awaits, catches, turns, last_segment, catch_tag}
 use Rattle.isl_plain.specs.Moment as machine

@@ -1,5 +1,5 @@
 -- Transfers, by the exit that is found.
-use Rattle.std.proofs.Common.{◌≡◌, ℕ, Bool, true, false, List, [], ◌∷◌, Option, Some, None, refl, ap, sym, subst, ◌∙◌}
+use Rattle.std.proofs.Common.{◌≡◌, ℕ, true, false, List, [], Option, Some, None, refl, ap, sym, subst, ◌∙◌}
 use Rattle.std.specs.Prelude.{reverse, if◌then◌else◌}
 use Rattle.isl_meaning.specs.Values.{Value}
 use Rattle.isl_meaning.specs.State.{Exit, Landing, Surroundings, at_segment}
@@ -7,7 +7,7 @@ use Rattle.isl_meaning.specs.State as state_of
 use Rattle.isl_meaning.specs.Lookup.{passed}
 use Rattle.isl_meaning.specs.Signals.{is_continuable}
 use Rattle.isl_closure.specs.FlatState.{FlatState, charged, leaves}
-use Rattle.isl_plain.specs.Moment.{Setting, Frame, Moment, Step, moment, come_to, ended, some_or, first_that}
+use Rattle.isl_plain.specs.Moment.{Setting, Frame, Step, moment, come_to, ended, some_or, first_that}
 use Rattle.isl_plain.specs.Applications.{searched, signal_class, transfer, continue_with}
 use Rattle.isl_store.specs.View.{Beside}
 use Rattle.isl_store.specs.Words.{value_of_word}
@@ -20,9 +20,8 @@ use Rattle.isl_machine.specs.declared.exits.Exit.{Exit as Here}
 use Rattle.isl_machine.specs.declared.exits.Looked.{Looked}
 use Rattle.isl_machine.specs.Chains.{chained}
 use Rattle.isl_machine.specs.Frames.{exit_link, around_in}
-use Rattle.isl_machine.specs.Exits.{exit_of, meets, IsFirst, IsFound, IsLookedFor, leaving}
+use Rattle.isl_machine.specs.Exits.{exit_of, meets, IsFound, IsLookedFor, leaving}
 use Rattle.isl_machine.specs.View.{Steps, IsCharged, IsGiven, setting_of, surroundings, frames, state, moment_of}
-use Rattle.isl_machine.proofs.Givens.{spelling}
 
 -- the exits of surroundings
 exits_in : (names : List (List ℕ)) (m : Machine) (a : Around) → (surroundings names m a).exits ≡ chained (exit_link names) (reverse m.frames.items) a.exits

@@ -1,5 +1,5 @@
 -- Lists of forms from a place on.
-use Rattle.std.proofs.Common.{◌≡◌, ℕ, zero, suc, ◌≤◌, List, [], ◌∷◌, Option, Some, None, refl, ap, sym, length, drop, arith}
+use Rattle.std.proofs.Common.{◌≡◌, ℕ, zero, suc, ◌≤◌, List, [], ◌∷◌, Some, refl, ap, sym, length, drop, arith}
 use Rattle.std.specs.Prelude.{slice_get}
 use Rattle.isl_closure.specs.FlatForm.{FlatForm, no_form, form_and, no_clause, clause_and, no_binding, binding_and, no_dynamic, dynamic_and}
 use Rattle.isl_closure.specs.declared.flat_core.FlatClause.{FlatClause}

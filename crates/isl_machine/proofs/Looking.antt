@@ -1,11 +1,9 @@
 -- Looking for an exit, one after another.
-use Rattle.std.proofs.Common.{◌≡◌, ℕ, suc, ◌+◌, ◌<◌, ◌≤◌, Bool, true, false, List, [], ◌∷◌, ◌++◌, Option, Some, None, refl, ap, sym, ◌∙◌, length, min, arith, zero-add}
-use Rattle.std.specs.Prelude.{reverse, slice_get, option_map, if◌then◌else◌}
+use Rattle.std.proofs.Common.{◌≡◌, ℕ, ◌+◌, true, false, List, [], ◌∷◌, Some, None, refl, ap, sym, ◌∙◌, arith, zero-add}
+use Rattle.std.specs.Prelude.{reverse, option_map}
 use Rattle.isl_meaning.specs.State.{Exit}
 use Rattle.isl_meaning.specs.Lookup.{passed}
 use Rattle.isl_plain.specs.Moment.{first_that}
-use Rattle.isl_store.specs.Spelling.{IsSpelling}
-use Rattle.isl_store.specs.declared.spellings.Spellings.{Spellings}
 use Rattle.isl_machine.specs.declared.frame.Frame.{Frame}
 use Rattle.isl_machine.specs.declared.frame.Frame.TheVariants as frame
 use Rattle.isl_machine.specs.declared.links.Kind.TheVariants.{Exits}
@@ -14,7 +12,7 @@ use Rattle.isl_machine.specs.declared.exits.Exit.{Exit as Here}
 use Rattle.isl_machine.specs.Chains.{Linking, chained}
 use Rattle.isl_machine.specs.Frames.{exit_link}
 use Rattle.isl_machine.specs.Links.{next_of, IsNoneNearer, IsNearest}
-use Rattle.isl_machine.specs.Exits.{exit_of, meets, IsFirst, IsLookedFor}
+use Rattle.isl_machine.specs.Exits.{exit_of, meets, IsLookedFor}
 use Rattle.isl_machine.proofs.Following.{AreLinked, none_further, one_further, has_things}
 
 -- the exits are those of frames that link exits

@@ -1,11 +1,9 @@
 -- Frames, and what links to them, once a frame is pushed.
-use Rattle.std.proofs.Common.{◌≡◌, ℕ, ◌+◌, ◌-◌, Bool, true, false, List, [], ◌∷◌, ◌++◌, Option, None, refl, ap, ◌∙◌, sym, length, take, drop, arith}
+use Rattle.std.proofs.Common.{◌≡◌, ℕ, true, false, List, [], ◌∷◌, ◌++◌, Option, None, refl, ap, ◌∙◌, length, arith}
 use Rattle.std.proofs.lemmas.List.{reverse-append}
 use Rattle.std.proofs.lemmas.Grind.{common_steps}
 use Rattle.std.specs.Prelude.{reverse, nat_lt, if◌then◌else◌}
-use Rattle.isl_plain.specs.Moment as machine
 use Rattle.isl_store.specs.declared.word.Word.{Word}
-use Rattle.isl_store.specs.Words.{values_of}
 use Rattle.isl_machine.specs.declared.slot.Slot.{Slot}
 use Rattle.isl_machine.specs.declared.situation.Situation.{Situation}
 use Rattle.isl_machine.specs.declared.situation.Around.{Around}
@@ -13,7 +11,7 @@ use Rattle.isl_machine.specs.declared.situation.Activation.{Activation}
 use Rattle.isl_machine.specs.declared.frame.Frame.{Frame}
 use Rattle.isl_machine.specs.declared.frame.Frame.TheVariants as frame
 use Rattle.isl_machine.specs.Chains.{Linking, chained}
-use Rattle.isl_machine.specs.Frames.{last_of, others_of, frame_slots, frame_in, frames_in, situation_in, around_in, own_in, environment_in, own_link, exit_link, handler_link, binding_link}
+use Rattle.isl_machine.specs.Frames.{others_of, frame_in, frames_in, situation_in, around_in, own_in, environment_in, own_link, exit_link, handler_link, binding_link}
 use Rattle.isl_machine.specs.View.{IsPlain}
 
 pub one_on : {X : Type 0} (ws : List X) (w : X) → reverse (ws ++ w ∷ []) ≡ w ∷ reverse ws

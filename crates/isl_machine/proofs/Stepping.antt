@@ -1,5 +1,5 @@
 -- Steps that are the same, and steps one of which leads to the other.
-use Rattle.std.proofs.Common.{◌≡◌, ℕ, List, Result, Ok, Err, OnOk, refl, ◌∙◌}
+use Rattle.std.proofs.Common.{◌≡◌, ℕ, List, Result, Ok, Err, OnOk, ◌∙◌}
 use Rattle.isl_plain.specs.Moment.{Setting, Moment}
 use Rattle.isl_store.specs.View.{Beside}
 use Rattle.isl_machine.specs.declared.machine.Machine.{Machine}

@@ -1,5 +1,5 @@
 -- Frames pushed, whatever they are.
-use Rattle.std.proofs.Common.{◌≡◌, ℕ, Bool, true, false, List, [], ◌∷◌, ◌++◌, refl, ap, ◌∙◌, reverse}
+use Rattle.std.proofs.Common.{◌≡◌, ℕ, true, List, [], ◌∷◌, ◌++◌, refl, ap, ◌∙◌, reverse}
 use Rattle.isl_closure.specs.FlatForm.{FlatForm}
 use Rattle.isl_closure.specs.FlatState.{FlatState}
 use Rattle.isl_plain.specs.Moment.{moment, evaluate}

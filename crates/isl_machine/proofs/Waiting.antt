@@ -1,5 +1,5 @@
 -- Lists of forms: what the machine does at a place of a list.
-use Rattle.std.proofs.Common.{◌≡◌, ℕ, suc, ◌≤◌, List, [], ◌∷◌, Some, ap, ◌∙◌, length}
+use Rattle.std.proofs.Common.{◌≡◌, ℕ, suc, ◌≤◌, List, ◌∷◌, Some, ap, ◌∙◌, length}
 use Rattle.std.specs.Prelude.{slice_get}
 use Rattle.isl_meaning.specs.Values.{Value, nil}
 use Rattle.isl_closure.specs.FlatForm.{FlatForm, FlatBindings, FlatDynamics}
@@ -7,7 +7,7 @@ use Rattle.isl_closure.specs.FlatState.{FlatState, gives}
 use Rattle.isl_closure.specs.declared.flat_core.FlatClause.{FlatClause}
 use Rattle.isl_closure.specs.declared.flat_core.FlatBinding.{FlatBinding}
 use Rattle.isl_closure.specs.declared.flat_core.FlatDynBinding.{FlatDynBinding}
-use Rattle.isl_plain.specs.Moment.{Setting, Situation, Operation, Frame, moment, ended, evaluate, come_to, awaits, sequence_form, clause_test, argument, binding_value, dynamic_value}
+use Rattle.isl_plain.specs.Moment.{Setting, Situation, Operation, Frame, moment, ended, evaluate, awaits, sequence_form, argument, binding_value, dynamic_value}
 use Rattle.isl_plain.specs.Step.{sequence_step, clauses_step, arguments_step, operation_step, bindings_step, let_step, dynamics_step, dynamic_let_step}
 use Rattle.isl_machine.specs.Frames.{forms_from, clauses_from, bindings_from, dynamics_from, clause_wait}
 use Rattle.isl_machine.proofs.Leftover.{form_there, forms_done, clause_there, clauses_done, binding_there, bindings_done, dynamic_there, dynamics_done}

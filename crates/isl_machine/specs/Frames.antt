@@ -1,7 +1,6 @@
 -- What frames stand for: each is a frame of the machine, whose situations are told by links and by the activation that runs.
-use Rattle.std.specs.Prelude.{ℕ, suc, ◌+◌, ◌-◌, List, [], ◌∷◌, ◌++◌, Option, Some, None, map, length, take, drop, reverse, slice_get}
-use Rattle.isl_base.specs.declared.place.Place.{Place}
-use Rattle.isl_meaning.specs.Values.{Value, nil}
+use Rattle.std.specs.Prelude.{ℕ, suc, ◌-◌, List, [], ◌∷◌, ◌++◌, Option, Some, None, map, length, take, drop, reverse, slice_get}
+use Rattle.isl_meaning.specs.Values.{Value}
 use Rattle.isl_meaning.specs.Objects as objects
 use Rattle.isl_meaning.specs.State.{Surroundings, Exit, block_exit, tagbody_exit, catch_exit, signal_exit, end_exit}
 use Rattle.isl_meaning.specs.State as state

@@ -1,5 +1,5 @@
 -- Which frame a link means.
-use Rattle.std.specs.Prelude.{◌≡◌, ℕ, suc, ◌<◌, ◌≤◌, min, length, List, Option, Some, None, slice_get}
+use Rattle.std.specs.Prelude.{◌≡◌, ℕ, suc, ◌<◌, ◌≤◌, min, List, Option, Some, None, slice_get}
 use Rattle.isl_machine.specs.declared.frame.Frame.{Frame}
 use Rattle.isl_machine.specs.declared.frame.Frame.TheVariants as frame
 use Rattle.isl_machine.specs.declared.links.Kind.{Kind}

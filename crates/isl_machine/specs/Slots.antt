@@ -1,16 +1,11 @@
 -- What a machine is once the slots of the activation that runs have changed.
-use Rattle.std.specs.Prelude.{◌≡◌, ℕ, List, [], ◌∷◌, length, Option, Some, None}
-use Rattle.isl_closure.specs.declared.place.Home.{Home}
-use Rattle.isl_closure.specs.FlatState.{with_values, new_slots, new_cells}
-use Rattle.isl_store.specs.declared.word.Word.{Word}
-use Rattle.isl_store.specs.Words.{value_of_word}
-use Rattle.isl_machine.specs.declared.slot.Slot.{Slot}
+use Rattle.std.specs.Prelude.{◌≡◌, ℕ, List, [], Some, None}
 use Rattle.isl_store.specs.declared.object.Captured.{Captured}
 use Rattle.isl_store.specs.View.{Beside}
 use Rattle.isl_closure.specs.FlatState.{FlatState}
 use Rattle.isl_machine.specs.declared.situation.Activation.{Activation}
 use Rattle.isl_machine.specs.declared.machine.Machine.{Machine}
-use Rattle.isl_machine.specs.Frames.{slot_of, others_of}
+use Rattle.isl_machine.specs.Frames.{others_of}
 use Rattle.isl_machine.specs.View.{state}
 
 -- what the function of an activation captured

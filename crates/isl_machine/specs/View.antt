@@ -1,5 +1,5 @@
 -- The machine of the code at a moment, as the machine of the definitions; and what an operation makes of it.
-use Rattle.std.specs.Prelude.{◌≡◌, ℕ, Bool, true, false, List, [], ◌∷◌, reverse}
+use Rattle.std.specs.Prelude.{◌≡◌, ℕ, Bool, true, false, List, [], reverse}
 use Rattle.isl_meaning.specs.State.{Surroundings}
 use Rattle.isl_meaning.specs.Values.{Value}
 use Rattle.isl_closure.specs.FlatForm.{while_form}
@@ -10,7 +10,6 @@ use Rattle.isl_primitives.specs.Computed.{IsFitted}
 use Rattle.isl_closure.specs.FlatState.{FlatState, charged}
 use Rattle.isl_plain.specs.Moment.{Setting, Moment, Control, moment, evaluate, signals, come_to}
 use Rattle.isl_plain.specs.Moment as machine
-use Rattle.isl_store.specs.declared.word.Word.{Word}
 use Rattle.isl_store.specs.Words.{value_of_word, values_of}
 use Rattle.isl_store.specs.View.{Beside, seen, limit_of}
 use Rattle.isl_machine.specs.declared.situation.Around.{Around}
@@ -24,7 +23,7 @@ use Rattle.isl_machine.specs.Sizes.{AreSizes}
 use Rattle.isl_machine.specs.declared.machine.Control.{Control as Doing}
 use Rattle.isl_machine.specs.declared.machine.Control.TheVariants as doing
 use Rattle.isl_machine.specs.declared.machine.Machine.{Machine}
-use Rattle.isl_machine.specs.Frames.{outcome_of, last_of, others_of, frame_slots, situation_in, around_in, frame_in, frames_in, own_link, exit_link, handler_link, binding_link}
+use Rattle.isl_machine.specs.Frames.{outcome_of, last_of, others_of, frame_slots, situation_in, around_in, frame_in, frames_in}
 
 abbrev pub setting_of : List (List ℕ) → Given → Setting
 setting_of names g = record { names = names; program = g.program.now; limit = limit_of g.limit }

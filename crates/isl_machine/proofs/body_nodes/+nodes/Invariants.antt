@@ -1,5 +1,5 @@
 -- The sizes of the forms fall; a loop has the nodes of what is passed.
-use Rattle.std.proofs.Common.{ℕ, ◌+◌, ◌*◌}
+use Rattle.std.proofs.Common.{◌+◌, ◌*◌}
 use Rattle.isl_base.specs.bridge.Counted.{IsCounted}
 use Rattle.isl_closure.specs.FlatForm.{form_size, forms_size, clauses_size, bindings_size, dynamics_size}
 use Rattle.isl_closure.specs.model.View.{forms, clauses_of, bindings_of, dynamics_of}

@@ -1,5 +1,5 @@
 -- There is a frame, or the machine has ended.
-use Rattle.std.proofs.Common.{subst, sym}
+use Rattle.std.proofs.Common.{subst}
 use Rattle.isl_evaluator.specs.Stepped.{IsTopTaken}
 use Rattle.isl_evaluator.proofs.Stepping.{ended, left}
 use Rattle.isl_evaluator.proofs.evaluator.Evaluator.leave.Goals as goal

@@ -1,8 +1,5 @@
 -- Each operation does what its kind does.
-use Rattle.std.proofs.Common.{ap, refl, sym, subst, OnOk, ◌∙◌}
-use Rattle.isl_plain.specs.Step.{operation_step}
-use Rattle.isl_machine.specs.Frames.{operation_of}
-use Rattle.isl_machine.specs.View.{at, top, frames, state}
+use Rattle.std.proofs.Common.{ap, refl, ◌∙◌}
 use Rattle.isl_evaluator.proofs.Lifting.{lifted_ok}
 use Rattle.isl_evaluator.proofs.Begun.{operation_is}
 use Rattle.isl_evaluator.specs.Streams.{operation_reads}

@@ -1,7 +1,5 @@
 -- One exit after another is looked at.
-use Rattle.std.proofs.Common.{[], sym, ◌∙◌, ap, arith}
-use Rattle.std.specs.Prelude.{option_map}
-use Rattle.isl_machine.specs.Exits.{exit_of}
+use Rattle.std.proofs.Common.{[], sym, ◌∙◌, arith}
 use Rattle.isl_machine.proofs.Looking.{passed_one, found_one, found_none, makes_one}
 use Rattle.isl_machine.proofs.machine.Machine.look_for.Goals as goal
 

@@ -1,5 +1,5 @@
 -- Two frames are pushed, above which the segments are a sequence.
-use Rattle.std.proofs.Common.{◌∷◌, ap, sym, ◌∙◌, suc, length, reverse}
+use Rattle.std.proofs.Common.{◌∷◌, ap, sym, ◌∙◌, suc, reverse}
 use Rattle.std.proofs.lemmas.List.{length-reverse}
 use Rattle.std.proofs.lemmas.Result.{on_ok_weaker}
 use Rattle.isl_meaning.specs.Values.{nil}

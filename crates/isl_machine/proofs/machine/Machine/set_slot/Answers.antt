@@ -1,7 +1,6 @@
 -- The slot is behind those of other activations, which stay.
-use Rattle.std.proofs.Common.{refl, ap, ◌∙◌, ◌+◌, map}
+use Rattle.std.proofs.Common.{refl, ap, ◌∙◌, map}
 use Rattle.std.proofs.lemmas.List.{map-set}
-use Rattle.std.specs.Prelude.{slice_set}
 use Rattle.isl_machine.specs.Frames.{slot_of, last_of}
 use Rattle.isl_machine.specs.View.{state}
 use Rattle.isl_machine.proofs.SlotLists.{set_others, set_last}

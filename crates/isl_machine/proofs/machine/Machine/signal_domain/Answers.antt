@@ -1,8 +1,8 @@
 -- The class that was expected is an object.
 use Rattle.std.proofs.Common.{[], ◌∷◌, ap}
-use Rattle.isl_store.specs.Words.{value_of_word, values_of}
+use Rattle.isl_store.specs.Words.{value_of_word}
 use Rattle.isl_plain.specs.Applications.{signal_class, signal_domain}
-use Rattle.isl_machine.specs.View.{Steps, frames, state, surroundings, setting_of}
+use Rattle.isl_machine.specs.View.{frames, state, surroundings, setting_of}
 use Rattle.isl_machine.proofs.Stepping.{on_ok, same_moment}
 use Rattle.isl_machine.proofs.machine.Machine.signal_domain.Goals as goal
 
