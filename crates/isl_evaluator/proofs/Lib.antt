@@ -12,3 +12,5 @@ pub mod Quiet
 pub mod MethodsLeft
 pub mod Fed
 pub mod Outset
+pub mod Reading
+pub mod Onwards

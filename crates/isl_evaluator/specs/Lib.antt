@@ -4,3 +4,4 @@ pub mod Outermost
 pub mod Streams
 pub mod Stepped
 pub mod Started
+pub mod Advanced

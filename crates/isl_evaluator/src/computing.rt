@@ -52,8 +52,8 @@ impl<'p> Evaluator<'p> {
     }
 }
 
-// The primitive as one of the streams, if it is one.
-fn stream_among(which: Primitive) -> Option<Stream>
+/// The primitive as one of the streams, if it is one.
+pub fn stream_among(which: Primitive) -> Option<Stream>
     ensures { MatchOption result (is_streaming which ≡ false) (λ stream. stream_of stream ≡ which) }
 {
     match group_of(which) {

@@ -1,6 +1,7 @@
 // The evaluator of flat programs: the machine, with what stands beside it.
 #![tactic(auto)]
 
+pub mod advancing;
 pub mod computing;
 pub mod dynamics;
 pub mod evaluator;
