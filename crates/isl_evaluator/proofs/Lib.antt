@@ -14,3 +14,4 @@ pub mod Fed
 pub mod Outset
 pub mod Reading
 pub mod Onwards
+pub mod Handing

@@ -30,24 +30,24 @@ pub reached_more : (old mid new : Evaluator) (n k : ℕ) → k ≡ n + 1 → Has
 reached_more old mid new n k e r h = record {
   given = h.comes.given ∙ r.given;
   comes = λ names written unread b g st.
-    let start : Moment = moment_of names old.machine b in
-    let s : Setting = setting_of names old.machine.given in
-    let P : Given → Type 0 = λ y. IsGiven names y in
-    let a : IsAt names mid written unread (steps s n start) = r.comes names written unread b g st in
-    let x : IsAt names new written unread (h.next names (setting_of names mid.machine.given) a.beside) =
+      let start : Moment = moment_of names old.machine b in
+      let s : Setting = setting_of names old.machine.given in
+      let P : Given → Type 0 = λ y. IsGiven names y in
+      let a : IsAt names mid written unread (steps s n start) = r.comes names written unread b g st in
+      let x : IsAt names new written unread (h.next names (setting_of names mid.machine.given) a.beside) =
       h.comes.comes names written unread a.beside (subst P (sym r.given) g) a.stands in
-    let more : suc n ≡ k = omega arith in
-    record {
-      beside = x.beside;
-      stands = x.stands;
-      is =
-        x.is
-        ∙ ap (λ q. h.next names (setting_of names q) a.beside) r.given
-        ∙ sym (ap (next_or (moment_of names mid.machine a.beside)) (h.is_next names s a.beside))
-        ∙ ap (next s) a.is
-        ∙ sym (steps_more s n start)
-        ∙ ap (λ j. steps s j start) more;
-    };
+      let more : suc n ≡ k = omega arith in
+      record {
+        beside = x.beside;
+        stands = x.stands;
+        is =
+            x.is
+            ∙ ap (λ q. h.next names (setting_of names q) a.beside) r.given
+            ∙ sym (ap (next_or (moment_of names mid.machine a.beside)) (h.is_next names s a.beside))
+            ∙ ap (next s) a.is
+            ∙ sym (steps_more s n start)
+            ∙ ap (λ j. steps s j start) more;
+      };
 }
 
 -- a machine whose frames are the same ones, in another place of the host's memory
@@ -74,13 +74,13 @@ pub reached_end : (old mid new : Evaluator) (n : ℕ) → HasReached old mid n �
 reached_end old mid new n r h = record {
   given = ap (λ (m : Machine). m.given) (machine_same mid new h) ∙ r.given;
   comes = λ names written unread b g st.
-    let a : IsAt names mid written unread (steps (setting_of names old.machine.given) n (moment_of names old.machine b)) = r.comes names written unread b g st in
-    record {
-      beside = a.beside;
-      stands = subst (λ e. Stands names e written unread a.beside) (sym h.same)
-        (beside_another names mid (record mid.machine { frames = new.machine.frames }) written unread a.beside a.stands);
-      is = same_items names mid.machine new.machine a.beside h.frames (machine_same mid new h) ∙ a.is;
-    };
+      let a : IsAt names mid written unread (steps (setting_of names old.machine.given) n (moment_of names old.machine b)) = r.comes names written unread b g st in
+      record {
+        beside = a.beside;
+        stands = subst (λ e. Stands names e written unread a.beside) (sym h.same)
+            (beside_another names mid (record mid.machine { frames = new.machine.frames }) written unread a.beside a.stands);
+        is = same_items names mid.machine new.machine a.beside h.frames (machine_same mid new h) ∙ a.is;
+      };
 }
 
 -- what is read is there, where the evaluator does not wait

@@ -1,5 +1,5 @@
 -- Which forms and primitives read.
-use Rattle.std.proofs.Common.{◌≡◌, Bool, true, false, List, refl}
+use Rattle.std.proofs.Common.{◌≡◌, false, List, refl}
 use Rattle.isl_meaning.specs.declared.primitive.Primitive.{Primitive}
 use Rattle.isl_meaning.specs.declared.primitive.Primitive.TheVariants as p
 use Rattle.isl_closure.specs.declared.flat_core.FlatCoreForm.{FlatCoreForm}

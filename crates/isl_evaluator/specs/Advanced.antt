@@ -1,5 +1,5 @@
 -- **Several steps of the evaluator**, and those of the machine of the definitions.
-use Rattle.std.specs.Prelude.{◌≡◌, ℕ, ◌≤◌, Bool, true, false, List}
+use Rattle.std.specs.Prelude.{◌≡◌, ℕ, ◌≤◌, true, false, List}
 use Rattle.isl_plain.specs.Moment.{Setting}
 use Rattle.isl_plain.specs.Run.{steps, IsEnd}
 use Rattle.isl_store.specs.View.{Beside}

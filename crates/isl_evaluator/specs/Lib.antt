@@ -5,3 +5,4 @@ pub mod Streams
 pub mod Stepped
 pub mod Started
 pub mod Advanced
+pub mod Ports

@@ -8,6 +8,7 @@ pub mod evaluator;
 pub mod forms;
 pub mod globals;
 pub mod operations;
+pub mod ports;
 pub mod starting;
 pub mod steps;
 pub mod streams;

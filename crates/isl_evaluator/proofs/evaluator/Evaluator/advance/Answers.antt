@@ -1,6 +1,6 @@
 -- A step more; or there is none, and the machine has ended.
 use Rattle.isl_evaluator.proofs.Onwards.{reached_more, reached_end, stopped, went_on, went_not}
-use Rattle.std.proofs.Common.{◌+◌, ◌≤◌, arith, refl}
+use Rattle.std.proofs.Common.{◌+◌, arith, refl}
 use Rattle.isl_evaluator.specs.Stepped.{HasEnded}
 use Rattle.isl_evaluator.specs.declared.evaluator.Evaluator.{Evaluator}
 use Rattle.isl_evaluator.proofs.evaluator.Evaluator.advance.Goals as goal
