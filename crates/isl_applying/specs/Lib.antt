@@ -1,3 +1,4 @@
+-- What applications do.
 pub mod Entering
 pub mod Applying
 pub mod Methods

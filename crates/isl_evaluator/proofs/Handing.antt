@@ -45,6 +45,7 @@ handed_in old new bytes all items same = record {
 pub handed_all : (e : Evaluator) → IsAllRead e (record e { ended = true })
 handed_all e = record {
   machine = refl;
+  ended = refl;
   stands = λ names written b s. record {
     globals = s.globals;
     dynamics = s.dynamics;

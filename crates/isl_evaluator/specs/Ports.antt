@@ -1,5 +1,5 @@
 -- What was read is given to the evaluator, and what was printed is taken from it: it is at the same moment, and other bytes stand beside it.
-use Rattle.std.specs.Prelude.{◌≡◌, ℕ, List, [], ◌++◌}
+use Rattle.std.specs.Prelude.{◌≡◌, ℕ, true, List, [], ◌++◌}
 use Rattle.isl_store.specs.View.{Beside}
 use Rattle.isl_evaluator.specs.declared.evaluator.Evaluator.{Evaluator}
 use Rattle.isl_evaluator.specs.Runs.{Stands}
@@ -20,4 +20,5 @@ pub record IsGivenBytes (old new : Evaluator) (bytes : List ℕ) : Type 0 where
 -- all was read
 pub record IsAllRead (old new : Evaluator) : Type 0 where
   pub machine : new.machine ≡ old.machine
+  pub ended : new.ended ≡ true
   pub stands : (names : List (List ℕ)) (written : List ℕ) (b : Beside) → Stands names old written [] b → Stands names new written [] b

@@ -1,3 +1,4 @@
+-- How the machine is seen, and what its functions do.
 pub mod Building
 pub mod Chains
 pub mod Frames

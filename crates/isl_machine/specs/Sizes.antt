@@ -53,7 +53,7 @@ value_nodes b = nodes b.value
 abbrev pub dynamic_nodes : FlatDynBinding → ℕ
 dynamic_nodes b = nodes b.value
 
--- the words of the stack of an application of a procedure, and of a main form
+-- the words of the stack of an application whose body that form is, and of a procedure
 abbrev pub form_words : FlatForm → ℕ
 form_words f = application_words (nodes f)
 
@@ -64,4 +64,3 @@ procedure_words p = form_words p.body
 pub record AreSizes (program : FlatProgram) (s : Sizes) : Type 0 where
   pub procedures : s.procedures ≡ map procedure_words program.procedures
   pub lambdas : s.lambdas ≡ map procedure_words program.lambdas
-  pub main : s.main ≡ map form_words program.main

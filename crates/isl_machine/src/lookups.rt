@@ -1,4 +1,4 @@
-// What a run looks up in its program: the code of procedures, and the chains of calls.
+// What a run looks up in its program: the code of procedures and of functions that forms make.
 
 ghost use Rattle.std.specs.Prelude.{List, ℕ, slice_get};
 ghost use Rattle.isl_machine.specs.Codes.{IsCode};

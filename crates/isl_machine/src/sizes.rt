@@ -7,16 +7,14 @@ ghost use Rattle.isl_machine.specs.Sizes.{AreSizes, form_words, procedure_words}
 
 use crate::body_nodes::form_nodes;
 use isl_base::{ItemList, NoMemory};
-use isl_closure::{FlatCore, FlatCoreList, FlatProcedureList, FlatProgram};
+use isl_closure::{FlatCore, FlatProcedureList, FlatProgram};
 use std::alloc::Global;
 
-/// The words of the stack that an application of each procedure, of each function that forms make, and of each main form
-/// takes.
+/// The words of the stack that an application of each procedure, and of each function that forms make, takes.
 #[derive(Drop)]
 pub struct Sizes {
     procedures: ItemList<u64>,
     lambdas: ItemList<u64>,
-    main: ItemList<u64>,
 }
 
 impl Sizes {
@@ -26,11 +24,9 @@ impl Sizes {
     {
         let procedures = procedure_list_words(alloc, &program.procedures)?;
         let lambdas = procedure_list_words(alloc, &program.lambdas)?;
-        let main = form_list_words(alloc, &program.main)?;
         Ok(Sizes {
             procedures,
             lambdas,
-            main,
         })
     }
 
@@ -47,13 +43,6 @@ impl Sizes {
     {
         self.lambdas.get(number).copied()
     }
-
-    /// The words of a main form.
-    pub fn main_form(&self, number: usize) -> Option<u64>
-        ensures { (program : Flat) → AreSizes program self.now → result ≡ option_map form_words (slice_get program.main number) }
-    {
-        self.main.get(number).copied()
-    }
 }
 
 // The words of each procedure.
@@ -63,17 +52,6 @@ fn procedure_list_words(alloc: Global, list: &FlatProcedureList) -> Result<ItemL
     let mut words = ItemList::new(alloc);
     for procedure in list.as_slice() {
         words.push(form_words(&procedure.body)?)?;
-    }
-    Ok(words)
-}
-
-// The words of each form.
-fn form_list_words(alloc: Global, list: &FlatCoreList) -> Result<ItemList<u64>, NoMemory>
-    ensures { IfOk result (λ words. words ≡ map form_words list.now) }
-{
-    let mut words = ItemList::new(alloc);
-    for form in list.as_slice() {
-        words.push(form_words(form)?)?;
     }
     Ok(words)
 }

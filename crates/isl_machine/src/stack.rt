@@ -1,9 +1,9 @@
-// Frames are pushed and popped.
+// Frames are pushed.
 
 ghost use Rattle.std.specs.Prelude.{◌≡◌, ◌∷◌, true, suc, length, reverse, OnOk, IfOk};
 ghost use Rattle.isl_plain.specs.Moment.{moment, evaluate};
 ghost use Rattle.isl_machine.specs.Frames.{situation_in};
-ghost use Rattle.isl_machine.specs.Tops.{taken, below, IsUnlinked, IsAbove, IsPopped};
+ghost use Rattle.isl_machine.specs.Tops.{taken, below, IsUnlinked, IsAbove};
 ghost use Rattle.isl_machine.specs.View.{Steps, at, state};
 
 use crate::frame::Frame;
@@ -54,12 +54,5 @@ impl<'p> Machine<'p> {
         ensures { IfOk result (λ link. link ≡ suc (length self.now.frames.items)) }
     {
         after(self.frames.as_slice().len())
-    }
-
-    /// The frame on top, which goes.
-    pub fn pop(&mut self) -> Option<Frame<'p>>
-        ensures { IsPopped self.old self.new result }
-    {
-        self.frames.pop()
     }
 }
