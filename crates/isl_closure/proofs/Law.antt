@@ -1,5 +1,5 @@
 -- The law of closures.
-use Rattle.std.proofs.Common.{◌≡◌, ℕ, zero, suc, ◌+◌, List, [], ◌∷◌, ◌++◌, refl, ap, subst, ◌∙◌, length, arith}
+use Rattle.std.proofs.Common.{◌≡◌, ℕ, zero, suc, ◌+◌, List, [], ◌∷◌, ◌++◌, refl, sym, ap, subst, ◌∙◌, inl, inr, Option, length, arith}
 use Rattle.std.specs.Prelude.{⊤, true, false, slice_get}
 use Rattle.isl_meaning.specs.declared.program.Procedure.{Procedure}
 use Rattle.isl_meaning.specs.declared.program.ProgramRows.{ProgramRows}
@@ -7,20 +7,22 @@ use Rattle.isl_meaning.specs.BoundNames.{BodyIsBound, IsBoundIn, NamesAreBound, 
 use Rattle.isl_meaning.specs.Facts.{is_whole}
 use Rattle.isl_meaning.specs.Form.{Form, parameters}
 use Rattle.isl_meaning.specs.Layout.{objects_at_start}
-use Rattle.isl_meaning.specs.Meaning.{meaning, end_of, meant}
-use Rattle.isl_meaning.specs.State.{first_state, Evaluated}
+use Rattle.isl_meaning.specs.Classes.{class_of_object}
+use Rattle.isl_meaning.specs.Meaning.{class_in, meaning, end_of, meant}
+use Rattle.isl_meaning.specs.Objects.{Object}
+use Rattle.isl_meaning.specs.State.{State, first_state, Evaluated}
 use Rattle.isl_meaning.specs.Standing as standing
 use Rattle.isl_meaning.specs.Subforms.{Each}
-use Rattle.isl_meaning.specs.Values.{nil}
+use Rattle.isl_meaning.specs.Values.{Value, nil, integer, character, symbol, object}
 use Rattle.isl_closure.specs.FlatMeaning.{flat_meaning}
 use Rattle.isl_closure.specs.FlatMeaning as flat
 use Rattle.isl_closure.specs.declared.program.FlatProcedure.{FlatProcedure}
-use Rattle.isl_closure.specs.FlatState.{FlatState, FlatEvaluated}
+use Rattle.isl_closure.specs.FlatState.{Captured, FlatState, FlatEvaluated}
 use Rattle.isl_closure.specs.Flatten.{functions, functions_of_procedures, flat_procedures, body_scope, inner_procedures, inner_of_procedures, inner_of_mains, flat_mains, flat_program}
 use Rattle.isl_closure.specs.Law.{SameRun, LawOfClosures, LawOfFlatPrograms}
 use Rattle.isl_closure.specs.FlatStanding.{FlatScope, with_homes, ProgramStands, ProcedureStands, MainStands, LambdasStand}
 use Rattle.isl_closure.specs.Scope.{no_scope, homes_of}
-use Rattle.isl_closure.proofs.Alike.{World, alone, Sound, Sim}
+use Rattle.isl_closure.proofs.Alike.{Kind, World, alone, ObjectsAlike, Beside, Sound, Sim}
 use Rattle.isl_closure.proofs.Applied.{ProceduresMatch}
 use Rattle.isl_closure.proofs.Combined.{itself}
 use Rattle.isl_closure.proofs.Exits.{whole_leads}
@@ -48,12 +50,25 @@ procedures_counted n (q ∷ qs) =
     joined (inner_procedures (body_scope q.required q.rest q.body no_scope) n q.body) _ _ _
     (all_counted (body_scope q.required q.rest q.body no_scope) n q.body) (procedures_counted (n + functions q.body) qs)
 
+-- an object and the one beside it have one class, and so have values
+object_class : {lambdas : List FlatProcedure} {ks : List Kind} {o o' : Option Object} {t : Option (List Captured)} → ObjectsAlike lambdas ks o o' t → class_of_object o' ≡ class_of_object o
+object_class (inl x) = ap class_of_object x.same
+object_class (inr x) = ap class_of_object x.other ∙ sym (ap class_of_object x.one)
+
+value_class : {lambdas : List FlatProcedure} {w : World} {z : State} {y : FlatState} → Beside lambdas w z y → (v : Value) → class_in y.state.store v ≡ class_in z.store v
+value_class b (object i) = ap (λ (q : FlatState). class_of_object (slice_get q.state.store i)) b.is ∙ object_class (b.related.objects i)
+value_class b (integer n) = refl
+value_class b (character n) = refl
+value_class b (symbol s) = refl
+value_class b nil = refl
+
 same_run : {lambdas : List FlatProcedure} {w : World} {r : Evaluated} {q : FlatEvaluated} → Sim lambdas w r q → SameRun (meant r) (flat.meant q)
 same_run x = record {
   end = ap end_of x.same;
   printed = ap (λ (y : FlatState). y.state.printed) x.beside.is;
   units = ap (λ (y : FlatState). y.state.units) x.beside.is;
   peak = ap (λ (y : FlatState). y.state.peak) x.beside.is;
+  class = value_class x.beside;
 }
 
 -- the procedures of a program that can be made flat, one after another

@@ -5,7 +5,8 @@ use Rattle.isl_meaning.specs.Counts.{nodes}
 use Rattle.isl_meaning.specs.Form.{Form}
 use Rattle.isl_meaning.specs.State.{Limit}
 use Rattle.isl_meaning.specs.Facts.{is_whole}
-use Rattle.isl_meaning.specs.Meaning.{Meant, meaning}
+use Rattle.isl_meaning.specs.Meaning.{Meant, class_in, meaning}
+use Rattle.isl_meaning.specs.Values.{Value}
 use Rattle.isl_closure.specs.FlatMeaning.{flat_meaning}
 use Rattle.isl_closure.specs.FlatNodes as flat_nodes
 use Rattle.isl_closure.specs.FlatExits.{ProgramLeads}
@@ -14,12 +15,13 @@ use Rattle.isl_closure.specs.FlatStanding.{ProgramStands}
 use Rattle.isl_closure.specs.Flatten.{flat, flat_program}
 use Rattle.isl_closure.specs.Scope.{Scope}
 
--- two runs with the same end, bytes, units and peak
+-- two runs with the same end, bytes, units and peak, in whose stores each value is of the same class
 pub record SameRun (one other : Meant) : Type 0 where
   pub end : other.end ≡ one.end
   pub printed : other.printed ≡ one.printed
   pub units : other.units ≡ one.units
   pub peak : other.peak ≡ one.peak
+  pub class : (v : Value) → class_in other.store v ≡ class_in one.store v
 
 -- the law of closures: for every input, number of levels and words
 abbrev pub LawOfClosures : Type 0

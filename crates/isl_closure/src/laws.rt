@@ -5,7 +5,7 @@ ghost use Rattle.isl_closure.specs.Law.{LawOfClosures, LawOfFlatNodes, LawOfFlat
 use isl_meaning::laws::law_names;
 
 /// The law of closures: a program that is made flat has, for every input, with every number of levels and of
-/// words, the end, the bytes, the units and the peak that it had.
+/// words, the end, the bytes, the units and the peak that it had, and each value has the class that it had.
 pub fn law_closures()
     ensures { LawOfClosures }
 {

@@ -1,9 +1,10 @@
 -- Runs of the machine: so many steps, where it begins, and what it has done when it has ended.
-use Rattle.std.specs.Prelude.{◌≡◌, ℕ, zero, suc, List, [], ◌∷◌, Option, Some, None}
+use Rattle.std.specs.Prelude.{◌≡◌, ℕ, zero, suc, ◌+◌, Bool, true, false, List, [], ◌∷◌, Option, Some, None, if◌then◌else◌}
 use Rattle.isl_meaning.specs.Values.{nil}
 use Rattle.isl_meaning.specs.State.{Outcome, value, more, first_state}
 use Rattle.isl_meaning.specs.Layout.{objects_at_start}
 use Rattle.isl_meaning.specs.Meaning.{Meant}
+use Rattle.isl_closure.specs.FlatForm.{sited}
 use Rattle.isl_closure.specs.FlatNodes.{tables}
 use Rattle.isl_closure.specs.FlatMeaning.{meant}
 use Rattle.isl_plain.specs.Moment.{Setting, Control, evaluate, signals, come_to, Moment, awaits, main_forms}
@@ -21,6 +22,18 @@ next s m = next_or m (step s m)
 abbrev pub steps : Setting → ℕ → Moment → Moment
 steps s zero m = m
 steps s (suc n) m = steps s n (next s m)
+
+-- whether a form begins: one with a site begins with the form inside it
+abbrev pub begins : Control → Bool
+begins (evaluate (sited site f) at) = false
+begins (evaluate f at) = true
+begins (signals c mark level around) = false
+begins (come_to o) = false
+
+-- how many forms begin within so many steps
+abbrev pub forms_begun : Setting → ℕ → Moment → ℕ
+forms_begun s zero m = 0
+forms_begun s (suc n) m = (if begins m.control then 1 else 0) + forms_begun s n (next s m)
 
 -- the machine has ended
 abbrev pub IsEnd : Setting → Moment → Type 0
