@@ -4,7 +4,8 @@
 ghost use Rattle.std.specs.Prelude.{◌≡◌, ◌≢◌, ◌⊎◌, None};
 ghost use Rattle.std.specs.Process.{exit_status};
 ghost use Rattle.isl_top.specs.Command.{asked};
-ghost use Rattle.isl_top.specs.Lines.{WasGiven, line_of, number_of, status_of as status_of_answer};
+ghost use Rattle.isl_output.specs.Given.{WasGiven};
+ghost use Rattle.isl_top.specs.Lines.{line_of, number_of, status_of as status_of_answer};
 ghost use Rattle.isl_top.specs.declared.status.Answer.{Answer as AnswerValue};
 ghost use Rattle.isl_top.specs.declared.status.Status.TheVariants.{Usage, WriteFault, NoMemory as WantsMemory};
 

@@ -13,6 +13,7 @@ pub handed_out : (old new : Evaluator) → new.printed.items ≡ [] → new ≡ 
 handed_out old new none same = record {
   machine = ap (λ (e : Evaluator). e.machine) same;
   none = none;
+  same = same;
   stands = λ names written unread b s. subst (λ e. Stands names e (written ++ old.printed.items) unread b) (sym same) (record {
     globals = s.globals;
     dynamics = s.dynamics;
@@ -32,6 +33,8 @@ pub handed_in : (old new : Evaluator) (bytes : List ℕ) → length old.ahead.it
     → new ≡ record old { ahead = new.ahead; taken = 0 } → IsGivenBytes old new bytes
 handed_in old new bytes all items same = record {
   machine = ap (λ (e : Evaluator). e.machine) same;
+  ahead = items;
+  taken = ap (λ (e : Evaluator). e.taken) same;
   stands = λ names written unread b s. subst (λ e. Stands names e written unread b) (sym same) (record {
     globals = s.globals;
     dynamics = s.dynamics;

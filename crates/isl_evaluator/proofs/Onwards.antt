@@ -1,22 +1,20 @@
--- Several steps, from one to the next.
-use Rattle.std.proofs.Common.{◌≡◌, ℕ, zero, suc, ◌+◌, Bool, true, false, ◌&&◌, not, List, refl, ap, sym, ◌∙◌, subst, reverse, arith}
-use Rattle.isl_closure.specs.FlatForm.{while_form}
-use Rattle.isl_plain.specs.Moment.{Setting, Moment, moment, evaluate, signals}
+-- Several steps, from one to the next, up to one in which a form begins.
+use Rattle.std.proofs.Common.{◌≡◌, ℕ, zero, suc, ◌+◌, Bool, true, false, if◌then◌else◌, List, [], refl, ap, sym, ◌∙◌, subst, arith}
+use Rattle.isl_closure.specs.FlatForm.{FlatForm, prim}
+use Rattle.isl_plain.specs.Moment.{Setting, Moment}
 use Rattle.isl_plain.specs.Step.{step}
-use Rattle.isl_plain.specs.Run.{steps, next, next_or, IsEnd}
-use Rattle.isl_store.specs.Words.{value_of_word}
+use Rattle.isl_plain.specs.Run.{steps, next, next_or, form_begins, begins, forms_begun, IsEnd}
 use Rattle.isl_store.specs.View.{Beside}
 use Rattle.isl_machine.specs.declared.given.Given.{Given}
 use Rattle.isl_machine.specs.declared.machine.Machine.{Machine}
 use Rattle.isl_machine.specs.declared.machine.Control.{Control as Doing}
 use Rattle.isl_machine.specs.declared.machine.Control.TheVariants as doing
-use Rattle.isl_machine.specs.Frames.{frames_in, situation_in, around_in, others_of}
-use Rattle.isl_machine.specs.View.{IsGiven, setting_of, control_of, moment_of, frames, state}
+use Rattle.isl_machine.specs.View.{IsGiven, setting_of, control_of, moment_of}
 use Rattle.isl_evaluator.specs.declared.evaluator.Evaluator.{Evaluator}
-use Rattle.isl_evaluator.specs.Runs.{Stands, IsAt}
+use Rattle.isl_evaluator.specs.Runs.{IsAt}
 use Rattle.isl_evaluator.specs.Stepped.{HasStepped, HasEnded, IsStepped}
+use Rattle.isl_evaluator.specs.Streams.{form_reads, control_reads, is_fed}
 use Rattle.isl_evaluator.specs.Advanced.{HasReached}
-use Rattle.isl_evaluator.proofs.Lifting.{beside_another}
 
 -- a step more is one at the end
 steps_more : (s : Setting) (n : ℕ) (m : Moment) → steps s (suc n) m ≡ next s (steps s n m)
@@ -24,10 +22,29 @@ steps_more s zero m = refl
 steps_more s (suc n) m = steps_more s n (next s m)
 
 pub reached_none : (e : Evaluator) → HasReached e e 0
-reached_none e = record { given = refl; comes = λ names written unread b k st. record { beside = b; stands = st; is = refl } }
+reached_none e = record {
+  given = refl;
+  comes = λ names written unread b k st. record { beside = b; stands = st; is = refl };
+  begun = λ names written unread b k st. refl;
+}
 
-pub reached_more : (old mid new : Evaluator) (n k : ℕ) → k ≡ n + 1 → HasReached old mid n → HasStepped mid new → HasReached old new k
-reached_more old mid new n k e r h = record {
+-- and so is what begins in it
+forms_more : (s : Setting) (n : ℕ) (m : Moment) → forms_begun s (suc n) m ≡ forms_begun s n m + (if begins (steps s n m).control then 1 else 0)
+forms_more s zero m = let e : (if begins m.control then 1 else 0) + 0 ≡ 0 + (if begins m.control then 1 else 0) = omega arith in e
+forms_more s (suc n) m =
+    let rest : forms_begun s (suc n) (next s m) ≡ forms_begun s n (next s m) + (if begins (steps s n (next s m)).control then 1 else 0) = forms_more s n (next s m) in
+    ap (λ k. (if begins m.control then 1 else 0) + k) rest
+    ∙ (let e : (if begins m.control then 1 else 0) + (forms_begun s n (next s m) + (if begins (steps s n (next s m)).control then 1 else 0))
+    ≡ (if begins m.control then 1 else 0) + forms_begun s n (next s m) + (if begins (steps s n (next s m)).control then 1 else 0) = omega arith in e)
+
+-- where no form begins
+none_more : (a b : ℕ) (c : Bool) → a ≡ 0 → c ≡ false → b ≡ a + (if c then 1 else 0) → b ≡ 0
+none_more a b true h e q = absurd (cc e)
+none_more a b false h e q = omega arith
+
+pub reached_more : (old mid new : Evaluator) (n : ℕ) → HasReached old mid n → ((names : List (List ℕ)) (b : Beside) → begins (moment_of names mid.machine b).control ≡ false)
+    → HasStepped mid new → HasReached old new (suc n)
+reached_more old mid new n r quiet h = record {
   given = h.comes.given ∙ r.given;
   comes = λ names written unread b g st.
       let start : Moment = moment_of names old.machine b in
@@ -36,7 +53,6 @@ reached_more old mid new n k e r h = record {
       let a : IsAt names mid written unread (steps s n start) = r.comes names written unread b g st in
       let x : IsAt names new written unread (h.next names (setting_of names mid.machine.given) a.beside) =
       h.comes.comes names written unread a.beside (subst P (sym r.given) g) a.stands in
-      let more : suc n ≡ k = omega arith in
       record {
         beside = x.beside;
         stands = x.stands;
@@ -45,54 +61,56 @@ reached_more old mid new n k e r h = record {
             ∙ ap (λ q. h.next names (setting_of names q) a.beside) r.given
             ∙ sym (ap (next_or (moment_of names mid.machine a.beside)) (h.is_next names s a.beside))
             ∙ ap (next s) a.is
-            ∙ sym (steps_more s n start)
-            ∙ ap (λ j. steps s j start) more;
+            ∙ sym (steps_more s n start);
       };
+  begun = λ names written unread b g st.
+      let start : Moment = moment_of names old.machine b in
+      let s : Setting = setting_of names old.machine.given in
+      let a : IsAt names mid written unread (steps s n start) = r.comes names written unread b g st in
+      none_more (forms_begun s n start) (forms_begun s (suc n) start) (begins (steps s n start).control) (r.begun names written unread b g st)
+      (ap (λ (m : Moment). begins m.control) (sym a.is) ∙ quiet names a.beside) (forms_more s n start);
 }
 
--- a machine whose frames are the same ones, in another place of the host's memory
-items_control : (names : List (List ℕ)) (m n : Machine) → n.frames.items ≡ m.frames.items → (k : Doing) → control_of names (record m { frames = n.frames }) k ≡ control_of names m k
-items_control names m n e (doing.Evaluate f s) = ap (λ ws. evaluate f.now (situation_in names m.current (reverse ws) s)) e
-items_control names m n e (doing.Again test body s) = ap (λ ws. evaluate (while_form test.now body.now) (situation_in names m.current (reverse ws) s)) e
-items_control names m n e (doing.Signals c mark level around) =
-    ap (λ ws. signals (value_of_word names c) (value_of_word names mark) level (around_in names (reverse ws) around)) e
-items_control names m n e (doing.ComeTo o) = refl
-
-same_items : (names : List (List ℕ)) (m n : Machine) (b : Beside) → n.frames.items ≡ m.frames.items → n ≡ record m { frames = n.frames } → moment_of names n b ≡ moment_of names m b
-same_items names m n b e same =
-    ap (λ (x : Machine). moment_of names x b) same
-    ∙ ap (λ c. moment c (frames names (record m { frames = n.frames }) 0) (state names m b)) (items_control names m n e m.control)
-    ∙ ap (λ ws. moment (control_of names m m.control) (frames_in names m.current (others_of 0 m.operands.items) m.slots.items (reverse ws)) (state names m b)) e
-
-machine_same : (old new : Evaluator) → HasEnded old new → new.machine ≡ record old.machine { frames = new.machine.frames }
-machine_same old new h = ap (λ (e : Evaluator). e.machine) h.same
-
-pub stopped : (old new : Evaluator) → HasEnded old new → (names : List (List ℕ)) (s : Setting) (b : Beside) → IsEnd s (moment_of names new.machine b)
-stopped old new h names s b = ap (step s) (same_items names old.machine new.machine b h.frames (machine_same old new h)) ∙ h.is_end names s b
-
+-- the machine has ended, and stays where it was
 pub reached_end : (old mid new : Evaluator) (n : ℕ) → HasReached old mid n → HasEnded mid new → HasReached old new n
 reached_end old mid new n r h = record {
-  given = ap (λ (m : Machine). m.given) (machine_same mid new h) ∙ r.given;
+  given = h.stays.given ∙ r.given;
   comes = λ names written unread b g st.
+      let P : Given → Type 0 = λ y. IsGiven names y in
       let a : IsAt names mid written unread (steps (setting_of names old.machine.given) n (moment_of names old.machine b)) = r.comes names written unread b g st in
-      record {
-        beside = a.beside;
-        stands = subst (λ e. Stands names e written unread a.beside) (sym h.same)
-            (beside_another names mid (record mid.machine { frames = new.machine.frames }) written unread a.beside a.stands);
-        is = same_items names mid.machine new.machine a.beside h.frames (machine_same mid new h) ∙ a.is;
-      };
+      let x : IsAt names new written unread (moment_of names mid.machine a.beside) = h.stays.comes names written unread a.beside (subst P (sym r.given) g) a.stands in
+      record { beside = x.beside; stands = x.stands; is = x.is ∙ a.is };
+  begun = r.begun;
 }
 
--- what is read is there, where the evaluator does not wait
-pub fed_then : (a b : Bool) → (a && not b) ≡ false → a ≡ true → b ≡ true
-fed_then true true h e = refl
-fed_then true false h e = absurd (cc h)
-fed_then false b h e = absurd (cc e)
+pub stopped : (old new : Evaluator) → HasEnded old new → (names : List (List ℕ)) (s : Setting) (b : Beside) → IsEnd s (moment_of names new.machine b)
+stopped old new h names s b = ap (step s) (h.same_moment names b) ∙ h.is_end names s b
 
-pub waiting : (a b : Bool) → (a && not b) ≡ true → (a ≡ true) × (b ≡ false)
-waiting true true h = absurd (cc h)
-waiting true false h = (refl, refl)
-waiting false b h = absurd (cc h)
+-- a step that reads begins a form
+reading_begins : (f : FlatForm) → form_reads f ≡ true → form_begins f ≡ true
+reading_begins (prim which fs) h = refl
+reading_begins f h = absurd (cc h)
+
+reading_next : (names : List (List ℕ)) (m : Machine) (b : Beside) (k : Doing) → control_reads k ≡ true → begins (control_of names m k) ≡ true
+reading_next names m b (doing.Evaluate f s) h = reading_begins f.now h
+reading_next names m b (doing.Again test body s) h = refl
+reading_next names m b (doing.Signals c mark level around) h = absurd (cc h)
+reading_next names m b (doing.ComeTo o) h = absurd (cc h)
+
+nowhere : Beside
+nowhere = record { globals = []; dynamics = []; input = []; printed = []; frame = [] }
+
+pub quiet_next : (e : Evaluator) (r : Bool) → ((names : List (List ℕ)) (b : Beside) → r ≡ begins (moment_of names e.machine b).control) → r ≡ false
+    → control_reads e.machine.control ≡ true → is_fed e ≡ true
+quiet_next e r h none reads = absurd (cc (sym (reading_next [] e.machine nowhere e.machine.control reads) ∙ sym (h [] nowhere) ∙ none))
+
+pub no_form : (e : Evaluator) (r : Bool) → ((names : List (List ℕ)) (b : Beside) → r ≡ begins (moment_of names e.machine b).control) → r ≡ false
+    → (names : List (List ℕ)) (b : Beside) → begins (moment_of names e.machine b).control ≡ false
+no_form e r h none names b = sym (h names b) ∙ none
+
+pub a_form : (e : Evaluator) (r : Bool) → ((names : List (List ℕ)) (b : Beside) → r ≡ begins (moment_of names e.machine b).control) → r ≡ true
+    → (names : List (List ℕ)) (b : Beside) → begins (moment_of names e.machine b).control ≡ true
+a_form e r h is names b = sym (h names b) ∙ is
 
 -- whether there was a step
 pub went_on : (old new : Evaluator) (w : Bool) → w ≡ true → IsStepped old new w → HasStepped old new

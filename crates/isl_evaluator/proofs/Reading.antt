@@ -1,11 +1,13 @@
--- Which forms and primitives read.
-use Rattle.std.proofs.Common.{◌≡◌, false, List, refl}
+-- Which forms and primitives read, and which forms begin as themselves.
+use Rattle.std.proofs.Common.{◌≡◌, ℕ, true, false, List, refl, Box, Global as Heap}
+use Rattle.isl_closure.specs.declared.flat_core.FlatCore.{FlatCore}
 use Rattle.isl_meaning.specs.declared.primitive.Primitive.{Primitive}
 use Rattle.isl_meaning.specs.declared.primitive.Primitive.TheVariants as p
 use Rattle.isl_closure.specs.declared.flat_core.FlatCoreForm.{FlatCoreForm}
 use Rattle.isl_closure.specs.declared.flat_core.FlatCoreForm.TheVariants as form
 use Rattle.isl_closure.specs.FlatForm.{FlatForm}
 use Rattle.isl_closure.specs.model.View.{view_form}
+use Rattle.isl_plain.specs.Run.{form_begins}
 use Rattle.isl_primitives.specs.Groups.{is_streaming}
 use Rattle.isl_evaluator.specs.Streams.{is_reading, form_reads}
 
@@ -104,3 +106,38 @@ other_reads_nothing (form.NextMethod m) h = refl
 other_reads_nothing (form.HasNext m) h = refl
 other_reads_nothing (form.Sited s f) h = refl
 other_reads_nothing (form.Prim which fs) h = absurd (h which fs refl)
+
+-- each form but one with a site begins as itself
+pub other_begins : (f : FlatCoreForm) → ((site : ℕ) (g : Box FlatCore Heap) → f ≡ form.Sited site g → ⊥) → true ≡ form_begins (view_form f)
+other_begins (form.Literal i) h = refl
+other_begins (form.Local p) h = refl
+other_begins (form.SetLocal p f) h = refl
+other_begins (form.Global n) h = refl
+other_begins (form.SetGlobal n f) h = refl
+other_begins (form.DefGlobal n f) h = refl
+other_begins (form.Clauses cs) h = refl
+other_begins (form.Sequence fs) h = refl
+other_begins (form.Let bs f) h = refl
+other_begins (form.MakeFunction n ps) h = refl
+other_begins (form.Call n fs) h = refl
+other_begins (form.CallValue fs) h = refl
+other_begins (form.Apply f g) h = refl
+other_begins (form.While f g) h = refl
+other_begins (form.Block f) h = refl
+other_begins (form.Return x f) h = refl
+other_begins (form.Tagbody fs) h = refl
+other_begins (form.Go x n) h = refl
+other_begins (form.Catch f g) h = refl
+other_begins (form.Throw f g) h = refl
+other_begins (form.Unwind f g) h = refl
+other_begins (form.DynamicLet bs f) h = refl
+other_begins (form.Dynamic n) h = refl
+other_begins (form.SetDynamic n f) h = refl
+other_begins (form.DefDynamic n f) h = refl
+other_begins (form.WithHandler f g) h = refl
+other_begins (form.Signal f g) h = refl
+other_begins (form.Continue f g) h = refl
+other_begins (form.NextMethod m) h = refl
+other_begins (form.HasNext m) h = refl
+other_begins (form.Sited s f) h = absurd (h s f refl)
+other_begins (form.Prim which fs) h = refl

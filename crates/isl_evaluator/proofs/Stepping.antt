@@ -1,6 +1,6 @@
 -- A step: what the machine is about to do is done.
 use Rattle.std.proofs.Common.{◌≡◌, ℕ, ◌+◌, length, MatchOption, option_to_list, arith, List, [], ◌∷◌, ◌++◌, Option, Some, None, refl, ap, sym, ◌∙◌, reverse, subst}
-use Rattle.isl_plain.specs.Moment.{Setting, Moment, come_to}
+use Rattle.isl_plain.specs.Moment.{Setting, Moment, moment, come_to}
 use Rattle.isl_plain.specs.Step.{step, control_step, outcome_step}
 use Rattle.isl_store.specs.Words.{values_of}
 use Rattle.isl_store.specs.View.{Beside}
@@ -15,8 +15,9 @@ use Rattle.isl_machine.specs.View.{control_of, frames, state, moment_of}
 use Rattle.isl_machine.proofs.Pushes.{others_none}
 use Rattle.isl_machine.proofs.Tops.{on_top}
 use Rattle.isl_evaluator.specs.declared.evaluator.Evaluator.{Evaluator}
-use Rattle.isl_evaluator.specs.Runs.{Runs}
+use Rattle.isl_evaluator.specs.Runs.{Stands, Runs}
 use Rattle.isl_evaluator.specs.Stepped.{HasStepped, HasEnded, NoTop, HadTop, IsTopTaken}
+use Rattle.isl_evaluator.proofs.Lifting.{beside_another}
 use Rattle.isl_evaluator.proofs.Running.{runs_from}
 
 -- what is done next
@@ -29,9 +30,32 @@ none_left : (names : List (List ℕ)) (m : Machine) → m.frames.items ≡ [] �
 unfolding frames_in
 none_left names m e = ap (λ is. frames_in names m.current (others_of 0 m.operands.items) m.slots.items (reverse is)) e
 
+-- a machine that is about to go into its frames, where these are the same ones in another place of the host's memory
+come_to_items : (names : List (List ℕ)) (m n : Machine) (o : Outcome) (b : Beside) → m.control ≡ ComeTo o → n.frames.items ≡ m.frames.items
+    → n ≡ record m { frames = n.frames } → moment_of names n b ≡ moment_of names m b
+come_to_items names m n o b c e same =
+    ap (λ (x : Machine). moment_of names x b) same
+    ∙ ap (λ k. moment (control_of names (record m { frames = n.frames }) k) (frames names (record m { frames = n.frames }) 0) (state names m b)) c
+    ∙ ap (λ ws. moment (come_to (outcome_of names o)) (frames_in names m.current (others_of 0 m.operands.items) m.slots.items (reverse ws)) (state names m b)) e
+    ∙ ap (λ k. moment (control_of names m k) (frames names m 0) (state names m b)) (sym c)
+
+-- and what stands beside it stands there still
+stays_there : (old new : Evaluator) (o : Outcome) → old.machine.control ≡ ComeTo o → NoTop old new → Runs old new (λ names s b. moment_of names old.machine b)
+stays_there old new o e n = record {
+  given = ap (λ (x : Evaluator). x.machine.given) n.same;
+  comes = λ names written unread b g st. record {
+    beside = b;
+    stands = subst (λ x. Stands names x written unread b) (sym n.same)
+        (beside_another names old (record old.machine { frames = new.machine.frames }) written unread b st);
+    is = come_to_items names old.machine new.machine o b e n.frames (ap (λ (x : Evaluator). x.machine) n.same);
+  };
+}
+
 pub ended : (old new : Evaluator) (o : Outcome) → old.machine.control ≡ ComeTo o → NoTop old new → HasEnded old new
 ended old new o e n = record {
   is_end = λ names s b. about_to old.machine (ComeTo o) e names s b ∙ ap (λ fs. control_step s (come_to (outcome_of names o)) fs (state names old.machine b)) (none_left names old.machine n.none);
+  same_moment = λ names b. come_to_items names old.machine new.machine o b e n.frames (ap (λ (x : Evaluator). x.machine) n.same);
+  stays = stays_there old new o e n;
   frames = n.frames;
   same = n.same;
 }

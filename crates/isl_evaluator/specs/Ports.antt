@@ -8,12 +8,15 @@ use Rattle.isl_evaluator.specs.Runs.{Stands}
 pub record IsWritten (old new : Evaluator) : Type 0 where
   pub machine : new.machine ≡ old.machine
   pub none : new.printed.items ≡ []
+  pub same : new ≡ record old { printed = new.printed }
   pub stands : (names : List (List ℕ)) (written unread : List ℕ) (b : Beside) → Stands names old written unread b
       → Stands names new (written ++ old.printed.items) unread b
 
 -- the next bytes were read
 pub record IsGivenBytes (old new : Evaluator) (bytes : List ℕ) : Type 0 where
   pub machine : new.machine ≡ old.machine
+  pub ahead : new.ahead.items ≡ bytes
+  pub taken : new.taken ≡ 0
   pub stands : (names : List (List ℕ)) (written unread : List ℕ) (b : Beside) → Stands names old written (bytes ++ unread) b
       → Stands names new written unread b
 

@@ -15,9 +15,11 @@ pub record HasStepped (old new : Evaluator) : Type 0 where
   pub is_next : (names : List (List ℕ)) (s : Setting) (b : Beside) → step s (moment_of names old.machine b) ≡ Some (next names s b)
   pub comes : Runs old new next
 
--- there is none, and nothing has changed
+-- there is none, and nothing has changed: it is at the same moment
 pub record HasEnded (old new : Evaluator) : Type 0 where
   pub is_end : (names : List (List ℕ)) (s : Setting) (b : Beside) → step s (moment_of names old.machine b) ≡ None
+  pub same_moment : (names : List (List ℕ)) (b : Beside) → moment_of names new.machine b ≡ moment_of names old.machine b
+  pub stays : Runs old new (λ names s b. moment_of names old.machine b)
   pub frames : new.machine.frames.items ≡ old.machine.frames.items
   pub same : new ≡ record old { machine = record old.machine { frames = new.machine.frames } }
 

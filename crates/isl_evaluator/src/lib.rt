@@ -7,6 +7,7 @@ pub mod dynamics;
 pub mod evaluator;
 pub mod forms;
 pub mod globals;
+pub mod next_step;
 pub mod operations;
 pub mod ports;
 pub mod starting;

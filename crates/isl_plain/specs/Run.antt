@@ -4,7 +4,7 @@ use Rattle.isl_meaning.specs.Values.{nil}
 use Rattle.isl_meaning.specs.State.{Outcome, value, more, first_state}
 use Rattle.isl_meaning.specs.Layout.{objects_at_start}
 use Rattle.isl_meaning.specs.Meaning.{Meant}
-use Rattle.isl_closure.specs.FlatForm.{sited}
+use Rattle.isl_closure.specs.FlatForm.{FlatForm, sited}
 use Rattle.isl_closure.specs.FlatNodes.{tables}
 use Rattle.isl_closure.specs.FlatMeaning.{meant}
 use Rattle.isl_plain.specs.Moment.{Setting, Control, evaluate, signals, come_to, Moment, awaits, main_forms}
@@ -23,10 +23,13 @@ abbrev pub steps : Setting → ℕ → Moment → Moment
 steps s zero m = m
 steps s (suc n) m = steps s n (next s m)
 
--- whether a form begins: one with a site begins with the form inside it
+-- whether a form begins in the next step: one with a site begins with the form inside it
+abbrev pub form_begins : FlatForm → Bool
+form_begins (sited site f) = false
+form_begins f = true
+
 abbrev pub begins : Control → Bool
-begins (evaluate (sited site f) at) = false
-begins (evaluate f at) = true
+begins (evaluate f at) = form_begins f
 begins (signals c mark level around) = false
 begins (come_to o) = false
 

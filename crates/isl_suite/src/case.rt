@@ -51,6 +51,7 @@ fn take_given(given: &mut Given, key: &str, value: &str) -> Option<()> {
         "input" => append(&mut given.input, value),
         "shelf_fails" => given.shelf_fails.push(value.parse().ok()?).ok(),
         "out_fails" => given.out_fails.push(value.parse().ok()?).ok(),
+        "input_fails" => given.input_fails.push(value.parse().ok()?).ok(),
         "err_fails" => given.err_fails.push(value.parse().ok()?).ok(),
         _ => None,
     }

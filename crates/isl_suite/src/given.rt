@@ -10,7 +10,7 @@ const NAME: &str = "f";
 // The bytes that an output keeps.
 const ROOM: usize = 4096;
 
-/// The words, the text of the file `f`, the input, and which calls of the shelf, the output and the
+/// The words, the text of the file `f`, the input, and which calls of the shelf, the input, the output and the
 /// error output fail, counted from 0.
 #[derive(Drop)]
 pub struct Given {
@@ -18,6 +18,7 @@ pub struct Given {
     pub text: Bytes,
     pub input: Bytes,
     pub shelf_fails: CallList,
+    pub input_fails: CallList,
     pub out_fails: CallList,
     pub err_fails: CallList,
 }
@@ -30,6 +31,7 @@ impl Given {
             text: Bytes::new(alloc),
             input: Bytes::new(alloc),
             shelf_fails: CallList::new(alloc),
+            input_fails: CallList::new(alloc),
             out_fails: CallList::new(alloc),
             err_fails: CallList::new(alloc),
         }
@@ -42,24 +44,26 @@ impl Given {
             text,
             input,
             shelf_fails,
+            input_fails,
             out_fails,
             err_fails,
         } = self;
         let Ok(outputs) = outputs(alloc, out_fails, err_fails) else {
             drop((words, input));
             drop((text, shelf_fails));
+            drop(input_fails);
             return Err(NoMemory);
         };
         let Ok(shelf) = shelf_of(alloc, text, shelf_fails) else {
             drop((words, input));
-            drop(outputs);
+            drop((outputs, input_fails));
             return Err(NoMemory);
         };
         let (out, err) = outputs;
         Ok(Call {
             words,
             shelf,
-            input: MemSource::new(input, CallList::new(alloc)),
+            input: MemSource::new(input, input_fails),
             out,
             err,
         })

@@ -1,5 +1,5 @@
 -- From the verdict on a text to the answer for the file that is checked.
-use Rattle.std.proofs.Common.{◌≡◌, ℕ, List, []}
+use Rattle.std.proofs.Common.{ℕ, List, []}
 use Rattle.std.specs.Prelude.{Option, ⊤}
 use Rattle.isl_base.specs.declared.reason.Refusal.{Refusal}
 use Rattle.isl_base.specs.declared.reason.Stop.{Stop}
@@ -22,6 +22,10 @@ of_ok answer.WriteFault Good Bad given given' ShelfRises Rises Same good h = (h.
 of_ok answer.NoMemory Good Bad given given' ShelfRises Rises Same good h = absurd h
 of_ok (answer.Budget n) Good Bad given given' ShelfRises Rises Same good h = absurd h
 of_ok answer.Usage Good Bad given given' ShelfRises Rises Same good h = absurd h
+of_ok (answer.Unhandled class site) Good Bad given given' ShelfRises Rises Same good h = absurd h
+of_ok (answer.ArenaFull wanted room) Good Bad given given' ShelfRises Rises Same good h = absurd h
+of_ok answer.Spent Good Bad given given' ShelfRises Rises Same good h = absurd h
+of_ok answer.ReadFault Good Bad given given' ShelfRises Rises Same good h = absurd h
 
 -- the stop of a text that is no program
 pub of_no_program : (s : Stop) (text : List ℕ) (given given' : Option (List ℕ)) (ShelfRises Rises Same : Type 0)
@@ -40,3 +44,7 @@ of_text answer.WriteFault held text given given' ShelfRises Rises Same taken h =
 of_text answer.NoMemory held text given given' ShelfRises Rises Same taken h = h
 of_text (answer.Budget n) held text given given' ShelfRises Rises Same taken h = absurd h
 of_text answer.Usage held text given given' ShelfRises Rises Same taken h = absurd h
+of_text (answer.Unhandled class site) held text given given' ShelfRises Rises Same taken h = absurd h
+of_text (answer.ArenaFull wanted room) held text given given' ShelfRises Rises Same taken h = absurd h
+of_text answer.Spent held text given given' ShelfRises Rises Same taken h = absurd h
+of_text answer.ReadFault held text given given' ShelfRises Rises Same taken h = absurd h

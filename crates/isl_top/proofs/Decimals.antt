@@ -11,7 +11,7 @@ behind : (room : List ℕ) (at d : ℕ) → at < length room → get_or room at 
 behind room at d within e = drop-cons room at 0 within ∙ rw (e, add-one at) refl
 
 -- a digit more, in front of those that are there
-pub digit_more : (room : List ℕ) (at rest : ℕ) (digits : List ℕ) (v : ℕ) → 0 < at → at < length room → 10 ≤ rest → rest < 2 ^ 32 → get_or room at 0 ≡ 48 + rest % 10 → decimal rest ++ drop (at + 1) room ≡ digits → decimal (rest / 10) ++ drop (at - 1 + 1) (set room (at - 1) v) ≡ digits
+pub digit_more : (room : List ℕ) (at rest : ℕ) (digits : List ℕ) (v : ℕ) → 0 < at → at < length room → 10 ≤ rest → rest < 2 ^ 64 → get_or room at 0 ≡ 48 + rest % 10 → decimal rest ++ drop (at + 1) room ≡ digits → decimal (rest / 10) ++ drop (at - 1 + 1) (set room (at - 1) v) ≡ digits
 digit_more room at rest digits v some within large bound last e =
     let back : at - 1 + 1 ≡ at = omega arith in
     ap (λ n. decimal (rest / 10) ++ drop n (set room (at - 1) v)) back

@@ -11,7 +11,6 @@ pub mod Simulates
 pub mod Whole
 pub mod Weights
 pub mod Sizes
-pub mod Written
 pub mod Loading
 pub mod Lists
 pub mod Arguments
@@ -27,5 +26,6 @@ pub mod Spans
 pub mod Judging
 pub mod Ran
 pub mod Checks
+pub mod Plains
 pub mod Ends
 pub mod CommandLine

@@ -1,16 +1,23 @@
--- What a run of a program answers, what a run or a check of a file does, what the words do, and what stands then.
-use Rattle.std.specs.Prelude.{◌≡◌, ℕ, List, Option, Some, None}
+-- What a run or an evaluation of a program answers, what a run, a check or an evaluation of a file does, what the words do, and what stands
+-- then.
+use Rattle.std.specs.Prelude.{◌≡◌, ◌⊎◌, ℕ, List, Option, Some, None}
+use Rattle.isl_base.specs.declared.place.Place.{Place}
 use Rattle.isl_base.specs.declared.reason.Refusal.{Refusal}
 use Rattle.isl_base.specs.declared.reason.Stop.{Stop}
 use Rattle.isl_base.specs.declared.reason.Stop.TheVariants as stop
 use Rattle.rv_machine.specs.declared.image.Image.{Image}
 use Rattle.isl_meaning.specs.declared.program.ProgramRows.{ProgramRows}
+use Rattle.isl_evaluation.specs.declared.end.PlainEnd.{PlainEnd}
+use Rattle.isl_evaluation.specs.declared.end.PlainEnd.TheVariants as plain
+use Rattle.isl_evaluation.specs.Evaluation.{Evaluation}
+use Rattle.isl_evaluation.specs.Evaluates.{Evaluates, BreaksOff}
 use Rattle.isl_top.specs.Command.{Asked, asked}
-use Rattle.isl_top.specs.Lines.{WasGiven, WasGivenFront, ok_line}
-use Rattle.isl_top.specs.declared.command.Action.TheVariants.{Run, Check}
+use Rattle.isl_output.specs.Given.{WasGiven, WasGivenFront}
+use Rattle.isl_top.specs.Lines.{ok_line}
+use Rattle.isl_top.specs.declared.command.Action.TheVariants.{Run, Check, Plain}
 use Rattle.isl_top.specs.declared.status.Answer.{Answer}
 use Rattle.isl_top.specs.declared.status.Answer.TheVariants as answer
-use Rattle.isl_top.specs.Theorem.{Sent, Built, Halts, Spends, GivenAll, GivenPrefix, Accepted, Declined, Passes, Offends}
+use Rattle.isl_top.specs.Theorem.{Sent, Built, Halts, Spends, GivenAll, GivenPrefix, Accepted, Declined, Passes, Offends, PlainRuns, PlainBreaks, class_text}
 
 -- the answer of a text that is no program
 abbrev pub answer_of_stop : Stop → Answer
@@ -43,6 +50,10 @@ RunAnswers answer.NoMemory program kept arena steps sent Rises Same = Same × (k
 RunAnswers answer.Usage program kept arena steps sent Rises Same = ⊥
 RunAnswers (answer.Refused r) program kept arena steps sent Rises Same = ⊥
 RunAnswers answer.FileFault program kept arena steps sent Rises Same = ⊥
+RunAnswers (answer.Unhandled class site) program kept arena steps sent Rises Same = ⊥
+RunAnswers (answer.ArenaFull wanted room) program kept arena steps sent Rises Same = ⊥
+RunAnswers answer.Spent program kept arena steps sent Rises Same = ⊥
+RunAnswers answer.ReadFault program kept arena steps sent Rises Same = ⊥
 
 -- the file's text is a program, and that stands of its run
 abbrev pub RunOf : Option (List ℕ) → (ProgramRows → Type 0) → Type 0
@@ -59,6 +70,10 @@ RunFileAnswers answer.WriteFault held kept arena steps sent ShelfRises Rises Sam
     Rises × RunOf held (λ program. RunIsCutOff program kept arena steps sent)
 RunFileAnswers answer.NoMemory held kept arena steps sent ShelfRises Rises Same = Same
 RunFileAnswers answer.Usage held kept arena steps sent ShelfRises Rises Same = ⊥
+RunFileAnswers (answer.Unhandled class site) held kept arena steps sent ShelfRises Rises Same = ⊥
+RunFileAnswers (answer.ArenaFull wanted room) held kept arena steps sent ShelfRises Rises Same = ⊥
+RunFileAnswers answer.Spent held kept arena steps sent ShelfRises Rises Same = ⊥
+RunFileAnswers answer.ReadFault held kept arena steps sent ShelfRises Rises Same = ⊥
 
 -- the answer for what is checked: where it passes, which refusals it has, what an output was given before and after, where the shelf
 -- or the output rose in faults, and where the output is the same
@@ -70,16 +85,73 @@ CheckAnswers answer.WriteFault Good Bad given given' ShelfRises Rises Same = Ris
 CheckAnswers answer.NoMemory Good Bad given given' ShelfRises Rises Same = Same
 CheckAnswers (answer.Budget n) Good Bad given given' ShelfRises Rises Same = ⊥
 CheckAnswers answer.Usage Good Bad given given' ShelfRises Rises Same = ⊥
+CheckAnswers (answer.Unhandled class site) Good Bad given given' ShelfRises Rises Same = ⊥
+CheckAnswers (answer.ArenaFull wanted room) Good Bad given given' ShelfRises Rises Same = ⊥
+CheckAnswers answer.Spent Good Bad given given' ShelfRises Rises Same = ⊥
+CheckAnswers answer.ReadFault Good Bad given given' ShelfRises Rises Same = ⊥
 
--- the answer to a command, which is run or checked
-pub data Obeys (a : Answer) (c : Asked) (held : Option (List ℕ)) (kept : Option Image) (sent : Sent) (ShelfRises Rises Same : Type 0) : Type 0 where
-  was_run : c.action ≡ Run → RunFileAnswers a held kept c.arena c.steps sent ShelfRises Rises Same → Obeys a c held kept sent ShelfRises Rises Same
-  was_check : c.action ≡ Check → kept ≡ None → CheckAnswers a (Passes held) (Offends held) sent.before sent.after ShelfRises Rises Same
-      → Obeys a c held kept sent ShelfRises Rises Same
+-- the answer of an evaluation that came to this end: of a program with these names, within so many levels; to name a class takes memory
+abbrev pub EndAnswers : Answer → PlainEnd → List (List ℕ) → ProgramRows → (levels : ℕ) → Type 0
+EndAnswers a plain.Value names program levels = a ≡ answer.Done
+EndAnswers a (plain.Unhandled class site) names program levels =
+    (a ≡ answer.Unhandled (class_text names program class) site) ⊎ (a ≡ answer.NoMemory)
+EndAnswers a (plain.Full wanted room) names program levels = a ≡ answer.ArenaFull wanted room
+EndAnswers a plain.More names program levels = a ≡ answer.Budget levels
+EndAnswers a plain.Spent names program levels = a ≡ answer.Spent
+EndAnswers a plain.ReadFault names program levels = a ≡ answer.ReadFault
+EndAnswers a plain.WriteFault names program levels = a ≡ answer.WriteFault
+
+-- the answer for what is evaluated within so many levels: where it comes to an end, or to a condition whose class has a name, at a site; where it
+-- breaks off, which refusals it has, where the shelf, the source or the output rose in faults, and where the outside is the same
+abbrev pub PlainAnswers : Answer → (levels : ℕ) → (Ends : PlainEnd → Type 0) → (Signals : List ℕ → Place → Type 0) → (Breaks : Type 0) → (Bad : Refusal → Type 0) → (ShelfRises SourceRises Rises Same : Type 0) → Type 0
+PlainAnswers answer.Done levels Ends Signals Breaks Bad ShelfRises SourceRises Rises Same = Ends plain.Value
+PlainAnswers (answer.Unhandled class site) levels Ends Signals Breaks Bad ShelfRises SourceRises Rises Same = Signals class site
+PlainAnswers (answer.ArenaFull wanted room) levels Ends Signals Breaks Bad ShelfRises SourceRises Rises Same = Ends (plain.Full wanted room)
+PlainAnswers (answer.Budget n) levels Ends Signals Breaks Bad ShelfRises SourceRises Rises Same = (n ≡ levels) × Ends plain.More
+PlainAnswers answer.Spent levels Ends Signals Breaks Bad ShelfRises SourceRises Rises Same = Ends plain.Spent
+PlainAnswers answer.ReadFault levels Ends Signals Breaks Bad ShelfRises SourceRises Rises Same = SourceRises × Ends plain.ReadFault
+PlainAnswers answer.WriteFault levels Ends Signals Breaks Bad ShelfRises SourceRises Rises Same = Rises × Ends plain.WriteFault
+PlainAnswers (answer.Refused r) levels Ends Signals Breaks Bad ShelfRises SourceRises Rises Same = Bad r × Same
+PlainAnswers answer.FileFault levels Ends Signals Breaks Bad ShelfRises SourceRises Rises Same = ShelfRises × Same
+PlainAnswers answer.NoMemory levels Ends Signals Breaks Bad ShelfRises SourceRises Rises Same = Same ⊎ Breaks
+PlainAnswers answer.Usage levels Ends Signals Breaks Bad ShelfRises SourceRises Rises Same = ⊥
+
+-- a program's evaluation ends by a condition of a class of that name
+pub record ProgramSignals (e : Evaluation) (left left' : Option (List ℕ)) (sent : Sent) (name : List ℕ) (site : Place) : Type 0 where
+  pub class : ℕ
+  pub evaluates : Evaluates e left left' sent.before sent.after (plain.Unhandled class site)
+  pub named : name ≡ class_text e.names e.program class
+
+-- the answer of a program's evaluation
+abbrev pub ProgramAnswers : Answer → Evaluation → (left left' : Option (List ℕ)) → Sent → (SourceRises Rises : Type 0) → Type 0
+ProgramAnswers a e left left' sent SourceRises Rises =
+    PlainAnswers a e.levels (Evaluates e left left' sent.before sent.after) (ProgramSignals e left left' sent) (BreaksOff e left left' sent.before sent.after) (λ _. ⊥) ⊥ SourceRises Rises ⊥
+
+-- the file's text is a whole program, and its evaluation ends by a condition of a class of that name
+pub record PlainSignals (held : Option (List ℕ)) (levels words : ℕ) (left left' : Option (List ℕ)) (sent : Sent) (name : List ℕ) (site : Place) : Type 0 where
+  pub class : ℕ
+  pub runs : PlainRuns held levels words left left' sent (plain.Unhandled class site)
+  pub named : name ≡ class_text runs.whole.names runs.whole.program class
+
+-- the answer for a file to evaluate
+abbrev pub PlainFileAnswers : Answer → Option (List ℕ) → (levels words : ℕ) → (left left' : Option (List ℕ)) → Sent → (ShelfRises SourceRises Rises Same : Type 0) → Type 0
+PlainFileAnswers a held levels words left left' sent ShelfRises SourceRises Rises Same =
+    PlainAnswers a levels (PlainRuns held levels words left left' sent) (PlainSignals held levels words left left' sent) (PlainBreaks held levels words left left' sent) (Offends held) ShelfRises SourceRises Rises Same
+
+-- the answer to a command, which is run, checked or evaluated: only to evaluate a file, the input is read
+pub data Obeys (a : Answer) (c : Asked) (held : Option (List ℕ)) (kept : Option Image) (left left' : Option (List ℕ)) (sent : Sent) (ShelfRises SourceRises Rises Same InputSame : Type 0) : Type 0 where
+  was_run : c.action ≡ Run → InputSame → RunFileAnswers a held kept c.arena c.steps sent ShelfRises Rises Same
+      → Obeys a c held kept left left' sent ShelfRises SourceRises Rises Same InputSame
+  was_check : c.action ≡ Check → InputSame → kept ≡ None → CheckAnswers a (Passes held) (Offends held) sent.before sent.after ShelfRises Rises Same
+      → Obeys a c held kept left left' sent ShelfRises SourceRises Rises Same InputSame
+  was_plain : c.action ≡ Plain → kept ≡ None → PlainFileAnswers a held c.steps c.arena left left' sent ShelfRises SourceRises Rises (Same × InputSame)
+      → Obeys a c held kept left left' sent ShelfRises SourceRises Rises Same InputSame
 
 -- the answer to words: they are no command, or memory was wanting to tell, or a command was obeyed
-pub data WordsAnswers (a : Answer) (words : List (List ℕ)) (holds : List ℕ → Option (List ℕ)) (kept : Option Image) (sent : Sent) (ShelfRises Rises Same ShelfSame : Type 0) : Type 0 where
-  was_usage : a ≡ answer.Usage → asked words ≡ None → ShelfSame → Same → kept ≡ None → WordsAnswers a words holds kept sent ShelfRises Rises Same ShelfSame
-  was_untold : a ≡ answer.NoMemory → ShelfSame → Same → kept ≡ None → WordsAnswers a words holds kept sent ShelfRises Rises Same ShelfSame
-  was_asked : (c : Asked) → asked words ≡ Some c → Obeys a c (holds c.file) kept sent ShelfRises Rises Same
-      → WordsAnswers a words holds kept sent ShelfRises Rises Same ShelfSame
+pub data WordsAnswers (a : Answer) (words : List (List ℕ)) (holds : List ℕ → Option (List ℕ)) (kept : Option Image) (left left' : Option (List ℕ)) (sent : Sent) (ShelfRises SourceRises Rises Same InputSame ShelfSame : Type 0) : Type 0 where
+  was_usage : a ≡ answer.Usage → asked words ≡ None → ShelfSame → Same → InputSame → kept ≡ None
+      → WordsAnswers a words holds kept left left' sent ShelfRises SourceRises Rises Same InputSame ShelfSame
+  was_untold : a ≡ answer.NoMemory → ShelfSame → Same → InputSame → kept ≡ None
+      → WordsAnswers a words holds kept left left' sent ShelfRises SourceRises Rises Same InputSame ShelfSame
+  was_asked : (c : Asked) → asked words ≡ Some c → Obeys a c (holds c.file) kept left left' sent ShelfRises SourceRises Rises Same InputSame
+      → WordsAnswers a words holds kept left left' sent ShelfRises SourceRises Rises Same InputSame ShelfSame

@@ -14,7 +14,7 @@ use Rattle.clap.specs.Faults.{fault_of}
 use Rattle.isl_top.specs.Limits.{usual_steps, most_steps, usual_arena_words, least_arena_words, most_arena_words}
 use Rattle.isl_top.specs.declared.command.Command.{Command}
 use Rattle.isl_top.specs.declared.command.Action.{Action}
-use Rattle.isl_top.specs.declared.command.Action.TheVariants.{Run, Check}
+use Rattle.isl_top.specs.declared.command.Action.TheVariants.{Run, Check, Plain}
 
 -- an option with one value, and a word that has to stand there
 abbrev pub option : Text → Rule
@@ -38,7 +38,8 @@ refusals words = fault_of isl words
 unfoldable pub given : List Text → List Row
 given words = matches_of isl words
 
--- what a command asks for: what is done with a file, how many instructions a run may execute, and the words of its arena
+-- what a command asks for: what is done with a file, how many instructions a run may execute, or how many levels an evaluation may have,
+-- and the words of its arena
 pub record Asked : Type 0 where
   pub action : Action
   pub steps : ℕ
@@ -50,7 +51,7 @@ parts_of c = record { action = c.action; steps = c.steps; arena = c.arena; file 
 
 abbrev pub action_in : Option Text → Option Action
 action_in None = None
-action_in (Some word) = if bytes_eq word (codes "run") then Some Run else if bytes_eq word (codes "check") then Some Check else None
+action_in (Some word) = if bytes_eq word (codes "run") then Some Run else if bytes_eq word (codes "check") then Some Check else if bytes_eq word (codes "plain") then Some Plain else None
 
 -- the decimal number of digits behind those already read
 abbrev pub is_digit : ℕ → Bool

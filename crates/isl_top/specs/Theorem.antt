@@ -1,9 +1,10 @@
 -- The theorem of the top call: what stands after `isl_main` has answered, status by status.
 --
--- It names the words of the command (`Command`), the verdict on a text to run (`Verdicts`) and on a text to check (`isl_files`), the
--- meaning of a program (`isl_meaning`), the machine and its runs (`rv_machine`), and the lines of statuses (`Lines`), and
--- nothing of how code is made.
-use Rattle.std.specs.Prelude.{◌≡◌, ℕ, ◌-◌, ◌≤◌, ◌⊎◌, List, [], ◌++◌, length, Option, Some, None, IfSome}
+-- It names the words of the command (`Command`), the verdict on a text to run (`Verdicts`) and on a text to check or to evaluate
+-- (`isl_files`), the meaning of a program (`isl_meaning`), the machine and its runs (`rv_machine`), what an evaluation reads and prints and
+-- how it ends (`isl_evaluation`), and the lines of statuses (`Lines`), and nothing of how code is made.
+use Rattle.std.specs.Prelude.{◌≡◌, ◌≢◌, ⊤, ℕ, ◌-◌, ◌≤◌, ◌⊎◌, List, [], ◌++◌, length, slice_get, Option, Some, None, IfSome}
+use Rattle.isl_base.specs.declared.place.Place.{Place}
 use Rattle.isl_base.specs.declared.reason.Refusal.{Refusal}
 use Rattle.rv_machine.specs.declared.image.Image.{Image}
 use Rattle.rv_machine.specs.declared.ending.Ending.TheVariants.{Halt, Budget}
@@ -15,10 +16,16 @@ use Rattle.isl_meaning.specs.Counts.{bound}
 use Rattle.isl_meaning.specs.Values.{Value}
 use Rattle.isl_meaning.specs.State.{words, unlimited}
 use Rattle.isl_meaning.specs.Meaning.{Meant, ended_value, meaning}
+use Rattle.isl_meaning.specs.Primitives.{class_name}
+use Rattle.isl_evaluation.specs.declared.end.PlainEnd.{PlainEnd}
+use Rattle.isl_evaluation.specs.declared.end.PlainEnd.TheVariants as plain
+use Rattle.isl_evaluation.specs.Evaluation.{Evaluation}
+use Rattle.isl_evaluation.specs.Evaluates.{Evaluates, BreaksOff}
 use Rattle.isl_top.specs.Command.{Asked, asked}
-use Rattle.isl_top.specs.declared.command.Action.TheVariants.{Run, Check}
+use Rattle.isl_top.specs.declared.command.Action.TheVariants.{Run, Check, Plain}
 use Rattle.isl_top.specs.Limits.{most_arena_words}
-use Rattle.isl_top.specs.Lines.{WasGiven, WasGivenFront, usage_line, refused_line, budget_line, ok_line}
+use Rattle.isl_output.specs.Given.{WasGiven, WasGivenFront}
+use Rattle.isl_top.specs.Lines.{usage_line, unhandled_line, refused_line, arena_full_line, budget_line, spent_line, read_fault_line, ok_line}
 use Rattle.isl_top.specs.Loads.{IsTaken}
 use Rattle.isl_top.specs.Represents.{Represents}
 use Rattle.isl_top.specs.Shapes.{names}
@@ -201,11 +208,11 @@ pub record IsChecked (words : List (List ℕ)) (holds : List ℕ → Option (Lis
   pub printed : WasGiven sent.before ok_line sent.after
   pub line : WasGiven said [] said'
 
--- Refused: the command names a file to check that is none; the line says where its first offence stands, and which it is
-pub record IsCheckedRefused (words : List (List ℕ)) (holds : List ℕ → Option (List ℕ)) (said said' : Option (List ℕ)) : Type 0 where
+-- Refused: the command names a file to check or to evaluate that is none; the line says where its first offence stands, and which it is
+pub record IsWholeRefused (words : List (List ℕ)) (holds : List ℕ → Option (List ℕ)) (said said' : Option (List ℕ)) : Type 0 where
   pub command : Asked
   pub asked_for : asked words ≡ Some command
-  pub is_check : command.action ≡ Check
+  pub is_whole : command.action ≢ Run
   pub refusal : Refusal
   pub offends : Offends (holds command.file) refusal
   pub line : WasGiven said (refused_line refusal) said'
@@ -218,6 +225,101 @@ pub record IsCheckedCutOff (words : List (List ℕ)) (holds : List ℕ → Optio
   pub passes : Passes (holds command.file)
   pub unbuilt : kept ≡ None
   pub printed : WasGivenFront sent.before ok_line sent.after
+
+-- The statuses of `plain`, of which no image is left. A call has an input that has this left before and after, where it can be observed
+
+-- what is evaluated of a whole program: within so many levels and words
+abbrev pub evaluation : {text : List ℕ} → IsWhole text → (levels arena : ℕ) → Evaluation
+evaluation whole levels arena = record { names = whole.names; program = whole.program; levels = levels; words = arena }
+
+-- a text that was taken of the file is a whole program, and it was evaluated so: what was read of the input, and what the output was given, is that of
+-- the program's meaning, and so is the end
+pub record PlainRuns (held : Option (List ℕ)) (levels words : ℕ) (left left' : Option (List ℕ)) (sent : Sent) (end : PlainEnd) : Type 0 where
+  pub text : List ℕ
+  pub taken : IsTaken held text
+  pub whole : IsWhole text
+  pub evaluates : Evaluates (evaluation whole levels words) left left' sent.before sent.after end
+
+-- the same where it broke off for want of memory
+pub record PlainBreaks (held : Option (List ℕ)) (levels words : ℕ) (left left' : Option (List ℕ)) (sent : Sent) : Type 0 where
+  pub text : List ℕ
+  pub taken : IsTaken held text
+  pub whole : IsWhole text
+  pub breaks_off : BreaksOff (evaluation whole levels words) left left' sent.before sent.after
+
+-- the text of the name of a class of a program with these names; empty where there is no such class
+abbrev pub class_text : List (List ℕ) → ProgramRows → ℕ → List ℕ
+class_text names program class = class_name names (slice_get program.classes class)
+
+-- the command names a file to evaluate that is a whole program, and its evaluation comes to this end
+pub record IsPlain (words : List (List ℕ)) (holds : List ℕ → Option (List ℕ)) (kept : Option Image) (left left' : Option (List ℕ)) (sent : Sent) (end : PlainEnd) : Type 0 where
+  pub command : Asked
+  pub asked_for : asked words ≡ Some command
+  pub is_plain : command.action ≡ Plain
+  pub runs : PlainRuns (holds command.file) command.steps command.arena left left' sent end
+  pub unbuilt : kept ≡ None
+
+-- Done: it ends with a value, and all that the program prints was given
+pub record IsPlainDone (words : List (List ℕ)) (holds : List ℕ → Option (List ℕ)) (kept : Option Image) (left left' : Option (List ℕ)) (sent : Sent) (said said' : Option (List ℕ)) : Type 0 where
+  pub ended : IsPlain words holds kept left left' sent plain.Value
+  pub line : WasGiven said [] said'
+
+-- Unhandled: it ends by a condition that no handler took; the line says of which class, and where it was signalled
+pub record IsUnhandled (words : List (List ℕ)) (holds : List ℕ → Option (List ℕ)) (kept : Option Image) (left left' : Option (List ℕ)) (sent : Sent) (said said' : Option (List ℕ)) : Type 0 where
+  pub class : ℕ
+  pub site : Place
+  pub ended : IsPlain words holds kept left left' sent (plain.Unhandled class site)
+  pub line : WasGiven said (unhandled_line (class_text ended.runs.whole.names ended.runs.whole.program class) site) said'
+
+-- Arena full: it ends for want of words; the line says how many were asked for, and how many were left
+pub record IsArenaFull (words : List (List ℕ)) (holds : List ℕ → Option (List ℕ)) (kept : Option Image) (left left' : Option (List ℕ)) (sent : Sent) (said said' : Option (List ℕ)) : Type 0 where
+  pub wanted : ℕ
+  pub room : ℕ
+  pub ended : IsPlain words holds kept left left' sent (plain.Full wanted room)
+  pub line : WasGiven said (arena_full_line wanted room) said'
+
+-- Budget: it ends for want of levels, and the line says how many there were
+pub record IsPlainBudget (words : List (List ℕ)) (holds : List ℕ → Option (List ℕ)) (kept : Option Image) (left left' : Option (List ℕ)) (sent : Sent) (said said' : Option (List ℕ)) : Type 0 where
+  pub ended : IsPlain words holds kept left left' sent plain.More
+  pub line : WasGiven said (budget_line ended.command.steps) said'
+
+-- or as many forms began as may begin, and another one is to begin
+pub record IsPlainSpent (words : List (List ℕ)) (holds : List ℕ → Option (List ℕ)) (kept : Option Image) (left left' : Option (List ℕ)) (sent : Sent) (said said' : Option (List ℕ)) : Type 0 where
+  pub ended : IsPlain words holds kept left left' sent plain.Spent
+  pub line : WasGiven said spent_line said'
+
+-- Read fault: the input failed where the program wants a byte
+pub record IsReadFault (words : List (List ℕ)) (holds : List ℕ → Option (List ℕ)) (kept : Option Image) (left left' : Option (List ℕ)) (sent : Sent) (said said' : Option (List ℕ)) : Type 0 where
+  pub ended : IsPlain words holds kept left left' sent plain.ReadFault
+  pub line : WasGiven said read_fault_line said'
+
+-- Write fault within an evaluation: the output was cut off behind a beginning of what the program prints
+pub record IsPlainCutOff (words : List (List ℕ)) (holds : List ℕ → Option (List ℕ)) (kept : Option Image) (left left' : Option (List ℕ)) (sent : Sent) : Type 0 where
+  pub ended : IsPlain words holds kept left left' sent plain.WriteFault
+
+-- No memory: an evaluation broke off, or the class could not be named; the output was given a beginning of what the program prints
+pub record IsPlainBroken (words : List (List ℕ)) (holds : List ℕ → Option (List ℕ)) (kept : Option Image) (left left' : Option (List ℕ)) (sent : Sent) : Type 0 where
+  pub command : Asked
+  pub asked_for : asked words ≡ Some command
+  pub is_plain : command.action ≡ Plain
+  pub breaks : PlainBreaks (holds command.file) command.steps command.arena left left' sent
+  pub unbuilt : kept ≡ None
+
+-- an end that a line tells
+abbrev pub HasLine : PlainEnd → Type 0
+HasLine plain.Value = ⊥
+HasLine (plain.Unhandled class site) = ⊤
+HasLine (plain.Full wanted room) = ⊤
+HasLine plain.More = ⊤
+HasLine plain.Spent = ⊤
+HasLine plain.ReadFault = ⊤
+HasLine plain.WriteFault = ⊥
+
+-- an evaluation came to such an end, of which the line is still to be written
+pub record IsPlainUntold (words : List (List ℕ)) (holds : List ℕ → Option (List ℕ)) (kept : Option Image) (left left' : Option (List ℕ)) (sent : Sent) : Type 0 where
+  pub end : PlainEnd
+  pub has_line : HasLine end
+  pub ended : IsPlain words holds kept left left' sent end
 
 -- The status of words alone
 

@@ -7,11 +7,11 @@ ghost use Rattle.isl_files.specs.declared.mode.Mode.TheVariants as mode;
 ghost use Rattle.isl_top.specs.Theorem.{IsWhole, Passes, Offends};
 ghost use Rattle.isl_top.specs.Answers.{CheckAnswers};
 
-use crate::lines::write_all;
 use crate::load::{LoadStop, load};
 use crate::status::Answer;
 use isl_base::{Failed, Shelf, Sink};
 use isl_files::{Mode, read_program};
+use isl_output::write_all;
 use std::alloc::Global;
 
 /// Judges the file's text, and writes `ok` where it is a whole program. `WriteFault` only where the

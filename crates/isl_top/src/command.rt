@@ -18,10 +18,12 @@ pub enum Action {
     Run,
     /// It is judged alone.
     Check,
+    /// It is evaluated.
+    Plain,
 }
 
-/// What a command asks for: an action, how many instructions a run may execute, the words of its arena,
-/// and a file.
+/// What a command asks for: an action, how many instructions a run may execute, or how many levels an evaluation
+/// may have, the words of its arena, and a file.
 #[derive(Drop)]
 pub struct Command {
     pub action: Action,
@@ -128,6 +130,7 @@ fn action_in(word: Option<&str>) -> Option<Action>
     match word? {
         "run" => Some(Action::Run),
         "check" => Some(Action::Check),
+        "plain" => Some(Action::Plain),
         _ => None,
     }
 }

@@ -16,6 +16,7 @@ pub mod load;
 pub mod main_call;
 mod numbers;
 mod operands;
+mod plain;
 mod program;
 mod run;
 pub mod shape;

@@ -19,7 +19,8 @@ use isl_meaning::ProgramRows;
 use rv_machine::{Ending, Image, Machine, law_budget, law_split};
 use std::alloc::Global;
 
-/// How many instructions a run may execute, and the words of its arena.
+/// How many instructions a run may execute, or how many levels an evaluation may have, and the words of its
+/// arena.
 #[derive(Clone, Copy)]
 pub(crate) struct Bounds {
     pub steps: u32,

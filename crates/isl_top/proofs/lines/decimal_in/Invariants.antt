@@ -5,8 +5,8 @@ use Rattle.isl_top.proofs.lines.decimal_in.Given as goal
 
 abbrev pub invariant-loop-rest : goal.invariant-loop-rest
 invariant-loop-rest l = record {
-  long : length l.room ≡ 10;
-  within : l.at ≤ 9;
+  long : length l.room ≡ 20;
+  within : l.at ≤ 19;
   room : l.rest < 10 ^ (l.at + 1);
   digit : get_or l.room l.at 0 ≡ 48 + l.rest % 10;
   digits : decimal l.rest ++ drop (l.at + 1) l.room ≡ decimal l.number;

@@ -9,5 +9,5 @@ obey-answer-requires-clause-least g c = let is = rw c.in-Ok-Some.field-0-is at c
 pub obey-answer-requires-clause-most : goal.obey-answer-requires-clause-most
 obey-answer-requires-clause-most g c = let is = rw c.in-Ok-Some.field-0-is at c.in-Ok-Some.ensures in (asked_within c.args.words.now _ is).1
 
-pub returns-in-Ok-Some-clause-answers : goal.returns-in-Ok-Some-clause-answers
-returns-in-Ok-Some-clause-answers g c = let is = rw c.in-Ok-Some.field-0-is at c.in-Ok-Some.ensures in was_asked _ is c.obey-answer.ensures.answers
+pub returns-in-Ok-Some : goal.returns-in-Ok-Some
+returns-in-Ok-Some g c = let is = rw c.in-Ok-Some.field-0-is at c.in-Ok-Some.ensures in was_asked _ is c.obey-answer.ensures

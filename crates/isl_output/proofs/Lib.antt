@@ -1,0 +1,2 @@
+-- Proofs of the output.
+mod Written

@@ -1,0 +1,2 @@
+-- What an output was given.
+pub mod Given

@@ -1,0 +1,11 @@
+; A function keeps the variables of the place where it was made.
+(defun digit (n) (format-char (standard-output) (%code-char (+ n 48))))
+(defun counter ()
+  (let ((n 0))
+    (lambda () (setq n (+ n 1)) n)))
+(defglobal one (counter))
+(defglobal other (counter))
+(digit (funcall one))
+(funcall other)
+(digit (funcall one))
+(digit (funcall one))

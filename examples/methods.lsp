@@ -1,0 +1,13 @@
+; Classes, generic functions and methods: around, before, primary and after.
+(defclass <a> () ())
+(defclass <b> (<a>) ())
+(defgeneric g (x))
+(defun p (c) (format-char (standard-output) c))
+(defmethod g ((x <a>)) (p #\1))
+(defmethod g ((x <b>)) (p #\2) (call-next-method))
+(defmethod g :before ((x <a>)) (p #\3))
+(defmethod g :before ((x <b>)) (p #\4))
+(defmethod g :after ((x <a>)) (p #\5))
+(defmethod g :after ((x <b>)) (p #\6))
+(defmethod g :around ((x <b>)) (p #\() (call-next-method) (p #\)))
+(g (%allocate (class <b>)))

@@ -1,0 +1,15 @@
+; Six queens on a board of six rows, none in the way of another: 4 ways, by lists and recursion.
+(defun is-safe (row others distance)
+  (cond ((null others) t)
+        ((or (= row (car others))
+             (= row (+ (car others) distance))
+             (= row (- (car others) distance)))
+         nil)
+        (t (is-safe row (cdr others) (+ distance 1)))))
+(defun ways (others placed)
+  (if (= placed 6)
+      1
+      (for ((row 1 (+ row 1))
+            (sum 0 (if (is-safe row others 1) (+ sum (ways (cons row others) (+ placed 1))) sum)))
+           ((= row 7) sum))))
+(format-char (standard-output) (%code-char (+ 48 (ways nil 0))))
