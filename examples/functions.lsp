@@ -1,7 +1,8 @@
-; Functions: as values, applied to lists, local, and with what they keep.
+; Functions: as values, with a rest, local, and recursive.
 (defun digit (n) (format-char (standard-output) (%code-char (+ n 48))))
 (digit (funcall (lambda (x) (+ x 1)) 4))              ; 5
-(digit (apply #'+ 1 '(2 3)))                          ; 6
+(defun sum-of (a b c) (+ a (+ b c)))
+(digit (funcall #'sum-of 1 2 3))                        ; 6
 (defun second-of (first :rest others) (car others))
 (digit (second-of 2 3 4))                             ; 3
 (digit (flet ((square (n) (* n n))) (square 3)))      ; 9
