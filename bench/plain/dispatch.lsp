@@ -1,0 +1,7 @@
+(defclass <a> () ())
+(defclass <b> (<a>) ())
+(defgeneric g (x y))
+(defmethod g ((x <a>) (y <integer>)) y)
+(defmethod g ((x <b>) (y <integer>)) (+ 1 (call-next-method)))
+(let ((i 0) (p (%allocate (class <a>))) (q (%allocate (class <b>))))
+  (while (< i 100000) (g p i) (g q i) (setq i (+ i 1))))
