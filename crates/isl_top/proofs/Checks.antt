@@ -1,5 +1,5 @@
 -- From the verdict on a text to the answer for the file that is checked.
-use Rattle.std.proofs.Common.{ℕ, List, []}
+use Rattle.std.proofs.Common.{ℕ, List}
 use Rattle.std.specs.Prelude.{Option, ⊤}
 use Rattle.isl_base.specs.declared.reason.Refusal.{Refusal}
 use Rattle.isl_base.specs.declared.reason.Stop.{Stop}
@@ -10,7 +10,7 @@ use Rattle.isl_top.specs.declared.status.Answer.{Answer}
 use Rattle.isl_top.specs.declared.status.Answer.TheVariants as answer
 use Rattle.isl_top.specs.Answers.{answer_of_stop, CheckAnswers}
 use Rattle.isl_top.specs.Loads.{IsTaken}
-use Rattle.isl_top.specs.Theorem.{IsWhole, Passes, Offends}
+use Rattle.isl_top.specs.Theorem.{library, IsWhole, Passes, Offends}
 
 -- the line `ok` of what is good
 pub of_ok : (a : Answer) (Good : Type 0) (Bad : Refusal → Type 0) (given given' : Option (List ℕ)) (ShelfRises Rises Same : Type 0)
@@ -29,13 +29,13 @@ of_ok answer.ReadFault Good Bad given given' ShelfRises Rises Same good h = absu
 
 -- the stop of a text that is no program
 pub of_no_program : (s : Stop) (text : List ℕ) (given given' : Option (List ℕ)) (ShelfRises Rises Same : Type 0)
-    → IsNoProgram [] text mode.Run s → Same → CheckAnswers (answer_of_stop s) (IsWhole text) (Refuses [] text mode.Run) given given' ShelfRises Rises Same
+    → IsNoProgram library text mode.Run s → Same → CheckAnswers (answer_of_stop s) (IsWhole text) (Refuses library text mode.Run) given given' ShelfRises Rises Same
 of_no_program (stop.Refused r) text given given' ShelfRises Rises Same refuses same = (refuses, same)
 of_no_program stop.NoMemory text given given' ShelfRises Rises Same refuses same = same
 
 -- the text was taken of the file
 pub of_text : (a : Answer) (held : Option (List ℕ)) (text : List ℕ) (given given' : Option (List ℕ)) (ShelfRises Rises Same : Type 0)
-    → IsTaken held text → CheckAnswers a (IsWhole text) (Refuses [] text mode.Run) given given' ⊥ Rises Same
+    → IsTaken held text → CheckAnswers a (IsWhole text) (Refuses library text mode.Run) given given' ⊥ Rises Same
     → CheckAnswers a (Passes held) (Offends held) given given' ShelfRises Rises Same
 of_text answer.Done held text given given' ShelfRises Rises Same taken h = (record { text = text; taken = taken; whole = h.0 }, h.1)
 of_text (answer.Refused r) held text given given' ShelfRises Rises Same taken h = (record { text = text; taken = taken; refuses = h.0 }, h.1)

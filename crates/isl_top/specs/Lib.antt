@@ -1,12 +1,6 @@
-pub mod Shapes
-pub mod Heads
-pub mod Finds
-pub mod Code
-pub mod Represents
 pub mod Limits
 pub mod Command
 pub mod Lines
 pub mod Loads
-pub mod Verdicts
 pub mod Theorem
 pub mod Answers

@@ -1,21 +1,20 @@
 -- The theorem of the top call: what stands after `isl_main` has answered, status by status.
 --
 -- It names the words of the command (`Command`), the verdict on a text to run (`Verdicts`) and on a text to check or to evaluate
--- (`isl_files`), the meaning of a program (`isl_meaning`), the machine and its runs (`rv_machine`), what an evaluation reads and prints and
+-- (`isl_files`) behind the library (`isl_prelude`), the meaning of a program (`isl_meaning`), the machine and its runs (`rv_machine`), what an evaluation reads and prints and
 -- how it ends (`isl_evaluation`), and the lines of statuses (`Lines`), and nothing of how code is made.
-use Rattle.std.specs.Prelude.{◌≡◌, ◌≢◌, ⊤, ℕ, ◌-◌, ◌≤◌, ◌⊎◌, List, [], ◌++◌, length, slice_get, Option, Some, None, IfSome}
+use Rattle.std.specs.Prelude.{◌≡◌, ◌≢◌, ⊤, ℕ, ◌≤◌, List, [], length, slice_get, Option, Some, None, IfSome}
 use Rattle.isl_base.specs.declared.place.Place.{Place}
 use Rattle.isl_base.specs.declared.reason.Refusal.{Refusal}
 use Rattle.rv_machine.specs.declared.image.Image.{Image}
-use Rattle.rv_machine.specs.declared.ending.Ending.TheVariants.{Halt, Budget}
+use Rattle.rv_machine.specs.declared.ending.Ending.TheVariants.{Budget}
 use Rattle.rv_machine.specs.Run.{Ended, run_of, Gave}
 use Rattle.isl_files.specs.declared.mode.Mode.TheVariants as mode
 use Rattle.isl_files.specs.Verdicts.{Accepts as AcceptsWhole, Refuses as RefusesWhole}
+use Rattle.isl_prelude.specs.declared.TheConstants.{PRELUDE}
 use Rattle.isl_meaning.specs.declared.program.ProgramRows.{ProgramRows}
-use Rattle.isl_meaning.specs.Counts.{bound}
-use Rattle.isl_meaning.specs.Values.{Value}
-use Rattle.isl_meaning.specs.State.{words, unlimited}
-use Rattle.isl_meaning.specs.Meaning.{Meant, ended_value, meaning}
+use Rattle.isl_meaning.specs.State.{unlimited}
+use Rattle.isl_meaning.specs.Meaning.{meaning}
 use Rattle.isl_meaning.specs.Primitives.{class_name}
 use Rattle.isl_evaluation.specs.declared.end.PlainEnd.{PlainEnd}
 use Rattle.isl_evaluation.specs.declared.end.PlainEnd.TheVariants as plain
@@ -23,50 +22,14 @@ use Rattle.isl_evaluation.specs.Evaluation.{Evaluation}
 use Rattle.isl_evaluation.specs.Evaluates.{Evaluates, BreaksOff}
 use Rattle.isl_top.specs.Command.{Asked, asked}
 use Rattle.isl_top.specs.declared.command.Action.TheVariants.{Run, Check, Plain}
-use Rattle.isl_top.specs.Limits.{most_arena_words}
 use Rattle.isl_output.specs.Given.{WasGiven, WasGivenFront}
 use Rattle.isl_top.specs.Lines.{usage_line, unhandled_line, refused_line, arena_full_line, budget_line, spent_line, read_fault_line, ok_line}
 use Rattle.isl_top.specs.Loads.{IsTaken}
-use Rattle.isl_top.specs.Represents.{Represents}
-use Rattle.isl_top.specs.Shapes.{names}
-use Rattle.isl_top.specs.Verdicts.{Accepts, Refuses}
+use Rattle.isl_first_path.specs.Compiled.{IsPrefixOf, HaltsWith, Compiled}
+use Rattle.isl_first_path.specs.Shapes.{names}
+use Rattle.isl_first_path.specs.Verdicts.{Accepts, Refuses}
 
 -- An image and a program
-
-abbrev pub IsPrefixOf : List ℕ → List ℕ → Type 0
-IsPrefixOf first whole = (rest : List ℕ) × (first ++ rest ≡ whole)
-
--- a run halts with the meaning's value and the same bytes
-pub record HaltsWith (run : Ended) (meant : Meant) : Type 0 where
-  pub word : ℕ
-  pub halts : run.ending ≡ Halt word
-  pub value : Value
-  pub ends : meant.end ≡ ended_value value
-  pub stands : Represents run.at.state.memory word value
-  pub same : run.at.printed ≡ meant.printed
-
--- a run of an image of so many words, beside the program's meaning with this input
-pub record Faithful (program : ProgramRows) (size arena n : ℕ) (input : List ℕ) (run : Ended) : Type 0 where
-  -- what is printed is a prefix of what the meaning prints
-  pub prefix : IsPrefixOf run.at.printed (meaning names program input n unlimited).printed
-  -- a halt carries the meaning's value, with the same bytes
-  pub halt : (word : ℕ) → run.ending ≡ Halt word → HaltsWith run (meaning names program input n unlimited)
-  -- it ends in no other way, and traps nowhere
-  pub only : (run.ending ≡ Budget) ⊎ ((word : ℕ) × (run.ending ≡ Halt word))
-  -- it reads nothing
-  pub unread : run.at.gets ≡ 0
-  -- where the meaning has a value within the words that the arena has beside the image, or without a
-  -- limit, the run halts with it within its charged count
-  pub charged : (k : ℕ) (value : Value) → (meaning names program input k (words (arena - size))).end ≡ ended_value value → bound (meaning names program input k (words (arena - size))).units ≤ n → HaltsWith run (meaning names program input k (words (arena - size)))
-  pub charged_free : (k : ℕ) (value : Value) → (meaning names program input k unlimited).end ≡ ended_value value → bound (meaning names program input k unlimited).units ≤ n → HaltsWith run (meaning names program input k unlimited)
-  -- code of the first path only goes forward, so a run halts within as many instructions as the image
-  -- has words
-  pub forward : size ≤ n → (word : ℕ) × (run.ending ≡ Halt word)
-
--- an image that is the program's: for every arena that it fits, every number of instructions and every input
-abbrev pub Compiled : ProgramRows → List ℕ → ℕ → Type 0
-Compiled program image entry =
-    (arena n : ℕ) (input : List ℕ) → length image ≤ arena → arena ≤ most_arena_words → Faithful program (length image) arena n input (run_of image entry arena input n)
 
 -- the image that was kept is the program's, and fits an arena of so many words
 pub record Built (program : ProgramRows) (kept : Option Image) (arena : ℕ) : Type 0 where
@@ -128,11 +91,15 @@ pub record Declined (held : Option (List ℕ)) (refusal : Refusal) : Type 0 wher
   pub taken : IsTaken held text
   pub refuses : Refuses text refusal.place refusal.reason
 
--- a text is a whole program of the language: the prelude in front of it is empty, and nothing is shown
+-- the library of the language, which stands in front of every file
+abbrev pub library : List ℕ
+library = PRELUDE.now
+
+-- a text is a whole program of the language behind the library, and nothing is shown
 pub record IsWhole (text : List ℕ) : Type 0 where
   pub names : List (List ℕ)
   pub program : ProgramRows
-  pub accepts : AcceptsWhole [] text mode.Run names program
+  pub accepts : AcceptsWhole library text mode.Run names program
 
 -- a text that was taken of the file is one
 pub record Passes (held : Option (List ℕ)) : Type 0 where
@@ -144,7 +111,7 @@ pub record Passes (held : Option (List ℕ)) : Type 0 where
 pub record Offends (held : Option (List ℕ)) (refusal : Refusal) : Type 0 where
   pub text : List ℕ
   pub taken : IsTaken held text
-  pub refuses : RefusesWhole [] text mode.Run refusal
+  pub refuses : RefusesWhole library text mode.Run refusal
 
 -- The statuses of `run`. A call has these command words, a shelf that holds these files, where it can be observed, and leaves this image; its
 -- output was sent this, and its error output had these bytes before and has those after it.

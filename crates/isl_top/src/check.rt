@@ -1,10 +1,10 @@
 // The action `check`: a file judged as a whole program.
 
-ghost use Rattle.std.specs.Prelude.{◌≡◌, [], ⊤};
+ghost use Rattle.std.specs.Prelude.{◌≡◌, ⊤};
 ghost use Rattle.isl_base.specs.Outside.{Rose};
 ghost use Rattle.isl_files.specs.Verdicts.{Refuses};
 ghost use Rattle.isl_files.specs.declared.mode.Mode.TheVariants as mode;
-ghost use Rattle.isl_top.specs.Theorem.{IsWhole, Passes, Offends};
+ghost use Rattle.isl_top.specs.Theorem.{library, IsWhole, Passes, Offends};
 ghost use Rattle.isl_top.specs.Answers.{CheckAnswers};
 
 use crate::load::{LoadStop, load};
@@ -12,6 +12,7 @@ use crate::status::Answer;
 use isl_base::{Failed, Shelf, Sink};
 use isl_files::{Mode, read_program};
 use isl_output::write_all;
+use isl_prelude::PRELUDE;
 use std::alloc::Global;
 
 /// Judges the file's text, and writes `ok` where it is a whole program. `WriteFault` only where the
@@ -40,11 +41,11 @@ pub(crate) fn check_file<F: Shelf, O: Sink>(
 
 // Judges a text, and writes `ok` where it is a whole program.
 fn check<O: Sink>(alloc: Global, text: &[u8], out: &mut O) -> Answer
-    ensures { CheckAnswers result (IsWhole text.now) (Refuses [] text.now mode.Run)
+    ensures { CheckAnswers result (IsWhole text.now) (Refuses library text.now mode.Run)
         (O.given out.old) (O.given out.new) ⊥
         (Rose (O.faults out.old) (O.faults out.new)) (out.new ≡ out.old) }
 {
-    match read_program(alloc, text, b"", Mode::Run) {
+    match read_program(alloc, text, PRELUDE, Mode::Run) {
         Ok(whole) => {
             drop(whole);
             say_ok(out)

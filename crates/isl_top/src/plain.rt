@@ -14,6 +14,7 @@ use isl_base::{Bytes, Name, Names, NoMemory, Place, Shelf, Sink, Source};
 use isl_evaluation::{PlainEnd, evaluate};
 use isl_files::{Mode, Whole, read_program};
 use isl_meaning::ClassId;
+use isl_prelude::PRELUDE;
 use std::alloc::Global;
 
 /// Judges the file's text as a whole program, and evaluates it within so many levels and words. `ReadFault` and
@@ -37,7 +38,7 @@ pub(crate) fn plain_file<F: Shelf, S: Source, O: Sink>(
         Err(LoadStop::Failed) => return Answer::FileFault,
         Err(LoadStop::NoMemory) => return Answer::NoMemory,
     };
-    match read_program(alloc, text.as_slice(), b"", Mode::Run) {
+    match read_program(alloc, text.as_slice(), PRELUDE, Mode::Run) {
         Ok(whole) => {
             let answer = plain(alloc, &whole, bounds, input, out);
             drop(whole);

@@ -1,13 +1,12 @@
 -- The answer for a file to run, by the verdict on its text.
 use Rattle.std.proofs.Common.{arith, sym, subst}
 use Rattle.isl_top.specs.Loads.{IsTaken}
-use Rattle.isl_top.proofs.Judging.{accepted-small}
 use Rattle.isl_top.proofs.Ends.{of_run}
 use Rattle.isl_top.proofs.run.run_file.Goals as goal
 
 pub run-answer-requires-clause-small : goal.run-answer-requires-clause-small
 run-answer-requires-clause-small g c =
-    omega (arith, c.requires.least, accepted-small c.as_slice.result.now c.in-Ok-read_program.program c.in-Ok-read_program.ensures.program)
+    omega (arith, c.requires.least, c.in-Ok-read_program.ensures.small)
 
 pub returns-in-Ok-read_program-clause-answers : goal.returns-in-Ok-read_program-clause-answers
 returns-in-Ok-read_program-clause-answers g c =

@@ -1,0 +1,5 @@
+(defun pairs (n) (let ((l nil)) (loop (if (not (> n 0)) (return nil)) (setq l (cons (cons n (* n n)) l)) (setq n (- n 1))) l))
+(defun look (n table keys) (loop (if (not (> n 0)) (return nil)) (assoc n table) (member n keys) (setq n (- n 1))))
+(let ((i 0) (table (pairs 100)))
+  (let ((keys (mapcar #'car table)))
+    (loop (if (not (< i 80)) (return nil)) (look 100 table keys) (setq i (+ i 1)))))

@@ -1,0 +1,5 @@
+(defun pairs (n) (let ((l nil)) (while (> n 0) (setq l (cons (cons n (* n n)) l)) (setq n (- n 1))) l))
+(defun look (n table keys) (while (> n 0) (assoc n table) (member n keys) (setq n (- n 1))))
+(let ((i 0) (table (pairs 100)))
+  (let ((keys (mapcar #'car table)))
+    (while (< i 80) (look 100 table keys) (setq i (+ i 1)))))

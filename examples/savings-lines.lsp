@@ -1,0 +1,46 @@
+; A savings account that tells what it pays, a handler that answers where it is overdrawn, a cleanup that tells each try with a
+; dynamic variable, and the lines of the input with how many letters a are in each. Here there are three.
+
+(defclass <account> ()
+  ((owner :initarg owner :reader owner-of)
+   (balance :initform 0 :initarg balance :accessor balance-of)))
+(defclass <savings> (<account>) ((rate :initform 2 :reader rate-of)))
+(defclass <overdrawn> (<error>) ((wanted :initarg wanted :reader wanted-of)))
+(defgeneric withdraw (account amount))
+(defmethod withdraw ((a <account>) n)
+  (if (> n (balance-of a))
+      (overdrawn n)
+      (setf (balance-of a) (- (balance-of a) n))))
+(defmethod withdraw :after ((a <savings>) n)
+  (format (standard-output) "~A pays ~D~%" (owner-of a) n))
+(defun overdrawn (n)
+  (signal-condition (create (class <overdrawn>) 'wanted n) nil))
+(defdynamic *depth* 0)
+(defun count-char (c s)
+  (let ((n 0))
+    (for ((i 0 (+ i 1))) ((= i (length s)) n)
+      (if (char= c (elt s i)) (setq n (+ n 1))))))
+(defun try (a n)
+  (block done
+    (with-handler
+      (lambda (c)
+        (if (instancep c (class <overdrawn>))
+            (return-from done (list 'short (wanted-of c)))
+            (signal-condition c nil)))
+      (unwind-protect (withdraw a n)
+        (format (standard-output) "tried ~D at ~D~%" n (dynamic *depth*))))))
+(defglobal a (create (class <savings>) 'owner "Ann" 'balance 50))
+(dynamic-let ((*depth* 1)) (try a 20))
+(format (standard-output) "~S~%" (try a 40))
+(defun lines (n)
+  (block end
+    (with-handler
+      (lambda (c)
+        (if (instancep c (class <end-of-stream>))
+            (return-from end n)
+            (signal-condition c nil)))
+      (while t
+        (let ((l (read-line (standard-input))))
+          (setq n (+ n 1))
+          (format (standard-output) "~D ~S ~D~%" n l (count-char #\a l)))))))
+(format (standard-output) "lines ~D~%" (lines 0))
