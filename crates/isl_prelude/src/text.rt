@@ -312,7 +312,7 @@ pub const PRELUDE: &[u8] = br##"; Characters: they are bytes, and compare by the
         (let ((rests (cons list lists)))
           (while (%all-left rests)
             (setq values (cons (%apply function (%heads rests)) values))
-            (setq rests (%tails rests)))))
+            (%advance rests))))
     (nreverse values)))
 
 ; Calls it with the items, and gives the first list.
@@ -326,7 +326,7 @@ pub const PRELUDE: &[u8] = br##"; Characters: they are bytes, and compare by the
       (let ((rests (cons list lists)))
         (while (%all-left rests)
           (%apply function (%heads rests))
-          (setq rests (%tails rests)))))
+          (%advance rests))))
   list)
 
 ; Calls it with the items, and joins its values, which are to be lists, by their own conses.
@@ -339,7 +339,7 @@ pub const PRELUDE: &[u8] = br##"; Characters: they are bytes, and compare by the
   (let ((values nil) (rests (cons list lists)))
     (while (%all-left rests)
       (setq values (cons (%apply function rests) values))
-      (setq rests (%tails rests)))
+      (%advance rests))
     (nreverse values)))
 
 ; Calls it with what is left of the lists, and gives the first list.
@@ -348,7 +348,7 @@ pub const PRELUDE: &[u8] = br##"; Characters: they are bytes, and compare by the
   (let ((rests (cons list lists)))
     (while (%all-left rests)
       (%apply function rests)
-      (setq rests (%tails rests)))
+      (%advance rests))
     list))
 
 ; Calls it with what is left of the lists, and joins its values.
@@ -362,7 +362,7 @@ pub const PRELUDE: &[u8] = br##"; Characters: they are bytes, and compare by the
     (setq lists (cdr lists)))
   (null lists))
 
-; The first items of the lists, and what is behind them.
+; The first items of the lists.
 (defun %heads (lists)
   (let ((heads nil))
     (while (not (null lists))
@@ -370,12 +370,11 @@ pub const PRELUDE: &[u8] = br##"; Characters: they are bytes, and compare by the
       (setq lists (cdr lists)))
     (nreverse heads)))
 
-(defun %tails (lists)
-  (let ((tails nil))
-    (while (not (null lists))
-      (setq tails (cons (cdr (car lists)) tails))
-      (setq lists (cdr lists)))
-    (nreverse tails)))
+; Goes one item further in each list of a list of lists.
+(defun %advance (lists)
+  (while (not (null lists))
+    (set-car (cdr (car lists)) lists)
+    (setq lists (cdr lists))))
 
 ; The items of the lists in a list of lists, in one list: from the last list to the first, each in front of what is there.
 (defun %join (lists)
@@ -662,16 +661,9 @@ pub const PRELUDE: &[u8] = br##"; Characters: they are bytes, and compare by the
         (setq digits (cons (%digit last) digits))
         (setq rest (div (if (< integer 0) (+ rest last) rest) 10)))
       (setq length (+ length 1)))
-    (if (< integer 0) (string-append "-" (%string-of digits length)) (%string-of digits length))))
-
-; A string of so many characters in a list.
-(defun %string-of (characters length)
-  (let ((string (%make-string length #\space)) (index 0))
-    (while (< index length)
-      (%set-char-at (car characters) string index)
-      (setq characters (cdr characters))
-      (setq index (+ index 1)))
-    string))
+    (if (< integer 0)
+        (%string-of-turned (+ length 1) (nreverse (cons #\- digits)))
+        (%string-of-turned length (nreverse digits)))))
 
 ; Prints an object: as it can be read again where the flag is not nil, else as it is to be seen.
 (defun format-object (stream object escape)
@@ -701,12 +693,17 @@ pub const PRELUDE: &[u8] = br##"; Characters: they are bytes, and compare by the
       (%emit-between stream #\" string)))
 
 (defun %print-symbol (stream symbol escape)
-  (let ((serial (%symbol-serial symbol)) (name (%symbol-name symbol)))
-    (cond ((not (null serial))
-           (%emit-all stream "#:g")
-           (%emit-integer stream serial 10))
-          ((or (null escape) (%is-plain name)) (%emit-all stream name))
-          (t (%emit-between stream #\| name)))))
+  (let ((serial (%symbol-serial symbol)))
+    (if (null serial)
+        (%print-name stream (%symbol-name symbol) escape)
+        (progn
+          (%emit-all stream "#:g")
+          (%emit-integer stream serial 10)))))
+
+(defun %print-name (stream name escape)
+  (if (or (null escape) (%is-plain name))
+      (%emit-all stream name)
+      (%emit-between stream #\| name)))
 
 (defun %print-list (stream list escape)
   (%emit stream #\()
@@ -838,14 +835,14 @@ pub const PRELUDE: &[u8] = br##"; Characters: they are bytes, and compare by the
   (while (and (not (null list)) (%all-left lists))
     (set-car (%apply function (%heads lists)) list)
     (setq list (cdr list))
-    (setq lists (%tails lists))))
+    (%advance lists)))
 
 (defun %map-into-vector (vector function lists)
   (let ((index 0) (end (length vector)))
     (while (and (< index end) (%all-left lists))
       (set-elt (%apply function (%heads lists)) vector index)
       (setq index (+ index 1))
-      (setq lists (%tails lists)))))
+      (%advance lists))))
 
 ; An object that is to be a sequence.
 (defun %sequence (object)

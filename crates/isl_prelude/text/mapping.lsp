@@ -11,7 +11,7 @@
         (let ((rests (cons list lists)))
           (while (%all-left rests)
             (setq values (cons (%apply function (%heads rests)) values))
-            (setq rests (%tails rests)))))
+            (%advance rests))))
     (nreverse values)))
 
 ; Calls it with the items, and gives the first list.
@@ -25,7 +25,7 @@
       (let ((rests (cons list lists)))
         (while (%all-left rests)
           (%apply function (%heads rests))
-          (setq rests (%tails rests)))))
+          (%advance rests))))
   list)
 
 ; Calls it with the items, and joins its values, which are to be lists, by their own conses.
@@ -38,7 +38,7 @@
   (let ((values nil) (rests (cons list lists)))
     (while (%all-left rests)
       (setq values (cons (%apply function rests) values))
-      (setq rests (%tails rests)))
+      (%advance rests))
     (nreverse values)))
 
 ; Calls it with what is left of the lists, and gives the first list.
@@ -47,7 +47,7 @@
   (let ((rests (cons list lists)))
     (while (%all-left rests)
       (%apply function rests)
-      (setq rests (%tails rests)))
+      (%advance rests))
     list))
 
 ; Calls it with what is left of the lists, and joins its values.
@@ -61,7 +61,7 @@
     (setq lists (cdr lists)))
   (null lists))
 
-; The first items of the lists, and what is behind them.
+; The first items of the lists.
 (defun %heads (lists)
   (let ((heads nil))
     (while (not (null lists))
@@ -69,12 +69,11 @@
       (setq lists (cdr lists)))
     (nreverse heads)))
 
-(defun %tails (lists)
-  (let ((tails nil))
-    (while (not (null lists))
-      (setq tails (cons (cdr (car lists)) tails))
-      (setq lists (cdr lists)))
-    (nreverse tails)))
+; Goes one item further in each list of a list of lists.
+(defun %advance (lists)
+  (while (not (null lists))
+    (set-car (cdr (car lists)) lists)
+    (setq lists (cdr lists))))
 
 ; The items of the lists in a list of lists, in one list: from the last list to the first, each in front of what is there.
 (defun %join (lists)

@@ -55,16 +55,9 @@
         (setq digits (cons (%digit last) digits))
         (setq rest (div (if (< integer 0) (+ rest last) rest) 10)))
       (setq length (+ length 1)))
-    (if (< integer 0) (string-append "-" (%string-of digits length)) (%string-of digits length))))
-
-; A string of so many characters in a list.
-(defun %string-of (characters length)
-  (let ((string (%make-string length #\space)) (index 0))
-    (while (< index length)
-      (%set-char-at (car characters) string index)
-      (setq characters (cdr characters))
-      (setq index (+ index 1)))
-    string))
+    (if (< integer 0)
+        (%string-of-turned (+ length 1) (nreverse (cons #\- digits)))
+        (%string-of-turned length (nreverse digits)))))
 
 ; Prints an object: as it can be read again where the flag is not nil, else as it is to be seen.
 (defun format-object (stream object escape)
@@ -94,12 +87,17 @@
       (%emit-between stream #\" string)))
 
 (defun %print-symbol (stream symbol escape)
-  (let ((serial (%symbol-serial symbol)) (name (%symbol-name symbol)))
-    (cond ((not (null serial))
-           (%emit-all stream "#:g")
-           (%emit-integer stream serial 10))
-          ((or (null escape) (%is-plain name)) (%emit-all stream name))
-          (t (%emit-between stream #\| name)))))
+  (let ((serial (%symbol-serial symbol)))
+    (if (null serial)
+        (%print-name stream (%symbol-name symbol) escape)
+        (progn
+          (%emit-all stream "#:g")
+          (%emit-integer stream serial 10)))))
+
+(defun %print-name (stream name escape)
+  (if (or (null escape) (%is-plain name))
+      (%emit-all stream name)
+      (%emit-between stream #\| name)))
 
 (defun %print-list (stream list escape)
   (%emit stream #\()

@@ -52,14 +52,14 @@
   (while (and (not (null list)) (%all-left lists))
     (set-car (%apply function (%heads lists)) list)
     (setq list (cdr list))
-    (setq lists (%tails lists))))
+    (%advance lists)))
 
 (defun %map-into-vector (vector function lists)
   (let ((index 0) (end (length vector)))
     (while (and (< index end) (%all-left lists))
       (set-elt (%apply function (%heads lists)) vector index)
       (setq index (+ index 1))
-      (setq lists (%tails lists)))))
+      (%advance lists))))
 
 ; An object that is to be a sequence.
 (defun %sequence (object)
