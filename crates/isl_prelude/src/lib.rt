@@ -1,6 +1,6 @@
 //! The library of the language, in ISLISP.
 #![tactic(auto)]
 
-mod text;
+pub mod text;
 
 pub use text::PRELUDE;

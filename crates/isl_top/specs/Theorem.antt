@@ -11,7 +11,7 @@ use Rattle.rv_machine.specs.declared.ending.Ending.TheVariants.{Budget}
 use Rattle.rv_machine.specs.Run.{Ended, run_of, Gave}
 use Rattle.isl_files.specs.declared.mode.Mode.TheVariants as mode
 use Rattle.isl_files.specs.Verdicts.{Accepts as AcceptsWhole, Refuses as RefusesWhole}
-use Rattle.isl_prelude.specs.declared.TheConstants.{PRELUDE}
+use Rattle.isl_prelude.specs.declared.text.TheConstants.{PRELUDE}
 use Rattle.isl_meaning.specs.declared.program.ProgramRows.{ProgramRows}
 use Rattle.isl_meaning.specs.State.{unlimited}
 use Rattle.isl_meaning.specs.Meaning.{meaning}
