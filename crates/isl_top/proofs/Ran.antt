@@ -10,7 +10,8 @@ use Rattle.rv_machine.specs.Step.{Result, environment_call, step_of}
 use Rattle.rv_machine.specs.Run.{Moment, Ended, act, stop, run_from, first, Feeds, Outside, IsNoFault, Gave, CutOff}
 use Rattle.isl_meaning.specs.declared.program.ProgramRows.{ProgramRows}
 use Rattle.isl_first_path.specs.Limits.{most_arena_words}
-use Rattle.isl_top.specs.Theorem.{IsPrefixOf, Compiled, the_run, Built, Halts, Spends, GivenAll, GivenPrefix, sent_to}
+use Rattle.isl_first_path.specs.Compiled.{IsPrefixOf, Compiled}
+use Rattle.isl_top.specs.Theorem.{the_run, Built, Halts, Spends, GivenAll, GivenPrefix, sent_to}
 
 -- the laws of runs that the machine's crate proves
 pub record Laws : Type 0 where
