@@ -1,0 +1,2 @@
+pub mod MidCode
+pub mod model

@@ -1,0 +1,12 @@
+// Middle code: operations over virtual registers and the words of an arena, what they mean, and when they are in form.
+#![tactic(auto)]
+
+pub mod code;
+pub mod operation;
+pub mod program;
+
+pub use code::{Code, Step, StepKind};
+pub use operation::{
+    Arithmetic, Callee, Comparison, Counted, Operation, Register, RegisterList, Test,
+};
+pub use program::{MidProcedure, MidProgram, ProcedureList};
