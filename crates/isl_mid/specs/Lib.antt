@@ -4,4 +4,5 @@ pub mod Arena
 pub mod Costs
 pub mod State
 pub mod Meaning
+pub mod Worked
 pub mod model

@@ -4,9 +4,11 @@
 pub mod code;
 pub mod operation;
 pub mod program;
+pub mod worked;
 
 pub use code::{Code, Step, StepKind};
 pub use operation::{
     Arithmetic, Callee, Comparison, Counted, Operation, Register, RegisterList, Test,
 };
 pub use program::{MidProcedure, MidProgram, ProcedureList};
+pub use worked::{worked_calls, worked_operations, worked_words};
