@@ -4,5 +4,6 @@ pub mod Arena
 pub mod Costs
 pub mod State
 pub mod Meaning
+pub mod Checked
 pub mod Worked
 pub mod model

@@ -2,3 +2,4 @@
 pub mod StepCode
 pub mod View
 pub mod Falls
+pub mod Sizes

@@ -1,6 +1,7 @@
 // Middle code: operations over virtual registers and the words of an arena, what they mean, and when they are in form.
 #![tactic(auto)]
 
+pub mod check;
 pub mod code;
 pub mod operation;
 pub mod program;
