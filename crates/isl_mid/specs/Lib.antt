@@ -5,5 +5,6 @@ pub mod Costs
 pub mod State
 pub mod Meaning
 pub mod Checked
+pub mod Law
 pub mod Worked
 pub mod model

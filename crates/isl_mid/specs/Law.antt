@@ -1,0 +1,40 @@
+-- Laws of the meaning: what was printed stays, costs never fall, and more levels and turns change only an end for want of them.
+use Rattle.std.specs.Prelude.{◌≡◌, ℕ, ◌≤◌, List, ◌++◌}
+use Rattle.isl_mid.specs.declared.program.MidProgram.{MidProgram}
+use Rattle.isl_mid.specs.State.{State, End, falls, returns, cuts, no_room, no_level, no_turn, halts, unhandled, exhausted, stuck, Outcome}
+use Rattle.isl_mid.specs.Meaning.{meaning}
+
+-- a later state: more was printed behind what was printed, and the cost is no less
+pub record Grown (before after : State) : Type 0 where
+  pub printed : (more : List ℕ) × (after.printed ≡ before.printed ++ more)
+  pub cost : before.cost ≤ after.cost
+
+-- an end that is not for want of levels or turns
+abbrev pub IsReached : End → Type 0
+IsReached falls = Unit {0}
+IsReached (returns w) = Unit {0}
+IsReached (cuts b w) = Unit {0}
+IsReached (no_room asked left) = Unit {0}
+IsReached no_level = ⊥
+IsReached no_turn = ⊥
+IsReached (halts w) = Unit {0}
+IsReached (unhandled class site) = Unit {0}
+IsReached exhausted = Unit {0}
+IsReached stuck = Unit {0}
+
+-- an outcome with more levels and turns: the same where the end was reached, and a later state in any case
+pub record Extends (less more : Outcome) : Type 0 where
+  pub same : IsReached less.end → more ≡ less
+  pub later : Grown less.state more.state
+
+-- a run prints behind what was printed before, and costs something or nothing
+abbrev pub LawOfGrowth : Type 0
+LawOfGrowth =
+    (program : MidProgram) (k turns procedure : ℕ) (arguments : List ℕ) (z : State)
+    → Grown z (meaning program k turns procedure arguments z).state
+
+-- with more levels and turns a run goes on where it ended for want of them, and else is the same
+abbrev pub LawOfLevels : Type 0
+LawOfLevels =
+    (program : MidProgram) (k l turns more_turns procedure : ℕ) (arguments : List ℕ) (z : State) → k ≤ l → turns ≤ more_turns
+    → Extends (meaning program k turns procedure arguments z) (meaning program l more_turns procedure arguments z)
