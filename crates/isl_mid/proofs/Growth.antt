@@ -153,7 +153,7 @@ pub record TasksGrow (f : Task → State → Outcome) : Type 0 where
   pub at : (task : Task) (z : State) → Grown z (f task z).state
 
 module _ (c : Context) (below : TasksGrow c.below) (further : TasksGrow c.further) where
-  count_grown : (how : Counted) (task : Task) (z : State) → Grown z (count c how task z).state
+  pub count_grown : (how : Counted) (task : Task) (z : State) → Grown z (count c how task z).state
   count_grown Level task z = below.at task z
   count_grown Turn task z = further.at task z
 

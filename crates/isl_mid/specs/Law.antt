@@ -27,11 +27,17 @@ pub record Extends (less more : Outcome) : Type 0 where
   pub same : IsReached less.end → more ≡ less
   pub later : Grown less.state more.state
 
--- a run prints behind what was printed before, and costs something or nothing
-abbrev pub LawOfGrowth : Type 0
-LawOfGrowth =
+-- what a run prints stands behind what was printed before
+abbrev pub LawOfPrinting : Type 0
+LawOfPrinting =
     (program : MidProgram) (k turns procedure : ℕ) (arguments : List ℕ) (z : State)
-    → Grown z (meaning program k turns procedure arguments z).state
+    → (more : List ℕ) × ((meaning program k turns procedure arguments z).state.printed ≡ z.printed ++ more)
+
+-- the cost of a run is no less than the cost before
+abbrev pub LawOfCosts : Type 0
+LawOfCosts =
+    (program : MidProgram) (k turns procedure : ℕ) (arguments : List ℕ) (z : State)
+    → z.cost ≤ (meaning program k turns procedure arguments z).state.cost
 
 -- with more levels and turns a run goes on where it ended for want of them, and else is the same
 abbrev pub LawOfLevels : Type 0

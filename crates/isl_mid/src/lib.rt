@@ -3,11 +3,13 @@
 
 pub mod check;
 pub mod code;
+pub mod laws;
 pub mod operation;
 pub mod program;
 pub mod worked;
 
 pub use code::{Code, Step, StepKind};
+pub use laws::{law_costs, law_levels, law_printing};
 pub use operation::{
     Arithmetic, Callee, Comparison, Counted, Operation, Register, RegisterList, Test,
 };

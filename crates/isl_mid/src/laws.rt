@@ -1,0 +1,18 @@
+// Laws of the meaning of middle code, as the contracts of functions that do nothing.
+
+ghost use Rattle.isl_mid.specs.Law.{LawOfPrinting, LawOfCosts, LawOfLevels};
+
+/// What was printed stays, and more stands behind it.
+pub fn law_printing()
+    ensures { LawOfPrinting }
+{}
+
+/// The cost of a run never falls.
+pub fn law_costs()
+    ensures { LawOfCosts }
+{}
+
+/// With more levels and turns a run that ended for want of them goes on, and any other run is the same.
+pub fn law_levels()
+    ensures { LawOfLevels }
+{}
