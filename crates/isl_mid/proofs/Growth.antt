@@ -1,6 +1,5 @@
 -- States only grow: a lemma for each combinator, and a line for each operation and step.
-use Rattle.std.proofs.Common.{◌≡◌, ℕ, zero, suc, ◌+◌, ◌≤◌, Bool, true, false, List, [], ◌∷◌, ◌++◌, Option, Some, None, refl, sym, ap, ◌∙◌, arith, append_assoc}
-use Rattle.std.specs.Prelude.{slice_get, slice_set, length}
+use Rattle.std.proofs.Common.{◌≡◌, ℕ, zero, suc, ◌+◌, Bool, true, false, List, [], ◌∷◌, ◌++◌, Option, Some, None, refl, sym, ap, ◌∙◌, arith, append_assoc}
 use Rattle.std.proofs.lemmas.List.{append-nil}
 use Rattle.isl_mid.specs.declared.operation.Counted.{Counted}
 use Rattle.isl_mid.specs.declared.operation.Counted.TheVariants.{Level, Turn}
@@ -12,7 +11,7 @@ use Rattle.isl_mid.specs.declared.operation.Test.{Test}
 use Rattle.isl_mid.specs.declared.program.MidProcedure.{MidProcedure}
 use Rattle.isl_mid.specs.MidCode.{MidStep, perform, choose, repeat, land, return_word, cut_to, halt_with, end_unhandled, MidCode, no_step, step_and, code_of}
 use Rattle.isl_mid.specs.Arena.{Block}
-use Rattle.isl_mid.specs.State.{Registers, State, End, falls, returns, cuts, no_room, no_level, no_turn, halts, unhandled, exhausted, stuck, Outcome, Next, ends, charged, gives, go_on, go_on_from, with_some, choose_by, with_register, with_registers, jumped, landed, landed_from}
+use Rattle.isl_mid.specs.State.{Registers, State, End, falls, returns, cuts, no_room, no_level, no_turn, halts, unhandled, exhausted, stuck, Outcome, Next, ends, charged, gives, go_on, go_on_from, with_some, choose_by, with_registers, jumped, landed, landed_from}
 use Rattle.isl_mid.specs.Meaning.{store, where_left, lay, get_from, test, Task, enter, again, Context, context_of, called, called_from, left_from, leaves, count, with_callee, operate, exec, exec_step, run_task, turns, levels}
 use Rattle.isl_mid.specs.Law.{Grown}
 
@@ -21,9 +20,10 @@ same_grown z = record { printed = ([], sym (append-nil z.printed)); cost = omega
 
 pub both_grown : {x y z : State} → Grown x y → Grown y z → Grown x z
 both_grown {x} {y} {z} g h = record {
-  printed =
-      (g.printed.0 ++ h.printed.0,
-      h.printed.1 ∙ ap (λ l. l ++ h.printed.0) g.printed.1 ∙ append_assoc x.printed g.printed.0 h.printed.0);
+  printed = (
+    g.printed.0 ++ h.printed.0,
+    h.printed.1 ∙ ap (λ l. l ++ h.printed.0) g.printed.1 ∙ append_assoc x.printed g.printed.0 h.printed.0,
+  );
   cost = omega (arith, g.cost, h.cost);
 }
 

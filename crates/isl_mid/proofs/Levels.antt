@@ -1,6 +1,5 @@
 -- More levels and turns: a lemma for each combinator, and a line for each step.
-use Rattle.std.proofs.Common.{◌≡◌, ℕ, zero, suc, ◌+◌, ◌≤◌, Bool, true, false, List, [], ◌∷◌, Option, Some, None, refl, sym, subst, arith, length}
-use Rattle.std.specs.Prelude.{slice_get, slice_set, ◌==◌}
+use Rattle.std.proofs.Common.{◌≡◌, ℕ, zero, suc, ◌≤◌, Bool, true, false, List, [], ◌∷◌, Option, Some, None, refl, sym, subst, arith}
 use Rattle.isl_mid.specs.declared.operation.Counted.{Counted}
 use Rattle.isl_mid.specs.declared.operation.Counted.TheVariants.{Level, Turn}
 use Rattle.isl_mid.specs.declared.operation.Callee.{Callee}
@@ -12,10 +11,10 @@ use Rattle.isl_mid.specs.declared.program.MidProcedure.{MidProcedure}
 use Rattle.isl_mid.specs.declared.program.MidProgram.{MidProgram}
 use Rattle.isl_mid.specs.MidCode.{MidStep, perform, choose, repeat, land, return_word, cut_to, halt_with, end_unhandled, MidCode, no_step, step_and, code_of}
 use Rattle.isl_mid.specs.Arena.{Block}
-use Rattle.isl_mid.specs.State.{Registers, first_registers, State, End, falls, returns, cuts, no_room, no_level, no_turn, halts, unhandled, exhausted, stuck, Outcome, Next, ends, charged, go_on, with_some, choose_by, with_registers, jumped, landed}
+use Rattle.isl_mid.specs.State.{Registers, State, End, falls, returns, cuts, no_room, no_level, no_turn, halts, unhandled, exhausted, stuck, Outcome, Next, ends, go_on, with_some, choose_by, with_registers, jumped, landed}
 use Rattle.isl_mid.specs.Meaning.{lay, test, Task, enter, again, Context, context_of, called, leaves, count, with_callee, operate, exec, exec_step, run_task, turns, levels, meaning}
 use Rattle.isl_mid.specs.Law.{Grown, Extends, LawOfPrinting, LawOfCosts, LawOfLevels}
-use Rattle.isl_mid.proofs.Growth.{same_grown, charged_grown, go_on_grown, with_some_grown, jumped_grown, landed_grown, called_grown, leaves_grown, test_grown, TasksGrow, exec_grown, count_grown, task_grown, turns_grow, levels_grow}
+use Rattle.isl_mid.proofs.Growth.{same_grown, charged_grown, go_on_grown, with_some_grown, jumped_grown, landed_grown, called_grown, leaves_grown, test_grown, TasksGrow, exec_grown, count_grown, turns_grow, levels_grow}
 
 pub same_extends : (r : Outcome) → Extends r r
 same_extends r = record { same = λ h. refl; later = same_grown r.state }

@@ -1,6 +1,6 @@
 -- The arena: the words of memory, of which some are lent to code. From low addresses to high ones stand the words laid beside
 -- the code, the heap, which grows up, words that are left, and the stack, which grows down from the arena's end.
-use Rattle.std.specs.Prelude.{ℕ, ◌+◌, ◌-◌, ◌*◌, ◌/◌, ◌%◌, Bool, true, false, not, ◌&&◌, ◌||◌, ◌==◌, nat_lt, nat_le, List, [], ◌∷◌, ◌++◌, length, take, drop, replicate, slice_get, slice_set, Option, Some, None, if◌then◌else◌}
+use Rattle.std.specs.Prelude.{ℕ, ◌+◌, ◌-◌, ◌*◌, ◌/◌, ◌%◌, Bool, false, not, ◌&&◌, ◌||◌, ◌==◌, nat_lt, nat_le, List, [], ◌∷◌, ◌++◌, length, take, drop, replicate, slice_get, slice_set, Option, Some, None, if◌then◌else◌}
 
 -- a block of the stack: a frame, which an activation has for itself, or words that code has laid
 pub record Block : Type 0 where

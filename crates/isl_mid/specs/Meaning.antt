@@ -11,8 +11,8 @@ use Rattle.isl_mid.specs.declared.program.MidProcedure.{MidProcedure}
 use Rattle.isl_mid.specs.declared.program.MidProgram.{MidProgram}
 use Rattle.isl_mid.specs.MidCode.{MidStep, perform, choose, repeat, land, return_word, cut_to, halt_with, end_unhandled, MidCode, no_step, step_and, code_of}
 use Rattle.isl_mid.specs.Words.{computed, compares, address}
-use Rattle.isl_mid.specs.Arena.{Arena, Block, left, stack_from, is_lent, word_at, with_word, with_heap, with_blocks, with_block, blocks_from, blocks_below}
-use Rattle.isl_mid.specs.Costs.{operation_cost, test_cost, jump_cost, return_cost, cut_cost, halt_cost, unhandled_cost, entry_cost}
+use Rattle.isl_mid.specs.Arena.{Block, left, stack_from, is_lent, word_at, with_word, with_heap, with_blocks, with_block, blocks_from, blocks_below}
+use Rattle.isl_mid.specs.Costs.{operation_cost, test_cost, return_cost, cut_cost, halt_cost, unhandled_cost, entry_cost}
 use Rattle.isl_mid.specs.State.{Registers, first_registers, State, End, falls, returns, cuts, no_room, no_level, no_turn, halts, unhandled, exhausted, stuck, Outcome, Next, ends, charged, with_arena, gives, go_on, with_some, choose_by, where_true, with_register, with_registers, jumped, landed}
 
 -- operations on the arena

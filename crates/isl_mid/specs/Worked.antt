@@ -4,12 +4,11 @@ use Rattle.isl_mid.specs.declared.operation.Arithmetic.TheVariants as which
 use Rattle.isl_mid.specs.declared.operation.Comparison.TheVariants as comparison
 use Rattle.isl_mid.specs.declared.operation.Callee.TheVariants.{Procedure, Word}
 use Rattle.isl_mid.specs.declared.operation.Counted.TheVariants.{Level, Turn}
-use Rattle.isl_mid.specs.declared.operation.Operation.TheVariants.{Move, Constant, Compute, Load, Store, Request, Lay, GiveBack, Draw, Put, Get, Call}
+use Rattle.isl_mid.specs.declared.operation.Operation.TheVariants.{Constant, Compute, Load, Store, Request, Lay, GiveBack, Draw, Put, Get, Call}
 use Rattle.isl_mid.specs.declared.program.MidProcedure.{MidProcedure}
 use Rattle.isl_mid.specs.declared.program.MidProgram.{MidProgram}
-use Rattle.isl_mid.specs.MidCode.{MidStep, perform, choose, repeat, land, return_word, cut_to, halt_with, end_unhandled, MidCode, no_step, step_and, code_of}
-use Rattle.isl_mid.specs.Arena.{Block}
-use Rattle.isl_mid.specs.State.{State, returns, no_room, no_level, no_turn, halts, unhandled, exhausted, stuck, Outcome}
+use Rattle.isl_mid.specs.MidCode.{MidStep, perform, repeat, land, return_word, cut_to, halt_with, no_step, code_of}
+use Rattle.isl_mid.specs.State.{State, returns, no_room, no_level, no_turn, halts, exhausted, stuck, Outcome}
 use Rattle.isl_mid.specs.Meaning.{meaning}
 
 -- a procedure of the program with so many parameters, registers and words for a frame

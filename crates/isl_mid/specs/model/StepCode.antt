@@ -1,8 +1,8 @@
 -- The code of a step: a tree that gives it back. Operations of one shape stand at their places in one list.
-use Rattle.std.specs.Prelude.{◌≡◌, ℕ, zero, suc, ℤ, pos, negsuc, List, [], ◌∷◌, get_or, refl}
+use Rattle.std.specs.Prelude.{◌≡◌, ℕ, zero, suc, ℤ, pos, negsuc, [], ◌∷◌, get_or, refl}
 use Rattle.std.specs.Coded.{Coded, code_by}
 use Rattle.std.proofs.Common.{ap}
-use Rattle.isl_base.specs.model.CodedTree.{Tree, node, Trees, no_tree, tree_and, leaf, above_one, above_two, numbers_trees, numbers_of, numbers_back, tree_code}
+use Rattle.isl_base.specs.model.CodedTree.{Tree, node, no_tree, tree_and, leaf, above_one, above_two, numbers_trees, numbers_of, numbers_back, tree_code}
 use Rattle.isl_mid.specs.MidCode.{MidStep, perform, choose, repeat, land, return_word, cut_to, halt_with, end_unhandled, MidCode, no_step, step_and}
 use Rattle.isl_mid.specs.declared.operation.Arithmetic.{Arithmetic}
 use Rattle.isl_mid.specs.declared.operation.Arithmetic.TheVariants as which
