@@ -3,7 +3,7 @@ use Rattle.std.proofs.Common.{refl}
 use Rattle.isl_mid.specs.Words.{low_word}
 use Rattle.isl_mid.specs.State.{go_on, with_some, choose_by, with_registers, landed}
 use Rattle.isl_mid.specs.Meaning.{called, leaves, exec, exec_step, turns, levels, meaning}
-use Rattle.isl_mid.specs.Worked.{Added, ArgumentWanting, Printed, TooFewTurns, Copied, Doubled, TooFewLevels, NoRoomForAFrame, CutAndLanded, CutNowhere, Requested, NoRoom, Loaded, NotLent, Stored, NotStored, Drawn, Exhausted}
+use Rattle.isl_mid.specs.Worked.{Added, ArgumentWanting, Printed, TooFewTurns, Copied, Doubled, TooFewLevels, NoRoomForAFrame, CutAndLanded, NotCaughtBelow, CutNowhere, Requested, NoRoom, Loaded, NotLent, Stored, NotStored, Drawn, Exhausted}
 
 pub added : Added
 unfolding low_word go_on with_some choose_by with_registers landed called leaves exec exec_step turns levels meaning
@@ -40,6 +40,10 @@ no_room_for_a_frame = refl
 pub cut_and_landed : CutAndLanded
 unfolding low_word go_on with_some choose_by with_registers landed called leaves exec exec_step turns levels meaning
 cut_and_landed = (refl, refl)
+
+pub not_caught_below : NotCaughtBelow
+unfolding low_word go_on with_some choose_by with_registers landed called leaves exec exec_step turns levels meaning
+not_caught_below = refl
 
 pub cut_nowhere : CutNowhere
 unfolding low_word go_on with_some choose_by with_registers landed called leaves exec exec_step turns levels meaning

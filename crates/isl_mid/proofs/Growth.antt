@@ -1,6 +1,7 @@
 -- States only grow: a lemma for each combinator, and a line for each operation and step.
-use Rattle.std.proofs.Common.{◌≡◌, ℕ, zero, suc, ◌+◌, Bool, true, false, List, [], ◌∷◌, ◌++◌, Option, Some, None, refl, sym, ap, ◌∙◌, arith, append_assoc}
+use Rattle.std.proofs.Common.{◌==◌, ◌≡◌, ℕ, zero, suc, ◌+◌, ◌/◌, length, Bool, true, false, List, [], ◌∷◌, ◌++◌, Option, Some, None, refl, sym, ap, ◌∙◌, arith, append_assoc}
 use Rattle.std.proofs.lemmas.List.{append-nil}
+use Rattle.std.proofs.Math.ListN.{length-set}
 use Rattle.isl_mid.specs.declared.operation.Counted.{Counted}
 use Rattle.isl_mid.specs.declared.operation.Counted.TheVariants.{Level, Turn}
 use Rattle.isl_mid.specs.declared.operation.Callee.{Callee}
@@ -10,16 +11,48 @@ use Rattle.isl_mid.specs.declared.operation.Operation.TheVariants.{Move, Constan
 use Rattle.isl_mid.specs.declared.operation.Test.{Test}
 use Rattle.isl_mid.specs.declared.program.MidProcedure.{MidProcedure}
 use Rattle.isl_mid.specs.MidCode.{MidStep, perform, choose, repeat, land, return_word, cut_to, halt_with, end_unhandled, MidCode, no_step, step_and, code_of}
-use Rattle.isl_mid.specs.Arena.{Block}
-use Rattle.isl_mid.specs.State.{Registers, State, End, falls, returns, cuts, no_room, no_level, no_turn, halts, unhandled, exhausted, stuck, Outcome, Next, ends, charged, gives, go_on, go_on_from, with_some, choose_by, with_registers, jumped, landed, landed_from}
+use Rattle.isl_mid.specs.Arena.{Arena, Block, frames_of, emptied, with_word, with_heap, with_block, with_blocks}
+use Rattle.isl_mid.specs.State.{Registers, State, End, falls, returns, cuts, no_room, no_level, no_turn, halts, unhandled, exhausted, stuck, Outcome, Next, ends, charged, gives, go_on, go_on_from, with_some, choose_by, where_true, with_arena, with_registers, jumped, landed, landed_from}
 use Rattle.isl_mid.specs.Meaning.{store, where_left, lay, get_from, test, Task, enter, again, Context, context_of, called, called_from, left_from, leaves, count, with_callee, operate, exec, exec_step, run_task, turns, levels}
-use Rattle.isl_mid.specs.Law.{Grown}
+use Rattle.isl_mid.specs.Law.{Enlarged, Grown}
+
+pub same_enlarged : (a : Arena) → Enlarged a a
+same_enlarged a = record { size = refl; laid_from = refl; laid_to = refl; heap_from = refl; heap_to = omega arith }
+
+both_enlarged : (a b c : Arena) → Enlarged a b → Enlarged b c → Enlarged a c
+both_enlarged a b c g h = record {
+  size = h.size ∙ g.size;
+  laid_from = h.laid_from ∙ g.laid_from;
+  laid_to = h.laid_to ∙ g.laid_to;
+  heap_from = h.heap_from ∙ g.heap_from;
+  heap_to = omega (arith, g.heap_to, h.heap_to);
+}
+
+length-emptied : (i n : ℕ) (ws : List (Option ℕ)) → length (emptied i n ws) ≡ length ws
+length-emptied i n [] = refl
+length-emptied zero zero (w ∷ ws) = refl
+length-emptied zero (suc n) (w ∷ ws) = omega (arith, length-emptied zero n ws)
+length-emptied (suc i) n (w ∷ ws) = omega (arith, length-emptied i n ws)
+
+-- each change of the arena
+word_enlarged : (a word : ℕ) (arena : Arena) → Enlarged arena (with_word a word arena)
+word_enlarged a word arena = record { size = length-set arena.memory (a / 4) (Some word); laid_from = refl; laid_to = refl; heap_from = refl; heap_to = omega arith }
+
+heap_enlarged : (words : ℕ) (arena : Arena) → Enlarged arena (with_heap words arena)
+heap_enlarged words arena = record { size = length-emptied (arena.heap_to / 4) words arena.memory; laid_from = refl; laid_to = refl; heap_from = refl; heap_to = omega arith }
+
+block_enlarged : (b : Block) (arena : Arena) → Enlarged arena (with_block b arena)
+block_enlarged b arena = record { size = length-emptied _ b.words arena.memory; laid_from = refl; laid_to = refl; heap_from = refl; heap_to = omega arith }
+
+blocks_enlarged : (bs : List Block) (arena : Arena) → Enlarged arena (with_blocks bs arena)
+blocks_enlarged bs arena = record { size = refl; laid_from = refl; laid_to = refl; heap_from = refl; heap_to = omega arith }
 
 pub same_grown : (z : State) → Grown z z
-same_grown z = record { printed = ([], sym (append-nil z.printed)); cost = omega arith }
+same_grown z = record { arena = same_enlarged z.arena; printed = ([], sym (append-nil z.printed)); cost = omega arith }
 
 pub both_grown : {x y z : State} → Grown x y → Grown y z → Grown x z
 both_grown {x} {y} {z} g h = record {
+  arena = both_enlarged x.arena y.arena z.arena g.arena h.arena;
   printed = (
     g.printed.0 ++ h.printed.0,
     h.printed.1 ∙ ap (λ l. l ++ h.printed.0) g.printed.1 ∙ append_assoc x.printed g.printed.0 h.printed.0,
@@ -28,7 +61,11 @@ both_grown {x} {y} {z} g h = record {
 }
 
 pub charged_grown : (n : ℕ) (z : State) → Grown z (charged n z)
-charged_grown n z = record { printed = ([], sym (append-nil z.printed)); cost = omega arith }
+charged_grown n z = record { arena = same_enlarged z.arena; printed = ([], sym (append-nil z.printed)); cost = omega arith }
+
+-- another arena
+arena_grown : (a : Arena) (z : State) → Enlarged z.arena a → Grown z (with_arena a z)
+arena_grown a z g = record { arena = g; printed = ([], sym (append-nil z.printed)); cost = omega arith }
 
 -- it grows from each state
 pub record Grows (next : Next) : Type 0 where
@@ -74,15 +111,17 @@ pub jumped_grown : (r : Outcome) (z : State) → Grown z r.state → Grown z (ju
 jumped_grown r z g = go_on_grown r _ z g (λ rs y. charged_grown _ y)
 
 pub landed_grown :
-    (block : ℕ) (catch : ℕ → Next) (r : Outcome) (z : State) → Grown z r.state
-    → ((w : ℕ) (rs : Registers) (y : State) → Grown y (catch w rs y).state) → Grown z (landed block catch r).state
+    (block frames : ℕ) (catch : ℕ → Next) (r : Outcome) (z : State) → Grown z r.state
+    → ((w : ℕ) (rs : Registers) (y : State) → Grown y (catch w rs y).state) → Grown z (landed block frames catch r).state
 unfolding landed
-landed_grown block catch r z g h = from r.end
+landed_grown block frames catch r z g h = from r.end
   where
-    from : (e : End) → Grown z (landed_from e block catch r).state
+    from : (e : End) → Grown z (landed_from e block frames catch r).state
     from falls = g
     from (returns w) = g
-    from (cuts b w) = both_grown g (choose_grown _ (catch w) (ends (cuts b w)) r.registers r.state (h w r.registers r.state) (same_grown r.state))
+    from (cuts b w) =
+        both_grown g (choose_grown _ (where_true (frames_of r.state.arena.blocks == frames) (catch w)) (ends (cuts b w)) r.registers r.state
+        (choose_grown _ (catch w) (ends stuck) r.registers r.state (h w r.registers r.state) (same_grown r.state)) (same_grown r.state))
     from (no_room asked left) = g
     from no_level = g
     from no_turn = g
@@ -113,7 +152,7 @@ leaves_grown bs r z g = from r.end
   where
     from : (e : End) → Grown z (left_from e bs r).state
     from falls = g
-    from (returns w) = record { printed = g.printed; cost = g.cost }
+    from (returns w) = both_grown g (arena_grown _ r.state (blocks_enlarged bs r.state.arena))
     from (cuts b w) = g
     from (no_room asked left) = g
     from no_level = g
@@ -123,24 +162,20 @@ leaves_grown bs r z g = from r.end
     from exhausted = g
     from stuck = g
 
--- the same bytes printed and the same cost
-pub arena_grown : (z y : State) → y.printed ≡ z.printed → y.cost ≡ z.cost → Grown z y
-arena_grown z y p c = record { printed = ([], p ∙ sym (append-nil z.printed)); cost = omega (arith, c) }
-
 -- operations
 
 store_grown : (a w : ℕ) (next : Next) (rs : Registers) (z : State) → ((rs : Registers) (y : State) → Grown y (next rs y).state) → Grown z (store a w next rs z).state
-store_grown a w next rs z h = choose_grown _ _ _ rs z (both_grown (arena_grown z _ refl refl) (h rs _)) (same_grown z)
+store_grown a w next rs z h = choose_grown _ _ _ rs z (both_grown (arena_grown _ z (word_enlarged a w z.arena)) (h rs _)) (same_grown z)
 
 where_left_grown : (words : ℕ) (next : Next) (rs : Registers) (z : State) → Grown z (next rs z).state → Grown z (where_left words next rs z).state
 where_left_grown words next rs z g = choose_grown _ _ _ rs z g (same_grown z)
 
 lay_grown : (b : Block) (next : Next) (rs : Registers) (z : State) → ((rs : Registers) (y : State) → Grown y (next rs y).state) → Grown z (lay b next rs z).state
-lay_grown b next rs z h = where_left_grown b.words _ rs z (both_grown (arena_grown z _ refl refl) (h rs _))
+lay_grown b next rs z h = where_left_grown b.words _ rs z (both_grown (arena_grown _ z (block_enlarged b z.arena)) (h rs _))
 
 get_grown : (bytes : List ℕ) (to : ℕ) (rs : Registers) (z : State) → Grown z (get_from bytes to rs z).state
 get_grown [] to rs z = same_grown z
-get_grown (byte ∷ bytes) to rs z = arena_grown z _ refl refl
+get_grown (byte ∷ bytes) to rs z = record { arena = same_enlarged z.arena; printed = ([], sym (append-nil z.printed)); cost = omega arith }
 
 pub test_grown : (t : Test) (first second : Next) (rs : Registers) (z : State) → ((rs : Registers) (y : State) → Grown y (first rs y).state) → ((rs : Registers) (y : State) → Grown y (second rs y).state) → Grown z (test t first second rs z).state
 test_grown t first second rs z g h =
@@ -173,15 +208,16 @@ module _ (c : Context) (below : TasksGrow c.below) (further : TasksGrow c.furthe
   operate_grown (Store from base offset) rs z =
       with_some_grown _ _ rs z (λ w. with_some_grown _ _ rs z (λ a. store_grown _ w (ends falls) rs z (λ rs' y. same_grown y)))
   operate_grown (Request to words) rs z =
-      with_some_grown _ _ rs z (λ w. where_left_grown w _ rs z (arena_grown z _ refl refl))
-  operate_grown (Lay to words) rs z = where_left_grown words _ rs z (arena_grown z _ refl refl)
+      with_some_grown _ _ rs z (λ w. where_left_grown w _ rs z (arena_grown _ z (heap_enlarged w z.arena)))
+  operate_grown (Lay to words) rs z =
+      where_left_grown words _ rs z (arena_grown _ z (block_enlarged (record { words = words; is_frame = false }) z.arena))
   operate_grown (GiveBack block) rs z =
-      with_some_grown _ _ rs z (λ b. with_some_grown _ _ rs z (λ bs. arena_grown z _ refl refl))
+      with_some_grown _ _ rs z (λ b. with_some_grown _ _ rs z (λ bs. arena_grown _ z (blocks_enlarged bs z.arena)))
   operate_grown (Draw to base offset) rs z =
       with_some_grown _ _ rs z (λ a. with_some_grown _ _ rs z (λ w.
       choose_grown _ _ _ rs z (same_grown z) (store_grown _ (w + 1) (gives to (w + 1)) rs z (λ rs' y. same_grown y))))
   operate_grown (Put from) rs z =
-      with_some_grown _ _ rs z (λ w. record { printed = (_, refl); cost = omega arith })
+      with_some_grown _ _ rs z (λ w. record { arena = same_enlarged z.arena; printed = (_, refl); cost = omega arith })
   operate_grown (Get to) rs z = get_grown z.input to rs z
   operate_grown (Call to callee arguments) rs z =
       with_registers_grown arguments _ rs z (λ ws. callee_grown callee _ rs z (λ p.
@@ -203,11 +239,11 @@ module _ (c : Context) (below : TasksGrow c.below) (further : TasksGrow c.furthe
         (λ rs'' x. go_on_grown _ _ x (jumped_grown _ x (exec_grown body rs'' x)) (λ rs''' w. count_grown how _ w))
         (λ rs'' x. same_grown x))
     step_grown (land block word inside landing) rs z =
-        landed_grown block _ _ z (jumped_grown _ z (exec_grown inside rs z)) (λ w rs' y. exec_grown landing _ y)
+        landed_grown block _ _ _ z (jumped_grown _ z (exec_grown inside rs z)) (λ w rs' y. exec_grown landing _ y)
     step_grown (return_word r) rs z = both_grown (charged_grown _ z) (with_some_grown _ _ rs _ (λ w. same_grown _))
     step_grown (cut_to block word) rs z =
         both_grown (charged_grown _ z)
-        (with_some_grown _ _ rs _ (λ b. with_some_grown _ _ rs _ (λ w. with_some_grown _ _ rs _ (λ bs. arena_grown _ _ refl refl))))
+        (with_some_grown _ _ rs _ (λ b. with_some_grown _ _ rs _ (λ w. with_some_grown _ _ rs _ (λ bs. arena_grown _ _ (blocks_enlarged bs z.arena)))))
     step_grown (halt_with r) rs z = both_grown (charged_grown _ z) (with_some_grown _ _ rs _ (λ w. same_grown _))
     step_grown (end_unhandled class site) rs z =
         both_grown (charged_grown _ z) (with_some_grown _ _ rs _ (λ a. with_some_grown _ _ rs _ (λ b. same_grown _)))

@@ -1,5 +1,6 @@
 -- More levels and turns: a lemma for each combinator, and a line for each step.
 use Rattle.std.proofs.Common.{◌≡◌, ℕ, zero, suc, ◌≤◌, Bool, true, false, List, [], ◌∷◌, Option, Some, None, refl, sym, subst, arith}
+use Rattle.std.specs.Prelude.{◌==◌}
 use Rattle.isl_mid.specs.declared.operation.Counted.{Counted}
 use Rattle.isl_mid.specs.declared.operation.Counted.TheVariants.{Level, Turn}
 use Rattle.isl_mid.specs.declared.operation.Callee.{Callee}
@@ -10,10 +11,10 @@ use Rattle.isl_mid.specs.declared.operation.Test.{Test}
 use Rattle.isl_mid.specs.declared.program.MidProcedure.{MidProcedure}
 use Rattle.isl_mid.specs.declared.program.MidProgram.{MidProgram}
 use Rattle.isl_mid.specs.MidCode.{MidStep, perform, choose, repeat, land, return_word, cut_to, halt_with, end_unhandled, MidCode, no_step, step_and, code_of}
-use Rattle.isl_mid.specs.Arena.{Block}
-use Rattle.isl_mid.specs.State.{Registers, State, End, falls, returns, cuts, no_room, no_level, no_turn, halts, unhandled, exhausted, stuck, Outcome, Next, ends, go_on, with_some, choose_by, with_registers, jumped, landed}
+use Rattle.isl_mid.specs.Arena.{Block, frames_of}
+use Rattle.isl_mid.specs.State.{Registers, State, End, falls, returns, cuts, no_room, no_level, no_turn, halts, unhandled, exhausted, stuck, Outcome, Next, ends, go_on, with_some, choose_by, where_true, with_registers, jumped, landed}
 use Rattle.isl_mid.specs.Meaning.{lay, test, Task, enter, again, Context, context_of, called, leaves, count, with_callee, operate, exec, exec_step, run_task, turns, levels, meaning}
-use Rattle.isl_mid.specs.Law.{Grown, Extends, LawOfPrinting, LawOfCosts, LawOfLevels}
+use Rattle.isl_mid.specs.Law.{Grown, Extends, LawOfPrinting, LawOfCosts, LawOfArenas, LawOfLevels}
 use Rattle.isl_mid.proofs.Growth.{same_grown, charged_grown, go_on_grown, with_some_grown, jumped_grown, landed_grown, called_grown, leaves_grown, test_grown, TasksGrow, exec_grown, count_grown, turns_grow, levels_grow}
 
 pub same_extends : (r : Outcome) → Extends r r
@@ -75,24 +76,26 @@ pub jumped_extends : (r s : Outcome) → Extends r s → Extends (jumped r) (jum
 jumped_extends r s x = go_on_extends r s _ _ x (λ rs y. same_extends _) (λ rs y. charged_grown _ y)
 
 pub landed_extends :
-    (block : ℕ) (f g : ℕ → Next) (r s : Outcome) → Extends r s → ((w : ℕ) (rs : Registers) (y : State) → Extends (f w rs y) (g w rs y))
-    → ((w : ℕ) (rs : Registers) (y : State) → Grown y (g w rs y).state) → Extends (landed block f r) (landed block g s)
+    (block frames : ℕ) (f g : ℕ → Next) (r s : Outcome) → Extends r s → ((w : ℕ) (rs : Registers) (y : State) → Extends (f w rs y) (g w rs y))
+    → ((w : ℕ) (rs : Registers) (y : State) → Grown y (g w rs y).state) → Extends (landed block frames f r) (landed block frames g s)
 unfolding landed
-landed_extends block f g r s x h k = from r.end r.registers r.state s x
+landed_extends block frames f g r s x h k = from r.end r.registers r.state s x
   where
-    from : (e : End) (rs : Registers) (z : State) (s : Outcome) → Extends (ends e rs z) s → Extends (landed block f (ends e rs z)) (landed block g s)
-    from falls rs z s x = reached_extends falls rs z (landed block g) _ s (x.same tt) (same_extends _)
-    from (returns w) rs z s x = reached_extends (returns w) rs z (landed block g) _ s (x.same tt) (same_extends _)
+    from : (e : End) (rs : Registers) (z : State) (s : Outcome) → Extends (ends e rs z) s → Extends (landed block frames f (ends e rs z)) (landed block frames g s)
+    from falls rs z s x = reached_extends falls rs z (landed block frames g) _ s (x.same tt) (same_extends _)
+    from (returns w) rs z s x = reached_extends (returns w) rs z (landed block frames g) _ s (x.same tt) (same_extends _)
     from (cuts b w) rs z s x =
-        reached_extends (cuts b w) rs z (landed block g) _ s (x.same tt)
-        (choose_extends _ (f w) (ends (cuts b w)) (g w) (ends (cuts b w)) rs z (h w rs z) (same_extends _))
-    from (no_room asked left) rs z s x = reached_extends (no_room asked left) rs z (landed block g) _ s (x.same tt) (same_extends _)
-    from no_level rs z s x = no_level_extends rs z _ (landed_grown block g s z x.later k)
-    from no_turn rs z s x = no_turn_extends rs z _ (landed_grown block g s z x.later k)
-    from (halts w) rs z s x = reached_extends (halts w) rs z (landed block g) _ s (x.same tt) (same_extends _)
-    from (unhandled class site) rs z s x = reached_extends (unhandled class site) rs z (landed block g) _ s (x.same tt) (same_extends _)
-    from exhausted rs z s x = reached_extends exhausted rs z (landed block g) _ s (x.same tt) (same_extends _)
-    from stuck rs z s x = reached_extends stuck rs z (landed block g) _ s (x.same tt) (same_extends _)
+        reached_extends (cuts b w) rs z (landed block frames g) _ s (x.same tt)
+        (choose_extends _ (where_true (frames_of z.arena.blocks == frames) (f w)) (ends (cuts b w))
+        (where_true (frames_of z.arena.blocks == frames) (g w)) (ends (cuts b w)) rs z
+        (choose_extends _ (f w) (ends stuck) (g w) (ends stuck) rs z (h w rs z) (same_extends _)) (same_extends _))
+    from (no_room asked left) rs z s x = reached_extends (no_room asked left) rs z (landed block frames g) _ s (x.same tt) (same_extends _)
+    from no_level rs z s x = no_level_extends rs z _ (landed_grown block frames g s z x.later k)
+    from no_turn rs z s x = no_turn_extends rs z _ (landed_grown block frames g s z x.later k)
+    from (halts w) rs z s x = reached_extends (halts w) rs z (landed block frames g) _ s (x.same tt) (same_extends _)
+    from (unhandled class site) rs z s x = reached_extends (unhandled class site) rs z (landed block frames g) _ s (x.same tt) (same_extends _)
+    from exhausted rs z s x = reached_extends exhausted rs z (landed block frames g) _ s (x.same tt) (same_extends _)
+    from stuck rs z s x = reached_extends stuck rs z (landed block frames g) _ s (x.same tt) (same_extends _)
 
 pub called_extends : (r s : Outcome) (to : ℕ) (own : Registers) → Extends r s → Extends (called r to own) (called s to own)
 unfolding called
@@ -195,7 +198,7 @@ module _ (procedures : List MidProcedure) (f f' g g' : Task → State → Outcom
         (λ rs''' w. count_grown other below_grows further_grows how _ w))
         (λ rs'' x. same_grown x))
     step_extends (land block word inside landing) rs z =
-        landed_extends block _ _ _ _ (jumped_extends _ _ (exec_extends inside rs z)) (λ w rs' y. exec_extends landing _ y)
+        landed_extends block _ _ _ _ _ (jumped_extends _ _ (exec_extends inside rs z)) (λ w rs' y. exec_extends landing _ y)
         (λ w rs' y. exec_grown other below_grows further_grows landing _ y)
     step_extends (return_word r) rs z = same_extends _
     step_extends (cut_to block word) rs z = same_extends _
@@ -246,6 +249,9 @@ law_of_printing program k turns_each procedure arguments z = (grown program k tu
 
 pub law_of_costs : LawOfCosts
 law_of_costs program k turns_each procedure arguments z = (grown program k turns_each procedure arguments z).cost
+
+pub law_of_arenas : LawOfArenas
+law_of_arenas program k turns_each procedure arguments z = (grown program k turns_each procedure arguments z).arena
 
 pub law_of_levels : LawOfLevels
 unfolding meaning

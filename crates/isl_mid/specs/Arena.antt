@@ -1,6 +1,6 @@
 -- The arena: the words of memory, of which some are lent to code. From low addresses to high ones stand the words laid beside
 -- the code, the heap, which grows up, words that are left, and the stack, which grows down from the arena's end.
-use Rattle.std.specs.Prelude.{ℕ, ◌+◌, ◌-◌, ◌*◌, ◌/◌, ◌%◌, Bool, false, not, ◌&&◌, ◌||◌, ◌==◌, nat_lt, nat_le, List, [], ◌∷◌, ◌++◌, length, take, drop, replicate, slice_get, slice_set, Option, Some, None, if◌then◌else◌}
+use Rattle.std.specs.Prelude.{ℕ, zero, suc, ◌+◌, ◌-◌, ◌*◌, ◌/◌, ◌%◌, Bool, false, not, ◌&&◌, ◌||◌, ◌==◌, nat_lt, nat_le, List, [], ◌∷◌, length, slice_get, slice_set, Option, Some, None, if◌then◌else◌}
 
 -- a block of the stack: a frame, which an activation has for itself, or words that code has laid
 pub record Block : Type 0 where
@@ -22,6 +22,11 @@ pub record Arena : Type 0 where
 abbrev pub words_of : List Block → ℕ
 words_of [] = 0
 words_of (b ∷ bs) = b.words + words_of bs
+
+-- how many of them are frames
+abbrev pub frames_of : List Block → ℕ
+frames_of [] = 0
+frames_of (b ∷ bs) = (if b.is_frame then 1 else 0) + frames_of bs
 
 -- the address at which the innermost of these blocks begins, in an arena of so many words; its end where there is none
 abbrev pub begin_of : ℕ → List Block → ℕ
@@ -65,14 +70,16 @@ word_at a address = if is_lent a address then word_in (slice_get a.memory (addre
 abbrev pub with_word : ℕ → ℕ → Arena → Arena
 with_word address word a = record a { memory = slice_set a.memory (address / 4) (Some word) }
 
--- the memory when so many words from an address on are lent anew
-abbrev pub lent_anew : ℕ → ℕ → List (Option ℕ) → List (Option ℕ)
-lent_anew address words memory =
-    take (address / 4) memory ++ (replicate {A = Option ℕ} words None ++ drop (address / 4 + words) memory)
+-- the memory with no words at so many places from one on
+abbrev pub emptied : ℕ → ℕ → List (Option ℕ) → List (Option ℕ)
+emptied place count [] = []
+emptied zero zero (w ∷ ws) = w ∷ ws
+emptied zero (suc n) (w ∷ ws) = None ∷ emptied zero n ws
+emptied (suc i) n (w ∷ ws) = w ∷ emptied i n ws
 
 -- so many words more in the heap
 abbrev pub with_heap : ℕ → Arena → Arena
-with_heap words a = record a { heap_to = a.heap_to + 4 * words; memory = lent_anew a.heap_to words a.memory }
+with_heap words a = record a { heap_to = a.heap_to + 4 * words; memory = emptied (a.heap_to / 4) words a.memory }
 
 abbrev pub with_blocks : List Block → Arena → Arena
 with_blocks bs a = record a { blocks = bs }
@@ -81,7 +88,7 @@ with_blocks bs a = record a { blocks = bs }
 abbrev pub with_block : Block → Arena → Arena
 with_block b a = record a {
   blocks = b ∷ a.blocks;
-  memory = lent_anew (begin_of (length a.memory) (b ∷ a.blocks)) b.words a.memory;
+  memory = emptied (begin_of (length a.memory) (b ∷ a.blocks) / 4) b.words a.memory;
 }
 
 -- whether a block above others begins at an address and is no frame

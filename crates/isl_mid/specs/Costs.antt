@@ -1,4 +1,4 @@
--- What operations, steps and entries cost: never less than the instructions that they become.
+-- What operations, steps and entries cost. What is begun is charged at its beginning.
 use Rattle.std.specs.Prelude.{ℕ, ◌+◌, ◌*◌, length}
 use Rattle.isl_mid.specs.declared.operation.Operation.{Operation}
 use Rattle.isl_mid.specs.declared.operation.Operation.TheVariants.{Move, Constant, Compute, Load, Store, Request, Lay, GiveBack, Draw, Put, Get, Call}

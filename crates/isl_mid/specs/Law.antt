@@ -1,11 +1,21 @@
 -- Laws of the meaning: what was printed stays, costs never fall, and more levels and turns change only an end for want of them.
-use Rattle.std.specs.Prelude.{◌≡◌, ℕ, ◌≤◌, List, ◌++◌}
+use Rattle.std.specs.Prelude.{◌≡◌, ℕ, ◌≤◌, List, ◌++◌, length}
 use Rattle.isl_mid.specs.declared.program.MidProgram.{MidProgram}
+use Rattle.isl_mid.specs.Arena.{Arena}
 use Rattle.isl_mid.specs.State.{State, End, falls, returns, cuts, no_room, no_level, no_turn, halts, unhandled, exhausted, stuck, Outcome}
 use Rattle.isl_mid.specs.Meaning.{meaning}
 
+-- an arena of the same size with the same words laid beside the code, and a heap that is no smaller
+pub record Enlarged (before after : Arena) : Type 0 where
+  pub size : length after.memory ≡ length before.memory
+  pub laid_from : after.laid_from ≡ before.laid_from
+  pub laid_to : after.laid_to ≡ before.laid_to
+  pub heap_from : after.heap_from ≡ before.heap_from
+  pub heap_to : before.heap_to ≤ after.heap_to
+
 -- a later state: more was printed behind what was printed, and the cost is no less
 pub record Grown (before after : State) : Type 0 where
+  pub arena : Enlarged before.arena after.arena
   pub printed : (more : List ℕ) × (after.printed ≡ before.printed ++ more)
   pub cost : before.cost ≤ after.cost
 
@@ -38,6 +48,12 @@ abbrev pub LawOfCosts : Type 0
 LawOfCosts =
     (program : MidProgram) (k turns procedure : ℕ) (arguments : List ℕ) (z : State)
     → z.cost ≤ (meaning program k turns procedure arguments z).state.cost
+
+-- a run leaves the size of the arena and what is laid beside the code, and gives no word of the heap back
+abbrev pub LawOfArenas : Type 0
+LawOfArenas =
+    (program : MidProgram) (k turns procedure : ℕ) (arguments : List ℕ) (z : State)
+    → Enlarged z.arena (meaning program k turns procedure arguments z).state.arena
 
 -- with more levels and turns a run goes on where it ended for want of them, and else is the same
 abbrev pub LawOfLevels : Type 0

@@ -11,7 +11,7 @@ use Rattle.isl_mid.specs.declared.program.MidProcedure.{MidProcedure}
 use Rattle.isl_mid.specs.declared.program.MidProgram.{MidProgram}
 use Rattle.isl_mid.specs.MidCode.{MidStep, perform, choose, repeat, land, return_word, cut_to, halt_with, end_unhandled, MidCode, no_step, step_and, code_of}
 use Rattle.isl_mid.specs.Words.{computed, compares, address}
-use Rattle.isl_mid.specs.Arena.{Block, left, stack_from, is_lent, word_at, with_word, with_heap, with_blocks, with_block, blocks_from, blocks_below}
+use Rattle.isl_mid.specs.Arena.{frames_of, Block, left, stack_from, is_lent, word_at, with_word, with_heap, with_blocks, with_block, blocks_from, blocks_below}
 use Rattle.isl_mid.specs.Costs.{operation_cost, test_cost, return_cost, cut_cost, halt_cost, unhandled_cost, entry_cost}
 use Rattle.isl_mid.specs.State.{Registers, first_registers, State, End, falls, returns, cuts, no_room, no_level, no_turn, halts, unhandled, exhausted, stuck, Outcome, Next, ends, charged, with_arena, gives, go_on, with_some, choose_by, where_true, with_register, with_registers, jumped, landed}
 
@@ -170,7 +170,7 @@ module _ (context : Context) where
         (λ rs' y. go_on (jumped (exec body rs' y)) (λ rs'' x. count counted (again (repeat counted head t body) rs'') x))
         (ends falls))
     exec_step (land block word inside landing) rs z =
-        landed block (λ w rs' y. exec landing (slice_set rs' word (Some w)) y) (jumped (exec inside rs z))
+        landed block (frames_of z.arena.blocks) (λ w rs' y. exec landing (slice_set rs' word (Some w)) y) (jumped (exec inside rs z))
     exec_step (return_word r) rs z = with_register r (λ w. ends (returns w)) rs (charged return_cost z)
     exec_step (cut_to block word) rs z =
         with_register block (λ b. with_register word (λ w. cut b w)) rs (charged cut_cost z)

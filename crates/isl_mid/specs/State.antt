@@ -2,7 +2,7 @@
 -- meaning over them.
 use Rattle.std.specs.Prelude.{ℕ, ◌+◌, ◌-◌, Bool, true, false, ◌==◌, List, [], ◌∷◌, ◌++◌, length, map, replicate, slice_get, slice_set, Option, Some, None}
 use Rattle.isl_mid.specs.Costs.{jump_cost}
-use Rattle.isl_mid.specs.Arena.{Arena, word_in}
+use Rattle.isl_mid.specs.Arena.{Arena, word_in, frames_of}
 
 -- the words in the registers of an activation; none in one that was not set
 abbrev pub Registers : Type 0
@@ -109,19 +109,21 @@ abbrev pub is_word : ℕ → Option ℕ → Bool
 is_word w None = false
 is_word w (Some x) = x == w
 
--- a cut to the block whose address is in a register is caught; every other end passes
-abbrev pub landed_from : End → ℕ → (ℕ → Next) → Outcome → Outcome
-landed_from (cuts b w) block catch r =
-    choose_by (is_word b (register block r.registers)) (catch w) (ends (cuts b w)) r.registers r.state
-landed_from falls block catch r = r
-landed_from (returns w) block catch r = r
-landed_from (no_room asked left) block catch r = r
-landed_from no_level block catch r = r
-landed_from no_turn block catch r = r
-landed_from (halts w) block catch r = r
-landed_from (unhandled class site) block catch r = r
-landed_from exhausted block catch r = r
-landed_from stuck block catch r = r
+-- A cut to the block whose address is in a register is caught in the activation that has the landing, whose frame is the innermost
+-- one of so many; every other end passes.
+abbrev pub landed_from : End → ℕ → (frames : ℕ) → (ℕ → Next) → Outcome → Outcome
+landed_from (cuts b w) block frames catch r =
+    choose_by (is_word b (register block r.registers)) (where_true (frames_of r.state.arena.blocks == frames) (catch w))
+    (ends (cuts b w)) r.registers r.state
+landed_from falls block frames catch r = r
+landed_from (returns w) block frames catch r = r
+landed_from (no_room asked left) block frames catch r = r
+landed_from no_level block frames catch r = r
+landed_from no_turn block frames catch r = r
+landed_from (halts w) block frames catch r = r
+landed_from (unhandled class site) block frames catch r = r
+landed_from exhausted block frames catch r = r
+landed_from stuck block frames catch r = r
 
-unfoldable pub landed : ℕ → (ℕ → Next) → Outcome → Outcome
-landed block catch r = landed_from r.end block catch r
+unfoldable pub landed : ℕ → (frames : ℕ) → (ℕ → Next) → Outcome → Outcome
+landed block frames catch r = landed_from r.end block frames catch r

@@ -120,6 +120,16 @@ CutAndLanded =
     × ((run cutting 2 1 [] 8).state.arena.blocks
     ≡ record { words = 1; is_frame = false } ∷ record { words = 2; is_frame = true } ∷ [])
 
+-- a block is handed to a procedure that has a landing for it, below which its own frame is gone when another one cuts to it
+abbrev pub catching_below : List MidProcedure
+catching_below =
+    procedure 0 2 2 (perform (Lay 0 1) ∷ perform (Call 1 (Procedure 1) (0 ∷ [])) ∷ return_word 1 ∷ [])
+    ∷ procedure 1 3 1 (land 0 1 (code_of (perform (Call 2 (Procedure 2) (0 ∷ [])) ∷ return_word 2 ∷ [])) (code_of (return_word 1 ∷ [])) ∷ [])
+    ∷ procedure 1 1 1 (cut_to 0 0 ∷ []) ∷ []
+
+abbrev pub NotCaughtBelow : Type 0
+NotCaughtBelow = (run catching_below 3 1 [] 8).end ≡ stuck
+
 -- a cut to where no block stands
 abbrev pub cutting_nowhere : List MidProcedure
 cutting_nowhere = procedure 0 1 2 (perform (Lay 0 1) ∷ perform (GiveBack 0) ∷ cut_to 0 0 ∷ []) ∷ []

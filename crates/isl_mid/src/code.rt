@@ -28,8 +28,8 @@ pub enum StepKind {
         test: Test,
         body: Code,
     },
-    /// The code inside; a cut to the block whose address is in the register `block` is caught: its word is in the register
-    /// `word`, and the landing runs.
+    /// The code inside; a cut to the block whose address is in the register `block`, which this activation has laid, is
+    /// caught: its word is in the register `word`, and the landing runs.
     Land {
         block: Register,
         word: Register,

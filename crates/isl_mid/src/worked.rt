@@ -1,6 +1,6 @@
 // Worked programs: what some programs that are written out do, as the contract of a function that does nothing.
 
-ghost use Rattle.isl_mid.specs.Worked.{Added, ArgumentWanting, Printed, TooFewTurns, Copied, Doubled, TooFewLevels, NoRoomForAFrame, CutAndLanded, CutNowhere, Requested, NoRoom, Loaded, NotLent, Stored, NotStored, Drawn, Exhausted};
+ghost use Rattle.isl_mid.specs.Worked.{Added, ArgumentWanting, Printed, TooFewTurns, Copied, Doubled, TooFewLevels, NoRoomForAFrame, CutAndLanded, NotCaughtBelow, CutNowhere, Requested, NoRoom, Loaded, NotLent, Stored, NotStored, Drawn, Exhausted};
 
 /// Programs of single operations and loops do what their comments in `specs/Worked.antt` say.
 pub fn worked_operations()
@@ -17,6 +17,7 @@ pub fn worked_calls()
     ensures too_few_levels { TooFewLevels }
     ensures no_room_for_a_frame { NoRoomForAFrame }
     ensures cut_and_landed { CutAndLanded }
+    ensures not_caught_below { NotCaughtBelow }
     ensures cut_nowhere { CutNowhere }
 {}
 
