@@ -1,5 +1,6 @@
 -- States only grow: a lemma for each combinator, and a line for each operation and step.
-use Rattle.std.proofs.Common.{◌==◌, ◌≡◌, ℕ, zero, suc, ◌+◌, ◌/◌, length, Bool, true, false, List, [], ◌∷◌, ◌++◌, Option, Some, None, refl, sym, ap, ◌∙◌, arith, append_assoc}
+use Rattle.std.proofs.Common.{◌≡◌, ℕ, zero, suc, ◌+◌, ◌/◌, length, Bool, true, false, List, [], ◌∷◌, ◌++◌, Option, Some, None, refl, sym, ap, ◌∙◌, arith, append_assoc}
+use Rattle.std.specs.Prelude.{slice_set}
 use Rattle.std.proofs.lemmas.List.{append-nil}
 use Rattle.std.proofs.Math.ListN.{length-set}
 use Rattle.isl_mid.specs.declared.operation.Counted.{Counted}
@@ -7,13 +8,13 @@ use Rattle.isl_mid.specs.declared.operation.Counted.TheVariants.{Level, Turn}
 use Rattle.isl_mid.specs.declared.operation.Callee.{Callee}
 use Rattle.isl_mid.specs.declared.operation.Callee.TheVariants.{Procedure, Word}
 use Rattle.isl_mid.specs.declared.operation.Operation.{Operation}
-use Rattle.isl_mid.specs.declared.operation.Operation.TheVariants.{Move, Constant, Compute, Load, Store, Request, Lay, GiveBack, Draw, Put, Get, Call}
+use Rattle.isl_mid.specs.declared.operation.Operation.TheVariants.{Move, Constant, Compute, Load, Store, Request, Draw, Put, Get, Call}
 use Rattle.isl_mid.specs.declared.operation.Test.{Test}
 use Rattle.isl_mid.specs.declared.program.MidProcedure.{MidProcedure}
-use Rattle.isl_mid.specs.MidCode.{MidStep, perform, choose, repeat, land, return_word, cut_to, halt_with, end_unhandled, MidCode, no_step, step_and, code_of}
-use Rattle.isl_mid.specs.Arena.{Arena, Block, frames_of, emptied, with_word, with_heap, with_block, with_blocks}
-use Rattle.isl_mid.specs.State.{Registers, State, End, falls, returns, cuts, no_room, no_level, no_turn, halts, unhandled, exhausted, stuck, Outcome, Next, ends, charged, gives, go_on, go_on_from, with_some, choose_by, where_true, with_arena, with_registers, jumped, landed, landed_from}
-use Rattle.isl_mid.specs.Meaning.{store, where_left, lay, get_from, test, Task, enter, again, Context, context_of, called, called_from, left_from, leaves, count, with_callee, operate, exec, exec_step, run_task, turns, levels}
+use Rattle.isl_mid.specs.MidCode.{MidStep, perform, choose, repeat, with_block, return_word, cut_to, halt_with, end_unhandled, MidCode, no_step, step_and, code_of}
+use Rattle.isl_mid.specs.Arena.{Arena, Block, activation_frame, record_of, emptied, with_word, with_heap, with_new_block, with_blocks}
+use Rattle.isl_mid.specs.State.{Registers, State, End, falls, returns, cuts, no_room, no_level, no_turn, halts, unhandled, exhausted, stuck, Outcome, Next, ends, charged, gives, go_on, go_on_from, with_some, choose_by, with_arena, with_registers, jumped, landed, landed_from}
+use Rattle.isl_mid.specs.Meaning.{store, where_left, lay, give_back, close, run_inside, run_landing, with_record, get_from, test, Task, enter, again, Context, context_of, called, called_from, left_from, leaves, count, with_callee, operate, exec, exec_step, run_task, turns, levels, at_top, at_top_from}
 use Rattle.isl_mid.specs.Law.{Enlarged, Grown}
 
 pub same_enlarged : (a : Arena) → Enlarged a a
@@ -41,7 +42,7 @@ word_enlarged a word arena = record { size = length-set arena.memory (a / 4) (So
 heap_enlarged : (words : ℕ) (arena : Arena) → Enlarged arena (with_heap words arena)
 heap_enlarged words arena = record { size = length-emptied (arena.heap_to / 4) words arena.memory; laid_from = refl; laid_to = refl; heap_from = refl; heap_to = omega arith }
 
-block_enlarged : (b : Block) (arena : Arena) → Enlarged arena (with_block b arena)
+block_enlarged : (b : Block) (arena : Arena) → Enlarged arena (with_new_block b arena)
 block_enlarged b arena = record { size = length-emptied _ b.words arena.memory; laid_from = refl; laid_to = refl; heap_from = refl; heap_to = omega arith }
 
 blocks_enlarged : (bs : List Block) (arena : Arena) → Enlarged arena (with_blocks bs arena)
@@ -80,7 +81,7 @@ go_on_grown r next z g h = from r.end
     from : (e : End) → Grown z (go_on_from e r next).state
     from falls = both_grown g (h r.registers r.state)
     from (returns w) = g
-    from (cuts b w) = g
+    from (cuts n w) = g
     from (no_room asked left) = g
     from no_level = g
     from no_turn = g
@@ -111,17 +112,16 @@ pub jumped_grown : (r : Outcome) (z : State) → Grown z r.state → Grown z (ju
 jumped_grown r z g = go_on_grown r _ z g (λ rs y. charged_grown _ y)
 
 pub landed_grown :
-    (block frames : ℕ) (catch : ℕ → Next) (r : Outcome) (z : State) → Grown z r.state
-    → ((w : ℕ) (rs : Registers) (y : State) → Grown y (catch w rs y).state) → Grown z (landed block frames catch r).state
+    (outside : ℕ) (catch : ℕ → Next) (r : Outcome) (z : State) → Grown z r.state
+    → ((w : ℕ) (rs : Registers) (y : State) → Grown y (catch w rs y).state) → Grown z (landed outside catch r).state
 unfolding landed
-landed_grown block frames catch r z g h = from r.end
+landed_grown outside catch r z g h = from r.end
   where
-    from : (e : End) → Grown z (landed_from e block frames catch r).state
+    from : (e : End) → Grown z (landed_from e outside catch r).state
     from falls = g
     from (returns w) = g
-    from (cuts b w) =
-        both_grown g (choose_grown _ (where_true (frames_of r.state.arena.blocks == frames) (catch w)) (ends (cuts b w)) r.registers r.state
-        (choose_grown _ (catch w) (ends stuck) r.registers r.state (h w r.registers r.state) (same_grown r.state)) (same_grown r.state))
+    from (cuts n w) =
+        both_grown g (choose_grown _ (catch w) (ends (cuts n w)) r.registers r.state (h w r.registers r.state) (same_grown r.state))
     from (no_room asked left) = g
     from no_level = g
     from no_turn = g
@@ -137,7 +137,7 @@ called_grown r to rs z g = from r.end
     from : (e : End) → Grown z (called_from e to rs r.state).state
     from falls = g
     from (returns w) = g
-    from (cuts b w) = g
+    from (cuts n w) = g
     from (no_room asked left) = g
     from no_level = g
     from no_turn = g
@@ -153,7 +153,7 @@ leaves_grown bs r z g = from r.end
     from : (e : End) → Grown z (left_from e bs r).state
     from falls = g
     from (returns w) = both_grown g (arena_grown _ r.state (blocks_enlarged bs r.state.arena))
-    from (cuts b w) = g
+    from (cuts n w) = g
     from (no_room asked left) = g
     from no_level = g
     from no_turn = g
@@ -172,6 +172,36 @@ where_left_grown words next rs z g = choose_grown _ _ _ rs z g (same_grown z)
 
 lay_grown : (b : Block) (next : Next) (rs : Registers) (z : State) → ((rs : Registers) (y : State) → Grown y (next rs y).state) → Grown z (lay b next rs z).state
 lay_grown b next rs z h = where_left_grown b.words _ rs z (both_grown (arena_grown _ z (block_enlarged b z.arena)) (h rs _))
+
+pub give_back_grown : (outside : ℕ) (rs : Registers) (z : State) → Grown z (give_back outside rs z).state
+give_back_grown outside rs z =
+    both_grown (charged_grown _ z) (with_some_grown _ _ rs _ (λ bs. arena_grown _ _ (blocks_enlarged bs z.arena)))
+
+close_grown : (outside : ℕ) (next : Next) (rs : Registers) (z : State) → ((rs : Registers) (y : State) → Grown y (next rs y).state) → Grown z (close outside next rs z).state
+close_grown outside next rs z h =
+    with_some_grown _ _ rs z (λ bs. both_grown (arena_grown _ z (blocks_enlarged bs z.arena)) (h rs _))
+
+run_inside_grown : (outside block : ℕ) (inside : Next) (rs : Registers) (z : State) → ((rs : Registers) (y : State) → Grown y (inside rs y).state) → Grown z (run_inside outside block inside rs z).state
+run_inside_grown outside block inside rs z h =
+    go_on_grown _ _ z (h _ z) (λ rs' y. jumped_grown _ y (give_back_grown outside rs' y))
+
+pub run_landing_grown : (outside word : ℕ) (landing : Next) (w : ℕ) (rs : Registers) (z : State) → ((rs : Registers) (y : State) → Grown y (landing rs y).state) → Grown z (run_landing outside word landing w rs z).state
+run_landing_grown outside word landing w rs z h =
+    close_grown outside (λ rs' y. go_on (landing (slice_set rs' word (Some w)) y) (give_back outside)) rs z
+    (λ rs' y. go_on_grown _ (give_back outside) y (h _ y) (λ rs'' x. give_back_grown outside rs'' x))
+
+pub after_inside_grown : (outside : ℕ) (rs : Registers) (z : State) → Grown z (jumped (give_back outside rs z)).state
+after_inside_grown outside rs z = jumped_grown _ z (give_back_grown outside rs z)
+
+with_record_grown :
+    (block words word : ℕ) (inside landing : Next) (rs : Registers) (z : State) → ((rs : Registers) (y : State) → Grown y (inside rs y).state)
+    → ((rs : Registers) (y : State) → Grown y (landing rs y).state) → Grown z (with_record block words word inside landing rs z).state
+with_record_grown block words word inside landing rs z g h =
+    both_grown (charged_grown _ z)
+    (lay_grown (record_of words)
+    (λ rs' y. landed (length z.arena.blocks) (run_landing (length z.arena.blocks) word landing) (run_inside (length z.arena.blocks) block inside rs' y)) rs _
+    (λ rs' y. landed_grown (length z.arena.blocks) _ _ y (run_inside_grown _ block inside rs' y g)
+    (λ w rs'' x. run_landing_grown _ word landing w rs'' x h)))
 
 get_grown : (bytes : List ℕ) (to : ℕ) (rs : Registers) (z : State) → Grown z (get_from bytes to rs z).state
 get_grown [] to rs z = same_grown z
@@ -209,10 +239,6 @@ module _ (c : Context) (below : TasksGrow c.below) (further : TasksGrow c.furthe
       with_some_grown _ _ rs z (λ w. with_some_grown _ _ rs z (λ a. store_grown _ w (ends falls) rs z (λ rs' y. same_grown y)))
   operate_grown (Request to words) rs z =
       with_some_grown _ _ rs z (λ w. where_left_grown w _ rs z (arena_grown _ z (heap_enlarged w z.arena)))
-  operate_grown (Lay to words) rs z =
-      where_left_grown words _ rs z (arena_grown _ z (block_enlarged (record { words = words; is_frame = false }) z.arena))
-  operate_grown (GiveBack block) rs z =
-      with_some_grown _ _ rs z (λ b. with_some_grown _ _ rs z (λ bs. arena_grown _ z (blocks_enlarged bs z.arena)))
   operate_grown (Draw to base offset) rs z =
       with_some_grown _ _ rs z (λ a. with_some_grown _ _ rs z (λ w.
       choose_grown _ _ _ rs z (same_grown z) (store_grown _ (w + 1) (gives to (w + 1)) rs z (λ rs' y. same_grown y))))
@@ -238,8 +264,8 @@ module _ (c : Context) (below : TasksGrow c.below) (further : TasksGrow c.furthe
         go_on_grown _ _ z (exec_grown head rs z) (λ rs' y. test_grown t _ _ rs' y
         (λ rs'' x. go_on_grown _ _ x (jumped_grown _ x (exec_grown body rs'' x)) (λ rs''' w. count_grown how _ w))
         (λ rs'' x. same_grown x))
-    step_grown (land block word inside landing) rs z =
-        landed_grown block _ _ _ z (jumped_grown _ z (exec_grown inside rs z)) (λ w rs' y. exec_grown landing _ y)
+    step_grown (with_block block words word inside landing) rs z =
+        with_record_grown block words word (λ rs' y. exec c inside rs' y) (λ rs' y. exec c landing rs' y) rs z (λ rs' y. exec_grown inside rs' y) (λ rs' y. exec_grown landing rs' y)
     step_grown (return_word r) rs z = both_grown (charged_grown _ z) (with_some_grown _ _ rs _ (λ w. same_grown _))
     step_grown (cut_to block word) rs z =
         both_grown (charged_grown _ z)
@@ -252,10 +278,26 @@ module _ (c : Context) (below : TasksGrow c.below) (further : TasksGrow c.furthe
   task_grown (enter p arguments) z =
       both_grown (charged_grown _ z)
       (choose_grown _ _ _ _ _
-      (lay_grown (record { words = p.frame; is_frame = true }) (λ rs y. leaves z.arena.blocks (exec c (code_of p.body) rs y)) _ _
+      (lay_grown (record { words = p.frame; kind = activation_frame }) (λ rs y. leaves z.arena.blocks (exec c (code_of p.body) rs y)) _ _
       (λ rs y. leaves_grown z.arena.blocks _ y (exec_grown (code_of p.body) rs y)))
       (same_grown _))
   task_grown (again s rs) z = step_grown s rs z
+
+pub at_top_grown : (r : Outcome) (z : State) → Grown z r.state → Grown z (at_top r).state
+unfolding at_top
+at_top_grown r z g = from r.end
+  where
+    from : (e : End) → Grown z (at_top_from e r).state
+    from falls = g
+    from (returns w) = g
+    from (cuts n w) = g
+    from (no_room asked left) = g
+    from no_level = g
+    from no_turn = g
+    from (halts w) = g
+    from (unhandled class site) = g
+    from exhausted = g
+    from stuck = g
 
 -- tasks with so many turns and levels
 

@@ -1,21 +1,21 @@
 -- More levels and turns: a lemma for each combinator, and a line for each step.
 use Rattle.std.proofs.Common.{◌≡◌, ℕ, zero, suc, ◌≤◌, Bool, true, false, List, [], ◌∷◌, Option, Some, None, refl, sym, subst, arith}
-use Rattle.std.specs.Prelude.{◌==◌}
+use Rattle.std.specs.Prelude.{length}
 use Rattle.isl_mid.specs.declared.operation.Counted.{Counted}
 use Rattle.isl_mid.specs.declared.operation.Counted.TheVariants.{Level, Turn}
 use Rattle.isl_mid.specs.declared.operation.Callee.{Callee}
 use Rattle.isl_mid.specs.declared.operation.Callee.TheVariants.{Procedure, Word}
 use Rattle.isl_mid.specs.declared.operation.Operation.{Operation}
-use Rattle.isl_mid.specs.declared.operation.Operation.TheVariants.{Move, Constant, Compute, Load, Store, Request, Lay, GiveBack, Draw, Put, Get, Call}
+use Rattle.isl_mid.specs.declared.operation.Operation.TheVariants.{Move, Constant, Compute, Load, Store, Request, Draw, Put, Get, Call}
 use Rattle.isl_mid.specs.declared.operation.Test.{Test}
 use Rattle.isl_mid.specs.declared.program.MidProcedure.{MidProcedure}
 use Rattle.isl_mid.specs.declared.program.MidProgram.{MidProgram}
-use Rattle.isl_mid.specs.MidCode.{MidStep, perform, choose, repeat, land, return_word, cut_to, halt_with, end_unhandled, MidCode, no_step, step_and, code_of}
-use Rattle.isl_mid.specs.Arena.{Block, frames_of}
-use Rattle.isl_mid.specs.State.{Registers, State, End, falls, returns, cuts, no_room, no_level, no_turn, halts, unhandled, exhausted, stuck, Outcome, Next, ends, go_on, with_some, choose_by, where_true, with_registers, jumped, landed}
-use Rattle.isl_mid.specs.Meaning.{lay, test, Task, enter, again, Context, context_of, called, leaves, count, with_callee, operate, exec, exec_step, run_task, turns, levels, meaning}
+use Rattle.isl_mid.specs.MidCode.{MidStep, perform, choose, repeat, with_block, return_word, cut_to, halt_with, end_unhandled, MidCode, no_step, step_and, code_of}
+use Rattle.isl_mid.specs.Arena.{Block, activation_frame, record_of}
+use Rattle.isl_mid.specs.State.{Registers, State, End, falls, returns, cuts, no_room, no_level, no_turn, halts, unhandled, exhausted, stuck, Outcome, Next, ends, go_on, with_some, choose_by, with_registers, jumped, landed}
+use Rattle.isl_mid.specs.Meaning.{lay, give_back, run_inside, run_landing, with_record, test, Task, enter, again, Context, context_of, called, leaves, count, with_callee, operate, exec, exec_step, run_task, turns, levels, at_top, runs}
 use Rattle.isl_mid.specs.Law.{Grown, Extends, LawOfPrinting, LawOfCosts, LawOfArenas, LawOfLevels}
-use Rattle.isl_mid.proofs.Growth.{same_grown, charged_grown, go_on_grown, with_some_grown, jumped_grown, landed_grown, called_grown, leaves_grown, test_grown, TasksGrow, exec_grown, count_grown, turns_grow, levels_grow}
+use Rattle.isl_mid.proofs.Growth.{same_grown, charged_grown, go_on_grown, with_some_grown, jumped_grown, landed_grown, called_grown, leaves_grown, at_top_grown, run_landing_grown, give_back_grown, after_inside_grown, test_grown, TasksGrow, exec_grown, count_grown, turns_grow, levels_grow}
 
 pub same_extends : (r : Outcome) → Extends r r
 same_extends r = record { same = λ h. refl; later = same_grown r.state }
@@ -41,7 +41,7 @@ go_on_extends r s f g x h k = from r.end r.registers r.state s x
     from : (e : End) (rs : Registers) (z : State) (s : Outcome) → Extends (ends e rs z) s → Extends (go_on (ends e rs z) f) (go_on s g)
     from falls rs z s x = reached_extends falls rs z (λ v. go_on v g) _ s (x.same tt) (h rs z)
     from (returns w) rs z s x = reached_extends (returns w) rs z (λ v. go_on v g) _ s (x.same tt) (same_extends _)
-    from (cuts b w) rs z s x = reached_extends (cuts b w) rs z (λ v. go_on v g) _ s (x.same tt) (same_extends _)
+    from (cuts n w) rs z s x = reached_extends (cuts n w) rs z (λ v. go_on v g) _ s (x.same tt) (same_extends _)
     from (no_room asked left) rs z s x = reached_extends (no_room asked left) rs z (λ v. go_on v g) _ s (x.same tt) (same_extends _)
     from no_level rs z s x = no_level_extends rs z _ (go_on_grown s g z x.later k)
     from no_turn rs z s x = no_turn_extends rs z _ (go_on_grown s g z x.later k)
@@ -76,26 +76,24 @@ pub jumped_extends : (r s : Outcome) → Extends r s → Extends (jumped r) (jum
 jumped_extends r s x = go_on_extends r s _ _ x (λ rs y. same_extends _) (λ rs y. charged_grown _ y)
 
 pub landed_extends :
-    (block frames : ℕ) (f g : ℕ → Next) (r s : Outcome) → Extends r s → ((w : ℕ) (rs : Registers) (y : State) → Extends (f w rs y) (g w rs y))
-    → ((w : ℕ) (rs : Registers) (y : State) → Grown y (g w rs y).state) → Extends (landed block frames f r) (landed block frames g s)
+    (outside : ℕ) (f g : ℕ → Next) (r s : Outcome) → Extends r s → ((w : ℕ) (rs : Registers) (y : State) → Extends (f w rs y) (g w rs y))
+    → ((w : ℕ) (rs : Registers) (y : State) → Grown y (g w rs y).state) → Extends (landed outside f r) (landed outside g s)
 unfolding landed
-landed_extends block frames f g r s x h k = from r.end r.registers r.state s x
+landed_extends outside f g r s x h k = from r.end r.registers r.state s x
   where
-    from : (e : End) (rs : Registers) (z : State) (s : Outcome) → Extends (ends e rs z) s → Extends (landed block frames f (ends e rs z)) (landed block frames g s)
-    from falls rs z s x = reached_extends falls rs z (landed block frames g) _ s (x.same tt) (same_extends _)
-    from (returns w) rs z s x = reached_extends (returns w) rs z (landed block frames g) _ s (x.same tt) (same_extends _)
-    from (cuts b w) rs z s x =
-        reached_extends (cuts b w) rs z (landed block frames g) _ s (x.same tt)
-        (choose_extends _ (where_true (frames_of z.arena.blocks == frames) (f w)) (ends (cuts b w))
-        (where_true (frames_of z.arena.blocks == frames) (g w)) (ends (cuts b w)) rs z
-        (choose_extends _ (f w) (ends stuck) (g w) (ends stuck) rs z (h w rs z) (same_extends _)) (same_extends _))
-    from (no_room asked left) rs z s x = reached_extends (no_room asked left) rs z (landed block frames g) _ s (x.same tt) (same_extends _)
-    from no_level rs z s x = no_level_extends rs z _ (landed_grown block frames g s z x.later k)
-    from no_turn rs z s x = no_turn_extends rs z _ (landed_grown block frames g s z x.later k)
-    from (halts w) rs z s x = reached_extends (halts w) rs z (landed block frames g) _ s (x.same tt) (same_extends _)
-    from (unhandled class site) rs z s x = reached_extends (unhandled class site) rs z (landed block frames g) _ s (x.same tt) (same_extends _)
-    from exhausted rs z s x = reached_extends exhausted rs z (landed block frames g) _ s (x.same tt) (same_extends _)
-    from stuck rs z s x = reached_extends stuck rs z (landed block frames g) _ s (x.same tt) (same_extends _)
+    from : (e : End) (rs : Registers) (z : State) (s : Outcome) → Extends (ends e rs z) s → Extends (landed outside f (ends e rs z)) (landed outside g s)
+    from falls rs z s x = reached_extends falls rs z (landed outside g) _ s (x.same tt) (same_extends _)
+    from (returns w) rs z s x = reached_extends (returns w) rs z (landed outside g) _ s (x.same tt) (same_extends _)
+    from (cuts n w) rs z s x =
+        reached_extends (cuts n w) rs z (landed outside g) _ s (x.same tt)
+        (choose_extends _ (f w) (ends (cuts n w)) (g w) (ends (cuts n w)) rs z (h w rs z) (same_extends _))
+    from (no_room asked left) rs z s x = reached_extends (no_room asked left) rs z (landed outside g) _ s (x.same tt) (same_extends _)
+    from no_level rs z s x = no_level_extends rs z _ (landed_grown outside g s z x.later k)
+    from no_turn rs z s x = no_turn_extends rs z _ (landed_grown outside g s z x.later k)
+    from (halts w) rs z s x = reached_extends (halts w) rs z (landed outside g) _ s (x.same tt) (same_extends _)
+    from (unhandled class site) rs z s x = reached_extends (unhandled class site) rs z (landed outside g) _ s (x.same tt) (same_extends _)
+    from exhausted rs z s x = reached_extends exhausted rs z (landed outside g) _ s (x.same tt) (same_extends _)
+    from stuck rs z s x = reached_extends stuck rs z (landed outside g) _ s (x.same tt) (same_extends _)
 
 pub called_extends : (r s : Outcome) (to : ℕ) (own : Registers) → Extends r s → Extends (called r to own) (called s to own)
 unfolding called
@@ -104,7 +102,7 @@ called_extends r s to own x = from r.end r.registers r.state s x
     from : (e : End) (rs : Registers) (z : State) (s : Outcome) → Extends (ends e rs z) s → Extends (called (ends e rs z) to own) (called s to own)
     from falls rs z s x = reached_extends falls rs z (λ v. called v to own) _ s (x.same tt) (same_extends _)
     from (returns w) rs z s x = reached_extends (returns w) rs z (λ v. called v to own) _ s (x.same tt) (same_extends _)
-    from (cuts b w) rs z s x = reached_extends (cuts b w) rs z (λ v. called v to own) _ s (x.same tt) (same_extends _)
+    from (cuts n w) rs z s x = reached_extends (cuts n w) rs z (λ v. called v to own) _ s (x.same tt) (same_extends _)
     from (no_room asked left) rs z s x = reached_extends (no_room asked left) rs z (λ v. called v to own) _ s (x.same tt) (same_extends _)
     from no_level rs z s x = no_level_extends own z _ (called_grown s to own z x.later)
     from no_turn rs z s x = no_turn_extends own z _ (called_grown s to own z x.later)
@@ -120,7 +118,7 @@ leaves_extends bs r s x = from r.end r.registers r.state s x
     from : (e : End) (rs : Registers) (z : State) (s : Outcome) → Extends (ends e rs z) s → Extends (leaves bs (ends e rs z)) (leaves bs s)
     from falls rs z s x = reached_extends falls rs z (leaves bs) _ s (x.same tt) (same_extends _)
     from (returns w) rs z s x = reached_extends (returns w) rs z (leaves bs) _ s (x.same tt) (same_extends _)
-    from (cuts b w) rs z s x = reached_extends (cuts b w) rs z (leaves bs) _ s (x.same tt) (same_extends _)
+    from (cuts n w) rs z s x = reached_extends (cuts n w) rs z (leaves bs) _ s (x.same tt) (same_extends _)
     from (no_room asked left) rs z s x = reached_extends (no_room asked left) rs z (leaves bs) _ s (x.same tt) (same_extends _)
     from no_level rs z s x = no_level_extends rs z _ (leaves_grown bs s z x.later)
     from no_turn rs z s x = no_turn_extends rs z _ (leaves_grown bs s z x.later)
@@ -134,6 +132,50 @@ pub test_extends :
     → ((rs : Registers) (y : State) → Extends (g rs y) (g' rs y)) → Extends (test t f g rs z) (test t f' g' rs z)
 test_extends t f g f' g' rs z h k =
     with_some_extends _ _ _ rs _ (λ a. with_some_extends _ _ _ rs _ (λ b. choose_extends _ f g f' g' rs _ (h rs _) (k rs _)))
+
+lay_extends : (b : Block) (f g : Next) (rs : Registers) (z : State) → ((rs : Registers) (y : State) → Extends (f rs y) (g rs y)) → Extends (lay b f rs z) (lay b g rs z)
+lay_extends b f g rs z h = choose_extends _ _ _ _ _ rs z (h rs _) (same_extends _)
+
+run_inside_extends :
+    (outside block : ℕ) (f g : Next) (rs : Registers) (z : State) → ((rs : Registers) (y : State) → Extends (f rs y) (g rs y))
+    → Extends (run_inside outside block f rs z) (run_inside outside block g rs z)
+run_inside_extends outside block f g rs z h =
+    go_on_extends _ _ _ _ (h _ z) (λ rs' y. same_extends _) (λ rs' y. after_inside_grown outside rs' y)
+
+run_landing_extends :
+    (outside word : ℕ) (f g : Next) (w : ℕ) (rs : Registers) (z : State) → ((rs : Registers) (y : State) → Extends (f rs y) (g rs y))
+    → Extends (run_landing outside word f w rs z) (run_landing outside word g w rs z)
+run_landing_extends outside word f g w rs z h =
+    with_some_extends _ _ _ rs z (λ bs.
+    go_on_extends _ _ (give_back outside) (give_back outside) (h _ _) (λ rs' y. same_extends _) (λ rs' y. give_back_grown outside rs' y))
+
+with_record_extends :
+    (block words word : ℕ) (f f' g g' : Next) (rs : Registers) (z : State) → ((rs : Registers) (y : State) → Extends (f rs y) (g rs y))
+    → ((rs : Registers) (y : State) → Extends (f' rs y) (g' rs y)) → ((rs : Registers) (y : State) → Grown y (g' rs y).state)
+    → Extends (with_record block words word f f' rs z) (with_record block words word g g' rs z)
+with_record_extends block words word f f' g g' rs z h k e =
+    lay_extends (record_of words)
+    (λ rs' y. landed (length z.arena.blocks) (run_landing (length z.arena.blocks) word f') (run_inside (length z.arena.blocks) block f rs' y))
+    (λ rs' y. landed (length z.arena.blocks) (run_landing (length z.arena.blocks) word g') (run_inside (length z.arena.blocks) block g rs' y)) rs _
+    (λ rs' y. landed_extends (length z.arena.blocks) (run_landing (length z.arena.blocks) word f') (run_landing (length z.arena.blocks) word g') _ _
+    (run_inside_extends _ block f g rs' y h) (λ w rs'' x. run_landing_extends _ word f' g' w rs'' x k)
+    (λ w rs'' x. run_landing_grown _ word g' w rs'' x e))
+
+at_top_extends : (r s : Outcome) → Extends r s → Extends (at_top r) (at_top s)
+unfolding at_top
+at_top_extends r s x = from r.end r.registers r.state s x
+  where
+    from : (e : End) (rs : Registers) (z : State) (s : Outcome) → Extends (ends e rs z) s → Extends (at_top (ends e rs z)) (at_top s)
+    from falls rs z s x = reached_extends falls rs z at_top _ s (x.same tt) (same_extends _)
+    from (returns w) rs z s x = reached_extends (returns w) rs z at_top _ s (x.same tt) (same_extends _)
+    from (cuts n w) rs z s x = reached_extends (cuts n w) rs z at_top _ s (x.same tt) (same_extends _)
+    from (no_room asked left) rs z s x = reached_extends (no_room asked left) rs z at_top _ s (x.same tt) (same_extends _)
+    from no_level rs z s x = no_level_extends rs z _ (at_top_grown s z x.later)
+    from no_turn rs z s x = no_turn_extends rs z _ (at_top_grown s z x.later)
+    from (halts w) rs z s x = reached_extends (halts w) rs z at_top _ s (x.same tt) (same_extends _)
+    from (unhandled class site) rs z s x = reached_extends (unhandled class site) rs z at_top _ s (x.same tt) (same_extends _)
+    from exhausted rs z s x = reached_extends exhausted rs z at_top _ s (x.same tt) (same_extends _)
+    from stuck rs z s x = reached_extends stuck rs z at_top _ s (x.same tt) (same_extends _)
 
 -- code and tasks in two contexts: what tasks do one level below and one turn further in the second extends what they do in the
 -- first
@@ -165,8 +207,6 @@ module _ (procedures : List MidProcedure) (f f' g g' : Task → State → Outcom
   operate_extends (Load to base offset) rs z = same_extends _
   operate_extends (Store from base offset) rs z = same_extends _
   operate_extends (Request to words) rs z = same_extends _
-  operate_extends (Lay to words) rs z = same_extends _
-  operate_extends (GiveBack block) rs z = same_extends _
   operate_extends (Draw to base offset) rs z = same_extends _
   operate_extends (Put from) rs z = same_extends _
   operate_extends (Get to) rs z = same_extends _
@@ -197,21 +237,19 @@ module _ (procedures : List MidProcedure) (f f' g g' : Task → State → Outcom
         (λ rs'' x. go_on_grown _ _ x (jumped_grown _ x (exec_grown other below_grows further_grows body rs'' x))
         (λ rs''' w. count_grown other below_grows further_grows how _ w))
         (λ rs'' x. same_grown x))
-    step_extends (land block word inside landing) rs z =
-        landed_extends block _ _ _ _ _ (jumped_extends _ _ (exec_extends inside rs z)) (λ w rs' y. exec_extends landing _ y)
-        (λ w rs' y. exec_grown other below_grows further_grows landing _ y)
+    step_extends (with_block block words word inside landing) rs z =
+        with_record_extends block words word (λ rs' y. exec one inside rs' y) (λ rs' y. exec one landing rs' y)
+        (λ rs' y. exec other inside rs' y) (λ rs' y. exec other landing rs' y) rs z (λ rs' y. exec_extends inside rs' y) (λ rs' y. exec_extends landing rs' y)
+        (λ rs' y. exec_grown other below_grows further_grows landing rs' y)
     step_extends (return_word r) rs z = same_extends _
     step_extends (cut_to block word) rs z = same_extends _
     step_extends (halt_with r) rs z = same_extends _
     step_extends (end_unhandled class site) rs z = same_extends _
 
-  lay_extends : (b : Block) (m n : Next) (rs : Registers) (z : State) → ((rs : Registers) (y : State) → Extends (m rs y) (n rs y)) → Extends (lay b m rs z) (lay b n rs z)
-  lay_extends b m n rs z h = choose_extends _ _ _ _ _ rs z (h rs _) (same_extends _)
-
   pub task_extends : (task : Task) (z : State) → Extends (run_task one task z) (run_task other task z)
   task_extends (enter p arguments) z =
       choose_extends _ _ (ends stuck) _ (ends stuck) _ _
-      (lay_extends (record { words = p.frame; is_frame = true })
+      (lay_extends (record { words = p.frame; kind = activation_frame })
       (λ rs y. leaves z.arena.blocks (exec one (code_of p.body) rs y))
       (λ rs y. leaves z.arena.blocks (exec other (code_of p.body) rs y)) _ _
       (λ rs y. leaves_extends z.arena.blocks _ _ (exec_extends (code_of p.body) rs y)))
@@ -239,21 +277,24 @@ levels_extend procedures m n h (suc k) zero e = absurd (omega arith)
 levels_extend procedures m n h (suc k) (suc l) e =
     turns_extend procedures _ _ (levels_extend procedures m n h k l (omega arith)) (levels_grow procedures n l) m n h
 
-grown : (program : MidProgram) (k turns_each procedure : ℕ) (arguments : List ℕ) (z : State) → Grown z (meaning program k turns_each procedure arguments z).state
-unfolding meaning
-grown program k turns_each procedure arguments z =
-    with_some_grown _ _ [] z (λ p. (levels_grow program.procedures turns_each k).at (enter p arguments) z)
+grown : (program : MidProgram) (k turns_each entry : ℕ) (arguments : List ℕ) (z : State) → Grown z (runs program k turns_each entry arguments z).state
+unfolding runs
+grown program k turns_each entry arguments z =
+    at_top_grown _ z (with_some_grown _ _ [] z (λ p.
+    (turns_grow program.procedures _ (levels_grow program.procedures turns_each k) (suc turns_each)).at (enter p arguments) z))
 
 pub law_of_printing : LawOfPrinting
-law_of_printing program k turns_each procedure arguments z = (grown program k turns_each procedure arguments z).printed
+law_of_printing program k turns_each entry arguments z = (grown program k turns_each entry arguments z).printed
 
 pub law_of_costs : LawOfCosts
-law_of_costs program k turns_each procedure arguments z = (grown program k turns_each procedure arguments z).cost
+law_of_costs program k turns_each entry arguments z = (grown program k turns_each entry arguments z).cost
 
 pub law_of_arenas : LawOfArenas
-law_of_arenas program k turns_each procedure arguments z = (grown program k turns_each procedure arguments z).arena
+law_of_arenas program k turns_each entry arguments z = (grown program k turns_each entry arguments z).arena
 
 pub law_of_levels : LawOfLevels
-unfolding meaning
-law_of_levels program k l m n procedure arguments z e h =
-    with_some_extends _ _ _ [] z (λ p. (levels_extend program.procedures m n h k l e).at (enter p arguments) z)
+unfolding runs
+law_of_levels program k l m n entry arguments z e h =
+    at_top_extends _ _ (with_some_extends _ _ _ [] z (λ p.
+    (turns_extend program.procedures _ _ (levels_extend program.procedures m n h k l e) (levels_grow program.procedures n l)
+    (suc m) (suc n) (omega (arith, h))).at (enter p arguments) z))

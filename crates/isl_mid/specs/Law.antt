@@ -3,7 +3,7 @@ use Rattle.std.specs.Prelude.{◌≡◌, ℕ, ◌≤◌, List, ◌++◌, length}
 use Rattle.isl_mid.specs.declared.program.MidProgram.{MidProgram}
 use Rattle.isl_mid.specs.Arena.{Arena}
 use Rattle.isl_mid.specs.State.{State, End, falls, returns, cuts, no_room, no_level, no_turn, halts, unhandled, exhausted, stuck, Outcome}
-use Rattle.isl_mid.specs.Meaning.{meaning}
+use Rattle.isl_mid.specs.Meaning.{runs}
 
 -- an arena of the same size with the same words laid beside the code, and a heap that is no smaller
 pub record Enlarged (before after : Arena) : Type 0 where
@@ -23,7 +23,7 @@ pub record Grown (before after : State) : Type 0 where
 abbrev pub IsReached : End → Type 0
 IsReached falls = Unit {0}
 IsReached (returns w) = Unit {0}
-IsReached (cuts b w) = Unit {0}
+IsReached (cuts n w) = Unit {0}
 IsReached (no_room asked left) = Unit {0}
 IsReached no_level = ⊥
 IsReached no_turn = ⊥
@@ -40,23 +40,23 @@ pub record Extends (less more : Outcome) : Type 0 where
 -- what a run prints stands behind what was printed before
 abbrev pub LawOfPrinting : Type 0
 LawOfPrinting =
-    (program : MidProgram) (k turns procedure : ℕ) (arguments : List ℕ) (z : State)
-    → (more : List ℕ) × ((meaning program k turns procedure arguments z).state.printed ≡ z.printed ++ more)
+    (program : MidProgram) (k turns_each entry : ℕ) (arguments : List ℕ) (z : State)
+    → (more : List ℕ) × ((runs program k turns_each entry arguments z).state.printed ≡ z.printed ++ more)
 
 -- the cost of a run is no less than the cost before
 abbrev pub LawOfCosts : Type 0
 LawOfCosts =
-    (program : MidProgram) (k turns procedure : ℕ) (arguments : List ℕ) (z : State)
-    → z.cost ≤ (meaning program k turns procedure arguments z).state.cost
+    (program : MidProgram) (k turns_each entry : ℕ) (arguments : List ℕ) (z : State)
+    → z.cost ≤ (runs program k turns_each entry arguments z).state.cost
 
 -- a run leaves the size of the arena and what is laid beside the code, and gives no word of the heap back
 abbrev pub LawOfArenas : Type 0
 LawOfArenas =
-    (program : MidProgram) (k turns procedure : ℕ) (arguments : List ℕ) (z : State)
-    → Enlarged z.arena (meaning program k turns procedure arguments z).state.arena
+    (program : MidProgram) (k turns_each entry : ℕ) (arguments : List ℕ) (z : State)
+    → Enlarged z.arena (runs program k turns_each entry arguments z).state.arena
 
 -- with more levels and turns a run goes on where it ended for want of them, and else is the same
 abbrev pub LawOfLevels : Type 0
 LawOfLevels =
-    (program : MidProgram) (k l turns more_turns procedure : ℕ) (arguments : List ℕ) (z : State) → k ≤ l → turns ≤ more_turns
-    → Extends (meaning program k turns procedure arguments z) (meaning program l more_turns procedure arguments z)
+    (program : MidProgram) (k l turns_each more_turns entry : ℕ) (arguments : List ℕ) (z : State) → k ≤ l → turns_each ≤ more_turns
+    → Extends (runs program k turns_each entry arguments z) (runs program l more_turns entry arguments z)

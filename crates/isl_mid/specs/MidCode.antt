@@ -9,7 +9,7 @@ mutual
     perform : Operation → MidStep
     choose : Test → (first second : MidCode) → MidStep
     repeat : Counted → (head : MidCode) → Test → (body : MidCode) → MidStep
-    land : (block word : ℕ) → (inside landing : MidCode) → MidStep
+    with_block : (block words word : ℕ) → (inside landing : MidCode) → MidStep
     return_word : ℕ → MidStep
     cut_to : (block word : ℕ) → MidStep
     halt_with : ℕ → MidStep
@@ -29,7 +29,7 @@ abbrev mutual
   step_size (perform o) = 1
   step_size (choose t first second) = code_size first + code_size second + 1
   step_size (repeat c head t body) = code_size head + code_size body + 1
-  step_size (land b w inside landing) = code_size inside + code_size landing + 1
+  step_size (with_block b n w inside landing) = code_size inside + code_size landing + 1
   step_size (return_word r) = 1
   step_size (cut_to b w) = 1
   step_size (halt_with r) = 1

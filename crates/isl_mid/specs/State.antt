@@ -2,7 +2,7 @@
 -- meaning over them.
 use Rattle.std.specs.Prelude.{ℕ, ◌+◌, ◌-◌, Bool, true, false, ◌==◌, List, [], ◌∷◌, ◌++◌, length, map, replicate, slice_get, slice_set, Option, Some, None}
 use Rattle.isl_mid.specs.Costs.{jump_cost}
-use Rattle.isl_mid.specs.Arena.{Arena, word_in, frames_of}
+use Rattle.isl_mid.specs.Arena.{Arena, word_in}
 
 -- the words in the registers of an activation; none in one that was not set
 abbrev pub Registers : Type 0
@@ -19,13 +19,13 @@ pub record State : Type 0 where
   pub input : List ℕ
   pub cost : ℕ
 
--- How code ends. It falls out at its end, returns with a word, or cuts to a block with a word; or all ends: words were asked for that
+-- How code ends. It falls out at its end, returns with a word, or cuts with a word to the block that has so many outside; or all ends: words were asked for that
 -- were not left, levels or turns were too few, the program halts with a word, a condition is not handled, the serial numbers are
 -- exhausted, or the code does what it must not do.
 pub data End : Type 0 where
   falls : End
   returns : (word : ℕ) → End
-  cuts : (block word : ℕ) → End
+  cuts : (outside word : ℕ) → End
   no_room : (asked left : ℕ) → End
   no_level : End
   no_turn : End
@@ -61,7 +61,7 @@ gives to word rs z = ends falls (slice_set rs to (Some word)) z
 abbrev pub go_on_from : End → Outcome → Next → Outcome
 go_on_from falls r next = next r.registers r.state
 go_on_from (returns w) r next = r
-go_on_from (cuts b w) r next = r
+go_on_from (cuts n w) r next = r
 go_on_from (no_room asked left) r next = r
 go_on_from no_level r next = r
 go_on_from no_turn r next = r
@@ -104,26 +104,18 @@ with_registers (r ∷ more) next rs z =
 abbrev pub jumped : Outcome → Outcome
 jumped r = go_on r (λ rs z. ends falls rs (charged jump_cost z))
 
--- whether it is that word
-abbrev pub is_word : ℕ → Option ℕ → Bool
-is_word w None = false
-is_word w (Some x) = x == w
+-- a cut to the block that has so many outside is caught; every other end passes
+abbrev pub landed_from : End → (outside : ℕ) → (ℕ → Next) → Outcome → Outcome
+landed_from (cuts n w) outside catch r = choose_by (n == outside) (catch w) (ends (cuts n w)) r.registers r.state
+landed_from falls outside catch r = r
+landed_from (returns w) outside catch r = r
+landed_from (no_room asked left) outside catch r = r
+landed_from no_level outside catch r = r
+landed_from no_turn outside catch r = r
+landed_from (halts w) outside catch r = r
+landed_from (unhandled class site) outside catch r = r
+landed_from exhausted outside catch r = r
+landed_from stuck outside catch r = r
 
--- A cut to the block whose address is in a register is caught in the activation that has the landing, whose frame is the innermost
--- one of so many; every other end passes.
-abbrev pub landed_from : End → ℕ → (frames : ℕ) → (ℕ → Next) → Outcome → Outcome
-landed_from (cuts b w) block frames catch r =
-    choose_by (is_word b (register block r.registers)) (where_true (frames_of r.state.arena.blocks == frames) (catch w))
-    (ends (cuts b w)) r.registers r.state
-landed_from falls block frames catch r = r
-landed_from (returns w) block frames catch r = r
-landed_from (no_room asked left) block frames catch r = r
-landed_from no_level block frames catch r = r
-landed_from no_turn block frames catch r = r
-landed_from (halts w) block frames catch r = r
-landed_from (unhandled class site) block frames catch r = r
-landed_from exhausted block frames catch r = r
-landed_from stuck block frames catch r = r
-
-unfoldable pub landed : ℕ → (frames : ℕ) → (ℕ → Next) → Outcome → Outcome
-landed block frames catch r = landed_from r.end block frames catch r
+unfoldable pub landed : (outside : ℕ) → (ℕ → Next) → Outcome → Outcome
+landed outside catch r = landed_from r.end outside catch r

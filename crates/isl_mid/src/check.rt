@@ -8,16 +8,19 @@ mod calls;
 mod registers;
 
 use crate::check::calls::code_calls;
-use crate::check::registers::code_fits;
+use crate::check::registers::{code_fits, is_block_size};
 use crate::program::{MidProcedure, MidProgram, ProcedureList};
 
 impl MidProcedure {
-    /// Whether its parameters are among its registers, and in all its code each register is one of them and each offset a
-    /// multiple of 4 from -2,048 to 2,047. Takes no memory.
+    /// Whether its parameters are among its registers, and in all its code each register is one of them, each constant is
+    /// a word, each offset a multiple of 4 from -2,048 to 2,047, and each block, as its frame, has fewer than 16,777,216
+    /// words. Takes no memory.
     pub fn check(&self) -> bool
         ensures { result ≡ is_checked self.now }
     {
-        self.parameters <= self.registers && code_fits(self.registers, &self.body)
+        self.parameters <= self.registers
+            && is_block_size(self.frame)
+            && code_fits(self.registers, &self.body)
     }
 }
 

@@ -28,10 +28,12 @@ pub enum StepKind {
         test: Test,
         body: Code,
     },
-    /// The code inside; a cut to the block whose address is in the register `block`, which this activation has laid, is
-    /// caught: its word is in the register `word`, and the landing runs.
-    Land {
+    /// A control record: a block of so many words on the stack, whose address is in the register `block`, for the code
+    /// inside. A cut to it closes it: the word of the cut is in the register `word`, and the landing runs. Where either falls
+    /// out, the block is given back.
+    WithBlock {
         block: Register,
+        words: u32,
         word: Register,
         inside: Code,
         landing: Code,

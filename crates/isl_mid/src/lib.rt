@@ -14,4 +14,4 @@ pub use operation::{
     Arithmetic, Callee, Comparison, Counted, Operation, Register, RegisterList, Test,
 };
 pub use program::{MidProcedure, MidProgram, ProcedureList};
-pub use worked::{worked_calls, worked_operations, worked_words};
+pub use worked::{worked_calls, worked_cuts, worked_operations, worked_words};

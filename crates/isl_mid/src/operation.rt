@@ -95,15 +95,6 @@ pub enum Operation {
         to: Register,
         words: Register,
     },
-    /// A block of so many words on the stack; gives its address.
-    Lay {
-        to: Register,
-        words: u32,
-    },
-    /// The block at that address, the innermost one of the activation, is given back.
-    GiveBack {
-        block: Register,
-    },
     /// Adds one to the word there and gives the sum: a serial number that was not given before.
     Draw {
         to: Register,

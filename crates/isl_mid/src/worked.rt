@@ -1,6 +1,6 @@
 // Worked programs: what some programs that are written out do, as the contract of a function that does nothing.
 
-ghost use Rattle.isl_mid.specs.Worked.{Added, ArgumentWanting, Printed, TooFewTurns, Copied, Doubled, TooFewLevels, NoRoomForAFrame, CutAndLanded, NotCaughtBelow, CutNowhere, Requested, NoRoom, Loaded, NotLent, Stored, NotStored, Drawn, Exhausted};
+ghost use Rattle.isl_mid.specs.Worked.{Added, ArgumentWanting, Printed, TooFewTurns, Copied, Doubled, TooFewLevels, NoRoomForAFrame, CutAndLanded, NoRoomForARecord, PassedTheInner, FellOut, CutAgain, CutNowhere, CutFromTheTop, Requested, NoRoom, Loaded, NotLent, Stored, NotStored, Drawn, Exhausted};
 
 /// Programs of single operations and loops do what their comments in `specs/Worked.antt` say.
 pub fn worked_operations()
@@ -11,17 +11,25 @@ pub fn worked_operations()
     ensures copied { Copied }
 {}
 
-/// So do programs of calls and cuts.
+/// So do programs of calls.
 pub fn worked_calls()
     ensures doubled { Doubled }
     ensures too_few_levels { TooFewLevels }
     ensures no_room_for_a_frame { NoRoomForAFrame }
-    ensures cut_and_landed { CutAndLanded }
-    ensures not_caught_below { NotCaughtBelow }
-    ensures cut_nowhere { CutNowhere }
 {}
 
-/// So do programs of words that are requested, laid, stored and loaded.
+/// So do programs of control records and cuts.
+pub fn worked_cuts()
+    ensures cut_and_landed { CutAndLanded }
+    ensures no_room_for_a_record { NoRoomForARecord }
+    ensures passed_the_inner { PassedTheInner }
+    ensures fell_out { FellOut }
+    ensures cut_again { CutAgain }
+    ensures cut_nowhere { CutNowhere }
+    ensures cut_from_the_top { CutFromTheTop }
+{}
+
+/// So do programs of words that are requested, stored and loaded.
 pub fn worked_words()
     ensures requested { Requested }
     ensures no_room { NoRoom }

@@ -3,7 +3,7 @@ use Rattle.std.specs.Prelude.{◌≡◌, ℕ, zero, suc, ℤ, pos, negsuc, [], �
 use Rattle.std.specs.Coded.{Coded, code_by}
 use Rattle.std.proofs.Common.{ap}
 use Rattle.isl_base.specs.model.CodedTree.{Tree, node, no_tree, tree_and, leaf, above_one, above_two, numbers_trees, numbers_of, numbers_back, tree_code}
-use Rattle.isl_mid.specs.MidCode.{MidStep, perform, choose, repeat, land, return_word, cut_to, halt_with, end_unhandled, MidCode, no_step, step_and}
+use Rattle.isl_mid.specs.MidCode.{MidStep, perform, choose, repeat, with_block, return_word, cut_to, halt_with, end_unhandled, MidCode, no_step, step_and}
 use Rattle.isl_mid.specs.declared.operation.Arithmetic.{Arithmetic}
 use Rattle.isl_mid.specs.declared.operation.Arithmetic.TheVariants as which
 use Rattle.isl_mid.specs.declared.operation.Comparison.{Comparison}
@@ -14,7 +14,7 @@ use Rattle.isl_mid.specs.declared.operation.Callee.TheVariants.{Procedure, Word}
 use Rattle.isl_mid.specs.declared.operation.Counted.{Counted}
 use Rattle.isl_mid.specs.declared.operation.Counted.TheVariants.{Level, Turn}
 use Rattle.isl_mid.specs.declared.operation.Operation.{Operation}
-use Rattle.isl_mid.specs.declared.operation.Operation.TheVariants.{Move, Constant, Compute, Load, Store, Request, Lay, GiveBack, Draw, Put, Get, Call}
+use Rattle.isl_mid.specs.declared.operation.Operation.TheVariants.{Move, Constant, Compute, Load, Store, Request, Draw, Put, Get, Call}
 
 -- what is computed, by its number
 abbrev arithmetic_number : Arithmetic → ℕ
@@ -129,7 +129,7 @@ integer_back (negsuc n) = refl
 -- operations of two numbers, and of two numbers and an offset, each at its place
 
 abbrev of_two : ℕ → ℕ → ℕ → Operation
-of_two place a b = get_or (Move a b ∷ Constant a b ∷ Request a b ∷ Lay a b ∷ GiveBack a ∷ Put a ∷ []) place (Get a)
+of_two place a b = get_or (Move a b ∷ Constant a b ∷ Request a b ∷ Put a ∷ []) place (Get a)
 
 abbrev of_offset : ℕ → ℕ → ℕ → ℤ → Operation
 of_offset place a b z = get_or (Load a b z ∷ Store a b z ∷ []) place (Draw a b z)
@@ -145,10 +145,8 @@ abbrev operation_tree : Operation → Tree
 operation_tree (Move to from) = two_tree 0 to from
 operation_tree (Constant to word) = two_tree 1 to word
 operation_tree (Request to words) = two_tree 2 to words
-operation_tree (Lay to words) = two_tree 3 to words
-operation_tree (GiveBack block) = two_tree 4 block 0
-operation_tree (Put from) = two_tree 5 from 0
-operation_tree (Get to) = two_tree 6 to 0
+operation_tree (Put from) = two_tree 3 from 0
+operation_tree (Get to) = two_tree 4 to 0
 operation_tree (Load to base offset) = offset_tree 0 to base offset
 operation_tree (Store from base offset) = offset_tree 1 from base offset
 operation_tree (Draw to base offset) = offset_tree 2 to base offset
@@ -170,8 +168,6 @@ operation_back : (o : Operation) → operation_of (operation_tree o) ≡ o
 operation_back (Move to from) = refl
 operation_back (Constant to word) = refl
 operation_back (Request to words) = refl
-operation_back (Lay to words) = refl
-operation_back (GiveBack block) = refl
 operation_back (Put from) = refl
 operation_back (Get to) = refl
 operation_back (Load to base offset) = ap (Load to base) (integer_back offset)
@@ -193,8 +189,9 @@ abbrev mutual
   step_tree (choose t first second) = node 1 (tree_and (test_tree t) (tree_and (code_tree first) (tree_and (code_tree second) no_tree)))
   step_tree (repeat c head t body) =
       node 2 (tree_and (leaf (counted_number c)) (tree_and (test_tree t) (tree_and (code_tree head) (tree_and (code_tree body) no_tree))))
-  step_tree (land block word inside landing) =
-      node 3 (tree_and (leaf block) (tree_and (leaf word) (tree_and (code_tree inside) (tree_and (code_tree landing) no_tree))))
+  step_tree (with_block block words word inside landing) =
+      node 3 (tree_and (leaf block) (tree_and (leaf words) (tree_and (leaf word)
+      (tree_and (code_tree inside) (tree_and (code_tree landing) no_tree)))))
   step_tree (return_word r) = end_tree 0 r 0
   step_tree (cut_to block word) = end_tree 1 block word
   step_tree (halt_with r) = end_tree 2 r 0
@@ -210,8 +207,8 @@ abbrev mutual
   step_of (node (suc zero) (tree_and t (tree_and u (tree_and v ts)))) = choose (test_of t) (code_from u) (code_from v)
   step_of (node (suc (suc zero)) (tree_and (node n us) (tree_and t (tree_and u (tree_and v ts))))) =
       repeat (counted_at n) (code_from u) (test_of t) (code_from v)
-  step_of (node (suc (suc (suc zero))) (tree_and (node a us) (tree_and (node b vs) (tree_and t (tree_and u ts))))) =
-      land a b (code_from t) (code_from u)
+  step_of (node (suc (suc (suc zero))) (tree_and (node a us) (tree_and (node n vs) (tree_and (node b ws) (tree_and t (tree_and u ts)))))) =
+      with_block a n b (code_from t) (code_from u)
   step_of (node (suc (suc (suc (suc m)))) (tree_and (node place us) (tree_and (node a vs) (tree_and (node b ws) ts)))) = of_end place a b
   step_of t = return_word 0
 
@@ -225,7 +222,7 @@ mutual
   step_back (perform o) = ap perform (operation_back o)
   step_back (choose t first second) = cc (test_back t, code_back first, code_back second)
   step_back (repeat c head t body) = cc (counted_back c, test_back t, code_back head, code_back body)
-  step_back (land block word inside landing) = cc (code_back inside, code_back landing)
+  step_back (with_block block words word inside landing) = cc (code_back inside, code_back landing)
   step_back (return_word r) = refl
   step_back (cut_to block word) = refl
   step_back (halt_with r) = refl

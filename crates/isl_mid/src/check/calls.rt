@@ -37,8 +37,9 @@ fn step_calls(procedures: &ProcedureList, step: &Step) -> bool
             test: _,
             body,
         } => code_calls(procedures, head) && code_calls(procedures, body),
-        StepKind::Land {
+        StepKind::WithBlock {
             block: _,
+            words: _,
             word: _,
             inside,
             landing,
@@ -60,8 +61,6 @@ fn operation_calls(procedures: &ProcedureList, operation: &Operation) -> bool
         | Operation::Load { .. }
         | Operation::Store { .. }
         | Operation::Request { .. }
-        | Operation::Lay { .. }
-        | Operation::GiveBack { .. }
         | Operation::Draw { .. }
         | Operation::Put { .. }
         | Operation::Get { .. } => true,

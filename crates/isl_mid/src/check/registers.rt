@@ -1,9 +1,9 @@
-// Whether code names registers that are there, and offsets that an instruction holds.
+// Whether code names registers that are there, words, offsets that an instruction holds, and blocks that are not too large.
 
 ghost use Rattle.std.specs.Prelude.{◌≡◌, nat_lt};
 ghost use Rattle.std.specs.List.{list_all};
 ghost use Rattle.isl_mid.specs.MidCode.{code_of};
-ghost use Rattle.isl_mid.specs.Checked.{is_register, is_offset, callee_fits, operation_fits, test_fits, step_fits, code_fits};
+ghost use Rattle.isl_mid.specs.Checked.{is_register, is_constant, is_block_size, is_offset, callee_fits, operation_fits, test_fits, step_fits, code_fits};
 
 use crate::code::{Code, Step, StepKind};
 use crate::operation::{Callee, Operation, Register, RegisterList, Test};
@@ -37,13 +37,15 @@ fn step_fits(count: usize, step: &Step) -> bool
             test,
             body,
         } => code_fits(count, head) && test_fits(count, test) && code_fits(count, body),
-        StepKind::Land {
+        StepKind::WithBlock {
             block,
+            words,
             word,
             inside,
             landing,
         } => {
             is_register(count, *block)
+                && is_block_size(*words)
                 && is_register(count, *word)
                 && code_fits(count, inside)
                 && code_fits(count, landing)
@@ -61,9 +63,7 @@ fn operation_fits(count: usize, operation: &Operation) -> bool
 {
     match operation {
         Operation::Move { to, from } => is_register(count, *to) && is_register(count, *from),
-        Operation::Constant { to, .. } | Operation::Lay { to, .. } | Operation::Get { to } => {
-            is_register(count, *to)
-        }
+        Operation::Constant { to, word } => is_register(count, *to) && is_constant(*word),
         Operation::Compute {
             to,
             which: _,
@@ -77,8 +77,8 @@ fn operation_fits(count: usize, operation: &Operation) -> bool
             is_register(count, *from) && is_register(count, *base) && is_offset(*offset)
         }
         Operation::Request { to, words } => is_register(count, *to) && is_register(count, *words),
-        Operation::GiveBack { block } => is_register(count, *block),
         Operation::Put { from } => is_register(count, *from),
+        Operation::Get { to } => is_register(count, *to),
         Operation::Call {
             to,
             callee,
@@ -121,6 +121,19 @@ fn is_register(count: usize, register: Register) -> bool
     ensures { result ≡ is_register count register }
 {
     register < count
+}
+
+fn is_constant(word: u32) -> bool
+    ensures { result ≡ is_constant word }
+{
+    word <= 4_294_967_295
+}
+
+/// Whether a block may have so many words.
+pub fn is_block_size(words: u32) -> bool
+    ensures { result ≡ is_block_size words }
+{
+    words < 16_777_216
 }
 
 fn is_offset(offset: i32) -> bool
