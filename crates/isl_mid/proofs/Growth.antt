@@ -29,7 +29,7 @@ both_enlarged a b c g h = record {
   heap_to = omega (arith, g.heap_to, h.heap_to);
 }
 
-length-emptied : (i n : ℕ) (ws : List (Option ℕ)) → length (emptied i n ws) ≡ length ws
+pub length-emptied : (i n : ℕ) (ws : List (Option ℕ)) → length (emptied i n ws) ≡ length ws
 length-emptied i n [] = refl
 length-emptied zero zero (w ∷ ws) = refl
 length-emptied zero (suc n) (w ∷ ws) = omega (arith, length-emptied zero n ws)

@@ -1,9 +1,11 @@
 -- Laws of the meaning: what was printed stays, costs never fall, and more levels and turns change only an end for want of them.
-use Rattle.std.specs.Prelude.{◌≡◌, ℕ, ◌≤◌, List, ◌++◌, length}
+use Rattle.std.specs.Prelude.{◌≡◌, ℕ, ◌≤◌, true, List, ◌++◌, length}
 use Rattle.isl_mid.specs.declared.program.MidProgram.{MidProgram}
 use Rattle.isl_mid.specs.Arena.{Arena}
 use Rattle.isl_mid.specs.State.{State, End, falls, returns, cuts, no_room, no_level, no_turn, halts, unhandled, exhausted, stuck, Outcome}
 use Rattle.isl_mid.specs.Meaning.{runs}
+use Rattle.isl_mid.specs.Checked.{is_checked_program}
+use Rattle.isl_mid.specs.Bounds.{AreWords, BoundedState, BoundedOutcome}
 
 -- an arena of the same size with the same words laid beside the code, and a heap that is no smaller
 pub record Enlarged (before after : Arena) : Type 0 where
@@ -60,3 +62,10 @@ abbrev pub LawOfLevels : Type 0
 LawOfLevels =
     (program : MidProgram) (k l turns_each more_turns entry : ℕ) (arguments : List ℕ) (z : State) → k ≤ l → turns_each ≤ more_turns
     → Extends (runs program k turns_each entry arguments z) (runs program l more_turns entry arguments z)
+
+-- Words stay below 2 ^ 32, in the arena, in registers and in ends: for a program in form, arguments that are words, and a state where it is so.
+abbrev pub LawOfWords : Type 0
+LawOfWords =
+    (program : MidProgram) (k turns_each entry : ℕ) (arguments : List ℕ) (z : State)
+    → is_checked_program program ≡ true → AreWords arguments → BoundedState z
+    → BoundedOutcome (runs program k turns_each entry arguments z)

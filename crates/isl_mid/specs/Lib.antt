@@ -6,5 +6,6 @@ pub mod State
 pub mod Meaning
 pub mod Checked
 pub mod Law
+pub mod Bounds
 pub mod Worked
 pub mod model

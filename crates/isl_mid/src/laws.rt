@@ -1,6 +1,6 @@
 // Laws of the meaning of middle code, as the contracts of functions that do nothing.
 
-ghost use Rattle.isl_mid.specs.Law.{LawOfPrinting, LawOfCosts, LawOfArenas, LawOfLevels};
+ghost use Rattle.isl_mid.specs.Law.{LawOfPrinting, LawOfCosts, LawOfArenas, LawOfLevels, LawOfWords};
 
 /// What was printed stays, and more stands behind it.
 pub fn law_printing()
@@ -20,4 +20,9 @@ pub fn law_arenas()
 /// With more levels and turns a run that ended for want of them goes on, and any other run is the same.
 pub fn law_levels()
     ensures { LawOfLevels }
+{}
+
+/// Of a program in form, all words stay below 2^32: in the arena, in registers, and in the end.
+pub fn law_words()
+    ensures { LawOfWords }
 {}
