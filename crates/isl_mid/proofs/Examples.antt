@@ -51,7 +51,7 @@ passed_the_inner = (refl, refl, refl)
 
 pub fell_out : FellOut
 unfolding low_word go_on with_some choose_by with_registers landed called leaves exec exec_step turns levels at_top runs
-fell_out = (refl, refl)
+fell_out = (refl, refl, refl)
 
 pub cut_again : CutAgain
 unfolding low_word go_on with_some choose_by with_registers landed called leaves exec exec_step turns levels at_top runs
@@ -63,7 +63,7 @@ cut_nowhere = refl
 
 pub cut_from_the_top : CutFromTheTop
 unfolding low_word go_on with_some choose_by with_registers landed called leaves exec exec_step turns levels at_top runs
-cut_from_the_top = refl
+cut_from_the_top = (refl, refl)
 
 pub requested : Requested
 unfolding low_word go_on with_some choose_by with_registers landed called leaves exec exec_step turns levels at_top runs

@@ -19,7 +19,7 @@ is_register count r = nat_lt r count
 abbrev pub is_constant : ℕ → Bool
 is_constant word = nat_lt word (2 ^ 32)
 
--- the words of a block, which are so few that their bytes have a place
+-- how many words a block may have
 abbrev pub is_block_size : ℕ → Bool
 is_block_size words = nat_lt words (2 ^ 24)
 

@@ -1,4 +1,5 @@
--- Laws of the meaning: what was printed stays, costs never fall, and more levels and turns change only an end for want of them.
+-- Laws of the meaning: what was printed stays, costs never fall, more levels and turns change only an end for want of them, and words
+-- stay below 2 ^ 32.
 use Rattle.std.specs.Prelude.{◌≡◌, ℕ, ◌≤◌, true, List, ◌++◌, length}
 use Rattle.isl_mid.specs.declared.program.MidProgram.{MidProgram}
 use Rattle.isl_mid.specs.Arena.{Arena}

@@ -10,7 +10,7 @@ use Rattle.isl_mid.specs.declared.program.MidProgram.{MidProgram}
 use Rattle.isl_mid.specs.MidCode.{MidStep, perform, repeat, with_block, return_word, cut_to, halt_with, no_step, code_of}
 use Rattle.isl_mid.specs.Arena.{activation_frame, closed_record, record_of}
 use Rattle.isl_mid.specs.State.{State, returns, no_room, no_level, no_turn, halts, exhausted, stuck, Outcome}
-use Rattle.isl_mid.specs.Meaning.{runs}
+use Rattle.isl_mid.specs.Meaning.{enter, levels, runs}
 
 -- a procedure of the program with so many parameters, registers and words for a frame
 abbrev pub procedure : ℕ → ℕ → ℕ → List MidStep → MidProcedure
@@ -136,44 +136,52 @@ nesting = procedure 0 5 1
     (code_of (perform (Constant 4 7) ∷ perform (Store 4 0 (pos 0))
     ∷ with_block 2 0 3 (code_of (cut_to 0 0 ∷ [])) (code_of (perform (Constant 4 8) ∷ return_word 4 ∷ [])) ∷ []))
     (code_of (perform (Load 4 0 (pos 0)) ∷ []))
-    ∷ return_word 4 ∷ []) ∷ []
+    ∷ halt_with 4 ∷ []) ∷ []
 
 -- it passes the inner landing; where the outer one falls out, its record is given back, and the code goes on
 abbrev pub PassedTheInner : Type 0
 PassedTheInner =
-    ((run nesting 0 0 [] 8).end ≡ returns 7)
-    × ((run nesting 0 0 [] 8).state.arena.blocks ≡ [])
-    × ((run nesting 0 0 [] 8).state.cost ≡ 20 + 36 + 6 + 8 + 36 + 16 + 8 + 10 + 14)
+    ((run nesting 0 0 [] 8).end ≡ halts 7)
+    × ((run nesting 0 0 [] 8).state.arena.blocks ≡ record { words = 1; kind = activation_frame } ∷ [])
+    × ((run nesting 0 0 [] 8).state.cost ≡ 20 + 36 + 6 + 8 + 36 + 16 + 8 + 10 + 6)
 
 -- where the inside falls out, its record is given back, and the landing is jumped over
 abbrev pub falling : List MidProcedure
 falling = procedure 0 2 1
-    (with_block 0 1 1 (code_of (perform (Constant 1 7) ∷ [])) (code_of (perform (Constant 1 8) ∷ [])) ∷ return_word 1 ∷ []) ∷ []
+    (with_block 0 1 1 (code_of (perform (Constant 1 7) ∷ [])) (code_of (perform (Constant 1 8) ∷ [])) ∷ halt_with 1 ∷ []) ∷ []
 
 abbrev pub FellOut : Type 0
 FellOut =
-    ((run falling 0 0 [] 8).end ≡ returns 7)
-    × ((run falling 0 0 [] 8).state.cost ≡ 20 + 36 + 6 + 10 + 2 + 14)
+    ((run falling 0 0 [] 8).end ≡ halts 7)
+    × ((run falling 0 0 [] 8).state.arena.blocks ≡ record { words = 1; kind = activation_frame } ∷ [])
+    × ((run falling 0 0 [] 8).state.cost ≡ 20 + 36 + 6 + 10 + 2 + 6)
+
+-- a procedure that is no program's entry, so that a cut out of it is not stuck by that
+abbrev pub run_alone : MidProcedure → Outcome
+run_alone p = levels (p ∷ []) 1 1 (enter p []) (start 8 [])
 
 -- a landing that cuts to the control record that it is of
-abbrev pub cutting_again : List MidProcedure
-cutting_again = procedure 0 2 0 (with_block 0 1 1 (code_of (cut_to 0 0 ∷ [])) (code_of (cut_to 0 0 ∷ [])) ∷ return_word 1 ∷ []) ∷ []
+abbrev pub cutting_again : MidProcedure
+cutting_again = procedure 0 2 0 (with_block 0 1 1 (code_of (cut_to 0 0 ∷ [])) (code_of (cut_to 0 0 ∷ [])) ∷ return_word 1 ∷ [])
 
 abbrev pub CutAgain : Type 0
-CutAgain = (run cutting_again 0 0 [] 8).end ≡ stuck
+CutAgain = (run_alone cutting_again).end ≡ stuck
 
 -- a cut to where no control record stands any more
-abbrev pub cutting_nowhere : List MidProcedure
-cutting_nowhere = procedure 0 2 2 (with_block 0 1 1 no_step no_step ∷ cut_to 0 0 ∷ []) ∷ []
+abbrev pub cutting_nowhere : MidProcedure
+cutting_nowhere = procedure 0 2 2 (with_block 0 1 1 no_step no_step ∷ cut_to 0 0 ∷ [])
 
 abbrev pub CutNowhere : Type 0
-CutNowhere = (run cutting_nowhere 0 0 [] 8).end ≡ stuck
+CutNowhere = (run_alone cutting_nowhere).end ≡ stuck
 
--- a cut to a control record that no step of the program has laid, at the arena's end
+-- a cut out of the program to a control record that none of its steps has laid, at the arena's end
+abbrev pub cut_out : Outcome
+cut_out =
+    runs (program (procedure 1 1 0 (cut_to 0 0 ∷ []) ∷ [])) 0 0 0 (32 ∷ [])
+    (record (start 8 []) { arena = record (start 8 []).arena { blocks = record_of 1 ∷ [] } })
+
 abbrev pub CutFromTheTop : Type 0
-CutFromTheTop =
-    (runs (program (procedure 1 1 0 (cut_to 0 0 ∷ []) ∷ [])) 0 0 0 (32 ∷ [])
-    (record (start 8 []) { arena = record (start 8 []).arena { blocks = record_of 1 ∷ [] } })).end ≡ stuck
+CutFromTheTop = (cut_out.end ≡ stuck) × (cut_out.state.arena.blocks ≡ record_of 1 ∷ [])
 
 -- seven words are requested beside a frame of two
 abbrev pub requesting : List MidProcedure

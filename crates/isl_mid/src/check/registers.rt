@@ -123,6 +123,7 @@ fn is_register(count: usize, register: Register) -> bool
     register < count
 }
 
+// Each number of 32 bits is; the definition is over all numbers.
 fn is_constant(word: u32) -> bool
     ensures { result ≡ is_constant word }
 {
