@@ -1,0 +1,5 @@
+pub mod Examples
+pub mod Growth
+pub mod Levels
+pub mod WordBounds
+pub mod Bounds

@@ -1,0 +1,11 @@
+pub mod MidCode
+pub mod Words
+pub mod Arena
+pub mod Costs
+pub mod State
+pub mod Meaning
+pub mod Checked
+pub mod Law
+pub mod Bounds
+pub mod Worked
+pub mod model
