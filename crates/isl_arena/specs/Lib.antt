@@ -1,0 +1,7 @@
+pub mod Tags
+pub mod Places
+pub mod Standing
+pub mod FixedWords
+pub mod Layouts
+pub mod Represents
+pub mod Answers

@@ -1,0 +1,32 @@
+-- When an arena represents a state of the meaning: each object, symbol and counter stands where it is said to stand.
+use Rattle.std.specs.Prelude.{◌≡◌, ℕ, ◌<◌, true, List, [], ◌∷◌, length, Option, Some, None, slice_get}
+use Rattle.isl_meaning.specs.declared.program.ProgramRows.{ProgramRows}
+use Rattle.isl_meaning.specs.BuiltIn.{built_in_precedence, built_in_slots}
+use Rattle.isl_meaning.specs.Facts.{begins_with_built_in}
+use Rattle.isl_meaning.specs.Values.{SymbolValue, named}
+use Rattle.isl_meaning.specs.Objects.{Object}
+use Rattle.isl_meaning.specs.State as meaning
+use Rattle.isl_mid.specs.State.{State}
+use Rattle.isl_arena.specs.Places.{Spot, Places, Owner, of_object, of_symbol, spot_of}
+use Rattle.isl_arena.specs.Standing.{ArenaStands, SpotStands, AllApart}
+use Rattle.isl_arena.specs.FixedWords.{FixedStand}
+use Rattle.isl_arena.specs.Layouts.{AreBytes, ObjectAt, SymbolAt}
+
+-- the text of nil, which is no symbol of a program
+abbrev pub nil_text : List ℕ
+nil_text = 110 ∷ 105 ∷ 108 ∷ []
+
+pub record Represents (names : List (List ℕ)) (program : ProgramRows) (places : Places) (z : meaning.State) (y : State) : Type 0 where
+  pub built_in : begins_with_built_in program.classes built_in_precedence built_in_slots ≡ true
+  pub arena : ArenaStands y.arena
+  pub spots : (p : Owner) (s : Spot) → spot_of places p ≡ Some s → SpotStands y.arena s
+  pub apart : AllApart places
+  pub count : length places.objects ≡ length z.store
+  pub objects :
+      (i : ℕ) (o : Object) (s : Spot) → slice_get z.store i ≡ Some o → spot_of places (of_object i) ≡ Some s
+      → ObjectAt names program places y.arena s o
+  pub symbols : (v : SymbolValue) (s : Spot) → spot_of places (of_symbol v) ≡ Some s → SymbolAt y.arena s v
+  pub no_nil : spot_of places (of_symbol (named nil_text)) ≡ None
+  pub fixed : FixedStand names program places y.arena z.symbols z.printed z.input y.input
+  pub input : AreBytes z.input
+  pub printed : y.printed ≡ z.printed

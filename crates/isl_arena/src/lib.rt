@@ -1,0 +1,2 @@
+// Values, objects and primitives of the language in the words of the arena.
+#![tactic(auto)]
