@@ -5,3 +5,4 @@ pub mod FixedWords
 pub mod Layouts
 pub mod Represents
 pub mod Answers
+pub mod Steps
