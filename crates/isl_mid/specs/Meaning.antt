@@ -219,7 +219,8 @@ unfoldable pub turns : List MidProcedure → (below : Task → State → Outcome
 turns procedures below zero task z = ends no_turn [] z
 turns procedures below (suc n) task z = run_task (context_of procedures below (turns procedures below n)) task z
 
--- A task with so many levels, and so many turns at each of them. Entering a level takes none of its turns; with no level left there is none.
+-- A task with so many levels, and so many turns at each of them. A level is entered by one turn more, so that takes none of them. With
+-- no levels the task ends for want of one.
 unfoldable pub levels : List MidProcedure → (turns_each : ℕ) → ℕ → Task → State → Outcome
 levels procedures turns_each zero task z = ends no_level [] z
 levels procedures turns_each (suc k) task z = turns procedures (levels procedures turns_each k) (suc turns_each) task z
@@ -240,8 +241,8 @@ at_top_from stuck r = r
 unfoldable pub at_top : Outcome → Outcome
 at_top r = at_top_from r.end r
 
--- A run of a program with so many levels, and so many turns at each: its procedure of a number is entered with arguments. The level at
--- which that is done is one more.
+-- A run of a program with so many levels, and so many turns at each: its procedure of a number is entered with arguments, at a level
+-- that is one more.
 unfoldable pub runs : MidProgram → (k turns_each : ℕ) → (entry : ℕ) → List ℕ → State → Outcome
 runs program k turns_each entry arguments z =
     at_top (with_some (slice_get program.procedures entry)
