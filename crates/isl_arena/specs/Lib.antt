@@ -6,3 +6,4 @@ pub mod Layouts
 pub mod Represents
 pub mod Answers
 pub mod Steps
+pub mod Codes
