@@ -7,7 +7,7 @@ use crate::line::Line::{
     SignalUnless, Store,
 };
 use crate::words::{
-    CLASS, HEADER, INTEGER, INTEGER_CLASS, NIL, OBJECT, PROGRAM_ERROR, SECOND, SERIOUS_CONDITION,
+    CLASS, HEADER, INTEGER_BITS, INTEGER_CLASS, NIL, OBJECT, PROGRAM_ERROR, SECOND, SERIOUS_CONDITION,
     STANDARD_CLASS, STANDARD_OBJECT, THIRD, TRUE_AT, UNBOUND,
 };
 use isl_mid::{Arithmetic, Comparison, Test};
@@ -332,7 +332,7 @@ pub const SLOT_REF: &[Line] = &[
     },
     NeedTag {
         of: 1,
-        tag: INTEGER,
+        bits: INTEGER_BITS,
         class: INTEGER_CLASS,
     },
     Load {
@@ -393,7 +393,7 @@ pub const SLOT_SET: &[Line] = &[
     },
     NeedTag {
         of: 2,
-        tag: INTEGER,
+        bits: INTEGER_BITS,
         class: INTEGER_CLASS,
     },
     Load {
@@ -442,7 +442,7 @@ pub const SLOT_BOUND: &[Line] = &[
     },
     NeedTag {
         of: 1,
-        tag: INTEGER,
+        bits: INTEGER_BITS,
         class: INTEGER_CLASS,
     },
     Load {
@@ -509,7 +509,7 @@ pub const SLOT_INITARGS: &[Line] = &[
     },
     NeedTag {
         of: 1,
-        tag: INTEGER,
+        bits: INTEGER_BITS,
         class: INTEGER_CLASS,
     },
     Load {
@@ -580,7 +580,7 @@ pub const SLOT_INITFORM: &[Line] = &[
     },
     NeedTag {
         of: 1,
-        tag: INTEGER,
+        bits: INTEGER_BITS,
         class: INTEGER_CLASS,
     },
     Load {

@@ -80,11 +80,11 @@ pub enum Line {
         test: Test,
         from: Register,
     },
-    /// The argument has to have that tag, or it is a domain error of that class.
+    /// The argument has to have the tag that is in the highest bits of that word, or it is a domain error of the class whose word is at that address.
     NeedTag {
         of: Register,
-        tag: u32,
-        class: u32,
+        bits: u32,
+        class: i32,
     },
     /// It has to be a character.
     NeedCharacter {
@@ -95,12 +95,12 @@ pub enum Line {
         of: Register,
         header: u32,
         count: u32,
-        class: u32,
+        class: i32,
     },
     /// It has to be an instance, or it is a domain error of that class.
     NeedInstance {
         of: Register,
-        class: u32,
+        class: i32,
     },
     /// It has to be a symbol; nil is one.
     NeedSymbol {
@@ -110,16 +110,16 @@ pub enum Line {
     NeedTest {
         test: Test,
         of: Register,
-        class: u32,
+        class: i32,
     },
     /// The test has to hold, or a condition of that class, without slots, is signalled.
     SignalUnless {
         test: Test,
-        class: u32,
+        class: i32,
     },
     /// A condition of that class, without slots, is signalled.
     Signal {
-        class: u32,
+        class: i32,
     },
     /// The word of the class of a value.
     ClassWord {

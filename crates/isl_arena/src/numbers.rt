@@ -4,19 +4,19 @@ use crate::line::Line;
 use crate::line::Line::{
     Compute, ComputeBy, LoadFixed, NeedTag, Return, ReturnIf, Set, SignalUnless,
 };
-use crate::words::{DIVISION_BY_ZERO, INTEGER, INTEGER_CLASS, INTEGER_OVERFLOW, NIL, TRUE_AT};
+use crate::words::{DIVISION_BY_ZERO, INTEGER_BITS, INTEGER_CLASS, INTEGER_OVERFLOW, NIL, TRUE_AT};
 use isl_mid::{Arithmetic, Comparison, Test};
 
 /// A sum is out of range exactly where the second number is negative, or the sum is less than the first, and not both.
 pub const ADD: &[Line] = &[
     NeedTag {
         of: 0,
-        tag: INTEGER,
+        bits: INTEGER_BITS,
         class: INTEGER_CLASS,
     },
     NeedTag {
         of: 1,
-        tag: INTEGER,
+        bits: INTEGER_BITS,
         class: INTEGER_CLASS,
     },
     Compute {
@@ -53,12 +53,12 @@ pub const ADD: &[Line] = &[
 pub const SUBTRACT: &[Line] = &[
     NeedTag {
         of: 0,
-        tag: INTEGER,
+        bits: INTEGER_BITS,
         class: INTEGER_CLASS,
     },
     NeedTag {
         of: 1,
-        tag: INTEGER,
+        bits: INTEGER_BITS,
         class: INTEGER_CLASS,
     },
     Compute {
@@ -95,12 +95,12 @@ pub const SUBTRACT: &[Line] = &[
 pub const MULTIPLY: &[Line] = &[
     NeedTag {
         of: 0,
-        tag: INTEGER,
+        bits: INTEGER_BITS,
         class: INTEGER_CLASS,
     },
     NeedTag {
         of: 1,
-        tag: INTEGER,
+        bits: INTEGER_BITS,
         class: INTEGER_CLASS,
     },
     ComputeBy {
@@ -143,12 +143,12 @@ pub const MULTIPLY: &[Line] = &[
 pub const DIVIDE: &[Line] = &[
     NeedTag {
         of: 0,
-        tag: INTEGER,
+        bits: INTEGER_BITS,
         class: INTEGER_CLASS,
     },
     NeedTag {
         of: 1,
-        tag: INTEGER,
+        bits: INTEGER_BITS,
         class: INTEGER_CLASS,
     },
     Set { to: 6, word: 0 },
@@ -239,12 +239,12 @@ pub const DIVIDE: &[Line] = &[
 pub const MODULO: &[Line] = &[
     NeedTag {
         of: 0,
-        tag: INTEGER,
+        bits: INTEGER_BITS,
         class: INTEGER_CLASS,
     },
     NeedTag {
         of: 1,
-        tag: INTEGER,
+        bits: INTEGER_BITS,
         class: INTEGER_CLASS,
     },
     Set { to: 6, word: 0 },
@@ -316,12 +316,12 @@ pub const MODULO: &[Line] = &[
 pub const NUMBER_EQUAL: &[Line] = &[
     NeedTag {
         of: 0,
-        tag: INTEGER,
+        bits: INTEGER_BITS,
         class: INTEGER_CLASS,
     },
     NeedTag {
         of: 1,
-        tag: INTEGER,
+        bits: INTEGER_BITS,
         class: INTEGER_CLASS,
     },
     LoadFixed {
@@ -343,12 +343,12 @@ pub const NUMBER_EQUAL: &[Line] = &[
 pub const NUMBER_NOT_EQUAL: &[Line] = &[
     NeedTag {
         of: 0,
-        tag: INTEGER,
+        bits: INTEGER_BITS,
         class: INTEGER_CLASS,
     },
     NeedTag {
         of: 1,
-        tag: INTEGER,
+        bits: INTEGER_BITS,
         class: INTEGER_CLASS,
     },
     LoadFixed {
@@ -370,12 +370,12 @@ pub const NUMBER_NOT_EQUAL: &[Line] = &[
 pub const NUMBER_LESS: &[Line] = &[
     NeedTag {
         of: 0,
-        tag: INTEGER,
+        bits: INTEGER_BITS,
         class: INTEGER_CLASS,
     },
     NeedTag {
         of: 1,
-        tag: INTEGER,
+        bits: INTEGER_BITS,
         class: INTEGER_CLASS,
     },
     LoadFixed {
@@ -397,12 +397,12 @@ pub const NUMBER_LESS: &[Line] = &[
 pub const NUMBER_AT_MOST: &[Line] = &[
     NeedTag {
         of: 0,
-        tag: INTEGER,
+        bits: INTEGER_BITS,
         class: INTEGER_CLASS,
     },
     NeedTag {
         of: 1,
-        tag: INTEGER,
+        bits: INTEGER_BITS,
         class: INTEGER_CLASS,
     },
     LoadFixed {
@@ -424,12 +424,12 @@ pub const NUMBER_AT_MOST: &[Line] = &[
 pub const NUMBER_GREATER: &[Line] = &[
     NeedTag {
         of: 0,
-        tag: INTEGER,
+        bits: INTEGER_BITS,
         class: INTEGER_CLASS,
     },
     NeedTag {
         of: 1,
-        tag: INTEGER,
+        bits: INTEGER_BITS,
         class: INTEGER_CLASS,
     },
     LoadFixed {
@@ -451,12 +451,12 @@ pub const NUMBER_GREATER: &[Line] = &[
 pub const NUMBER_AT_LEAST: &[Line] = &[
     NeedTag {
         of: 0,
-        tag: INTEGER,
+        bits: INTEGER_BITS,
         class: INTEGER_CLASS,
     },
     NeedTag {
         of: 1,
-        tag: INTEGER,
+        bits: INTEGER_BITS,
         class: INTEGER_CLASS,
     },
     LoadFixed {

@@ -6,7 +6,7 @@ use crate::line::Line::{
     Return, Set, SignalUnless, Store,
 };
 use crate::words::{
-    INTEGER, INTEGER_CLASS, OBJECT, PROGRAM_ERROR, SECOND, STRING, STRING_CLASS, THIRD,
+    INTEGER_BITS, INTEGER_CLASS, OBJECT, PROGRAM_ERROR, SECOND, STRING, STRING_CLASS, THIRD,
 };
 use isl_mid::{Arithmetic, Comparison, Test};
 
@@ -15,7 +15,7 @@ use isl_mid::{Arithmetic, Comparison, Test};
 pub const MAKE_STRING: &[Line] = &[
     NeedTag {
         of: 0,
-        tag: INTEGER,
+        bits: INTEGER_BITS,
         class: INTEGER_CLASS,
     },
     NeedCharacter { of: 1 },
@@ -152,7 +152,7 @@ pub const CHAR_AT: &[Line] = &[
     },
     NeedTag {
         of: 1,
-        tag: INTEGER,
+        bits: INTEGER_BITS,
         class: INTEGER_CLASS,
     },
     Load {
@@ -241,7 +241,7 @@ pub const SET_CHAR_AT: &[Line] = &[
     },
     NeedTag {
         of: 2,
-        tag: INTEGER,
+        bits: INTEGER_BITS,
         class: INTEGER_CLASS,
     },
     Load {

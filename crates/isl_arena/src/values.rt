@@ -6,8 +6,8 @@ use crate::line::Line::{
     Request, Return, ReturnIf, Set, Store, StoreFixed,
 };
 use crate::words::{
-    CAR, CDR, CONS, CONS_CLASS, FUNCTION, GENERIC, HEADER, INPUT, INPUT_STREAM_AT, INTEGER,
-    INTEGER_CLASS, LINE_AT, NIL, OUTPUT, OUTPUT_STREAM_AT, PEEKED_AT, STREAM_CLASS, STRING, SYMBOL,
+    CAR, CDR, CONS, CONS_BITS, CONS_CLASS, FUNCTION, GENERIC, HEADER, INPUT, INPUT_STREAM_AT, INTEGER_BITS,
+    INTEGER_CLASS, LINE_AT, NIL, OBJECT_BITS, OUTPUT, OUTPUT_STREAM_AT, PEEKED_AT, STREAM_CLASS, STRING, SYMBOL,
     TRUE_AT, VECTOR,
 };
 use isl_mid::{Arithmetic, Comparison, Test};
@@ -56,7 +56,7 @@ pub const IS_CONS: &[Line] = &[
     },
     Set {
         to: 6,
-        word: 1073741824,
+        word: CONS_BITS,
     },
     LoadFixed {
         to: 5,
@@ -135,7 +135,7 @@ pub const IS_STRING: &[Line] = &[
     },
     Set {
         to: 6,
-        word: 2147483648,
+        word: OBJECT_BITS,
     },
     Set { to: 5, word: NIL },
     ReturnIf {
@@ -182,7 +182,7 @@ pub const IS_VECTOR: &[Line] = &[
     },
     Set {
         to: 6,
-        word: 2147483648,
+        word: OBJECT_BITS,
     },
     Set { to: 5, word: NIL },
     ReturnIf {
@@ -230,7 +230,7 @@ pub const IS_FUNCTION: &[Line] = &[
     },
     Set {
         to: 6,
-        word: 2147483648,
+        word: OBJECT_BITS,
     },
     Set { to: 5, word: NIL },
     ReturnIf {
@@ -277,7 +277,7 @@ pub const IS_GENERIC: &[Line] = &[
     },
     Set {
         to: 6,
-        word: 2147483648,
+        word: OBJECT_BITS,
     },
     Set { to: 5, word: NIL },
     ReturnIf {
@@ -338,7 +338,7 @@ pub const IS_SYMBOL: &[Line] = &[
     },
     Set {
         to: 6,
-        word: 2147483648,
+        word: OBJECT_BITS,
     },
     Set { to: 5, word: NIL },
     ReturnIf {
@@ -401,7 +401,7 @@ pub const MAKE_CONS: &[Line] = &[
 pub const TAKE_CAR: &[Line] = &[
     NeedTag {
         of: 0,
-        tag: CONS,
+        bits: CONS_BITS,
         class: CONS_CLASS,
     },
     Load {
@@ -415,7 +415,7 @@ pub const TAKE_CAR: &[Line] = &[
 pub const TAKE_CDR: &[Line] = &[
     NeedTag {
         of: 0,
-        tag: CONS,
+        bits: CONS_BITS,
         class: CONS_CLASS,
     },
     Load {
@@ -429,7 +429,7 @@ pub const TAKE_CDR: &[Line] = &[
 pub const SET_CAR: &[Line] = &[
     NeedTag {
         of: 1,
-        tag: CONS,
+        bits: CONS_BITS,
         class: CONS_CLASS,
     },
     Store {
@@ -443,7 +443,7 @@ pub const SET_CAR: &[Line] = &[
 pub const SET_CDR: &[Line] = &[
     NeedTag {
         of: 1,
-        tag: CONS,
+        bits: CONS_BITS,
         class: CONS_CLASS,
     },
     Store {
@@ -475,7 +475,7 @@ pub const CHAR_CODE: &[Line] = &[
 pub const CODE_CHAR: &[Line] = &[
     NeedTag {
         of: 0,
-        tag: INTEGER,
+        bits: INTEGER_BITS,
         class: INTEGER_CLASS,
     },
     Set { to: 6, word: 1024 },

@@ -6,7 +6,7 @@ use crate::line::Line::{
     SignalUnless, Store,
 };
 use crate::words::{
-    INTEGER, INTEGER_CLASS, OBJECT, PROGRAM_ERROR, SECOND, THIRD, VECTOR, VECTOR_CLASS,
+    INTEGER_BITS, INTEGER_CLASS, OBJECT, PROGRAM_ERROR, SECOND, THIRD, VECTOR, VECTOR_CLASS,
 };
 use isl_mid::{Arithmetic, Comparison, Test};
 
@@ -14,7 +14,7 @@ use isl_mid::{Arithmetic, Comparison, Test};
 pub const MAKE_VECTOR: &[Line] = &[
     NeedTag {
         of: 0,
-        tag: INTEGER,
+        bits: INTEGER_BITS,
         class: INTEGER_CLASS,
     },
     Set { to: 6, word: 0 },
@@ -97,7 +97,7 @@ pub const VECTOR_REF: &[Line] = &[
     },
     NeedTag {
         of: 1,
-        tag: INTEGER,
+        bits: INTEGER_BITS,
         class: INTEGER_CLASS,
     },
     Load {
@@ -136,7 +136,7 @@ pub const SET_VECTOR_REF: &[Line] = &[
     },
     NeedTag {
         of: 2,
-        tag: INTEGER,
+        bits: INTEGER_BITS,
         class: INTEGER_CLASS,
     },
     Load {
