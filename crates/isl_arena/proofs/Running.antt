@@ -127,6 +127,12 @@ pub and_ends :
     → RunsTo c (step_and s code) rs z (ends e rs' z')
 and_ends {c = c} {s = s} {code = code} {e = e} {rs = rs} {rs' = rs'} {z = z} {z' = z'} l g = record { same = step_last c s code e rs rs' z z' l g.same }
 
+-- the same run, with what it costs in one sum
+pub costing :
+    {c : Context} {code : MidCode} {e : End} {rs rs' : Registers} {z z' : State} {n : ℕ} → RunsTo c code rs z (ends e rs' z') → z'.cost ≡ n
+    → RunsTo c code rs z (ends e rs' (record z' { cost = n }))
+costing {e = e} {rs' = rs'} {z' = z'} g h = record { same = g.same ∙ ap (λ n. ends e rs' (record z' { cost = n })) h }
+
 -- operations, where they succeed
 
 pub move_falls :
