@@ -1,0 +1,180 @@
+-- What stands where after a change of the arena.
+use Rattle.std.proofs.Common.{◌≡◌, ℕ, zero, suc, ◌+◌, ◌-◌, ◌*◌, ◌/◌, ◌%◌, ◌^◌, ◌<◌, ◌≤◌, length, Bool, true, false, List, [], ◌∷◌, Option, Some, None, refl, sym, ap, ◌∙◌, subst, inl, inr, arith}
+use Rattle.std.specs.Prelude.{◌==◌, ◌&&◌, ◌||◌, nat_le, nat_lt, if◌then◌else◌, slice_get, slice_set}
+use Rattle.std.proofs.lemmas.Bool.Decides.{nat_tests}
+use Rattle.std.proofs.Math.ListN.{length-set}
+use Rattle.isl_mid.specs.Arena.{Block, activation_frame, is_record, Arena, words_of, begin_of, lent_from, stack_from, left, is_within, is_in_record, is_lent, word_in, word_at, with_word, emptied, with_heap, with_blocks, with_new_block}
+use Rattle.isl_mid.proofs.Growth.{length-emptied}
+use Rattle.isl_arena.specs.Places.{Spot, end_of}
+use Rattle.isl_arena.specs.Standing.{ArenaStands, IsLentPart, of_laid, of_heap, SpotStands}
+
+-- tests
+
+within : (from to x : ℕ) → from ≤ x → x < to → is_within from to x ≡ true
+within from to x h g = grind (arith, nat_tests)
+
+not_within_below : (from to x : ℕ) → x < from → is_within from to x ≡ false
+not_within_below from to x h = grind (arith, nat_tests)
+
+is_same : (m n : ℕ) → m ≡ n → (m == n) ≡ true
+is_same m n e = grind (arith, nat_tests)
+
+-- lists
+
+got_here : {X : Type 0} (xs : List X) (i : ℕ) (x : X) → i < length xs → slice_get (slice_set xs i x) i ≡ Some x
+got_here [] i x h = absurd (omega arith)
+got_here (y ∷ ys) zero x h = refl
+got_here (y ∷ ys) (suc i) x h = got_here ys i x (omega arith)
+
+got_elsewhere : {X : Type 0} (xs : List X) (i j : ℕ) (x : X) → (i ≡ j → ⊥) → slice_get (slice_set xs i x) j ≡ slice_get xs j
+got_elsewhere [] i j x h = refl
+got_elsewhere (y ∷ ys) zero zero x h = absurd (h refl)
+got_elsewhere (y ∷ ys) zero (suc j) x h = refl
+got_elsewhere (y ∷ ys) (suc i) zero x h = refl
+got_elsewhere (y ∷ ys) (suc i) (suc j) x h = got_elsewhere ys i j x (λ e. h (ap (λ n. suc n) e))
+
+-- memory with words emptied: those in front are as they were
+emptied_in_front : (i n : ℕ) (ws : List (Option ℕ)) (j : ℕ) → j < i → slice_get (emptied i n ws) j ≡ slice_get ws j
+emptied_in_front i n [] j h = refl
+emptied_in_front zero n (w ∷ ws) j h = absurd (omega arith)
+emptied_in_front (suc i) n (w ∷ ws) zero h = refl
+emptied_in_front (suc i) n (w ∷ ws) (suc j) h = emptied_in_front i n ws j (omega arith)
+
+emptied_behind : (i n : ℕ) (ws : List (Option ℕ)) (j : ℕ) → i + n ≤ j → slice_get (emptied i n ws) j ≡ slice_get ws j
+emptied_behind i n [] j h = refl
+emptied_behind zero zero (w ∷ ws) j h = refl
+emptied_behind zero (suc n) (w ∷ ws) zero h = absurd (omega arith)
+emptied_behind zero (suc n) (w ∷ ws) (suc j) h = emptied_behind zero n ws j (omega arith)
+emptied_behind (suc i) n (w ∷ ws) zero h = absurd (omega arith)
+emptied_behind (suc i) n (w ∷ ws) (suc j) h = emptied_behind i n ws j (omega arith)
+
+emptied_within : (i n : ℕ) (ws : List (Option ℕ)) (j : ℕ) → i ≤ j → j < i + n → word_in (slice_get (emptied i n ws) j) ≡ None
+emptied_within i n [] j h g = refl
+emptied_within zero zero (w ∷ ws) j h g = absurd (omega arith)
+emptied_within zero (suc n) (w ∷ ws) zero h g = refl
+emptied_within zero (suc n) (w ∷ ws) (suc j) h g = emptied_within zero n ws j (omega arith) (omega arith)
+emptied_within (suc i) n (w ∷ ws) zero h g = absurd (omega arith)
+emptied_within (suc i) n (w ∷ ws) (suc j) h g = emptied_within i n ws j (omega arith) (omega arith)
+
+-- what is lent
+
+true_and : (a b : Bool) → a ≡ true → b ≡ true → (a && b) ≡ true
+true_and a b h g = cc
+
+first_and : (a b : Bool) → (a && b) ≡ true → a ≡ true
+first_and true b h = refl
+first_and false b h = absurd (cc h)
+
+-- below the stack no word is in a record
+not_in_record : (size : ℕ) (bs : List Block) (x : ℕ) → x < begin_of size bs → is_in_record size bs x ≡ false
+not_in_record size [] x h = refl
+not_in_record size (b ∷ bs) x h =
+    let first : is_within (lent_from size (b ∷ bs)) (begin_of size bs) x ≡ false = not_within_below _ _ x (omega arith) in
+    let more : is_in_record size bs x ≡ false = not_in_record size bs x (omega arith) in
+    either_false (is_record b.kind) _ _ first more
+  where
+    either_false : (k a b : Bool) → a ≡ false → b ≡ false → ((k && a) || b) ≡ false
+    either_false true a b h g = cc
+    either_false false a b h g = g
+
+aligned : (a : Arena) (x : ℕ) → is_lent a x ≡ true → x % 4 ≡ 0
+aligned a x h =
+    let e : (x % 4 == 0) ≡ true = first_and (x % 4 == 0) _ h in
+    grind (arith, nat_tests)
+
+-- the same word, where the same is lent and the word there is the same
+same_word :
+    (a b : Arena) (x : ℕ) → is_lent b x ≡ is_lent a x → (is_lent a x ≡ true → word_in (slice_get b.memory (x / 4)) ≡ word_in (slice_get a.memory (x / 4)))
+    → word_at b x ≡ word_at a x
+same_word a b x e h = by_test (is_lent b x) (is_lent a x) _ _ e h
+  where
+    by_test : (s t : Bool) (v w : Option ℕ) → s ≡ t → (t ≡ true → v ≡ w) → (if s then v else None) ≡ (if t then w else None)
+    by_test true true v w e h = h refl
+    by_test false false v w e h = refl
+    by_test true false v w e h = absurd (cc e)
+    by_test false true v w e h = absurd (cc e)
+
+word_found : (a : Arena) (x : ℕ) → is_lent a x ≡ true → word_at a x ≡ word_in (slice_get a.memory (x / 4))
+word_found a x h = ap (λ t. if t then word_in (slice_get a.memory (x / 4)) else None) h
+
+-- spots that stand
+
+lent_in_heap : (a : Arena) (x : ℕ) → x % 4 ≡ 0 → a.heap_from ≤ x → x < a.heap_to → is_lent a x ≡ true
+lent_in_heap a x e h g = true_and _ _ (is_same _ _ e) (second_of_three _ _ _ (within _ _ x h g))
+  where
+    second_of_three : (p q r : Bool) → q ≡ true → (p || q || r) ≡ true
+    second_of_three true q r h = refl
+    second_of_three false true r h = refl
+    second_of_three false false r h = absurd (cc h)
+
+lent_in_laid : (a : Arena) (x : ℕ) → x % 4 ≡ 0 → a.laid_from ≤ x → x < a.laid_to → is_lent a x ≡ true
+lent_in_laid a x e h g = true_and _ _ (is_same _ _ e) (first_of_three _ _ _ (within _ _ x h g))
+  where
+    first_of_three : (p q r : Bool) → p ≡ true → (p || q || r) ≡ true
+    first_of_three true q r h = refl
+    first_of_three false q r h = absurd (cc h)
+
+-- an address in a spot that stands is lent
+pub in_spot_lent : {a : Arena} {s : Spot} (x : ℕ) → SpotStands a s → x % 4 ≡ 0 → s.address ≤ x → x < end_of s → is_lent a x ≡ true
+in_spot_lent {a} {s} x stands e h g = from stands.part
+  where
+    from : IsLentPart a s → is_lent a x ≡ true
+    from (of_laid low high) = lent_in_laid a x e (omega arith) (omega arith)
+    from (of_heap low high) = lent_in_heap a x e (omega arith) (omega arith)
+
+-- below where the heap ends, and so below the stack
+pub spot_below : {a : Arena} {s : Spot} → ArenaStands a → SpotStands a s → end_of s ≤ a.heap_to
+spot_below {a} {s} arena stands = from stands.part
+  where
+    from : IsLentPart a s → end_of s ≤ a.heap_to
+    from (of_laid low high) = omega (arith, arena.laid, arena.heap)
+    from (of_heap low high) = high
+
+-- where the heap ends is no more than 2 ^ 26, so addresses are words
+pub heap_below : {a : Arena} → ArenaStands a → a.heap_to ≤ 2 ^ 26
+heap_below {a} arena = omega (arith, arena.room, arena.size)
+
+-- and there is a word of the memory at it
+pub in_heap_there : {a : Arena} (x : ℕ) → ArenaStands a → x < a.heap_to → x / 4 < length a.memory
+in_heap_there {a} x arena h = omega (arith, arena.room, arena.aligned)
+
+pub in_spot_there : {a : Arena} {s : Spot} (x : ℕ) → ArenaStands a → SpotStands a s → x < end_of s → x / 4 < length a.memory
+in_spot_there {a} {s} x arena stands g = in_heap_there x arena (omega (arith, spot_below arena stands))
+
+-- the words of a spot by their numbers
+pub part_lent : {a : Arena} {s : Spot} (i : ℕ) → SpotStands a s → i < s.words → is_lent a (s.address + 4 * i) ≡ true
+part_lent {a} {s} i stands h = in_spot_lent (s.address + 4 * i) stands (omega (arith, stands.aligned)) (omega arith) (omega arith)
+
+pub part_there : {a : Arena} {s : Spot} (i : ℕ) → ArenaStands a → SpotStands a s → i < s.words → (s.address + 4 * i) / 4 < length a.memory
+part_there {a} {s} i arena stands h = in_spot_there (s.address + 4 * i) arena stands (omega arith)
+
+-- a word is stored
+
+pub lent_with_word : (a : Arena) (x w y : ℕ) → is_lent (with_word x w a) y ≡ is_lent a y
+lent_with_word a x w y =
+    ap (λ n. (y % 4 == 0) && (is_within a.laid_from a.laid_to y || is_within a.heap_from a.heap_to y || is_in_record n a.blocks y))
+    (length-set a.memory (x / 4) (Some w))
+
+pub word_here : (a : Arena) (x w : ℕ) → is_lent a x ≡ true → x / 4 < length a.memory → word_at (with_word x w a) x ≡ Some w
+word_here a x w h g =
+    word_found (with_word x w a) x (lent_with_word a x w x ∙ h) ∙ ap word_in (got_here a.memory (x / 4) (Some w) g)
+
+pub word_elsewhere : (a : Arena) (x w y : ℕ) → x % 4 ≡ 0 → (x == y) ≡ false → word_at (with_word x w a) y ≡ word_at a y
+word_elsewhere a x w y e h =
+    same_word a (with_word x w a) y (lent_with_word a x w y)
+    (λ l. ap word_in (got_elsewhere a.memory (x / 4) (y / 4) (Some w) (λ same. other (omega (arith, aligned a y l)))))
+  where
+    other : x ≡ y → ⊥
+    other same = grind (arith, nat_tests)
+
+pub stands_with_word : {a : Arena} (x w : ℕ) → ArenaStands a → ArenaStands (with_word x w a)
+stands_with_word {a} x w h =
+    let same : length (slice_set a.memory (x / 4) (Some w)) ≡ length a.memory = length-set a.memory (x / 4) (Some w) in
+    record {
+      size = omega (arith, same, h.size);
+      laid = h.laid;
+      heap = h.heap;
+      aligned = h.aligned;
+      room = omega (arith, same, h.room);
+      blocks = omega (arith, same, h.blocks);
+    }
