@@ -178,3 +178,150 @@ stands_with_word {a} x w h =
       room = omega (arith, same, h.room);
       blocks = omega (arith, same, h.blocks);
     }
+
+-- What stays where an arena grows: the bounds but for the heap, which may have grown, and the words laid and in the heap.
+pub record Facts (earlier later : Arena) : Type 0 where
+  pub size : length later.memory ≡ length earlier.memory
+  pub laid_from : later.laid_from ≡ earlier.laid_from
+  pub laid_to : later.laid_to ≡ earlier.laid_to
+  pub heap_from : later.heap_from ≡ earlier.heap_from
+  pub heap_to : earlier.heap_to ≤ later.heap_to
+  pub stands : ArenaStands later
+  pub words : (x : ℕ) → x < earlier.heap_to → word_at later x ≡ word_at earlier x
+
+-- below the heap's end and the stack, whether an address is lent does not hang on where they end
+lent_below :
+    (a : Arena) (to size : ℕ) (bs : List Block) (x : ℕ) → x < a.heap_to → a.heap_to ≤ to → is_in_record size bs x ≡ false
+    → is_in_record (length a.memory) a.blocks x ≡ false
+    → ((x % 4 == 0) && (is_within a.laid_from a.laid_to x || is_within a.heap_from to x || is_in_record size bs x)) ≡ is_lent a x
+lent_below a to size bs x low more e f =
+    let same : is_within a.heap_from to x ≡ is_within a.heap_from a.heap_to x = grind (arith, nat_tests) in
+    cc
+
+-- so the words there are the same, where the memory is as it was there
+words_below :
+    (a b : Arena) (x : ℕ) → ArenaStands a → b.laid_from ≡ a.laid_from → b.laid_to ≡ a.laid_to → b.heap_from ≡ a.heap_from → a.heap_to ≤ b.heap_to → a.heap_to ≤ stack_from b
+    → slice_get b.memory (x / 4) ≡ slice_get a.memory (x / 4) → x < a.heap_to → word_at b x ≡ word_at a x
+words_below a b x h e f g more room same low =
+    let here : is_in_record (length a.memory) a.blocks x ≡ false = not_in_record (length a.memory) a.blocks x (omega (arith, h.room)) in
+    let there : is_in_record (length b.memory) b.blocks x ≡ false = not_in_record (length b.memory) b.blocks x (omega (arith, room)) in
+    same_word a b x
+    (ap (λ n. (x % 4 == 0) && (is_within n b.laid_to x || is_within b.heap_from b.heap_to x || is_in_record (length b.memory) b.blocks x)) e
+    ∙ ap (λ n. (x % 4 == 0) && (is_within a.laid_from n x || is_within b.heap_from b.heap_to x || is_in_record (length b.memory) b.blocks x)) f
+    ∙ ap (λ n. (x % 4 == 0) && (is_within a.laid_from a.laid_to x || is_within n b.heap_to x || is_in_record (length b.memory) b.blocks x)) g
+    ∙ lent_below a b.heap_to (length b.memory) b.blocks x low more there here)
+    (λ l. ap word_in same)
+
+-- words are requested
+
+pub stands_with_heap : {a : Arena} (n : ℕ) → ArenaStands a → n ≤ left a → ArenaStands (with_heap n a)
+stands_with_heap {a} n h some =
+    let same : length (emptied (a.heap_to / 4) n a.memory) ≡ length a.memory = length-emptied (a.heap_to / 4) n a.memory in
+    record {
+      size = omega (arith, same, h.size);
+      laid = h.laid;
+      heap = omega (arith, h.heap);
+      aligned = omega (arith, h.aligned);
+      room = omega (arith, same, h.room, h.blocks);
+      blocks = omega (arith, same, h.blocks);
+    }
+
+pub facts_with_heap : {a : Arena} (n : ℕ) → ArenaStands a → n ≤ left a → Facts a (with_heap n a)
+facts_with_heap {a} n h some =
+    let same : length (emptied (a.heap_to / 4) n a.memory) ≡ length a.memory = length-emptied (a.heap_to / 4) n a.memory in
+    record {
+      size = same;
+      laid_from = refl;
+      laid_to = refl;
+      heap_from = refl;
+      heap_to = omega arith;
+      stands = stands_with_heap n h some;
+      words = λ x low.
+      words_below a (with_heap n a) x h refl refl refl (omega arith) (omega (arith, same, h.room))
+      (emptied_in_front (a.heap_to / 4) n a.memory (x / 4) (omega (arith, h.aligned))) low;
+    }
+
+-- the new words are lent, and nothing was stored there
+pub new_word_lent : {a : Arena} (n k : ℕ) → ArenaStands a → k < n → is_lent (with_heap n a) (a.heap_to + 4 * k) ≡ true
+new_word_lent {a} n k h low =
+    lent_in_heap (with_heap n a) (a.heap_to + 4 * k) (omega (arith, h.aligned)) (omega (arith, h.heap)) (omega arith)
+
+pub new_word_none : {a : Arena} (n k : ℕ) → ArenaStands a → k < n → word_at (with_heap n a) (a.heap_to + 4 * k) ≡ None
+new_word_none {a} n k h low =
+    word_found (with_heap n a) (a.heap_to + 4 * k) (new_word_lent n k h low)
+    ∙ emptied_within (a.heap_to / 4) n a.memory ((a.heap_to + 4 * k) / 4) (omega arith) (omega (arith, h.aligned))
+
+-- they are a spot
+pub new_spot_stands :
+    {a : Arena} (n tag : ℕ) → ArenaStands a → 1 ≤ n → tag < 4 → SpotStands (with_heap n a) (record { address = a.heap_to; words = n; tag = tag })
+new_spot_stands {a} n tag h some small =
+    record { aligned = h.aligned; some = some; tag = small; part = of_heap h.heap (omega arith) }
+
+-- a spot that stands still does
+pub spot_still_stands : {a b : Arena} {s : Spot} → Facts a b → SpotStands a s → SpotStands b s
+spot_still_stands {a} {b} {s} g h = record { aligned = h.aligned; some = h.some; tag = h.tag; part = from h.part }
+  where
+    from : IsLentPart a s → IsLentPart b s
+    from (of_laid low high) = of_laid (omega (arith, g.laid_from)) (omega (arith, g.laid_to))
+    from (of_heap low high) = of_heap (omega (arith, g.heap_from)) (omega (arith, g.heap_to))
+
+-- a block is laid
+
+pub stands_with_new_block : {a : Arena} (b : Block) → ArenaStands a → b.words ≤ left a → ArenaStands (with_new_block b a)
+stands_with_new_block {a} b h some =
+    let same : length (with_new_block b a).memory ≡ length a.memory = length-emptied _ b.words a.memory in
+    record {
+      size = omega (arith, same, h.size);
+      laid = h.laid;
+      heap = h.heap;
+      aligned = h.aligned;
+      room = omega (arith, same, h.room, h.blocks);
+      blocks = omega (arith, same, h.blocks);
+    }
+
+pub facts_with_new_block : {a : Arena} (b : Block) → ArenaStands a → b.words ≤ left a → Facts a (with_new_block b a)
+facts_with_new_block {a} b h some =
+    let same : length (with_new_block b a).memory ≡ length a.memory = length-emptied _ b.words a.memory in
+    record {
+      size = same;
+      laid_from = refl;
+      laid_to = refl;
+      heap_from = refl;
+      heap_to = omega arith;
+      stands = stands_with_new_block b h some;
+      words = λ x low.
+      words_below a (with_new_block b a) x h refl refl refl (omega arith) (omega (arith, same, h.room))
+      (emptied_in_front _ b.words a.memory (x / 4) (omega (arith, h.aligned, h.room))) low;
+    }
+
+-- so many words fewer are left
+pub left_with_new_block : {a : Arena} (b : Block) → ArenaStands a → b.words ≤ left a → left (with_new_block b a) + b.words ≡ left a
+left_with_new_block {a} b h some =
+    let same : length (with_new_block b a).memory ≡ length a.memory = length-emptied _ b.words a.memory in
+    omega (arith, same, h.room, h.blocks)
+
+-- blocks are given back: those that stand have no more words than before
+
+pub stands_with_blocks : {a : Arena} (bs : List Block) → ArenaStands a → words_of bs ≤ words_of a.blocks → ArenaStands (with_blocks bs a)
+stands_with_blocks {a} bs h fewer = record {
+  size = h.size;
+  laid = h.laid;
+  heap = h.heap;
+  aligned = h.aligned;
+  room = omega (arith, h.room);
+  blocks = omega (arith, h.blocks);
+}
+
+pub facts_with_blocks : {a : Arena} (bs : List Block) → ArenaStands a → words_of bs ≤ words_of a.blocks → Facts a (with_blocks bs a)
+facts_with_blocks {a} bs h fewer = record {
+  size = refl;
+  laid_from = refl;
+  laid_to = refl;
+  heap_from = refl;
+  heap_to = omega arith;
+  stands = stands_with_blocks bs h fewer;
+  words = λ x low. words_below a (with_blocks bs a) x h refl refl refl (omega arith) (omega (arith, h.room)) refl low;
+}
+
+pub left_with_blocks : {a : Arena} (bs : List Block) → ArenaStands a → words_of bs ≤ words_of a.blocks → left (with_blocks bs a) + words_of bs ≡ left a + words_of a.blocks
+left_with_blocks {a} bs h fewer = omega (arith, h.room, h.blocks)
