@@ -325,3 +325,77 @@ facts_with_blocks {a} bs h fewer = record {
 
 pub left_with_blocks : {a : Arena} (bs : List Block) → ArenaStands a → words_of bs ≤ words_of a.blocks → left (with_blocks bs a) + words_of bs ≡ left a + words_of a.blocks
 left_with_blocks {a} bs h fewer = omega (arith, h.room, h.blocks)
+
+-- the innermost block is given back
+pub facts_given_back : {a : Arena} (b : Block) (bs : List Block) → ArenaStands a → a.blocks ≡ b ∷ bs → Facts a (with_blocks bs a)
+facts_given_back {a} b bs h e =
+    let same : words_of a.blocks ≡ b.words + words_of bs = ap words_of e in
+    facts_with_blocks bs h (omega arith)
+
+pub left_given_back : {a : Arena} (b : Block) (bs : List Block) → ArenaStands a → a.blocks ≡ b ∷ bs → left (with_blocks bs a) ≡ left a + b.words
+left_given_back {a} b bs h e =
+    let same : words_of a.blocks ≡ b.words + words_of bs = ap words_of e in
+    omega (arith, h.room, h.blocks)
+
+-- how many words are left otherwise
+
+pub left_with_word : (a : Arena) (x w : ℕ) → left (with_word x w a) ≡ left a
+left_with_word a x w = ap (λ n. (begin_of n a.blocks - a.heap_to) / 4) (length-set a.memory (x / 4) (Some w))
+
+pub left_with_heap : {a : Arena} (n : ℕ) → ArenaStands a → n ≤ left a → left (with_heap n a) + n ≡ left a
+left_with_heap {a} n h some =
+    let same : length (emptied (a.heap_to / 4) n a.memory) ≡ length a.memory = length-emptied (a.heap_to / 4) n a.memory in
+    omega (arith, same, h.room, h.blocks)
+
+-- one change after another
+
+pub facts_same : {a : Arena} → ArenaStands a → Facts a a
+facts_same h = record { size = refl; laid_from = refl; laid_to = refl; heap_from = refl; heap_to = omega arith; stands = h; words = λ x low. refl }
+
+pub facts_both : {a b c : Arena} → Facts a b → Facts b c → Facts a c
+facts_both {a} {b} {c} g h = record {
+  size = h.size ∙ g.size;
+  laid_from = h.laid_from ∙ g.laid_from;
+  laid_to = h.laid_to ∙ g.laid_to;
+  heap_from = h.heap_from ∙ g.heap_from;
+  heap_to = omega (arith, g.heap_to, h.heap_to);
+  stands = h.stands;
+  words = λ x low. h.words x (omega (arith, low, g.heap_to)) ∙ g.words x low;
+}
+
+-- a word is stored above where the heap ended before
+pub facts_stored : {a b : Arena} (x w : ℕ) → Facts a b → x % 4 ≡ 0 → a.heap_to ≤ x → Facts a (with_word x w b)
+facts_stored {a} {b} x w g e above = record {
+  size = length-set b.memory (x / 4) (Some w) ∙ g.size;
+  laid_from = g.laid_from;
+  laid_to = g.laid_to;
+  heap_from = g.heap_from;
+  heap_to = g.heap_to;
+  stands = stands_with_word x w g.stands;
+  words = λ y low. word_elsewhere b x w y e (is_other x y (omega arith)) ∙ g.words y low;
+}
+  where
+    is_other : (m n : ℕ) → n < m → (m == n) ≡ false
+    is_other m n h = grind (arith, nat_tests)
+
+-- the frame of a procedure is laid, what the body does grows from there, and the blocks are those of before again
+pub facts_left : {a b : Arena} (block : Block) → ArenaStands a → block.words ≤ left a → Facts (with_new_block block a) b → b.blocks ≡ block ∷ a.blocks → Facts a (with_blocks a.blocks b)
+facts_left {a} {b} block h some g e = facts_both (facts_both (facts_with_new_block block h some) g) (facts_given_back block a.blocks g.stands e)
+
+-- the words of a spot by their numbers: one is stored, the others are as before
+
+pub stored_in_spot : {a : Arena} {s : Spot} (i w : ℕ) → ArenaStands a → SpotStands a s → i < s.words → word_at (with_word (s.address + 4 * i) w a) (s.address + 4 * i) ≡ Some w
+stored_in_spot {a} {s} i w arena stands h = word_here a (s.address + 4 * i) w (part_lent i stands h) (part_there i arena stands h)
+
+pub others_in_spot :
+    {a : Arena} {s : Spot} (i j w : ℕ) → SpotStands a s → (i == j) ≡ false
+    → word_at (with_word (s.address + 4 * i) w a) (s.address + 4 * j) ≡ word_at a (s.address + 4 * j)
+others_in_spot {a} {s} i j w stands h =
+    word_elsewhere a (s.address + 4 * i) w (s.address + 4 * j) (omega (arith, stands.aligned)) (grind (arith, nat_tests))
+
+pub spot_stands_with_word : {a : Arena} {s : Spot} (x w : ℕ) → SpotStands a s → SpotStands (with_word x w a) s
+spot_stands_with_word {a} {s} x w h = record { aligned = h.aligned; some = h.some; tag = h.tag; part = from h.part }
+  where
+    from : IsLentPart a s → IsLentPart (with_word x w a) s
+    from (of_laid low high) = of_laid low high
+    from (of_heap low high) = of_heap low high
