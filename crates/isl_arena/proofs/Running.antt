@@ -61,6 +61,9 @@ is_at_most m n h = grind (arith, nat_tests)
 is_not_at_most : (m n : ℕ) → n < m → nat_le m n ≡ false
 is_not_at_most m n h = grind (arith, nat_tests)
 
+is_same : (m n : ℕ) → m ≡ n → (m == n) ≡ true
+is_same m n e = grind (arith, nat_tests)
+
 -- where code falls out, it jumps; every other end passes
 pub jumped_falls : {r : Outcome} {rs : Registers} {z : State} → r ≡ ends falls rs z → jumped r ≡ ends falls rs (charged jump_cost z)
 unfolding go_on
@@ -266,3 +269,54 @@ pub choose_second_ends :
     → register t.second rs ≡ Some b → compares t.comparison a b ≡ false → RunsTo c second rs (charged test_cost z) (ends e rs' z')
     → StepsTo c (choose t first second) rs z (ends e rs' z')
 choose_second_ends l e f h g = record { same = (choose_second e f h g).same ∙ jumped_last l refl }
+
+-- procedures
+
+-- the frame of a procedure
+abbrev pub frame_of : MidProcedure → Block
+frame_of p = record { words = p.frame; kind = activation_frame }
+
+-- a state where a procedure was entered: the entry is paid, and the frame is laid
+abbrev pub entered : MidProcedure → State → State
+entered p z = with_arena (with_new_block (frame_of p) z.arena) (charged (entry_cost p.parameters) z)
+
+-- what a procedure comes to that is entered with a turn, as a record for the same reason
+pub record EntersTo (procedures : List MidProcedure) (below : Task → State → Outcome) (n : ℕ) (p : MidProcedure) (ws : List ℕ) (z : State) (r : Outcome) : Type 0 where
+  pub same : turns procedures below (suc n) (enter p ws) z ≡ r
+
+-- its frame is not left
+pub enters_wanting :
+    {procedures : List MidProcedure} {below : Task → State → Outcome} {n : ℕ} {p : MidProcedure} {ws : List ℕ} {z : State} → length ws ≡ p.parameters
+    → left z.arena < p.frame
+    → EntersTo procedures below n p ws z
+    (ends (no_room p.frame (left z.arena)) (first_registers p.registers ws) (charged (entry_cost p.parameters) z))
+unfolding turns
+enters_wanting {p = p} e h = record { same = first_chosen _ _ _ _ (is_same _ _ e) ∙ second_chosen _ _ _ _ (is_not_at_most _ _ h) }
+
+-- its frame is left, and the body runs
+pub enters :
+    {procedures : List MidProcedure} {below : Task → State → Outcome} {n : ℕ} {p : MidProcedure} {ws : List ℕ} {z : State} {r : Outcome}
+    → length ws ≡ p.parameters → p.frame ≤ left z.arena
+    → RunsTo (context_of procedures below (turns procedures below n)) (code_of p.body) (first_registers p.registers ws) (entered p z) r
+    → EntersTo procedures below n p ws z (leaves z.arena.blocks r)
+unfolding turns
+enters {z = z} e h g =
+    record { same = first_chosen _ _ _ _ (is_same _ _ e) ∙ first_chosen _ _ _ _ (is_at_most _ _ h) ∙ ap (leaves z.arena.blocks) g.same }
+
+-- the body returns, and the blocks are those of before
+pub enters_returns :
+    {procedures : List MidProcedure} {below : Task → State → Outcome} {n w : ℕ} {p : MidProcedure} {ws : List ℕ} {z z' : State} {rs : Registers}
+    → length ws ≡ p.parameters → p.frame ≤ left z.arena
+    → RunsTo (context_of procedures below (turns procedures below n)) (code_of p.body) (first_registers p.registers ws) (entered p z) (ends (returns w) rs z')
+    → EntersTo procedures below n p ws z (ends (returns w) rs (with_arena (with_blocks z.arena.blocks z'.arena) z'))
+unfolding leaves
+enters_returns e h g = record { same = (enters e h g).same }
+
+-- the body asks for words that are not left
+pub enters_no_room :
+    {procedures : List MidProcedure} {below : Task → State → Outcome} {n asked lacking : ℕ} {p : MidProcedure} {ws : List ℕ} {z z' : State} {rs : Registers}
+    → length ws ≡ p.parameters → p.frame ≤ left z.arena
+    → RunsTo (context_of procedures below (turns procedures below n)) (code_of p.body) (first_registers p.registers ws) (entered p z) (ends (no_room asked lacking) rs z')
+    → EntersTo procedures below n p ws z (ends (no_room asked lacking) rs z')
+unfolding leaves
+enters_no_room e h g = record { same = (enters e h g).same }
