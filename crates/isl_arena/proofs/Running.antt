@@ -4,16 +4,17 @@ use Rattle.std.specs.Prelude.{ℤ, pos, negsuc, ◌+ℤ◌, ◌==◌, nat_le, sl
 use Rattle.std.proofs.lemmas.Bool.Decides.{nat_tests}
 use Rattle.std.proofs.lemmas.Int.{ints}
 use Rattle.isl_mid.specs.declared.operation.Arithmetic.{Arithmetic}
-use Rattle.isl_mid.specs.declared.operation.Operation.{Operation}
+use Rattle.isl_mid.specs.declared.operation.Counted.{Counted}
+use Rattle.isl_mid.specs.declared.operation.Counted.TheVariants.{Turn}
 use Rattle.isl_mid.specs.declared.operation.Operation.TheVariants.{Move, Constant, Compute, Load, Store, Request, Put, Get}
 use Rattle.isl_mid.specs.declared.operation.Test.{Test}
 use Rattle.isl_mid.specs.declared.program.MidProcedure.{MidProcedure}
 use Rattle.isl_mid.specs.Words.{computed, compares, low_word, address}
-use Rattle.isl_mid.specs.MidCode.{MidStep, perform, choose, return_word, MidCode, no_step, step_and, code_of}
+use Rattle.isl_mid.specs.MidCode.{MidStep, perform, choose, repeat, return_word, MidCode, no_step, step_and, code_of}
 use Rattle.isl_mid.specs.Arena.{Arena, Block, activation_frame, left, is_lent, word_at, with_word, with_heap, with_blocks, with_new_block}
 use Rattle.isl_mid.specs.Costs.{operation_cost, test_cost, jump_cost, return_cost, entry_cost}
 use Rattle.isl_mid.specs.State.{Registers, first_registers, State, End, falls, returns, cuts, no_room, no_level, no_turn, halts, unhandled, exhausted, stuck, Outcome, Next, ends, charged, with_arena, gives, go_on, with_some, choose_by, register, jumped}
-use Rattle.isl_mid.specs.Meaning.{store, get_from, test, Task, enter, Context, context_of, leaves, exec, exec_step, turns}
+use Rattle.isl_mid.specs.Meaning.{store, get_from, test, count, Task, enter, again, Context, context_of, leaves, exec, exec_step, turns}
 
 -- an end that is not falling out
 abbrev pub IsLast : End → Type 0
@@ -71,6 +72,17 @@ jumped_falls e = ap jumped e
 
 pub jumped_last : {r : Outcome} {e : End} {rs : Registers} {z : State} → IsLast e → r ≡ ends e rs z → jumped r ≡ ends e rs z
 jumped_last {e = e} {rs = rs} {z = z} h same = ap jumped same ∙ go_on_last e rs z _ h
+
+-- the parts of a loop: its test, a turn, and what follows the turn
+
+abbrev loop_again : Context → Counted → MidCode → Test → MidCode → Next
+loop_again c how head t body rs z = count c how (again (repeat how head t body) rs) z
+
+abbrev loop_turn : Context → Counted → MidCode → Test → MidCode → Next
+loop_turn c how head t body rs z = go_on (jumped (exec c body rs z)) (loop_again c how head t body)
+
+abbrev loop_test : Context → Counted → MidCode → Test → MidCode → Next
+loop_test c how head t body rs z = test t (loop_turn c how head t body) (ends falls) rs z
 
 -- addresses
 
@@ -270,6 +282,59 @@ pub choose_second_ends :
     → StepsTo c (choose t first second) rs z (ends e rs' z')
 choose_second_ends l e f h g = record { same = (choose_second e f h g).same ∙ jumped_last l refl }
 
+-- loops
+
+-- the test fails, and the loop falls out
+pub repeat_falls :
+    {c : Context} {how : Counted} {head body : MidCode} {t : Test} {a b : ℕ} {rs rs' : Registers} {z z' : State} → RunsTo c head rs z (ends falls rs' z')
+    → register t.first rs' ≡ Some a → register t.second rs' ≡ Some b → compares t.comparison a b ≡ false
+    → StepsTo c (repeat how head t body) rs z (ends falls rs' (charged test_cost z'))
+unfolding exec go_on
+repeat_falls {c = c} {how = how} {head = head} {body = body} {t = t} {rs' = rs'} {z' = z'} g e f h =
+    record { same = ap (λ r. go_on r (loop_test c how head t body)) g.same ∙ test_false t (loop_turn c how head t body) (ends falls) rs' z' e f h }
+
+-- the test holds, the body falls out and jumps, and the loop goes on
+pub repeat_goes_on :
+    {c : Context} {how : Counted} {head body : MidCode} {t : Test} {a b : ℕ} {rs rs' rs'' : Registers} {z z' z'' : State} → RunsTo c head rs z (ends falls rs' z')
+    → register t.first rs' ≡ Some a → register t.second rs' ≡ Some b → compares t.comparison a b ≡ true
+    → RunsTo c body rs' (charged test_cost z') (ends falls rs'' z'')
+    → StepsTo c (repeat how head t body) rs z (count c how (again (repeat how head t body) rs'') (charged jump_cost z''))
+unfolding exec go_on
+repeat_goes_on {c = c} {how = how} {head = head} {body = body} {t = t} {rs' = rs'} {z' = z'} g e f h k =
+    record {
+      same =
+          ap (λ r. go_on r (loop_test c how head t body)) g.same ∙ test_true t (loop_turn c how head t body) (ends falls) rs' z' e f h
+          ∙ ap (λ r. go_on r (loop_again c how head t body)) (jumped_falls k.same);
+    }
+
+-- the test holds, and the body ends otherwise
+pub repeat_ends :
+    {c : Context} {how : Counted} {head body : MidCode} {t : Test} {a b : ℕ} {l : End} {rs rs' rs'' : Registers} {z z' z'' : State} → IsLast l
+    → RunsTo c head rs z (ends falls rs' z') → register t.first rs' ≡ Some a → register t.second rs' ≡ Some b → compares t.comparison a b ≡ true
+    → RunsTo c body rs' (charged test_cost z') (ends l rs'' z'') → StepsTo c (repeat how head t body) rs z (ends l rs'' z'')
+unfolding exec go_on
+repeat_ends {c = c} {how = how} {head = head} {body = body} {t = t} {l = l} {rs' = rs'} {rs'' = rs''} {z' = z'} {z'' = z''} last g e f h k =
+    record {
+      same =
+          ap (λ r. go_on r (loop_test c how head t body)) g.same ∙ test_true t (loop_turn c how head t body) (ends falls) rs' z' e f h
+          ∙ ap (λ r. go_on r (loop_again c how head t body)) (jumped_last last k.same) ∙ go_on_last l rs'' z'' _ last;
+    }
+
+-- where so many turns are left for loops
+abbrev pub turning : List MidProcedure → (below : Task → State → Outcome) → ℕ → Context
+turning procedures below n = context_of procedures below (turns procedures below n)
+
+-- a loop that counts turns goes on with one less
+pub repeat_turn :
+    (procedures : List MidProcedure) (below : Task → State → Outcome) (n : ℕ) {head body : MidCode} {t : Test} {a b : ℕ} {rs rs' rs'' : Registers}
+    {z z' z'' : State} {r : Outcome} → RunsTo (turning procedures below (suc n)) head rs z (ends falls rs' z') → register t.first rs' ≡ Some a
+    → register t.second rs' ≡ Some b → compares t.comparison a b ≡ true
+    → RunsTo (turning procedures below (suc n)) body rs' (charged test_cost z') (ends falls rs'' z'')
+    → StepsTo (turning procedures below n) (repeat Turn head t body) rs'' (charged jump_cost z'') r
+    → StepsTo (turning procedures below (suc n)) (repeat Turn head t body) rs z r
+unfolding turns
+repeat_turn procedures below n g e f h k more = record { same = (repeat_goes_on g e f h k).same ∙ more.same }
+
 -- procedures
 
 -- the frame of a procedure
@@ -297,7 +362,7 @@ enters_wanting {p = p} e h = record { same = first_chosen _ _ _ _ (is_same _ _ e
 pub enters :
     {procedures : List MidProcedure} {below : Task → State → Outcome} {n : ℕ} {p : MidProcedure} {ws : List ℕ} {z : State} {r : Outcome}
     → length ws ≡ p.parameters → p.frame ≤ left z.arena
-    → RunsTo (context_of procedures below (turns procedures below n)) (code_of p.body) (first_registers p.registers ws) (entered p z) r
+    → RunsTo (turning procedures below n) (code_of p.body) (first_registers p.registers ws) (entered p z) r
     → EntersTo procedures below n p ws z (leaves z.arena.blocks r)
 unfolding turns
 enters {z = z} e h g =
@@ -307,7 +372,7 @@ enters {z = z} e h g =
 pub enters_returns :
     {procedures : List MidProcedure} {below : Task → State → Outcome} {n w : ℕ} {p : MidProcedure} {ws : List ℕ} {z z' : State} {rs : Registers}
     → length ws ≡ p.parameters → p.frame ≤ left z.arena
-    → RunsTo (context_of procedures below (turns procedures below n)) (code_of p.body) (first_registers p.registers ws) (entered p z) (ends (returns w) rs z')
+    → RunsTo (turning procedures below n) (code_of p.body) (first_registers p.registers ws) (entered p z) (ends (returns w) rs z')
     → EntersTo procedures below n p ws z (ends (returns w) rs (with_arena (with_blocks z.arena.blocks z'.arena) z'))
 unfolding leaves
 enters_returns e h g = record { same = (enters e h g).same }
@@ -316,7 +381,7 @@ enters_returns e h g = record { same = (enters e h g).same }
 pub enters_no_room :
     {procedures : List MidProcedure} {below : Task → State → Outcome} {n asked lacking : ℕ} {p : MidProcedure} {ws : List ℕ} {z z' : State} {rs : Registers}
     → length ws ≡ p.parameters → p.frame ≤ left z.arena
-    → RunsTo (context_of procedures below (turns procedures below n)) (code_of p.body) (first_registers p.registers ws) (entered p z) (ends (no_room asked lacking) rs z')
+    → RunsTo (turning procedures below n) (code_of p.body) (first_registers p.registers ws) (entered p z) (ends (no_room asked lacking) rs z')
     → EntersTo procedures below n p ws z (ends (no_room asked lacking) rs z')
 unfolding leaves
 enters_no_room e h g = record { same = (enters e h g).same }
