@@ -282,6 +282,57 @@ pub choose_second_ends :
     → StepsTo c (choose t first second) rs z (ends e rs' z')
 choose_second_ends l e f h g = record { same = (choose_second e f h g).same ∙ jumped_last l refl }
 
+-- code in two parts
+
+go_on_twice : (r : Outcome) (f g : Next) → go_on (go_on r f) g ≡ go_on r (λ rs z. go_on (f rs z) g)
+unfolding go_on
+go_on_twice r f g = from r.end r.registers r.state
+  where
+    from : (e : End) (rs : Registers) (z : State) → go_on (go_on (ends e rs z) f) g ≡ go_on (ends e rs z) (λ rs' y. go_on (f rs' y) g)
+    from falls rs z = refl
+    from (returns w) rs z = refl
+    from (cuts n w) rs z = refl
+    from (no_room asked left) rs z = refl
+    from no_level rs z = refl
+    from no_turn rs z = refl
+    from (halts w) rs z = refl
+    from (unhandled class site) rs z = refl
+    from exhausted rs z = refl
+    from stuck rs z = refl
+
+go_on_same : (r : Outcome) (f g : Next) → ((rs : Registers) (z : State) → f rs z ≡ g rs z) → go_on r f ≡ go_on r g
+unfolding go_on
+go_on_same r f g h = from r.end r.registers r.state
+  where
+    from : (e : End) (rs : Registers) (z : State) → go_on (ends e rs z) f ≡ go_on (ends e rs z) g
+    from falls rs z = h rs z
+    from (returns w) rs z = refl
+    from (cuts n w) rs z = refl
+    from (no_room asked left) rs z = refl
+    from no_level rs z = refl
+    from no_turn rs z = refl
+    from (halts w) rs z = refl
+    from (unhandled class site) rs z = refl
+    from exhausted rs z = refl
+    from stuck rs z = refl
+
+in_two_parts :
+    (c : Context) (ss ts : List MidStep) (rs : Registers) (z : State)
+    → exec c (code_of (ss ++ ts)) rs z ≡ go_on (exec c (code_of ss) rs z) (λ rs' y. exec c (code_of ts) rs' y)
+unfolding exec go_on
+in_two_parts c [] ts rs z = refl
+in_two_parts c (s ∷ ss) ts rs z =
+    go_on_same (exec_step c s rs z) (λ rs' y. exec c (code_of (ss ++ ts)) rs' y) (λ rs' y. go_on (exec c (code_of ss) rs' y) (λ rs'' x. exec c (code_of ts) rs'' x)) (in_two_parts c ss ts)
+    ∙ sym (go_on_twice (exec_step c s rs z) (λ rs' y. exec c (code_of ss) rs' y) (λ rs' y. exec c (code_of ts) rs' y))
+
+-- the first part falls out, and the second one goes on
+pub parts_then :
+    {c : Context} (ss ts : List MidStep) {rs rs' : Registers} {z z' : State} {r : Outcome} → RunsTo c (code_of ss) rs z (ends falls rs' z')
+    → RunsTo c (code_of ts) rs' z' r → RunsTo c (code_of (ss ++ ts)) rs z r
+unfolding go_on
+parts_then {c = c} ss ts {rs = rs} {z = z} g h =
+    record { same = in_two_parts c ss ts rs z ∙ ap (λ r. go_on r (λ rs' y. exec c (code_of ts) rs' y)) g.same ∙ h.same }
+
 -- loops
 
 -- the test fails, and the loop falls out
