@@ -1,9 +1,9 @@
 -- What stands where after a change of the arena.
-use Rattle.std.proofs.Common.{◌≡◌, ℕ, zero, suc, ◌+◌, ◌-◌, ◌*◌, ◌/◌, ◌%◌, ◌^◌, ◌<◌, ◌≤◌, length, Bool, true, false, List, [], ◌∷◌, Option, Some, None, refl, sym, ap, ◌∙◌, subst, inl, inr, arith}
-use Rattle.std.specs.Prelude.{◌==◌, ◌&&◌, ◌||◌, nat_le, nat_lt, if◌then◌else◌, slice_get, slice_set}
+use Rattle.std.proofs.Common.{◌≡◌, ℕ, zero, suc, ◌+◌, ◌-◌, ◌*◌, ◌/◌, ◌%◌, ◌^◌, ◌<◌, ◌≤◌, length, Bool, true, false, List, [], ◌∷◌, ◌++◌, Option, Some, None, refl, ap, ◌∙◌, arith}
+use Rattle.std.specs.Prelude.{◌==◌, ◌&&◌, ◌||◌, if◌then◌else◌, slice_get, slice_set}
 use Rattle.std.proofs.lemmas.Bool.Decides.{nat_tests}
 use Rattle.std.proofs.Math.ListN.{length-set}
-use Rattle.isl_mid.specs.Arena.{Block, activation_frame, is_record, Arena, words_of, begin_of, lent_from, stack_from, left, is_within, is_in_record, is_lent, word_in, word_at, with_word, emptied, with_heap, with_blocks, with_new_block}
+use Rattle.isl_mid.specs.Arena.{Block, is_record, Arena, words_of, begin_of, lent_from, stack_from, left, is_within, is_in_record, is_lent, word_in, word_at, with_word, emptied, with_heap, with_blocks, with_new_block}
 use Rattle.isl_mid.proofs.Growth.{length-emptied}
 use Rattle.isl_arena.specs.Places.{Spot, end_of}
 use Rattle.isl_arena.specs.Standing.{ArenaStands, IsLentPart, of_laid, of_heap, SpotStands}
@@ -99,7 +99,7 @@ word_found a x h = ap (λ t. if t then word_in (slice_get a.memory (x / 4)) else
 
 -- spots that stand
 
-lent_in_heap : (a : Arena) (x : ℕ) → x % 4 ≡ 0 → a.heap_from ≤ x → x < a.heap_to → is_lent a x ≡ true
+pub lent_in_heap : (a : Arena) (x : ℕ) → x % 4 ≡ 0 → a.heap_from ≤ x → x < a.heap_to → is_lent a x ≡ true
 lent_in_heap a x e h g = true_and _ _ (is_same _ _ e) (second_of_three _ _ _ (within _ _ x h g))
   where
     second_of_three : (p q r : Bool) → q ≡ true → (p || q || r) ≡ true
@@ -107,7 +107,7 @@ lent_in_heap a x e h g = true_and _ _ (is_same _ _ e) (second_of_three _ _ _ (wi
     second_of_three false true r h = refl
     second_of_three false false r h = absurd (cc h)
 
-lent_in_laid : (a : Arena) (x : ℕ) → x % 4 ≡ 0 → a.laid_from ≤ x → x < a.laid_to → is_lent a x ≡ true
+pub lent_in_laid : (a : Arena) (x : ℕ) → x % 4 ≡ 0 → a.laid_from ≤ x → x < a.laid_to → is_lent a x ≡ true
 lent_in_laid a x e h g = true_and _ _ (is_same _ _ e) (first_of_three _ _ _ (within _ _ x h g))
   where
     first_of_three : (p q r : Bool) → p ≡ true → (p || q || r) ≡ true
@@ -158,6 +158,10 @@ lent_with_word a x w y =
 pub word_here : (a : Arena) (x w : ℕ) → is_lent a x ≡ true → x / 4 < length a.memory → word_at (with_word x w a) x ≡ Some w
 word_here a x w h g =
     word_found (with_word x w a) x (lent_with_word a x w x ∙ h) ∙ ap word_in (got_here a.memory (x / 4) (Some w) g)
+
+-- the same for an address in the heap
+pub stored_in_heap : {a : Arena} (x w : ℕ) → ArenaStands a → x % 4 ≡ 0 → a.heap_from ≤ x → x < a.heap_to → word_at (with_word x w a) x ≡ Some w
+stored_in_heap {a} x w h e low high = word_here a x w (lent_in_heap a x e low high) (in_heap_there x h high)
 
 pub word_elsewhere : (a : Arena) (x w y : ℕ) → x % 4 ≡ 0 → (x == y) ≡ false → word_at (with_word x w a) y ≡ word_at a y
 word_elsewhere a x w y e h =
@@ -237,19 +241,25 @@ facts_with_heap {a} n h some =
       heap_to = omega arith;
       stands = stands_with_heap n h some;
       words = λ x low.
-      words_below a (with_heap n a) x h refl refl refl (omega arith) (omega (arith, same, h.room))
-      (emptied_in_front (a.heap_to / 4) n a.memory (x / 4) (omega (arith, h.aligned))) low;
+          words_below a (with_heap n a) x h refl refl refl (omega arith) (omega (arith, same, h.room))
+          (emptied_in_front (a.heap_to / 4) n a.memory (x / 4) (omega (arith, h.aligned))) low;
     }
 
--- the new words are lent, and nothing was stored there
+-- the new words are lent, and nothing was stored there; by their addresses, and by their numbers
+
+pub new_lent : {a : Arena} (n x : ℕ) → ArenaStands a → x % 4 ≡ 0 → a.heap_to ≤ x → x < a.heap_to + 4 * n → is_lent (with_heap n a) x ≡ true
+new_lent {a} n x h e low high = lent_in_heap (with_heap n a) x e (omega (arith, h.heap)) high
+
+pub new_none : {a : Arena} (n x : ℕ) → ArenaStands a → x % 4 ≡ 0 → a.heap_to ≤ x → x < a.heap_to + 4 * n → word_at (with_heap n a) x ≡ None
+new_none {a} n x h e low high =
+    word_found (with_heap n a) x (new_lent n x h e low high)
+    ∙ emptied_within (a.heap_to / 4) n a.memory (x / 4) (omega arith) (omega (arith, h.aligned))
+
 pub new_word_lent : {a : Arena} (n k : ℕ) → ArenaStands a → k < n → is_lent (with_heap n a) (a.heap_to + 4 * k) ≡ true
-new_word_lent {a} n k h low =
-    lent_in_heap (with_heap n a) (a.heap_to + 4 * k) (omega (arith, h.aligned)) (omega (arith, h.heap)) (omega arith)
+new_word_lent {a} n k h low = new_lent n (a.heap_to + 4 * k) h (omega (arith, h.aligned)) (omega arith) (omega arith)
 
 pub new_word_none : {a : Arena} (n k : ℕ) → ArenaStands a → k < n → word_at (with_heap n a) (a.heap_to + 4 * k) ≡ None
-new_word_none {a} n k h low =
-    word_found (with_heap n a) (a.heap_to + 4 * k) (new_word_lent n k h low)
-    ∙ emptied_within (a.heap_to / 4) n a.memory ((a.heap_to + 4 * k) / 4) (omega arith) (omega (arith, h.aligned))
+new_word_none {a} n k h low = new_none n (a.heap_to + 4 * k) h (omega (arith, h.aligned)) (omega arith) (omega arith)
 
 -- they are a spot
 pub new_spot_stands :
@@ -290,8 +300,8 @@ facts_with_new_block {a} b h some =
       heap_to = omega arith;
       stands = stands_with_new_block b h some;
       words = λ x low.
-      words_below a (with_new_block b a) x h refl refl refl (omega arith) (omega (arith, same, h.room))
-      (emptied_in_front _ b.words a.memory (x / 4) (omega (arith, h.aligned, h.room))) low;
+          words_below a (with_new_block b a) x h refl refl refl (omega arith) (omega (arith, same, h.room))
+          (emptied_in_front _ b.words a.memory (x / 4) (omega (arith, h.aligned, h.room))) low;
     }
 
 -- so many words fewer are left
@@ -399,3 +409,49 @@ spot_stands_with_word {a} {s} x w h = record { aligned = h.aligned; some = h.som
     from : IsLentPart a s → IsLentPart (with_word x w a) s
     from (of_laid low high) = of_laid low high
     from (of_heap low high) = of_heap low high
+
+-- words that are stored one after another from an address on
+abbrev pub with_words : ℕ → List ℕ → Arena → Arena
+with_words x [] a = a
+with_words x (w ∷ ws) a = with_words (x + 4) ws (with_word x w a)
+
+-- one more behind them
+pub with_words_and : (x : ℕ) (ws : List ℕ) (w : ℕ) (a : Arena) → with_words x (ws ++ w ∷ []) a ≡ with_word (x + 4 * length ws) w (with_words x ws a)
+with_words_and x [] w a = ap (λ n. with_word n w a) (omega arith)
+with_words_and x (v ∷ ws) w a =
+    with_words_and (x + 4) ws w (with_word x v a) ∙ ap (λ n. with_word n w (with_words (x + 4) ws (with_word x v a))) (omega arith)
+
+-- the words in front and behind are as they were
+pub words_in_front : (x : ℕ) (ws : List ℕ) (a : Arena) (y : ℕ) → x % 4 ≡ 0 → y < x → word_at (with_words x ws a) y ≡ word_at a y
+words_in_front x [] a y e h = refl
+words_in_front x (w ∷ ws) a y e h =
+    words_in_front (x + 4) ws (with_word x w a) y (omega arith) (omega arith) ∙ word_elsewhere a x w y e (differs x y h)
+  where
+    differs : (m n : ℕ) → n < m → (m == n) ≡ false
+    differs m n h = grind (arith, nat_tests)
+
+pub words_behind : (x : ℕ) (ws : List ℕ) (a : Arena) (y : ℕ) → x % 4 ≡ 0 → x + 4 * length ws ≤ y → word_at (with_words x ws a) y ≡ word_at a y
+words_behind x [] a y e h = refl
+words_behind x (w ∷ ws) a y e h =
+    words_behind (x + 4) ws (with_word x w a) y (omega arith) (omega arith) ∙ word_elsewhere a x w y e (differs x y (omega arith))
+  where
+    differs : (m n : ℕ) → m < n → (m == n) ≡ false
+    differs m n h = grind (arith, nat_tests)
+
+-- and they stand where they were stored
+pub words_stand :
+    (x : ℕ) (ws : List ℕ) (a : Arena) (i w : ℕ) → ArenaStands a → x % 4 ≡ 0 → a.heap_from ≤ x → x + 4 * length ws ≤ a.heap_to → slice_get ws i ≡ Some w
+    → word_at (with_words x ws a) (x + 4 * i) ≡ Some w
+words_stand x [] a i w h e low high found = absurd (cc found)
+words_stand x (v ∷ ws) a zero w h e low high found =
+    let same : v ≡ w = cc found in
+    ap (word_at (with_words (x + 4) ws (with_word x v a))) (omega arith)
+    ∙ words_in_front (x + 4) ws (with_word x v a) x (omega arith) (omega arith) ∙ stored_in_heap x v h e low (omega arith) ∙ ap (λ n. Some n) same
+words_stand x (v ∷ ws) a (suc i) w h e low high found =
+    ap (word_at (with_words (x + 4) ws (with_word x v a))) (omega arith)
+    ∙ words_stand (x + 4) ws (with_word x v a) i w (stands_with_word x v h) (omega arith) (omega arith) (omega arith) found
+
+-- an arena grows where they are stored above where the heap ended before
+pub facts_with_words : {a b : Arena} (x : ℕ) (ws : List ℕ) → Facts a b → x % 4 ≡ 0 → a.heap_to ≤ x → Facts a (with_words x ws b)
+facts_with_words {a} {b} x [] g e above = g
+facts_with_words {a} {b} x (w ∷ ws) g e above = facts_with_words {a = a} {b = with_word x w b} (x + 4) ws (facts_stored x w g e above) (omega arith) (omega arith)

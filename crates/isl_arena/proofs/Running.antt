@@ -1,6 +1,6 @@
 -- Runs of code step by step: what each step comes to, so that the run of straight-line code is a chain of equations.
-use Rattle.std.proofs.Common.{◌≡◌, ℕ, zero, suc, ◌+◌, ◌-◌, ◌%◌, ◌^◌, ◌<◌, ◌≤◌, length, Bool, true, false, List, [], ◌∷◌, ◌++◌, Option, Some, None, refl, sym, ap, ◌∙◌, arith}
-use Rattle.std.specs.Prelude.{ℤ, pos, negsuc, ◌+ℤ◌, ◌==◌, nat_le, slice_get, slice_set}
+use Rattle.std.proofs.Common.{◌≡◌, ℕ, suc, ◌+◌, ◌-◌, ◌%◌, ◌^◌, ◌<◌, ◌≤◌, length, Bool, true, false, List, [], ◌∷◌, ◌++◌, Option, Some, refl, sym, ap, ◌∙◌, arith}
+use Rattle.std.specs.Prelude.{ℤ, pos, negsuc, ◌+ℤ◌, ◌==◌, nat_le, slice_set}
 use Rattle.std.proofs.lemmas.Bool.Decides.{nat_tests}
 use Rattle.std.proofs.lemmas.Int.{ints}
 use Rattle.isl_mid.specs.declared.operation.Arithmetic.{Arithmetic}
@@ -11,10 +11,13 @@ use Rattle.isl_mid.specs.declared.operation.Test.{Test}
 use Rattle.isl_mid.specs.declared.program.MidProcedure.{MidProcedure}
 use Rattle.isl_mid.specs.Words.{computed, compares, low_word, address}
 use Rattle.isl_mid.specs.MidCode.{MidStep, perform, choose, repeat, return_word, MidCode, no_step, step_and, code_of}
-use Rattle.isl_mid.specs.Arena.{Arena, Block, activation_frame, left, is_lent, word_at, with_word, with_heap, with_blocks, with_new_block}
+use Rattle.isl_mid.specs.Arena.{Block, activation_frame, left, is_lent, word_at, with_word, with_heap, with_blocks, with_new_block}
 use Rattle.isl_mid.specs.Costs.{operation_cost, test_cost, jump_cost, return_cost, entry_cost}
 use Rattle.isl_mid.specs.State.{Registers, first_registers, State, End, falls, returns, cuts, no_room, no_level, no_turn, halts, unhandled, exhausted, stuck, Outcome, Next, ends, charged, with_arena, gives, go_on, with_some, choose_by, register, jumped}
 use Rattle.isl_mid.specs.Meaning.{store, get_from, test, count, Task, enter, again, Context, context_of, leaves, exec, exec_step, turns}
+use Rattle.isl_arena.specs.Places.{Spot, end_of}
+use Rattle.isl_arena.specs.Standing.{SpotStands}
+use Rattle.isl_arena.proofs.Memory.{lent_in_heap, in_spot_lent}
 
 -- an end that is not falling out
 abbrev pub IsLast : End → Type 0
@@ -98,6 +101,9 @@ address_down b k h =
     let e : (pos (b + suc k) +ℤ negsuc k) ≡ pos b = omega (arith, ints) in
     ap low_word e ∙ address_of_word b (omega arith)
 
+pub address_here : (b : ℕ) → b < 2 ^ 32 → address b (pos 0) ≡ b
+address_here b h = address_up b 0 (omega arith) ∙ omega arith
+
 -- the same, where the address is known in another form
 pub address_above : (b k x : ℕ) → b + k ≡ x → x < 2 ^ 32 → address b (pos k) ≡ x
 address_above b k x e h = address_up b k (omega arith) ∙ e
@@ -169,6 +175,15 @@ pub compute_falls :
 unfolding exec
 compute_falls {to = to} {how = how} {rs = rs} e f = record { same = some_found _ rs _ e ∙ some_found (λ b. gives to (computed how _ b)) rs _ f }
 
+-- the word that is computed is known in another form
+pub compute_known :
+    {c : Context} {to first second v w x : ℕ} {how : Arithmetic} {rs : Registers} {z : State} → register first rs ≡ Some v → register second rs ≡ Some w
+    → computed how v w ≡ x
+    → StepsTo c (perform (Compute to how first second)) rs z (ends falls (slice_set rs to (Some x)) (charged (operation_cost (Compute to how first second)) z))
+compute_known {to = to} {first = first} {second = second} {how = how} {rs = rs} {z = z} e f same =
+    let cost : ℕ = operation_cost (Compute to how first second) in
+    record { same = (compute_falls e f).same ∙ ap (λ n. ends falls (slice_set rs to (Some n)) (charged cost z)) same }
+
 pub load_falls :
     {c : Context} {to base b x w : ℕ} {offset : ℤ} {rs : Registers} {z : State} → register base rs ≡ Some b → address b offset ≡ x
     → word_at z.arena x ≡ Some w
@@ -186,6 +201,22 @@ unfolding exec
 store_falls {from = from} {base = base} {w = w} {offset = offset} {rs = rs} {z = z} e f same h =
     let cost : ℕ = operation_cost (Store from base offset) in
     record { same = some_found _ rs _ e ∙ some_found _ rs _ f ∙ ap (λ a. store a w (ends falls) rs (charged cost z)) same ∙ first_chosen _ _ rs _ h }
+
+-- the address is in the heap
+pub store_in_heap :
+    {c : Context} {from base b x w : ℕ} {offset : ℤ} {rs : Registers} {z : State} → register from rs ≡ Some w → register base rs ≡ Some b
+    → address b offset ≡ x → x % 4 ≡ 0 → z.arena.heap_from ≤ x → x < z.arena.heap_to
+    → StepsTo c (perform (Store from base offset)) rs z
+    (ends falls rs (with_arena (with_word x w z.arena) (charged (operation_cost (Store from base offset)) z)))
+store_in_heap {x = x} {z = z} e f same aligned low high = store_falls e f same (lent_in_heap z.arena x aligned low high)
+
+-- the address is in a spot that stands
+pub store_in_spot :
+    {c : Context} {from base b x w : ℕ} {offset : ℤ} {rs : Registers} {z : State} {s : Spot} → SpotStands z.arena s → register from rs ≡ Some w
+    → register base rs ≡ Some b → address b offset ≡ x → x % 4 ≡ 0 → s.address ≤ x → x < end_of s
+    → StepsTo c (perform (Store from base offset)) rs z
+    (ends falls rs (with_arena (with_word x w z.arena) (charged (operation_cost (Store from base offset)) z)))
+store_in_spot {x = x} h e f same aligned low high = store_falls e f same (in_spot_lent x h aligned low high)
 
 -- words are requested: so many are left
 pub request_falls :
