@@ -33,20 +33,12 @@ got_elsewhere (y ∷ ys) zero (suc j) x h = refl
 got_elsewhere (y ∷ ys) (suc i) zero x h = refl
 got_elsewhere (y ∷ ys) (suc i) (suc j) x h = got_elsewhere ys i j x (λ e. h (ap (λ n. suc n) e))
 
--- memory with words emptied: those in front are as they were
+-- memory with words emptied: those in front are as they were, and at the places themselves there is none
 emptied_in_front : (i n : ℕ) (ws : List (Option ℕ)) (j : ℕ) → j < i → slice_get (emptied i n ws) j ≡ slice_get ws j
 emptied_in_front i n [] j h = refl
 emptied_in_front zero n (w ∷ ws) j h = absurd (omega arith)
 emptied_in_front (suc i) n (w ∷ ws) zero h = refl
 emptied_in_front (suc i) n (w ∷ ws) (suc j) h = emptied_in_front i n ws j (omega arith)
-
-emptied_behind : (i n : ℕ) (ws : List (Option ℕ)) (j : ℕ) → i + n ≤ j → slice_get (emptied i n ws) j ≡ slice_get ws j
-emptied_behind i n [] j h = refl
-emptied_behind zero zero (w ∷ ws) j h = refl
-emptied_behind zero (suc n) (w ∷ ws) zero h = absurd (omega arith)
-emptied_behind zero (suc n) (w ∷ ws) (suc j) h = emptied_behind zero n ws j (omega arith)
-emptied_behind (suc i) n (w ∷ ws) zero h = absurd (omega arith)
-emptied_behind (suc i) n (w ∷ ws) (suc j) h = emptied_behind i n ws j (omega arith)
 
 emptied_within : (i n : ℕ) (ws : List (Option ℕ)) (j : ℕ) → i ≤ j → j < i + n → word_in (slice_get (emptied i n ws) j) ≡ None
 emptied_within i n [] j h g = refl
@@ -150,6 +142,7 @@ part_there {a} {s} i arena stands h = in_spot_there (s.address + 4 * i) arena st
 
 -- a word is stored
 
+-- what is lent is as before
 pub lent_with_word : (a : Arena) (x w y : ℕ) → is_lent (with_word x w a) y ≡ is_lent a y
 lent_with_word a x w y =
     ap (λ n. (y % 4 == 0) && (is_within a.laid_from a.laid_to y || is_within a.heap_from a.heap_to y || is_in_record n a.blocks y))
