@@ -1,6 +1,6 @@
 -- Facts about words: their tags and bytes, the words of integers, characters and pointers, and what tests on them tell.
 use Rattle.std.proofs.Common.{◌≡◌, ℕ, zero, suc, ◌+◌, ◌-◌, ◌*◌, ◌/◌, ◌%◌, ◌^◌, ◌<◌, ◌≤◌, ℤ, pos, Bool, true, false, Option, Some, None, ⊎_elim, refl, sym, ap, ◌∙◌, arith}
-use Rattle.std.specs.Prelude.{negsuc, ◌==◌, nat_lt, nat_le, int_lt, int_le, not, ◌&&◌, ◌*ℤ◌, ◌+ℤ◌, neg_ℤ, FitsSigned, is_some, ◌≢◌}
+use Rattle.std.specs.Prelude.{negsuc, ◌==◌, nat_lt, nat_le, int_lt, int_le, not, ◌&&◌, ◌*ℤ◌, ◌+ℤ◌, neg_ℤ, FitsSigned, is_some, if◌then◌else◌, ◌≢◌}
 use Rattle.std.specs.Int.{w32}
 use Rattle.std.proofs.lemmas.Int.{ints}
 use borrow.Author.Differences.{up, down, same_in, same_out, true_is_lt, false_is_lt, true_is_le, false_is_le}
@@ -219,11 +219,11 @@ pub character_code : (c : ℕ) → shift_right (character_word c) 8 ≡ c
 character_code c = omega arith
 
 pub character_integer : (c : ℕ) → c ≤ 255 → shift_left (shift_right (character_word c) 8) 2 ≡ integer_word (pos c)
-character_integer c h = ?
+character_integer c h = rw (integer_word_of_pos c (omega arith)) (omega arith)
 
 -- and back
 pub character_of_integer : (c : ℕ) → c ≤ 255 → sum32 (shift_left (integer_word (pos c)) 6) 15 ≡ character_word c
-character_of_integer c h = ?
+character_of_integer c h = rw (integer_word_of_pos c (omega arith)) (omega arith)
 
 -- ---- pointers
 
@@ -267,12 +267,29 @@ nil_is_no_pointer s a b e = omega arith
 
 -- an integer that is an index of a list, and its word
 pub index_is : (n : ℤ) (count i : ℕ) → index_of n count ≡ Some i → (n ≡ pos i) × (i < count)
-index_is n count i e = ?
+index_is (pos k) count i e = from (nat_lt k count) refl e
+  where
+    from : (t : Bool) → nat_lt k count ≡ t → (if t then Some k else None) ≡ Some i → (pos k ≡ pos i) × (i < count)
+    from true below is = let same : k ≡ i = cc is in (ap pos same, omega (arith, same, ltb-true k count below))
+    from false above is = absurd (cc is)
+index_is (negsuc k) count i e = absurd (cc e)
 
 pub index_word : (n : ℤ) (count i : ℕ) → count < 2 ^ 29 → index_of n count ≡ Some i → integer_word n ≡ 4 * i
 index_word n count i h e = let is = index_is n count i e in rw is.0 (integer_word_of_pos i (omega (arith, is.1)))
 
 -- the test of a word against four times a count tells whether the integer is an index
 pub index_tested : (n : ℤ) (count : ℕ) → in_range n ≡ true → count < 2 ^ 29 → compares comparison.LessUnsigned (integer_word n) (4 * count) ≡ is_some (index_of n count)
-index_tested (pos i) count g h = ?
-index_tested (negsuc i) count g h = ?
+index_tested (pos i) count g h =
+    let s = range_tells (pos i) g in
+    let is : integer_word (pos i) ≡ 4 * i = integer_word_of_pos i (omega (arith, s.0)) in
+    rw is (four_times_less i count ∙ there (nat_lt i count))
+  where
+    four_times_less : (a b : ℕ) → nat_lt (4 * a) (4 * b) ≡ nat_lt a b
+    four_times_less a b = grind (arith, nat_tests)
+    there : (t : Bool) → t ≡ is_some {A = ℕ} (if t then Some i else None)
+    there true = refl
+    there false = refl
+index_tested (negsuc i) count g h =
+    let s = range_tells (negsuc i) g in
+    let is : integer_word (negsuc i) ≡ 2 ^ 32 - 4 * suc i = integer_word_of_negsuc i (omega (arith, s.1)) in
+    rw is (le-ltb _ _ (omega (arith, s.1)))
