@@ -286,7 +286,7 @@ index_tested (pos i) count g h =
   where
     four_times_less : (a b : ℕ) → nat_lt (4 * a) (4 * b) ≡ nat_lt a b
     four_times_less a b = grind (arith, nat_tests)
-    there : (t : Bool) → t ≡ is_some {A = ℕ} (if t then Some i else None)
+    there : (t : Bool) → t ≡ is_some (if◌then◌else◌ {A = Option ℕ} t (Some i) None)
     there true = refl
     there false = refl
 index_tested (negsuc i) count g h =
