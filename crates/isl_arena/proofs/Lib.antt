@@ -1,1 +1,3 @@
 pub mod WordFacts
+pub mod ArithmeticWords
+pub mod ArithmeticSum

@@ -4,10 +4,10 @@ use Rattle.std.specs.Prelude.{negsuc, ◌==◌, nat_lt, nat_le, int_lt, int_le, 
 use Rattle.std.specs.Int.{w32}
 use Rattle.std.proofs.lemmas.Int.{ints}
 use borrow.Author.Differences.{up, down, same_in, same_out, true_is_lt, false_is_lt, true_is_le, false_is_le}
-use Rattle.std.proofs.lemmas.Bool.{cases_lt, eqb-true, eq-eqb, not-true, ltb-true, lt-ltb, le-ltb}
+use Rattle.std.proofs.lemmas.Bool.{cases_lt, eqb-true, eq-eqb, not-true, ltb-true, lt-ltb, le-ltb, and_left, and_right}
 use Rattle.std.proofs.lemmas.Bool.Decides.{nat_tests}
 use Rattle.isl_mid.specs.declared.operation.Comparison.TheVariants as comparison
-use Rattle.isl_mid.specs.Words.{compares, sum32, difference32, address}
+use Rattle.isl_mid.specs.Words.{compares, less_signed, sum32, difference32, address}
 use Rattle.isl_mid.proofs.WordBounds.{first_true, second_true}
 use Rattle.isl_mid.specs.Words.{low_word, signed, shift_left, shift_right}
 use Rattle.isl_meaning.specs.Values.{in_range, int_equal}
@@ -144,6 +144,16 @@ integer_word_of_negsuc k h = low_word_is (pos 4 *ℤ negsuc k) _ 1 0 (record { b
 pub range_tells : (n : ℤ) → in_range n ≡ true → (up n < 2 ^ 29 + down n) × (down n ≤ 2 ^ 29 + up n)
 range_tells n h = grind (arith, ints)
 
+-- and the other way
+pub in_range_is : (n : ℤ) → up n < 2 ^ 29 + down n → down n ≤ 2 ^ 29 + up n → in_range n ≡ true
+in_range_is n g h = let low = sym (true_is_le (negsuc 536870911) n (omega arith)) in let high = sym (true_is_le n (pos 536870911) (omega arith)) in (λ i. low i && high i)
+
+pub above_range_is : (n : ℤ) → 2 ^ 29 + down n ≤ up n → in_range n ≡ false
+above_range_is n h = and_right (int_le (negsuc 536870911) n) _ (sym (false_is_le n (pos 536870911) (omega arith)))
+
+pub below_range_is : (n : ℤ) → 2 ^ 29 + up n < down n → in_range n ≡ false
+below_range_is n h = and_left _ (int_le n (pos 536870911)) (sym (false_is_le (negsuc 536870911) n (omega arith)))
+
 pub four_fits : (n : ℤ) → in_range n ≡ true → FitsSigned w32 (pos 4 *ℤ n)
 four_fits n h = let s = range_tells n h in omega (arith, ints)
 
@@ -193,9 +203,15 @@ integers_compare_at_least a b g h = ap not (integers_compare_less a b g h)
 pub not_below : (a b : ℤ) → not (int_lt a b) ≡ int_le b a
 not_below a b = same_truth _ _ (λ h. sym (true_is_le b a (omega (arith, ints, not-true _ h)))) (λ h. ap not (sym (false_is_lt a b (omega (arith, ints)))))
 
--- whether an integer is zero, and whether it is negative
+-- whether an integer is zero, negative or positive
 pub integer_is_zero : (a : ℤ) → in_range a ≡ true → (integer_word a == 0) ≡ int_equal a (pos 0)
 integer_is_zero a g = rw (low_word_of_pos 0) at (integer_word_equal a (pos 0) g refl)
+
+pub is_negative : (a : ℤ) → in_range a ≡ true → less_signed (integer_word a) 0 ≡ int_lt a (pos 0)
+is_negative a g = (λ i. int_lt (signed_integer_word a g i) (pos 0)) ∙ four_times_below a (pos 0)
+
+pub is_positive : (a : ℤ) → in_range a ≡ true → less_signed 0 (integer_word a) ≡ int_lt (pos 0) a
+is_positive a g = (λ i. int_lt (pos 0) (signed_integer_word a g i)) ∙ four_times_below (pos 0) a
 
 -- ---- characters
 
