@@ -1,3 +1,4 @@
 pub mod WordFacts
 pub mod ArithmeticWords
 pub mod ArithmeticSum
+pub mod ArithmeticProduct
