@@ -2,3 +2,4 @@ pub mod WordFacts
 pub mod ArithmeticWords
 pub mod ArithmeticSum
 pub mod ArithmeticProduct
+pub mod ArithmeticDivision
