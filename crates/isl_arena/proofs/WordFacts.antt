@@ -167,7 +167,7 @@ integer_word_one_to_one a b g h e =
 
 -- ---- tests of two words of integers
 
-four_times_below : (a b : ℤ) → int_lt (pos 4 *ℤ a) (pos 4 *ℤ b) ≡ int_lt a b
+pub four_times_below : (a b : ℤ) → int_lt (pos 4 *ℤ a) (pos 4 *ℤ b) ≡ int_lt a b
 four_times_below a b = same_truth _ _ (λ h. sym (true_is_lt a b (omega (arith, ints)))) (λ h. sym (true_is_lt (pos 4 *ℤ a) (pos 4 *ℤ b) (omega (arith, ints))))
 
 pub int_equal_tells : (a b : ℤ) → int_equal a b ≡ true → a ≡ b
