@@ -3,3 +3,4 @@ pub mod ArithmeticWords
 pub mod ArithmeticSum
 pub mod ArithmeticProduct
 pub mod ArithmeticDivision
+pub mod ArithmeticBytes
