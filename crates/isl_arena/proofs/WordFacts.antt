@@ -1,0 +1,311 @@
+-- Facts about words: their tags and bytes, the words of integers, characters and pointers, and what tests on them tell.
+use Rattle.std.proofs.Common.{◌≡◌, ℕ, zero, suc, ◌+◌, ◌-◌, ◌*◌, ◌/◌, ◌%◌, ◌^◌, ◌<◌, ◌≤◌, ℤ, pos, Bool, true, false, Option, Some, None, ⊎_elim, refl, sym, ap, ◌∙◌, arith}
+use Rattle.std.specs.Prelude.{negsuc, ◌==◌, nat_lt, nat_le, int_lt, int_le, not, ◌&&◌, ◌*ℤ◌, ◌+ℤ◌, neg_ℤ, FitsSigned, is_some, if◌then◌else◌, ◌≢◌}
+use Rattle.std.specs.Int.{w32}
+use Rattle.std.proofs.lemmas.Int.{ints}
+use borrow.Author.Differences.{up, down, same_in, same_out, true_is_lt, false_is_lt, true_is_le, false_is_le}
+use Rattle.std.proofs.lemmas.Bool.{cases_lt, eqb-true, eq-eqb, not-true, ltb-true, lt-ltb, le-ltb, and_left, and_right}
+use Rattle.std.proofs.lemmas.Bool.Decides.{nat_tests}
+use Rattle.isl_mid.specs.declared.operation.Comparison.TheVariants as comparison
+use Rattle.isl_mid.specs.Words.{compares, less_signed, sum32, difference32, address}
+use Rattle.isl_mid.proofs.WordBounds.{first_true, second_true}
+use Rattle.isl_mid.specs.Words.{low_word, signed, shift_left, shift_right}
+use Rattle.isl_meaning.specs.Values.{in_range, int_equal}
+use Rattle.isl_meaning.specs.Primitives.{index_of}
+use Rattle.isl_arena.specs.Tags.{integer_word, character_word, nil_word}
+use Rattle.isl_arena.specs.Places.{Spot, pointer_to}
+use Rattle.isl_arena.specs.Standing.{Apart, in_front, behind}
+
+-- two tests that follow from one another
+pub same_truth : (a b : Bool) → (a ≡ true → b ≡ true) → (b ≡ true → a ≡ true) → a ≡ b
+same_truth true b f g = sym (f refl)
+same_truth false true f g = g refl
+same_truth false false f g = refl
+
+-- ---- tags and bytes of any word
+
+-- the tag, shifted to the top
+pub tag_up : (w : ℕ) → shift_left w 30 ≡ 2 ^ 30 * (w % 4)
+tag_up w = omega arith
+
+pub low_four_bits_up : (w : ℕ) → shift_left w 28 ≡ 2 ^ 28 * (w % 16)
+low_four_bits_up w = omega arith
+
+pub low_byte_up : (w : ℕ) → shift_left w 24 ≡ 2 ^ 24 * (w % 256)
+low_byte_up w = omega arith
+
+pub low_half_up : (w : ℕ) → shift_left w 16 ≡ 2 ^ 16 * (w % 65536)
+low_half_up w = omega arith
+
+-- a tag, up to the top and down again
+pub tag_alone : (w : ℕ) → shift_right (shift_left w 30) 30 ≡ w % 4
+tag_alone w = omega arith
+
+-- the two bits above the tag: the number of a byte in its word, where w is the word of its index
+pub two_bits_above : (w : ℕ) → shift_right (shift_left w 28) 30 ≡ (w / 4) % 4
+two_bits_above w = omega arith
+
+pub low_byte_alone : (w : ℕ) → shift_right (shift_left w 24) 24 ≡ w % 256
+low_byte_alone w = omega arith
+
+-- eight times the number of a byte in its word
+pub bits_in_front : (w : ℕ) → shift_left ((w / 4) % 4) 3 ≡ 8 * ((w / 4) % 4)
+bits_in_front w = omega arith
+
+-- to compare the shifted tag with a tag's bits tells the tag
+pub tag_tested : (w t : ℕ) → (shift_left w 30 == 2 ^ 30 * t) ≡ (w % 4 == t)
+tag_tested w t = grind (arith, nat_tests)
+
+pub low_byte_tested : (w c : ℕ) → (shift_left w 24 == 2 ^ 24 * c) ≡ (w % 256 == c)
+low_byte_tested w c = grind (arith, nat_tests)
+
+-- ---- the lowest 32 bits of a number
+
+pub low_word_of_pos : (n : ℕ) → low_word (pos n) ≡ n % 2 ^ 32
+unfolding low_word
+low_word_of_pos n = refl
+
+pub low_word_of_negsuc : (n : ℕ) → low_word (negsuc n) ≡ 2 ^ 32 - 1 - n % 2 ^ 32
+unfolding low_word
+low_word_of_negsuc n = refl
+
+pub low_word_below : (z : ℤ) → low_word z < 2 ^ 32
+unfolding low_word
+low_word_below (pos n) = omega arith
+low_word_below (negsuc n) = omega arith
+
+-- a number and its lowest 32 bits are apart by a multiple of 2 ^ 32: z + 2 ^ 32 j = low_word z + 2 ^ 32 k
+pub record IsApartBy (z : ℤ) (w j k : ℕ) : Type 0 where
+  pub below : w < 2 ^ 32
+  pub balance : up z + 2 ^ 32 * j ≡ w + 2 ^ 32 * k + down z
+
+pub low_word_apart : (z : ℤ) → (j : ℕ) × (k : ℕ) × IsApartBy z (low_word z) j k
+unfolding low_word
+low_word_apart (pos n) = (0, n / 2 ^ 32, record { below = omega arith; balance = omega arith })
+low_word_apart (negsuc n) = (n / 2 ^ 32 + 1, 0, record { below = omega arith; balance = omega arith })
+
+-- and no other word is
+pub low_word_is : (z : ℤ) (w j k : ℕ) → IsApartBy z w j k → low_word z ≡ w
+unfolding low_word
+low_word_is (pos n) w j k h = omega (arith, h.below, h.balance)
+low_word_is (negsuc n) w j k h = omega (arith, h.below, h.balance)
+
+pub low_word_of_word : (w : ℕ) → w < 2 ^ 32 → low_word (pos w) ≡ w
+low_word_of_word w h = low_word_is (pos w) w 0 0 (record { below = h; balance = omega arith })
+
+-- numbers apart by a multiple of 2 ^ 32 have the same
+pub same_low_word : (z r : ℤ) (j k : ℕ) → up z + 2 ^ 32 * j + down r ≡ up r + 2 ^ 32 * k + down z → low_word z ≡ low_word r
+same_low_word z r j k e =
+    let s = low_word_apart r in
+    low_word_is z (low_word r) (j + s.0) (k + s.1) (record { below = low_word_below r; balance = omega (arith, s.2.balance) })
+
+-- ---- words as signed numbers
+
+pub signed_low : (w : ℕ) → w < 2 ^ 31 → signed w ≡ pos w
+signed_low w h = omega (arith, ints)
+
+pub signed_high : (w : ℕ) → 2 ^ 31 ≤ w → signed w ≡ negsuc (2 ^ 32 - suc w)
+signed_high w h = grind (arith, nat_tests)
+
+pub signed_low_word : (z : ℤ) → FitsSigned w32 z → signed (low_word z) ≡ z
+signed_low_word (pos n) f =
+    let n_low : n < 2 ^ 31 = omega (arith, ints) in
+    let is : low_word (pos n) ≡ n = low_word_of_word n (omega arith) in
+    rw is (signed_low n n_low)
+signed_low_word (negsuc n) f =
+    let n_low : n < 2 ^ 31 = omega (arith, ints) in
+    let is : low_word (negsuc n) ≡ 2 ^ 32 - suc n = low_word_is (negsuc n) (2 ^ 32 - suc n) 1 0 (record { below = omega arith; balance = omega arith }) in
+    rw is (signed_high (2 ^ 32 - suc n) (omega arith) ∙ ap negsuc (omega arith))
+
+-- the number that the lowest 32 bits of z stand for is the one in range that is apart from z by a multiple of 2 ^ 32
+pub signed_is : (z r : ℤ) (j k : ℕ) → up z + 2 ^ 32 * j + down r ≡ up r + 2 ^ 32 * k + down z → FitsSigned w32 r → signed (low_word z) ≡ r
+signed_is z r j k e f = rw (same_low_word z r j k e) (signed_low_word r f)
+
+-- a word is the lowest 32 bits of the number that it stands for
+pub low_word_signed : (w : ℕ) → w < 2 ^ 32 → low_word (signed w) ≡ w
+low_word_signed w h = ⊎_elim (λ low. rw (signed_low w low) (low_word_of_word w h))
+    (λ high. rw (signed_high w high) (low_word_is (negsuc (2 ^ 32 - suc w)) w 1 0 (record { below = h; balance = omega arith }))) (cases_lt w (2 ^ 31))
+
+-- ---- words of integers
+
+pub integer_word_below : (n : ℤ) → integer_word n < 2 ^ 32
+integer_word_below n = low_word_below (pos 4 *ℤ n)
+
+pub integer_word_tag : (n : ℤ) → integer_word n % 4 ≡ 0
+integer_word_tag n = let s = low_word_apart (pos 4 *ℤ n) in omega (arith, ints, s.2.balance)
+
+pub integer_word_of_pos : (k : ℕ) → k < 2 ^ 30 → integer_word (pos k) ≡ 4 * k
+integer_word_of_pos k h = low_word_of_word (4 * k) (omega arith)
+
+pub integer_word_of_negsuc : (k : ℕ) → k < 2 ^ 30 → integer_word (negsuc k) ≡ 2 ^ 32 - 4 * suc k
+integer_word_of_negsuc k h = low_word_is (pos 4 *ℤ negsuc k) _ 1 0 (record { below = omega arith; balance = omega (arith, ints) })
+
+-- an integer in range, in the terms of `omega`
+pub range_tells : (n : ℤ) → in_range n ≡ true → (up n < 2 ^ 29 + down n) × (down n ≤ 2 ^ 29 + up n)
+range_tells n h = grind (arith, ints)
+
+-- and the other way
+pub in_range_is : (n : ℤ) → up n < 2 ^ 29 + down n → down n ≤ 2 ^ 29 + up n → in_range n ≡ true
+in_range_is n g h = let low = sym (true_is_le (negsuc 536870911) n (omega arith)) in let high = sym (true_is_le n (pos 536870911) (omega arith)) in (λ i. low i && high i)
+
+pub above_range_is : (n : ℤ) → 2 ^ 29 + down n ≤ up n → in_range n ≡ false
+above_range_is n h = and_right (int_le (negsuc 536870911) n) _ (sym (false_is_le n (pos 536870911) (omega arith)))
+
+pub below_range_is : (n : ℤ) → 2 ^ 29 + up n < down n → in_range n ≡ false
+below_range_is n h = and_left _ (int_le n (pos 536870911)) (sym (false_is_le (negsuc 536870911) n (omega arith)))
+
+pub four_fits : (n : ℤ) → in_range n ≡ true → FitsSigned w32 (pos 4 *ℤ n)
+four_fits n h = let s = range_tells n h in omega (arith, ints)
+
+pub signed_integer_word : (n : ℤ) → in_range n ≡ true → signed (integer_word n) ≡ pos 4 *ℤ n
+signed_integer_word n h = signed_low_word (pos 4 *ℤ n) (four_fits n h)
+
+pub integer_word_one_to_one : (a b : ℤ) → in_range a ≡ true → in_range b ≡ true → integer_word a ≡ integer_word b → a ≡ b
+integer_word_one_to_one a b g h e =
+    let same : pos 4 *ℤ a ≡ pos 4 *ℤ b = sym (signed_integer_word a g) ∙ ap signed e ∙ signed_integer_word b h in
+    omega (arith, ints)
+
+-- ---- tests of two words of integers
+
+pub four_times_below : (a b : ℤ) → int_lt (pos 4 *ℤ a) (pos 4 *ℤ b) ≡ int_lt a b
+four_times_below a b = same_truth _ _ (λ h. sym (true_is_lt a b (omega (arith, ints)))) (λ h. sym (true_is_lt (pos 4 *ℤ a) (pos 4 *ℤ b) (omega (arith, ints))))
+
+pub int_equal_tells : (a b : ℤ) → int_equal a b ≡ true → a ≡ b
+int_equal_tells a b h =
+    let first : int_le a b ≡ true = first_true (int_le a b) (int_le b a) h in
+    let second : int_le b a ≡ true = second_true (int_le a b) (int_le b a) h in
+    omega (arith, ints)
+
+pub int_equal_same : (a : ℤ) → int_equal a a ≡ true
+int_equal_same a = let self = sym (true_is_le a a (omega (arith, ints))) in (λ i. self i && self i)
+
+pub integer_word_equal : (a b : ℤ) → in_range a ≡ true → in_range b ≡ true → (integer_word a == integer_word b) ≡ int_equal a b
+integer_word_equal a b g h = same_truth _ _ there back
+  where
+    there : (integer_word a == integer_word b) ≡ true → int_equal a b ≡ true
+    there e = rw (integer_word_one_to_one a b g h (eqb-true _ _ e)) (int_equal_same b)
+    back : int_equal a b ≡ true → (integer_word a == integer_word b) ≡ true
+    back e = rw (int_equal_tells a b e) (eq-eqb _ _ refl)
+
+pub integers_compare_equal : (a b : ℤ) → in_range a ≡ true → in_range b ≡ true → compares comparison.Equal (integer_word a) (integer_word b) ≡ int_equal a b
+integers_compare_equal = integer_word_equal
+
+pub integers_compare_different : (a b : ℤ) → in_range a ≡ true → in_range b ≡ true → compares comparison.Different (integer_word a) (integer_word b) ≡ not (int_equal a b)
+integers_compare_different a b g h = ap not (integer_word_equal a b g h)
+
+pub integers_compare_less : (a b : ℤ) → in_range a ≡ true → in_range b ≡ true → compares comparison.Less (integer_word a) (integer_word b) ≡ int_lt a b
+integers_compare_less a b g h = (λ i. int_lt (signed_integer_word a g i) (signed_integer_word b h i)) ∙ four_times_below a b
+
+pub integers_compare_at_least : (a b : ℤ) → in_range a ≡ true → in_range b ≡ true → compares comparison.AtLeast (integer_word a) (integer_word b) ≡ not (int_lt a b)
+integers_compare_at_least a b g h = ap not (integers_compare_less a b g h)
+
+-- one of two numbers is less or the other is at most it
+pub not_below : (a b : ℤ) → not (int_lt a b) ≡ int_le b a
+not_below a b = same_truth _ _ (λ h. sym (true_is_le b a (omega (arith, ints, not-true _ h)))) (λ h. ap not (sym (false_is_lt a b (omega (arith, ints)))))
+
+-- whether an integer is zero, negative or positive
+pub integer_is_zero : (a : ℤ) → in_range a ≡ true → (integer_word a == 0) ≡ int_equal a (pos 0)
+integer_is_zero a g = rw (low_word_of_pos 0) at (integer_word_equal a (pos 0) g refl)
+
+pub is_negative : (a : ℤ) → in_range a ≡ true → less_signed (integer_word a) 0 ≡ int_lt a (pos 0)
+is_negative a g = (λ i. int_lt (signed_integer_word a g i) (pos 0)) ∙ four_times_below a (pos 0)
+
+pub is_positive : (a : ℤ) → in_range a ≡ true → less_signed 0 (integer_word a) ≡ int_lt (pos 0) a
+is_positive a g = (λ i. int_lt (pos 0) (signed_integer_word a g i)) ∙ four_times_below (pos 0) a
+
+-- ---- characters
+
+pub character_word_below : (c : ℕ) → c ≤ 255 → character_word c < 2 ^ 16
+character_word_below c h = omega arith
+
+pub character_word_byte : (c : ℕ) → character_word c % 256 ≡ 15
+character_word_byte c = omega arith
+
+pub character_word_tag : (c : ℕ) → character_word c % 4 ≡ 3
+character_word_tag c = omega arith
+
+pub character_word_one_to_one : (a b : ℕ) → character_word a ≡ character_word b → a ≡ b
+character_word_one_to_one a b e = omega arith
+
+pub character_word_equal : (a b : ℕ) → (character_word a == character_word b) ≡ (a == b)
+character_word_equal a b = grind (arith, nat_tests)
+
+-- the code of a character, and the integer of it
+pub character_code : (c : ℕ) → shift_right (character_word c) 8 ≡ c
+character_code c = omega arith
+
+pub character_integer : (c : ℕ) → c ≤ 255 → shift_left (shift_right (character_word c) 8) 2 ≡ integer_word (pos c)
+character_integer c h = rw (integer_word_of_pos c (omega arith)) (omega arith)
+
+-- and back
+pub character_of_integer : (c : ℕ) → c ≤ 255 → sum32 (shift_left (integer_word (pos c)) 6) 15 ≡ character_word c
+character_of_integer c h = rw (integer_word_of_pos c (omega arith)) (omega arith)
+
+-- ---- pointers
+
+-- the tag of a pointer to an address
+pub pointer_tag : (address tag : ℕ) → address % 4 ≡ 0 → tag < 4 → (address + tag) % 4 ≡ tag
+pointer_tag address tag g h = omega arith
+
+pub pointer_without_tag : (address tag : ℕ) → address + tag < 2 ^ 32 → difference32 (address + tag) tag ≡ address
+pointer_without_tag address tag h = omega arith
+
+-- what is at an offset from an address
+pub address_ahead : (base offset : ℕ) → base + offset < 2 ^ 32 → address base (pos offset) ≡ base + offset
+address_ahead base offset h = low_word_of_word (base + offset) h
+
+-- spots of at least a word that are apart have different pointers
+pub apart_pointers : (s r : Spot) → s.address % 4 ≡ 0 → r.address % 4 ≡ 0 → s.tag < 4 → r.tag < 4 → 1 ≤ s.words → 1 ≤ r.words → Apart s r → pointer_to s ≢ pointer_to r
+apart_pointers s r a b c d e f (in_front h) p = omega arith
+apart_pointers s r a b c d e f (behind h) p = omega arith
+
+-- words of values of different shapes
+
+pub integer_is_no_pointer : (n : ℤ) (s : Spot) → s.address % 4 ≡ 0 → 1 ≤ s.tag → s.tag < 4 → integer_word n ≢ pointer_to s
+integer_is_no_pointer n s a b c e = omega (arith, integer_word_tag n)
+
+pub integer_is_no_character : (n : ℤ) (c : ℕ) → integer_word n ≢ character_word c
+integer_is_no_character n c e = omega (arith, integer_word_tag n)
+
+pub integer_is_not_nil : (n : ℤ) → integer_word n ≢ nil_word
+integer_is_not_nil n e = omega (arith, integer_word_tag n)
+
+pub character_is_no_pointer : (c : ℕ) (s : Spot) → s.address % 4 ≡ 0 → s.tag < 3 → character_word c ≢ pointer_to s
+character_is_no_pointer c s a b e = omega arith
+
+pub character_is_not_nil : (c : ℕ) → character_word c ≢ nil_word
+character_is_not_nil c e = omega arith
+
+pub nil_is_no_pointer : (s : Spot) → s.address % 4 ≡ 0 → s.tag < 3 → nil_word ≢ pointer_to s
+nil_is_no_pointer s a b e = omega arith
+
+-- ---- indices
+
+-- an integer that is an index of a list, and its word
+pub index_is : (n : ℤ) (count i : ℕ) → index_of n count ≡ Some i → (n ≡ pos i) × (i < count)
+index_is (pos k) count i e = from (nat_lt k count) refl e
+  where
+    from : (t : Bool) → nat_lt k count ≡ t → (if t then Some k else None) ≡ Some i → (pos k ≡ pos i) × (i < count)
+    from true below is = let same : k ≡ i = cc is in (ap pos same, omega (arith, same, ltb-true k count below))
+    from false above is = absurd (cc is)
+index_is (negsuc k) count i e = absurd (cc e)
+
+pub index_word : (n : ℤ) (count i : ℕ) → count < 2 ^ 29 → index_of n count ≡ Some i → integer_word n ≡ 4 * i
+index_word n count i h e = let is = index_is n count i e in rw is.0 (integer_word_of_pos i (omega (arith, is.1)))
+
+-- the test of a word against four times a count tells whether the integer is an index
+pub index_tested : (n : ℤ) (count : ℕ) → in_range n ≡ true → count < 2 ^ 29 → compares comparison.LessUnsigned (integer_word n) (4 * count) ≡ is_some (index_of n count)
+index_tested (pos i) count g h =
+    let s = range_tells (pos i) g in
+    let is : integer_word (pos i) ≡ 4 * i = integer_word_of_pos i (omega (arith, s.0)) in
+    rw is (four_times_less i count ∙ there (nat_lt i count))
+  where
+    four_times_less : (a b : ℕ) → nat_lt (4 * a) (4 * b) ≡ nat_lt a b
+    four_times_less a b = grind (arith, nat_tests)
+    there : (t : Bool) → t ≡ is_some (if◌then◌else◌ {A = Option ℕ} t (Some i) None)
+    there true = refl
+    there false = refl
+index_tested (negsuc i) count g h =
+    let s = range_tells (negsuc i) g in
+    let is : integer_word (negsuc i) ≡ 2 ^ 32 - 4 * suc i = integer_word_of_negsuc i (omega (arith, s.1)) in
+    rw is (le-ltb _ _ (omega (arith, s.1)))
