@@ -1,0 +1,156 @@
+-- How a representation goes on: where the arena grows, where an object is made or changed, and where fixed words change.
+use Rattle.std.proofs.Common.{◌≡◌, ℕ, zero, suc, ◌+◌, ◌*◌, ◌%◌, ◌^◌, ◌<◌, ◌≤◌, Bool, true, false, List, [], ◌∷◌, ◌++◌, length, Option, Some, None, refl, sym, ap, ◌∙◌, arith}
+use Rattle.std.specs.Prelude.{◌==◌, slice_get, slice_set, if◌then◌else◌}
+use Rattle.std.proofs.lemmas.Option.{slice_get_within}
+use Rattle.std.proofs.lemmas.Bool.Decides.{nat_tests}
+use Rattle.std.proofs.Math.ListN.{length-append}
+use Rattle.isl_meaning.specs.declared.program.ProgramRows.{ProgramRows}
+use Rattle.isl_meaning.specs.Values.{SymbolValue, Value}
+use Rattle.isl_meaning.specs.Objects.{Object, function}
+use Rattle.isl_meaning.specs.State as meaning
+use Rattle.isl_mid.specs.Arena.{Arena, stack_from, word_at}
+use Rattle.isl_mid.specs.State.{State, charged}
+use Rattle.isl_arena.specs.Places.{Spot, end_of, Places, Owner, same_owner, of_object, of_symbol, of_other, spot_of, with_object}
+use Rattle.isl_arena.specs.Standing.{ArenaStands, IsLentPart, of_laid, of_heap, SpotStands, Apart, in_front, behind, SameWords, ValueAt}
+use Rattle.isl_arena.specs.FixedWords.{fixed_words, class_address, input_address, output_address, true_address, serial_address, line_address, peeked_address, InputIs, untouched, looked_at, FixedStand}
+use Rattle.isl_arena.specs.Layouts.{ObjectAt, SymbolAt}
+use Rattle.isl_arena.specs.Represents.{Represents}
+use Rattle.isl_arena.specs.Answers.{Kept}
+use Rattle.isl_arena.proofs.Keeping.{spot_in_tells, Extends, extends_same, extends_one, old_spot, value_kept, symbol_kept, object_kept}
+
+-- ---- arenas
+
+-- the same bounds but for the heap, which may have grown, and the same words in all that was laid or in the heap
+pub record Grows (earlier later : Arena) : Type 0 where
+  pub size : length later.memory ≡ length earlier.memory
+  pub laid_from : later.laid_from ≡ earlier.laid_from
+  pub laid_to : later.laid_to ≡ earlier.laid_to
+  pub heap_from : later.heap_from ≡ earlier.heap_from
+  pub heap_to : earlier.heap_to ≤ later.heap_to
+  pub stands : ArenaStands later
+  pub words : (x : ℕ) → x < earlier.heap_to → word_at later x ≡ word_at earlier x
+
+pub grows_same : (a : Arena) → ArenaStands a → Grows a a
+grows_same a stands = record { size = refl; laid_from = refl; laid_to = refl; heap_from = refl; heap_to = omega arith; stands = stands; words = λ x h. refl }
+
+pub grows_both : (a b c : Arena) → Grows a b → Grows b c → Grows a c
+grows_both a b c g h = record {
+  size = h.size ∙ g.size;
+  laid_from = h.laid_from ∙ g.laid_from;
+  laid_to = h.laid_to ∙ g.laid_to;
+  heap_from = h.heap_from ∙ g.heap_from;
+  heap_to = omega (arith, g.heap_to, h.heap_to);
+  stands = h.stands;
+  words = λ x low. h.words x (omega (arith, low, g.heap_to)) ∙ g.words x low;
+}
+
+-- a spot ends in what was laid or in the heap
+pub spot_below : (a : Arena) (s : Spot) → ArenaStands a → SpotStands a s → end_of s ≤ a.heap_to
+spot_below a s stands spot = by spot.part
+  where
+    by : IsLentPart a s → end_of s ≤ a.heap_to
+    by (of_laid low high) = omega (arith, high, stands.laid, stands.heap)
+    by (of_heap low high) = high
+
+-- a spot stands as long as the bounds only grow
+pub spot_stands :
+    (a b : Arena) (s : Spot) → b.laid_from ≡ a.laid_from → b.laid_to ≡ a.laid_to → b.heap_from ≡ a.heap_from → a.heap_to ≤ b.heap_to
+    → SpotStands a s → SpotStands b s
+spot_stands a b s laid_from laid_to heap_from heap_to spot = record { aligned = spot.aligned; some = spot.some; tag = spot.tag; part = by spot.part }
+  where
+    by : IsLentPart a s → IsLentPart b s
+    by (of_laid low high) = of_laid (omega arith) (omega arith)
+    by (of_heap low high) = of_heap (omega arith) (omega arith)
+
+pub spot_grown : (a b : Arena) (s : Spot) → Grows a b → SpotStands a s → SpotStands b s
+spot_grown a b s g = spot_stands a b s g.laid_from g.laid_to g.heap_from g.heap_to
+
+-- a spot that stood has the same words
+pub words_grown : (a b : Arena) (s : Spot) → Grows a b → ArenaStands a → SpotStands a s → SameWords a b s
+words_grown a b s g stands spot x low high = let below = spot_below a s stands spot in g.words x (omega arith)
+
+-- ---- the fixed words
+
+abbrev pub fixed_spot : Spot
+fixed_spot = record { address = 0; words = fixed_words; tag = 0 }
+
+pub input_kept : (a b : Arena) (left bytes : List ℕ) → SameWords a b fixed_spot → InputIs a left bytes → InputIs b left bytes
+input_kept a b left bytes same (untouched e) = untouched (same peeked_address (omega arith) (omega arith) ∙ e)
+input_kept a b left bytes same (looked_at byte e) = looked_at byte (same peeked_address (omega arith) (omega arith) ∙ e)
+
+pub fixed_kept :
+    (names : List (List ℕ)) (program : ProgramRows) (before after : Places) (a b : Arena) (symbols : ℕ) (printed bytes left : List ℕ)
+    → Extends before after → slice_get after.others 0 ≡ slice_get before.others 0 → SameWords a b fixed_spot
+    → FixedStand names program before a symbols printed bytes left → FixedStand names program after b symbols printed bytes left
+fixed_kept names program before after a b symbols printed bytes left more others same f = record {
+  spot = others ∙ f.spot;
+  classes = λ class h. kept (class_address class) _ (omega arith) (f.classes class h);
+  input_stream = kept input_address _ (omega arith) f.input_stream;
+  output_stream = kept output_address _ (omega arith) f.output_stream;
+  true_value = kept true_address _ (omega arith) f.true_value;
+  serial = same serial_address (omega arith) (omega arith) ∙ f.serial;
+  line = kept line_address _ (omega arith) f.line;
+  input = input_kept a b left bytes same f.input;
+}
+  where
+    kept : (address : ℕ) (v : Value) → address < 164 → ValueAt before a address v → ValueAt after b address v
+    kept address v high = value_kept a b fixed_spot same before after more address v (omega arith) high
+
+-- ---- a growing arena
+
+-- each state with the same objects, fresh symbols, output and input is represented too
+pub represents_same :
+    (names : List (List ℕ)) (program : ProgramRows) (places : Places) (z z' : meaning.State) (y : State)
+    → z'.store ≡ z.store → z'.symbols ≡ z.symbols → z'.printed ≡ z.printed → z'.input ≡ z.input
+    → Represents names program places z y → Represents names program places z' y
+represents_same names program places z z' y store symbols printed input r = record {
+  built_in = r.built_in;
+  arena = r.arena;
+  spots = r.spots;
+  apart = r.apart;
+  count = rw store r.count;
+  objects = λ i o s found e. r.objects i o s (cc found) e;
+  symbols = r.symbols;
+  no_nil = r.no_nil;
+  fixed = rw (symbols, printed, input) r.fixed;
+  input = rw input r.input;
+  printed = r.printed ∙ sym printed;
+}
+
+module _ (names : List (List ℕ)) (program : ProgramRows) (places : Places) (z : meaning.State) (y : State) (r : Represents names program places z y) where
+  -- units of the meaning
+  pub represents_charged : (n : ℕ) → Represents names program places (meaning.charged n z) y
+  represents_charged n = represents_same names program places z (meaning.charged n z) y refl refl refl refl r
+
+  pub fixed_stands : SpotStands y.arena fixed_spot
+  fixed_stands = r.spots (of_other 0) fixed_spot r.fixed.spot
+
+  -- what an owner's spot has stays
+  pub owned_grown : (b : Arena) → Grows y.arena b → (p : Owner) (s : Spot) → spot_of places p ≡ Some s → SameWords y.arena b s
+  owned_grown b g p s e = words_grown y.arena b s g r.arena (r.spots p s e)
+
+  pub kept_grown : (b : Arena) → Grows y.arena b → Kept places z y.arena b
+  kept_grown b g = record {
+    functions = λ i p s found e. owned_grown b g (of_object i) s e;
+    others = λ n s e. owned_grown b g (of_other (suc n)) s e;
+  }
+
+  module _ (y' : State) (g : Grows y.arena y'.arena) (printed : y'.printed ≡ y.printed) (input : y'.input ≡ y.input) where
+    pub represents_grown : Represents names program places z y'
+    represents_grown = record {
+      built_in = r.built_in;
+      arena = g.stands;
+      spots = λ p s e. spot_grown y.arena y'.arena s g (r.spots p s e);
+      apart = r.apart;
+      count = r.count;
+      objects = λ i o s found e.
+          object_kept y.arena y'.arena s (owned_grown y'.arena g (of_object i) s e) places places (extends_same places) names program o
+          (r.objects i o s found e);
+      symbols = λ v s e. symbol_kept y.arena y'.arena s (owned_grown y'.arena g (of_symbol v) s e) v (r.symbols v s e);
+      no_nil = r.no_nil;
+      fixed =
+          rw input (fixed_kept names program places places y.arena y'.arena z.symbols z.printed z.input y.input (extends_same places) refl
+          (owned_grown y'.arena g (of_other 0) fixed_spot r.fixed.spot) r.fixed);
+      input = r.input;
+      printed = printed ∙ r.printed;
+    }
