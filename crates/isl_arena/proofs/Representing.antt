@@ -4,13 +4,14 @@ use Rattle.std.specs.Prelude.{◌==◌, slice_get, slice_set, if◌then◌else�
 use Rattle.std.proofs.lemmas.Option.{slice_get_within}
 use Rattle.std.proofs.lemmas.Bool.Decides.{nat_tests}
 use Rattle.std.proofs.Math.ListN.{length-append}
+use Rattle.isl_base.specs.Names.{slice_get-behind}
 use Rattle.isl_meaning.specs.declared.program.ProgramRows.{ProgramRows}
 use Rattle.isl_meaning.specs.Values.{SymbolValue, Value}
 use Rattle.isl_meaning.specs.Objects.{Object, function}
 use Rattle.isl_meaning.specs.State as meaning
 use Rattle.isl_mid.specs.Arena.{Arena, stack_from, word_at}
 use Rattle.isl_mid.specs.State.{State, charged}
-use Rattle.isl_arena.specs.Places.{Spot, end_of, Places, Owner, same_owner, of_object, of_symbol, of_other, spot_of, with_object}
+use Rattle.isl_arena.specs.Places.{Spot, end_of, Places, Owner, same_owner, of_object, of_symbol, of_other, spot_in, spot_of, with_object}
 use Rattle.isl_arena.specs.Standing.{ArenaStands, IsLentPart, of_laid, of_heap, SpotStands, Apart, in_front, behind, SameWords, ValueAt}
 use Rattle.isl_arena.specs.FixedWords.{fixed_words, class_address, input_address, output_address, true_address, serial_address, line_address, peeked_address, InputIs, untouched, looked_at, FixedStand}
 use Rattle.isl_arena.specs.Layouts.{ObjectAt, SymbolAt}
@@ -117,6 +118,47 @@ represents_same names program places z z' y store symbols printed input r = reco
   printed = r.printed ∙ sym printed;
 }
 
+-- ---- one more object
+
+-- an item of a list with one more at its end
+pub data FrontOrEnd {X : Type 0} (xs : List X) (x : X) (i : ℕ) (item : X) : Type 0 where
+  at_front : slice_get xs i ≡ Some item → FrontOrEnd xs x i item
+  at_end : i ≡ length xs → item ≡ x → FrontOrEnd xs x i item
+
+pub front_or_end : {X : Type 0} (xs : List X) (x : X) (i : ℕ) (item : X) → slice_get (xs ++ x ∷ []) i ≡ Some item → FrontOrEnd xs x i item
+front_or_end [] x zero item e = at_end refl (cc e)
+front_or_end [] x (suc i) item e = absurd (cc e)
+front_or_end (y ∷ xs) x zero item e = at_front e
+front_or_end (y ∷ xs) x (suc i) item e = further (front_or_end xs x i item e)
+  where
+    further : FrontOrEnd xs x i item → FrontOrEnd (y ∷ xs) x (suc i) item
+    further (at_front h) = at_front h
+    further (at_end h same) = at_end (omega arith) same
+
+-- whose spot one is where there is one object more
+pub data OldOrNew (s : Spot) (places : Places) (p : Owner) (found : Spot) : Type 0 where
+  of_old : spot_of places p ≡ Some found → OldOrNew s places p found
+  of_new : p ≡ of_object (length places.objects) → found ≡ s → OldOrNew s places p found
+
+pub old_or_new : (s : Spot) (places : Places) (p : Owner) (found : Spot) → spot_of (with_object s places) p ≡ Some found → OldOrNew s places p found
+old_or_new s places (of_symbol v) found e = of_old e
+old_or_new s places (of_other n) found e = of_old e
+old_or_new s places (of_object i) found e = by (front_or_end places.objects (Some s) i (Some found) (spot_in_tells _ found e))
+  where
+    by : FrontOrEnd places.objects (Some s) i (Some found) → OldOrNew s places (of_object i) found
+    by (at_front h) = of_old (ap spot_in h)
+    by (at_end h same) = of_new (ap of_object h) (cc same)
+
+-- the new object has the new spot
+pub new_spot_found : (s : Spot) (places : Places) → spot_of (with_object s places) (of_object (length places.objects)) ≡ Some s
+new_spot_found s places = ap spot_in (slice_get-behind places.objects (Some s))
+
+-- an object that has a spot is in the store
+pub object_within : (places : Places) (i : ℕ) (s : Spot) → spot_of places (of_object i) ≡ Some s → i < length places.objects
+object_within places i s e = slice_get_within places.objects i (Some s) (spot_in_tells _ s e)
+
+-- ---- a represented state
+
 module _ (names : List (List ℕ)) (program : ProgramRows) (places : Places) (z : meaning.State) (y : State) (r : Represents names program places z y) where
   -- units of the meaning
   pub represents_charged : (n : ℕ) → Represents names program places (meaning.charged n z) y
@@ -154,3 +196,63 @@ module _ (names : List (List ℕ)) (program : ProgramRows) (places : Places) (z 
       input = r.input;
       printed = printed ∙ r.printed;
     }
+
+    -- an object more, at the end of the heap
+    module _
+        (s : Spot) (o : Object) (address : s.address ≡ y.arena.heap_to) (high : end_of s ≤ y'.arena.heap_to) (some : 1 ≤ s.words) (tag : s.tag < 4)
+        (made : ObjectAt names program (with_object s places) y'.arena s o)
+        where
+      pub new_stands : SpotStands y'.arena s
+      new_stands = record {
+        aligned = omega (arith, r.arena.aligned);
+        some = some;
+        tag = tag;
+        part = of_heap (omega (arith, g.heap_from, r.arena.heap)) high;
+      }
+
+      -- the old spots end where the new one begins
+      old_in_front : (p : Owner) (old : Spot) → spot_of places p ≡ Some old → end_of old ≤ s.address
+      old_in_front p old e = let below = spot_below y.arena old r.arena (r.spots p old e) in omega arith
+
+      made_apart : (p q : Owner) (first second : Spot) → same_owner p q ≡ false → OldOrNew s places p first → OldOrNew s places q second → Apart first second
+      made_apart p q first second different (of_old d) (of_old e) = r.apart p q first second different d e
+      made_apart p q first second different (of_old d) (of_new e same) = rw same (in_front (old_in_front p first d))
+      made_apart p q first second different (of_new d same) (of_old e) = rw same (behind (old_in_front q second e))
+      made_apart p q first second different (of_new d same) (of_new e same') =
+          let self : same_owner (of_object (length places.objects)) (of_object (length places.objects)) ≡ false = cc in
+          absurd (grind (arith, nat_tests))
+
+      made_spot : (p : Owner) (found : Spot) → OldOrNew s places p found → SpotStands y'.arena found
+      made_spot p found (of_old e) = spot_grown y.arena y'.arena found g (r.spots p found e)
+      made_spot p found (of_new e same) = rw same new_stands
+
+      made_object :
+          (i : ℕ) (one : Object) (found : Spot) → FrontOrEnd z.store o i one → OldOrNew s places (of_object i) found
+          → ObjectAt names program (with_object s places) y'.arena found one
+      made_object i one found (at_front d) (of_old e) =
+          object_kept y.arena y'.arena found (owned_grown y'.arena g (of_object i) found e) places (with_object s places) (extends_one s places) names program one
+          (r.objects i one found d e)
+      made_object i one found (at_front d) (of_new e same) =
+          let within = slice_get_within z.store i one d in
+          let last : i ≡ length places.objects = cc e in
+          absurd (omega (arith, r.count))
+      made_object i one found (at_end d same) (of_old e) = let within = object_within places i found e in absurd (omega (arith, r.count))
+      made_object i one found (at_end d same) (of_new e at) = rw (same, at) made
+
+      pub represents_made : Represents names program (with_object s places) (meaning.stored o z) y'
+      represents_made = record {
+        built_in = r.built_in;
+        arena = g.stands;
+        spots = λ p found e. made_spot p found (old_or_new s places p found e);
+        apart = λ p q first second different d e. made_apart p q first second different (old_or_new s places p first d) (old_or_new s places q second e);
+        count =
+            length-append places.objects (Some s ∷ []) ∙ ap (λ n. n + 1) r.count ∙ sym (length-append z.store (o ∷ []));
+        objects = λ i one found d e. made_object i one found (front_or_end z.store o i one d) (old_or_new s places (of_object i) found e);
+        symbols = λ v found e. symbol_kept y.arena y'.arena found (owned_grown y'.arena g (of_symbol v) found e) v (r.symbols v found e);
+        no_nil = r.no_nil;
+        fixed =
+            rw input (fixed_kept names program places (with_object s places) y.arena y'.arena z.symbols z.printed z.input y.input (extends_one s places) refl
+            (owned_grown y'.arena g (of_other 0) fixed_spot r.fixed.spot) r.fixed);
+        input = r.input;
+        printed = printed ∙ r.printed;
+      }
