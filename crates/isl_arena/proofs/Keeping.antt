@@ -10,7 +10,7 @@ use Rattle.isl_meaning.specs.Objects.{Object, cons, string, vector, instance, fu
 use Rattle.isl_meaning.specs.Classes.{precedence, slots, is_below}
 use Rattle.isl_meaning.specs.Primitives.{instance_words}
 use Rattle.isl_mid.specs.Arena.{Arena, word_at}
-use Rattle.isl_arena.specs.Tags.{object_tag, function_header, string_header, symbol_header, input_header, output_header, generic_header, fresh_header, tag_of}
+use Rattle.isl_arena.specs.Tags.{object_tag, string_header, vector_header, instance_header, function_header, generic_header, class_header, input_header, output_header, symbol_header, fresh_header, tag_of}
 use Rattle.isl_arena.specs.Places.{Spot, end_of, pointer_to, Places, Owner, of_object, of_symbol, of_other, spot_in, spot_of, with_object, pointer_in, word_of, WordsOf}
 use Rattle.isl_arena.specs.Standing.{SameWords, ValueAt, SlotAt, ValuesAt, SlotsAt}
 use Rattle.isl_arena.specs.Layouts.{TextAt, byte_words, ConsAt, VectorAt, PairAt, StreamAt, FunctionAt, InstanceAt, SlotRowAt, ClassAt, ObjectAt, SymbolAt}
@@ -184,3 +184,58 @@ module _ (a b : Arena) (s : Spot) (same : SameWords a b s) where
       object_kept input_stream t = stream_kept _ t
       object_kept output_stream t = stream_kept _ t
       object_kept (fresh_symbol serial) t = pair_kept _ _ t
+
+-- ---- what the first word of an object says
+
+-- the header of an object that is no cons
+abbrev pub header_of : Object → ℕ
+header_of (cons a d) = 0
+header_of (string bytes) = string_header
+header_of (vector vs) = vector_header
+header_of (instance c values mark) = instance_header (length values)
+header_of (function p) = function_header
+header_of (closure required rest body env) = function_header
+header_of (generic_function g) = generic_header
+header_of (class_object c) = class_header
+header_of input_stream = input_header
+header_of output_stream = output_header
+header_of (fresh_symbol serial) = fresh_header
+
+abbrev pub header_of_symbol : SymbolValue → ℕ
+header_of_symbol (named name) = symbol_header
+header_of_symbol (unnamed expansion serial) = fresh_header
+
+pub symbol_tag : (a : Arena) (s : Spot) (v : SymbolValue) → SymbolAt a s v → s.tag ≡ object_tag
+symbol_tag a s (named name) t = t.size.tag
+symbol_tag a s (unnamed expansion serial) t = t.size.tag
+
+pub header_at_symbol : (a : Arena) (s : Spot) (v : SymbolValue) → SymbolAt a s v → word_at a s.address ≡ Some (header_of_symbol v)
+header_at_symbol a s (named name) t = t.header
+header_at_symbol a s (unnamed expansion serial) t = t.header
+
+module _ (names : List (List ℕ)) (program : ProgramRows) (places : Places) (a : Arena) (s : Spot) where
+  pub object_tag_is : (o : Object) → ObjectAt names program places a s o → s.tag ≡ tag_of o
+  object_tag_is (cons car cdr) t = t.size.tag
+  object_tag_is (string bytes) t = t.size.tag
+  object_tag_is (vector vs) t = t.size.tag
+  object_tag_is (instance class values mark) t = t.size.tag
+  object_tag_is (function p) t = t.tag
+  object_tag_is (closure required rest body env) t = absurd t
+  object_tag_is (generic_function g) t = t.size.tag
+  object_tag_is (class_object class) t = t.size.tag
+  object_tag_is input_stream t = t.size.tag
+  object_tag_is output_stream t = t.size.tag
+  object_tag_is (fresh_symbol serial) t = t.size.tag
+
+  pub header_at_object : (o : Object) → tag_of o ≡ object_tag → ObjectAt names program places a s o → word_at a s.address ≡ Some (header_of o)
+  header_at_object (cons car cdr) e t = absurd (omega (arith, e))
+  header_at_object (string bytes) e t = t.header
+  header_at_object (vector vs) e t = t.header
+  header_at_object (instance class values mark) e t = t.header
+  header_at_object (function p) e t = t.header
+  header_at_object (closure required rest body env) e t = absurd t
+  header_at_object (generic_function g) e t = t.header
+  header_at_object (class_object class) e t = t.header
+  header_at_object input_stream e t = t.header
+  header_at_object output_stream e t = t.header
+  header_at_object (fresh_symbol serial) e t = t.header
