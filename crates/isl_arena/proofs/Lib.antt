@@ -1,3 +1,4 @@
 pub mod Keeping
 pub mod Representing
 pub mod Arguments
+pub mod Telling
