@@ -3,7 +3,7 @@ use Rattle.std.proofs.Common.{◌≡◌, ℕ, zero, suc, ◌+◌, ◌*◌, ◌%�
 use Rattle.std.specs.Prelude.{◌==◌, slice_get, slice_set, if◌then◌else◌}
 use Rattle.std.proofs.lemmas.Option.{slice_get_within}
 use Rattle.std.proofs.lemmas.Bool.Decides.{nat_tests}
-use Rattle.std.proofs.Math.ListN.{length-append}
+use Rattle.std.proofs.Math.ListN.{length-append, length-set}
 use Rattle.isl_base.specs.Names.{slice_get-behind}
 use Rattle.isl_meaning.specs.declared.program.ProgramRows.{ProgramRows}
 use Rattle.isl_meaning.specs.Values.{SymbolValue, Value}
@@ -69,6 +69,58 @@ spot_grown a b s g = spot_stands a b s g.laid_from g.laid_to g.heap_from g.heap_
 -- a spot that stood has the same words
 pub words_grown : (a b : Arena) (s : Spot) → Grows a b → ArenaStands a → SpotStands a s → SameWords a b s
 words_grown a b s g stands spot x low high = let below = spot_below a s stands spot in g.words x (omega arith)
+
+-- the same bounds but for the heap, which may have grown, and the same words in what was laid and in the heap but in a spot
+pub record Changes (s : Spot) (earlier later : Arena) : Type 0 where
+  pub laid_from : later.laid_from ≡ earlier.laid_from
+  pub laid_to : later.laid_to ≡ earlier.laid_to
+  pub heap_from : later.heap_from ≡ earlier.heap_from
+  pub heap_to : earlier.heap_to ≤ later.heap_to
+  pub stands : ArenaStands later
+  pub before : (x : ℕ) → x < s.address → word_at later x ≡ word_at earlier x
+  pub after : (x : ℕ) → end_of s ≤ x → x < earlier.heap_to → word_at later x ≡ word_at earlier x
+
+pub grows_changes : (s : Spot) (a b : Arena) → ArenaStands a → SpotStands a s → Grows a b → Changes s a b
+grows_changes s a b stands spot g = record {
+  laid_from = g.laid_from;
+  laid_to = g.laid_to;
+  heap_from = g.heap_from;
+  heap_to = g.heap_to;
+  stands = g.stands;
+  before = λ x h. let below = spot_below a s stands spot in g.words x (omega arith);
+  after = λ x low high. g.words x high;
+}
+
+pub changes_both : (s : Spot) (a b c : Arena) → Changes s a b → Changes s b c → Changes s a c
+changes_both s a b c g h = record {
+  laid_from = h.laid_from ∙ g.laid_from;
+  laid_to = h.laid_to ∙ g.laid_to;
+  heap_from = h.heap_from ∙ g.heap_from;
+  heap_to = omega (arith, g.heap_to, h.heap_to);
+  stands = h.stands;
+  before = λ x low. h.before x low ∙ g.before x low;
+  after = λ x low high. h.after x low (omega (arith, high, g.heap_to)) ∙ g.after x low high;
+}
+
+-- a change in a part of a spot is one in the spot
+pub changes_part : (s part : Spot) (a b : Arena) → s.address ≤ part.address → end_of part ≤ end_of s → Changes part a b → Changes s a b
+changes_part s part a b low high c = record {
+  laid_from = c.laid_from;
+  laid_to = c.laid_to;
+  heap_from = c.heap_from;
+  heap_to = c.heap_to;
+  stands = c.stands;
+  before = λ x h. c.before x (omega arith);
+  after = λ x h below. c.after x (omega arith) below;
+}
+
+pub spot_changed : (a b : Arena) (s one : Spot) → Changes s a b → SpotStands a one → SpotStands b one
+spot_changed a b s one c = spot_stands a b one c.laid_from c.laid_to c.heap_from c.heap_to
+
+-- a spot apart from the one that changed has the same words
+pub words_apart : (a b : Arena) (s one : Spot) → Changes s a b → ArenaStands a → SpotStands a one → Apart one s → SameWords a b one
+words_apart a b s one c stands spot (in_front h) x low high = c.before x (omega arith)
+words_apart a b s one c stands spot (behind h) x low high = let below = spot_below a one stands spot in c.after x (omega arith) (omega arith)
 
 -- ---- the fixed words
 
@@ -156,6 +208,31 @@ new_spot_found s places = ap spot_in (slice_get-behind places.objects (Some s))
 -- an object that has a spot is in the store
 pub object_within : (places : Places) (i : ℕ) (s : Spot) → spot_of places (of_object i) ≡ Some s → i < length places.objects
 object_within places i s e = slice_get_within places.objects i (Some s) (spot_in_tells _ s e)
+
+-- an item of a list in which one was replaced
+pub data SetOrNot {X : Type 0} (xs : List X) (i : ℕ) (x : X) (j : ℕ) (item : X) : Type 0 where
+  at_place : j ≡ i → item ≡ x → SetOrNot xs i x j item
+  elsewhere : (j == i) ≡ false → slice_get xs j ≡ Some item → SetOrNot xs i x j item
+
+after_zero : (j : ℕ) → (suc j == 0) ≡ false
+after_zero j = grind (arith, nat_tests)
+
+before_later : (j : ℕ) → (0 == suc j) ≡ false
+before_later j = grind (arith, nat_tests)
+
+both_later : (i j : ℕ) → (j == i) ≡ false → (suc j == suc i) ≡ false
+both_later i j e = grind (arith, nat_tests)
+
+pub set_or_not : {X : Type 0} (xs : List X) (i : ℕ) (x : X) (j : ℕ) (item : X) → slice_get (slice_set xs i x) j ≡ Some item → SetOrNot xs i x j item
+set_or_not [] i x j item e = absurd (cc e)
+set_or_not (y ∷ ys) zero x zero item e = at_place refl (cc e)
+set_or_not (y ∷ ys) zero x (suc j) item e = elsewhere (after_zero j) e
+set_or_not (y ∷ ys) (suc i) x zero item e = elsewhere (before_later i) e
+set_or_not (y ∷ ys) (suc i) x (suc j) item e = further (set_or_not ys i x j item e)
+  where
+    further : SetOrNot ys i x j item → SetOrNot (y ∷ ys) (suc i) x (suc j) item
+    further (at_place h same) = at_place (omega arith) same
+    further (elsewhere h same) = elsewhere (both_later i j h) same
 
 -- ---- a represented state
 
@@ -256,3 +333,57 @@ module _ (names : List (List ℕ)) (program : ProgramRows) (places : Places) (z 
         input = r.input;
         printed = printed ∙ r.printed;
       }
+
+  -- an object is changed in its spot
+  module _ (i : ℕ) (s : Spot) (at : spot_of places (of_object i) ≡ Some s) (b : Arena) (c : Changes s y.arena b) where
+    -- the spot of another owner keeps its words
+    other_kept : (p : Owner) (one : Spot) → same_owner p (of_object i) ≡ false → spot_of places p ≡ Some one → SameWords y.arena b one
+    other_kept p one different e =
+        words_apart y.arena b s one c r.arena (r.spots p one e) (r.apart p (of_object i) one s different e at)
+
+    -- which is none that a function has for itself
+    pub kept_changed : (o : Object) → slice_get z.store i ≡ Some o → ((p : ℕ) → o ≡ function p → ⊥) → Kept places z y.arena b
+    kept_changed o stored no_function = record {
+      functions = λ j p one found e. other_kept (of_object j) one (other j p found) e;
+      others = λ n one e. other_kept (of_other (suc n)) one refl e;
+    }
+      where
+        other : (j p : ℕ) → slice_get z.store j ≡ Some (function p) → (j == i) ≡ false
+        other j p found = by (j == i) refl
+          where
+            by : (b : Bool) → (j == i) ≡ b → b ≡ false
+            by false e = refl
+            by true e =
+                let equal : j ≡ i = grind (arith, nat_tests) in
+                let same : slice_get z.store i ≡ Some (function p) = rw (← equal) found in
+                absurd (no_function p (cc (stored, same)))
+
+    changed_object :
+        (now : Object) → ObjectAt names program places b s now
+        → (j : ℕ) (o : Object) (one : Spot) → SetOrNot z.store i now j o → spot_of places (of_object j) ≡ Some one → ObjectAt names program places b one o
+    changed_object now made j o one (at_place e same) found =
+        let spot : one ≡ s = cc (ap (λ k. spot_of places (of_object k)) e) in
+        rw (spot, same) made
+    changed_object now made j o one (elsewhere different stored) found =
+        object_kept y.arena b one (other_kept (of_object j) one different found) places places (extends_same places) names program o
+        (r.objects j o one stored found)
+
+  pub represents_changed :
+      (i : ℕ) (s : Spot) (now : Object) (y' : State) → spot_of places (of_object i) ≡ Some s → Changes s y.arena y'.arena
+      → ObjectAt names program places y'.arena s now → y'.printed ≡ y.printed → y'.input ≡ y.input
+      → Represents names program places (meaning.changed i now z) y'
+  represents_changed i s now y' at c made printed input = record {
+    built_in = r.built_in;
+    arena = c.stands;
+    spots = λ p one e. spot_changed y.arena y'.arena s one c (r.spots p one e);
+    apart = r.apart;
+    count = r.count ∙ sym (length-set z.store i now);
+    objects = λ j o one stored found. changed_object i s at y'.arena c now made j o one (set_or_not z.store i now j o stored) found;
+    symbols = λ v one e. symbol_kept y.arena y'.arena one (other_kept i s at y'.arena c (of_symbol v) one refl e) v (r.symbols v one e);
+    no_nil = r.no_nil;
+    fixed =
+        rw input (fixed_kept names program places places y.arena y'.arena z.symbols z.printed z.input y.input (extends_same places) refl
+        (other_kept i s at y'.arena c (of_other 0) fixed_spot refl r.fixed.spot) r.fixed);
+    input = r.input;
+    printed = printed ∙ r.printed;
+  }
