@@ -4,7 +4,7 @@ use Rattle.std.specs.Prelude.{◌==◌, slice_get, slice_set, if◌then◌else�
 use Rattle.std.proofs.lemmas.Option.{slice_get_within}
 use Rattle.std.proofs.lemmas.Bool.Decides.{nat_tests}
 use Rattle.std.proofs.Math.ListN.{length-append, length-set}
-use Rattle.isl_base.specs.Names.{slice_get-behind}
+use Rattle.isl_base.specs.Names.{slice_get-front, slice_get-behind}
 use Rattle.isl_meaning.specs.declared.program.ProgramRows.{ProgramRows}
 use Rattle.isl_meaning.specs.Values.{SymbolValue, Value}
 use Rattle.isl_meaning.specs.Objects.{Object, function}
@@ -14,7 +14,7 @@ use Rattle.isl_mid.specs.State.{State, charged}
 use Rattle.isl_arena.specs.Places.{Spot, end_of, Places, Owner, same_owner, of_object, of_symbol, of_other, spot_in, spot_of, with_object}
 use Rattle.isl_arena.specs.Standing.{ArenaStands, IsLentPart, of_laid, of_heap, SpotStands, Apart, in_front, behind, SameWords, ValueAt}
 use Rattle.isl_arena.specs.FixedWords.{fixed_words, class_address, input_address, output_address, true_address, serial_address, line_address, peeked_address, InputIs, untouched, looked_at, FixedStand}
-use Rattle.isl_arena.specs.Layouts.{ObjectAt, SymbolAt}
+use Rattle.isl_arena.specs.Layouts.{AreBytes, ObjectAt, SymbolAt}
 use Rattle.isl_arena.specs.Represents.{Represents}
 use Rattle.isl_arena.specs.Answers.{Kept}
 use Rattle.isl_arena.proofs.Keeping.{spot_in_tells, Extends, extends_same, extends_one, old_spot, value_kept, symbol_kept, object_kept}
@@ -168,6 +168,29 @@ represents_same names program places z z' y store symbols printed input r = reco
   fixed = rw (symbols, printed, input) r.fixed;
   input = rw input r.input;
   printed = r.printed ∙ sym printed;
+}
+
+-- ---- what is kept, step by step
+
+pub kept_both : (places : Places) (z : meaning.State) (a b c : Arena) → Kept places z a b → Kept places z b c → Kept places z a c
+kept_both places z a b c g h = record {
+  functions = λ i p s found e x low high. h.functions i p s found e x low high ∙ g.functions i p s found e x low high;
+  others = λ n s e x low high. h.others n s e x low high ∙ g.others n s e x low high;
+}
+
+-- with the same objects
+pub kept_same : (places : Places) (z z' : meaning.State) (a b : Arena) → z'.store ≡ z.store → Kept places z' a b → Kept places z a b
+kept_same places z z' a b store k = record {
+  functions = λ i p s found e. k.functions i p s (ap (λ os. slice_get os i) store ∙ found) e;
+  others = k.others;
+}
+
+-- with one object fewer
+pub kept_made :
+    (places : Places) (z : meaning.State) (s : Spot) (o : Object) (a b : Arena) → Kept (with_object s places) (meaning.stored o z) a b → Kept places z a b
+kept_made places z s o a b k = record {
+  functions = λ i p one found e. k.functions i p one (slice_get-front z.store (o ∷ []) i (function p) found) (old_spot s places (of_object i) one e);
+  others = k.others;
 }
 
 -- ---- one more object
@@ -386,4 +409,36 @@ module _ (names : List (List ℕ)) (program : ProgramRows) (places : Places) (z 
         (other_kept i s at y'.arena c (of_other 0) fixed_spot refl r.fixed.spot) r.fixed);
     input = r.input;
     printed = printed ∙ r.printed;
+  }
+
+  -- fixed words change
+  module _ (b : Arena) (c : Changes fixed_spot y.arena b) where
+    not_fixed_kept : (p : Owner) (one : Spot) → same_owner p (of_other 0) ≡ false → spot_of places p ≡ Some one → SameWords y.arena b one
+    not_fixed_kept p one different e =
+        words_apart y.arena b fixed_spot one c r.arena (r.spots p one e) (r.apart p (of_other 0) one fixed_spot different e r.fixed.spot)
+
+    pub kept_fixed : Kept places z y.arena b
+    kept_fixed = record {
+      functions = λ i p s found e. not_fixed_kept (of_object i) s refl e;
+      others = λ n s e. not_fixed_kept (of_other (suc n)) s (after_zero n) e;
+    }
+
+  pub represents_fixed :
+      (z' : meaning.State) (y' : State) → Changes fixed_spot y.arena y'.arena → z'.store ≡ z.store
+      → FixedStand names program places y'.arena z'.symbols z'.printed z'.input y'.input → AreBytes z'.input → y'.printed ≡ z'.printed
+      → Represents names program places z' y'
+  represents_fixed z' y' c store fixed input printed = record {
+    built_in = r.built_in;
+    arena = c.stands;
+    spots = λ p s e. spot_changed y.arena y'.arena fixed_spot s c (r.spots p s e);
+    apart = r.apart;
+    count = r.count ∙ ap (λ os. length os) (sym store);
+    objects = λ i o s found e.
+        object_kept y.arena y'.arena s (not_fixed_kept y'.arena c (of_object i) s refl e) places places (extends_same places) names program o
+        (r.objects i o s (sym (ap (λ os. slice_get os i) store) ∙ found) e);
+    symbols = λ v s e. symbol_kept y.arena y'.arena s (not_fixed_kept y'.arena c (of_symbol v) s refl e) v (r.symbols v s e);
+    no_nil = r.no_nil;
+    fixed = fixed;
+    input = input;
+    printed = printed;
   }
