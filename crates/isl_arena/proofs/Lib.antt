@@ -6,3 +6,7 @@ pub mod ArithmeticSum
 pub mod ArithmeticProduct
 pub mod ArithmeticDivision
 pub mod ArithmeticBytes
+pub mod Keeping
+pub mod Representing
+pub mod Arguments
+pub mod Telling
