@@ -138,9 +138,10 @@ module _ (a b : Arena) (s : Spot) (same : SameWords a b s) where
           → InstanceAt names program after b s c values m
       instance_kept c values m t = record {
         size = t.size;
+        count = t.count;
         header = same s.address (omega arith) (omega (arith, t.size.words)) ∙ t.header;
         class = value_kept (s.address + 4) _ (omega arith) (omega (arith, t.size.words)) t.class;
-        slots = λ i h. slot_kept (s.address + 8 + 4 * i) (slice_index_or values i None) (omega arith) (omega (arith, t.size.words)) (t.slots i h);
+        values_there = λ i h. slot_kept (s.address + 8 + 4 * i) (slice_index_or values i None) (omega arith) (omega (arith, t.size.words)) (t.values_there i h);
         mark = λ e.
             let size : s.words ≡ 3 + length values = t.size.words ∙ words_of_condition program c (length values) e in
             value_kept (s.address + 8 + 4 * length values) m (omega arith) (omega (arith, size)) (t.mark e);

@@ -11,13 +11,14 @@ use Rattle.isl_meaning.specs.Objects.{Object, function}
 use Rattle.isl_meaning.specs.State as meaning
 use Rattle.isl_mid.specs.Arena.{Arena, stack_from, word_at}
 use Rattle.isl_mid.specs.State.{State, charged}
+use Rattle.isl_arena.specs.Tags.{symbol_header}
 use Rattle.isl_arena.specs.Places.{Spot, end_of, Places, Owner, same_owner, of_object, of_symbol, of_other, spot_in, spot_of, with_object}
 use Rattle.isl_arena.specs.Standing.{ArenaStands, IsLentPart, of_laid, of_heap, SpotStands, Apart, in_front, behind, SameWords, ValueAt}
-use Rattle.isl_arena.specs.FixedWords.{fixed_words, class_address, input_address, output_address, true_address, serial_address, line_address, peeked_address, InputIs, untouched, looked_at, FixedStand}
+use Rattle.isl_arena.specs.FixedWords.{fixed_words, nil_text, class_address, input_address, output_address, true_address, serial_address, line_address, peeked_address, InputIs, untouched, looked_at, FixedStand}
 use Rattle.isl_arena.specs.Layouts.{AreBytes, ObjectAt, SymbolAt}
 use Rattle.isl_arena.specs.Represents.{Represents}
 use Rattle.isl_arena.specs.Answers.{Kept}
-use Rattle.isl_arena.proofs.Keeping.{spot_in_tells, Extends, extends_same, extends_one, old_spot, value_kept, symbol_kept, object_kept}
+use Rattle.isl_arena.proofs.Keeping.{spot_in_tells, Extends, extends_same, extends_one, old_spot, text_kept, value_kept, symbol_kept, object_kept}
 
 -- ---- arenas
 
@@ -144,9 +145,11 @@ fixed_kept names program before after a b symbols printed bytes left more others
   serial = same serial_address (omega arith) (omega arith) ∙ f.serial;
   line = kept line_address _ (omega arith) f.line;
   input = input_kept a b left bytes same f.input;
+  nil_name = text_kept a b _ (λ x low high. same x (omega arith) (omega arith)) symbol_header nil_text f.nil_name;
+  no_name = text_kept a b _ (λ x low high. same x (omega arith) (omega arith)) symbol_header [] f.no_name;
 }
   where
-    kept : (address : ℕ) (v : Value) → address < 164 → ValueAt before a address v → ValueAt after b address v
+    kept : (address : ℕ) (v : Value) → address < 184 → ValueAt before a address v → ValueAt after b address v
     kept address v high = value_kept a b fixed_spot same before after more address v (omega arith) high
 
 -- ---- a growing arena
