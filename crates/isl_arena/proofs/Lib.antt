@@ -2,3 +2,4 @@ pub mod Keeping
 pub mod Representing
 pub mod Arguments
 pub mod Telling
+pub mod Sameness
