@@ -3,3 +3,4 @@ pub mod Representing
 pub mod Arguments
 pub mod Telling
 pub mod Sameness
+pub mod FixedChanges
