@@ -10,3 +10,5 @@ pub mod Keeping
 pub mod Representing
 pub mod Arguments
 pub mod Telling
+pub mod Sameness
+pub mod FixedChanges

@@ -285,13 +285,13 @@ module _ (names : List (List ℕ)) (program : ProgramRows) (places : Places) (z 
       by (Some o) = refl
 
   -- the tags of integers, symbols and objects
-  integer_low : (n : ℤ) (w : ℕ) → word_of places (integer n) ≡ Some w → w % 4 < 3
+  pub integer_low : (n : ℤ) (w : ℕ) → word_of places (integer n) ≡ Some w → w % 4 < 3
   integer_low n w e = omega (arith, tag_told names program places z y r (integer n) w e)
 
-  symbol_low : (s : SymbolValue) (w : ℕ) → word_of places (symbol s) ≡ Some w → w % 4 < 3
+  pub symbol_low : (s : SymbolValue) (w : ℕ) → word_of places (symbol s) ≡ Some w → w % 4 < 3
   symbol_low s w e = omega (arith, tag_told names program places z y r (symbol s) w e)
 
-  object_low : (i w : ℕ) → word_of places (object i) ≡ Some w → w % 4 < 3
+  pub object_low : (i w : ℕ) → word_of places (object i) ≡ Some w → w % 4 < 3
   object_low i w e =
       let there = object_there names program places z y r i w e in
       let told : w % 4 ≡ tag_of there.one = tag_told names program places z y r (object i) w e ∙ ap tag_in there.stored in
