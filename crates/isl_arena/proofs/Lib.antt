@@ -12,3 +12,6 @@ pub mod Arguments
 pub mod Telling
 pub mod Sameness
 pub mod FixedChanges
+pub mod Doing
+pub mod Conditions
+pub mod Entering
