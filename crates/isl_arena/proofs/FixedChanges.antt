@@ -1,14 +1,14 @@
 -- A representation goes on where one of the fixed words that change is stored: the serial, the line, the byte that was looked at, or the
 -- condition that is to be signalled.
-use Rattle.std.proofs.Common.{◌≡◌, ℕ, ◌+◌, ◌*◌, ◌%◌, ◌^◌, ◌<◌, ◌≤◌, List, Option, Some, refl, sym, ap, ◌∙◌, arith}
+use Rattle.std.proofs.Common.{◌≡◌, ℕ, ◌*◌, ◌%◌, ◌^◌, ◌<◌, ◌≤◌, List, Some, refl, ◌∙◌, arith}
 use Rattle.isl_meaning.specs.declared.program.ProgramRows.{ProgramRows}
 use Rattle.isl_meaning.specs.Values.{Value, truth}
 use Rattle.isl_meaning.specs.State as meaning
 use Rattle.isl_meaning.specs.Primitives.{is_fresh_line}
 use Rattle.isl_mid.specs.Arena.{Arena, word_at}
 use Rattle.isl_mid.specs.State.{State}
-use Rattle.isl_arena.specs.Places.{Spot, end_of, Places}
-use Rattle.isl_arena.specs.Standing.{SpotStands, Apart, in_front, behind, ValueAt}
+use Rattle.isl_arena.specs.Places.{Spot, Places}
+use Rattle.isl_arena.specs.Standing.{Apart, in_front, behind, ValueAt}
 use Rattle.isl_arena.specs.FixedWords.{class_address, input_address, output_address, true_address, serial_address, line_address, peeked_address, pending_address, InputIs, untouched, looked_at, FixedStand}
 use Rattle.isl_arena.specs.Layouts.{AreBytes}
 use Rattle.isl_arena.specs.Represents.{Represents}

@@ -1,20 +1,20 @@
 -- How a representation goes on: where the arena grows, where an object is made or changed, and where fixed words change.
-use Rattle.std.proofs.Common.{◌≡◌, ℕ, zero, suc, ◌+◌, ◌*◌, ◌%◌, ◌^◌, ◌<◌, ◌≤◌, Bool, true, false, List, [], ◌∷◌, ◌++◌, length, Option, Some, None, refl, sym, ap, ◌∙◌, arith}
-use Rattle.std.specs.Prelude.{◌==◌, slice_get, slice_set, if◌then◌else◌}
+use Rattle.std.proofs.Common.{◌≡◌, ℕ, zero, suc, ◌+◌, ◌<◌, ◌≤◌, Bool, true, false, List, [], ◌∷◌, ◌++◌, length, Some, refl, sym, ap, ◌∙◌, arith}
+use Rattle.std.specs.Prelude.{◌==◌, slice_get, slice_set}
 use Rattle.std.proofs.lemmas.Option.{slice_get_within}
 use Rattle.std.proofs.lemmas.Bool.Decides.{nat_tests}
 use Rattle.std.proofs.Math.ListN.{length-append, length-set}
 use Rattle.isl_base.specs.Names.{slice_get-front, slice_get-behind}
 use Rattle.isl_meaning.specs.declared.program.ProgramRows.{ProgramRows}
-use Rattle.isl_meaning.specs.Values.{SymbolValue, Value}
+use Rattle.isl_meaning.specs.Values.{Value}
 use Rattle.isl_meaning.specs.Objects.{Object, function}
 use Rattle.isl_meaning.specs.State as meaning
-use Rattle.isl_mid.specs.Arena.{Arena, stack_from, word_at}
-use Rattle.isl_mid.specs.State.{State, charged}
+use Rattle.isl_mid.specs.Arena.{Arena, word_at}
+use Rattle.isl_mid.specs.State.{State}
 use Rattle.isl_arena.specs.Places.{Spot, end_of, Places, Owner, same_owner, of_object, of_symbol, of_other, spot_in, spot_of, with_object}
 use Rattle.isl_arena.specs.Standing.{ArenaStands, IsLentPart, of_laid, of_heap, SpotStands, Apart, in_front, behind, SameWords, ValueAt}
 use Rattle.isl_arena.specs.FixedWords.{fixed_words, class_address, input_address, output_address, true_address, serial_address, line_address, peeked_address, InputIs, untouched, looked_at, FixedStand}
-use Rattle.isl_arena.specs.Layouts.{AreBytes, ObjectAt, SymbolAt}
+use Rattle.isl_arena.specs.Layouts.{AreBytes, ObjectAt}
 use Rattle.isl_arena.specs.Represents.{Represents}
 use Rattle.isl_arena.specs.Answers.{Kept}
 use Rattle.isl_arena.proofs.Keeping.{spot_in_tells, Extends, extends_same, extends_one, old_spot, value_kept, symbol_kept, object_kept}
@@ -301,61 +301,61 @@ module _ (names : List (List ℕ)) (program : ProgramRows) (places : Places) (z 
     module _
         (s : Spot) (o : Object) (address : s.address ≡ y.arena.heap_to) (high : end_of s ≤ y'.arena.heap_to) (some : 1 ≤ s.words) (tag : s.tag < 4)
         (made : ObjectAt names program (with_object s places) y'.arena s o)
-        where
-      pub new_stands : SpotStands y'.arena s
-      new_stands = record {
-        aligned = omega (arith, r.arena.aligned);
-        some = some;
-        tag = tag;
-        part = of_heap (omega (arith, g.heap_from, r.arena.heap)) high;
-      }
+      where
+        pub new_stands : SpotStands y'.arena s
+        new_stands = record {
+          aligned = omega (arith, r.arena.aligned);
+          some = some;
+          tag = tag;
+          part = of_heap (omega (arith, g.heap_from, r.arena.heap)) high;
+        }
 
-      -- the old spots end where the new one begins
-      old_in_front : (p : Owner) (old : Spot) → spot_of places p ≡ Some old → end_of old ≤ s.address
-      old_in_front p old e = let below = spot_below y.arena old r.arena (r.spots p old e) in omega arith
+        -- the old spots end where the new one begins
+        old_in_front : (p : Owner) (old : Spot) → spot_of places p ≡ Some old → end_of old ≤ s.address
+        old_in_front p old e = let below = spot_below y.arena old r.arena (r.spots p old e) in omega arith
 
-      made_apart : (p q : Owner) (first second : Spot) → same_owner p q ≡ false → OldOrNew s places p first → OldOrNew s places q second → Apart first second
-      made_apart p q first second different (of_old d) (of_old e) = r.apart p q first second different d e
-      made_apart p q first second different (of_old d) (of_new e same) = rw same (in_front (old_in_front p first d))
-      made_apart p q first second different (of_new d same) (of_old e) = rw same (behind (old_in_front q second e))
-      made_apart p q first second different (of_new d same) (of_new e same') =
-          let self : same_owner (of_object (length places.objects)) (of_object (length places.objects)) ≡ false = cc in
-          absurd (grind (arith, nat_tests))
+        made_apart : (p q : Owner) (first second : Spot) → same_owner p q ≡ false → OldOrNew s places p first → OldOrNew s places q second → Apart first second
+        made_apart p q first second different (of_old d) (of_old e) = r.apart p q first second different d e
+        made_apart p q first second different (of_old d) (of_new e same) = rw same (in_front (old_in_front p first d))
+        made_apart p q first second different (of_new d same) (of_old e) = rw same (behind (old_in_front q second e))
+        made_apart p q first second different (of_new d same) (of_new e same') =
+            let self : same_owner (of_object (length places.objects)) (of_object (length places.objects)) ≡ false = cc in
+            absurd (grind (arith, nat_tests))
 
-      made_spot : (p : Owner) (found : Spot) → OldOrNew s places p found → SpotStands y'.arena found
-      made_spot p found (of_old e) = spot_grown y.arena y'.arena found g (r.spots p found e)
-      made_spot p found (of_new e same) = rw same new_stands
+        made_spot : (p : Owner) (found : Spot) → OldOrNew s places p found → SpotStands y'.arena found
+        made_spot p found (of_old e) = spot_grown y.arena y'.arena found g (r.spots p found e)
+        made_spot p found (of_new e same) = rw same new_stands
 
-      made_object :
-          (i : ℕ) (one : Object) (found : Spot) → FrontOrEnd z.store o i one → OldOrNew s places (of_object i) found
-          → ObjectAt names program (with_object s places) y'.arena found one
-      made_object i one found (at_front d) (of_old e) =
-          object_kept y.arena y'.arena found (owned_grown y'.arena g (of_object i) found e) places (with_object s places) (extends_one s places) names program one
-          (r.objects i one found d e)
-      made_object i one found (at_front d) (of_new e same) =
-          let within = slice_get_within z.store i one d in
-          let last : i ≡ length places.objects = cc e in
-          absurd (omega (arith, r.count))
-      made_object i one found (at_end d same) (of_old e) = let within = object_within places i found e in absurd (omega (arith, r.count))
-      made_object i one found (at_end d same) (of_new e at) = rw (same, at) made
+        made_object :
+            (i : ℕ) (one : Object) (found : Spot) → FrontOrEnd z.store o i one → OldOrNew s places (of_object i) found
+            → ObjectAt names program (with_object s places) y'.arena found one
+        made_object i one found (at_front d) (of_old e) =
+            object_kept y.arena y'.arena found (owned_grown y'.arena g (of_object i) found e) places (with_object s places) (extends_one s places) names program one
+            (r.objects i one found d e)
+        made_object i one found (at_front d) (of_new e same) =
+            let within = slice_get_within z.store i one d in
+            let last : i ≡ length places.objects = cc e in
+            absurd (omega (arith, r.count))
+        made_object i one found (at_end d same) (of_old e) = let within = object_within places i found e in absurd (omega (arith, r.count))
+        made_object i one found (at_end d same) (of_new e at) = rw (same, at) made
 
-      pub represents_made : Represents names program (with_object s places) (meaning.stored o z) y'
-      represents_made = record {
-        built_in = r.built_in;
-        arena = g.stands;
-        spots = λ p found e. made_spot p found (old_or_new s places p found e);
-        apart = λ p q first second different d e. made_apart p q first second different (old_or_new s places p first d) (old_or_new s places q second e);
-        count =
-            length-append places.objects (Some s ∷ []) ∙ ap (λ n. n + 1) r.count ∙ sym (length-append z.store (o ∷ []));
-        objects = λ i one found d e. made_object i one found (front_or_end z.store o i one d) (old_or_new s places (of_object i) found e);
-        symbols = λ v found e. symbol_kept y.arena y'.arena found (owned_grown y'.arena g (of_symbol v) found e) v (r.symbols v found e);
-        no_nil = r.no_nil;
-        fixed =
-            rw input (fixed_kept names program places (with_object s places) y.arena y'.arena z.symbols z.printed z.input y.input (extends_one s places) refl
-            (owned_grown y'.arena g (of_other 0) fixed_spot r.fixed.spot) r.fixed);
-        input = r.input;
-        printed = printed ∙ r.printed;
-      }
+        pub represents_made : Represents names program (with_object s places) (meaning.stored o z) y'
+        represents_made = record {
+          built_in = r.built_in;
+          arena = g.stands;
+          spots = λ p found e. made_spot p found (old_or_new s places p found e);
+          apart = λ p q first second different d e. made_apart p q first second different (old_or_new s places p first d) (old_or_new s places q second e);
+          count =
+              length-append places.objects (Some s ∷ []) ∙ ap (λ n. n + 1) r.count ∙ sym (length-append z.store (o ∷ []));
+          objects = λ i one found d e. made_object i one found (front_or_end z.store o i one d) (old_or_new s places (of_object i) found e);
+          symbols = λ v found e. symbol_kept y.arena y'.arena found (owned_grown y'.arena g (of_symbol v) found e) v (r.symbols v found e);
+          no_nil = r.no_nil;
+          fixed =
+              rw input (fixed_kept names program places (with_object s places) y.arena y'.arena z.symbols z.printed z.input y.input (extends_one s places) refl
+              (owned_grown y'.arena g (of_other 0) fixed_spot r.fixed.spot) r.fixed);
+          input = r.input;
+          printed = printed ∙ r.printed;
+        }
 
   -- an object is changed in its spot
   module _ (i : ℕ) (s : Spot) (at : spot_of places (of_object i) ≡ Some s) (b : Arena) (c : Changes s y.arena b) where

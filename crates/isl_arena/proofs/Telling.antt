@@ -1,19 +1,19 @@
 -- What tests of a word's tag and of the header behind it find out of the value, one case for each way that the tests go.
-use Rattle.std.proofs.Common.{◌≡◌, ℕ, zero, suc, ◌+◌, ◌-◌, ◌*◌, ◌%◌, ◌^◌, ◌<◌, ◌≤◌, ℤ, pos, Bool, true, false, List, [], ◌∷◌, length, Option, Some, None, refl, sym, ap, ◌∙◌, arith}
+use Rattle.std.proofs.Common.{◌≡◌, ℕ, ◌+◌, ◌-◌, ◌*◌, ◌%◌, ◌^◌, ◌<◌, ◌≤◌, ℤ, Bool, true, false, List, length, Option, Some, None, refl, sym, ap, ◌∙◌, arith}
 use Rattle.std.specs.Prelude.{◌==◌, ◌||◌, is_some, slice_get}
 use Rattle.std.proofs.lemmas.Bool.Decides.{nat_tests}
 use Rattle.isl_meaning.specs.declared.program.ProgramRows.{ProgramRows}
 use Rattle.isl_meaning.specs.Values.{SymbolValue, named, unnamed, Value, integer, character, symbol, nil, object, in_range, same}
-use Rattle.isl_meaning.specs.Objects.{Object, cons, string, vector, instance, function, closure, generic_function, class_object, input_stream, output_stream, fresh_symbol}
+use Rattle.isl_meaning.specs.Objects.{Object, cons, string, vector, instance, class_object, input_stream, output_stream, fresh_symbol}
 use Rattle.isl_meaning.specs.State as meaning
 use Rattle.isl_meaning.specs.Classes.{fetch}
-use Rattle.isl_meaning.specs.Primitives.{as_integer, as_character, as_cons, as_string, as_vector, as_class, as_instance, as_stream, fresh_in, as_symbol, Spelt, by_name, by_serial, is_function, is_generic}
+use Rattle.isl_meaning.specs.Primitives.{as_integer, as_character, as_cons, as_string, as_vector, as_class, as_instance, as_stream, fresh_in, as_symbol, Spelt, by_serial, is_function, is_generic}
 use Rattle.isl_mid.specs.Arena.{Arena, word_at}
 use Rattle.isl_mid.specs.State.{State}
 use Rattle.isl_arena.specs.Tags.{cons_tag, object_tag, integer_word, nil_word, character_word, string_header, vector_header, class_header, input_header, output_header, function_header, generic_header, symbol_header, fresh_header, tag_of}
 use Rattle.isl_arena.specs.Places.{Places, word_of}
 use Rattle.isl_arena.specs.Represents.{Represents}
-use Rattle.isl_arena.proofs.Keeping.{header_of, header_of_symbol}
+use Rattle.isl_arena.proofs.Keeping.{header_of}
 use Rattle.isl_arena.proofs.Arguments.{integer_word_is, character_word_is, tag_in, header_in, value_tag, value_header, tag_told, header_told, symbol_there, object_there, object_found}
 
 -- ---- cases
