@@ -18,7 +18,8 @@ use Rattle.isl_arena.specs.Standing.{SpotStands}
 use Rattle.isl_arena.specs.Layouts.{ObjectAt, SymbolAt}
 use Rattle.isl_arena.specs.Represents.{Represents}
 use Rattle.isl_arena.proofs.Keeping.{pointer_tells, header_of, header_of_symbol, symbol_tag, header_at_symbol, object_tag_is, header_at_object}
-use Rattle.isl_arena.proofs.Representing.{spot_below, object_within}
+use Rattle.isl_arena.proofs.Growing.{spot_below}
+use Rattle.isl_arena.proofs.Owners.{object_within}
 
 -- ---- words of atoms
 

@@ -9,10 +9,12 @@ use Rattle.isl_mid.specs.Arena.{Arena, word_at}
 use Rattle.isl_mid.specs.State.{State}
 use Rattle.isl_arena.specs.Places.{Spot, Places}
 use Rattle.isl_arena.specs.Standing.{Apart, in_front, behind, ValueAt}
-use Rattle.isl_arena.specs.FixedWords.{class_address, input_address, output_address, true_address, serial_address, line_address, peeked_address, pending_address, InputIs, untouched, looked_at, FixedStand}
+use Rattle.isl_arena.specs.FixedWords.{class_address, input_address, output_address, true_address, serial_address, line_address}
+use Rattle.isl_arena.specs.FixedWords.{peeked_address, pending_address, InputIs, untouched, looked_at, FixedStand}
 use Rattle.isl_arena.specs.Layouts.{AreBytes}
 use Rattle.isl_arena.specs.Represents.{Represents}
-use Rattle.isl_arena.proofs.Representing.{Changes, changes_part, spot_below, fixed_spot, fixed_stands, represents_fixed}
+use Rattle.isl_arena.proofs.Growing.{Changes, changes_part, spot_below}
+use Rattle.isl_arena.proofs.Representing.{fixed_spot, fixed_stands, represents_fixed}
 
 -- the spot of one word at an address
 abbrev pub one_word : ℕ → Spot

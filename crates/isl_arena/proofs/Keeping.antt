@@ -10,7 +10,8 @@ use Rattle.isl_meaning.specs.Objects.{Object, cons, string, vector, instance, fu
 use Rattle.isl_meaning.specs.Classes.{precedence, slots, is_below}
 use Rattle.isl_meaning.specs.Primitives.{instance_words}
 use Rattle.isl_mid.specs.Arena.{Arena, word_at}
-use Rattle.isl_arena.specs.Tags.{object_tag, string_header, vector_header, instance_header, function_header, generic_header, class_header, input_header, output_header, symbol_header, fresh_header, tag_of}
+use Rattle.isl_arena.specs.Tags.{object_tag, string_header, vector_header, instance_header, function_header, generic_header}
+use Rattle.isl_arena.specs.Tags.{class_header, input_header, output_header, symbol_header, fresh_header, tag_of}
 use Rattle.isl_arena.specs.Places.{Spot, end_of, pointer_to, Places, Owner, of_object, of_symbol, of_other, spot_in, spot_of, with_object, pointer_in, word_of, WordsOf}
 use Rattle.isl_arena.specs.Standing.{SameWords, ValueAt, SlotAt}
 use Rattle.isl_arena.specs.Layouts.{TextAt, ConsAt, VectorAt, PairAt, StreamAt, FunctionAt, InstanceAt, SlotRowAt, ClassAt, ObjectAt, SymbolAt}

@@ -1,6 +1,9 @@
 pub mod Keeping
+pub mod Growing
+pub mod Owners
 pub mod Representing
+pub mod FixedChanges
 pub mod Arguments
+pub mod HeaderKinds
 pub mod Telling
 pub mod Sameness
-pub mod FixedChanges
