@@ -1,0 +1,80 @@
+-- A run of the code of a primitive beside the answer of the meaning: how a run goes on, and how it ends with a value.
+use Rattle.std.proofs.Common.{◌≡◌, ℕ, zero, suc, ◌+◌, ◌-◌, ◌*◌, ◌^◌, ◌<◌, ◌≤◌, Bool, true, false, List, [], ◌∷◌, ◌++◌, length, Option, Some, None, refl, sym, ap, ◌∙◌, arith}
+use Rattle.std.specs.Prelude.{slice_set}
+use Rattle.isl_meaning.specs.declared.program.ProgramRows.{ProgramRows}
+use Rattle.isl_meaning.specs.Values.{Value}
+use Rattle.isl_meaning.specs.State as meaning
+use Rattle.isl_meaning.specs.Primitives.{Answer, result}
+use Rattle.isl_mid.specs.declared.program.MidProcedure.{MidProcedure}
+use Rattle.isl_mid.specs.declared.operation.Test.{Test}
+use Rattle.isl_mid.specs.Words.{compares}
+use Rattle.isl_mid.specs.MidCode.{MidStep, choose, return_word, MidCode, no_step, step_and, code_of}
+use Rattle.isl_mid.specs.State.{Registers, State, Outcome, End, falls, returns, ends, charged, register}
+use Rattle.isl_mid.specs.Meaning.{Task}
+use Rattle.isl_arena.specs.Places.{Places, word_of}
+use Rattle.isl_arena.specs.Represents.{Represents}
+use Rattle.isl_arena.specs.Answers.{Comes, done, Returned, units_after}
+use Rattle.isl_arena.proofs.Running.{RunsTo, StepsTo, turning, and_then, and_ends, return_ends, choose_first_falls}
+use Rattle.isl_arena.proofs.Growing.{grows_same}
+use Rattle.isl_arena.proofs.Representing.{kept_grown, represents_grown, represents_same}
+
+-- a state of the meaning with the same objects, fresh symbols, output and input
+pub record Alike (z z' : meaning.State) : Type 0 where
+  pub store : z'.store ≡ z.store
+  pub symbols : z'.symbols ≡ z.symbols
+  pub printed : z'.printed ≡ z.printed
+  pub input : z'.input ≡ z.input
+
+pub alike_self : (z : meaning.State) → Alike z z
+alike_self z = record { store = refl; symbols = refl; printed = refl; input = refl }
+
+pub alike_charged : (z : meaning.State) (n : ℕ) → Alike z (meaning.charged n z)
+alike_charged z n = record { store = refl; symbols = refl; printed = refl; input = refl }
+
+-- a state where so much was paid
+abbrev pub paid : State → ℕ → State
+paid y k = record y { cost = k }
+
+module _ (names : List (List ℕ)) (program : ProgramRows) (places : Places) (z : meaning.State) (y : State) where
+  -- what a run came to that began in a state: the answer, within a budget to which each unit behind it adds 250
+  pub record Answers (budget : ℕ) (answer : Answer) (r : Outcome) : Type 0 where
+    pub comes : Comes names program places z y 0 answer r
+    pub cost : r.state.cost + 250 * z.units ≤ budget + 250 * units_after names program answer
+
+  module _ (procedures : List MidProcedure) (below : Task → State → Outcome) where
+    -- code that comes to an answer, with so many turns, from registers on, where so much was paid
+    pub record Run (n budget : ℕ) (answer : Answer) (code : MidCode) (rs : Registers) (k : ℕ) : Type 0 where
+      pub outcome : Outcome
+      pub runs : RunsTo (turning procedures below n) code rs (paid y k) outcome
+      pub answers : Answers budget answer outcome
+
+    -- a step falls out, having cost some, and the code behind it goes on
+    pub goes_on :
+        {n budget k k' : ℕ} {answer : Answer} {s : MidStep} {code : MidCode} {rs rs' : Registers}
+        → StepsTo (turning procedures below n) s rs (paid y k) (ends falls rs' (paid y k'))
+        → Run n budget answer code rs' k' → Run n budget answer (step_and s code) rs k
+    goes_on g h = record { outcome = h.outcome; runs = and_then g h.runs; answers = h.answers }
+
+    -- the word of a value is returned, where things stand as they stood
+    pub returns_value :
+        (r : Represents names program places z y) {n budget k at w : ℕ} {v : Value} {z' : meaning.State} {code : MidCode} {rs : Registers}
+        → register at rs ≡ Some w → word_of places v ≡ Some w → Alike z z' → k + 14 + 250 * z.units ≤ budget + 250 * z'.units
+        → Run n budget (result v z') (step_and (return_word at) code) rs k
+    returns_value r {k = k} {w = w} {z' = z'} {rs = rs} e f alike cost = record {
+      outcome = ends (returns w) rs (paid y (k + 14));
+      runs = and_ends tt (return_ends e);
+      answers = record {
+        comes = done (record {
+          word = w;
+          end = refl;
+          of_value = f;
+          represents =
+              represents_same names program places z z' (paid y (k + 14)) alike.store alike.symbols alike.printed alike.input
+              (represents_grown names program places z y r (paid y (k + 14)) (grows_same y.arena r.arena) refl refl);
+          arena = record { size = refl; laid_from = refl; laid_to = refl; heap_from = refl; heap_to = omega arith };
+          blocks = refl;
+          kept = kept_grown names program places z y r y.arena (grows_same y.arena r.arena);
+        });
+        cost = cost;
+      };
+    }
