@@ -15,7 +15,11 @@ use Rattle.isl_arena.specs.Places.{Places, word_of}
 use Rattle.isl_arena.specs.Represents.{Represents}
 use Rattle.isl_arena.specs.Answers.{Comes, done, Returned, units_after}
 use Rattle.isl_arena.proofs.Running.{RunsTo, StepsTo, turning, and_then, and_ends, return_ends, choose_first_falls}
+<<<<<<< HEAD
 use Rattle.isl_arena.proofs.Representing.{grows_same}
+=======
+use Rattle.isl_arena.proofs.Growing.{grows_same}
+>>>>>>> main
 use Rattle.isl_arena.proofs.Representing.{kept_grown, represents_grown, represents_same}
 
 -- a state of the meaning with the same objects, fresh symbols, output and input

@@ -7,11 +7,14 @@ pub mod ArithmeticProduct
 pub mod ArithmeticDivision
 pub mod ArithmeticBytes
 pub mod Keeping
+pub mod Growing
+pub mod Owners
 pub mod Representing
+pub mod FixedChanges
 pub mod Arguments
+pub mod HeaderKinds
 pub mod Telling
 pub mod Sameness
-pub mod FixedChanges
 pub mod Doing
 pub mod Conditions
 pub mod Entering
