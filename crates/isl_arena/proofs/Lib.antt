@@ -18,3 +18,4 @@ pub mod Sameness
 pub mod Doing
 pub mod Conditions
 pub mod Entering
+pub mod Checking
