@@ -12,13 +12,13 @@ use Rattle.isl_arena.specs.Tags.{integer_word}
 use Rattle.isl_arena.proofs.WordFacts.{low_word_of_pos, low_word_of_negsuc, signed_low, signed_high, four_fits, range_tells, in_range_is, above_range_is, below_range_is}
 use Rattle.isl_arena.proofs.ArithmeticWords.{product_of_low_words, divided_down_is, shift_of_low_word, high_of_low_words}
 
--- The product of the words in registers 0 and 1, in register 4; it is the word of the product where registers 5 and 7 are equal:
---     Constant 2 2
---     Compute 3 ShiftRightSigned 0 2      the first integer itself
---     Compute 4 Multiply 3 1
---     Compute 5 MultiplyHigh 3 1
+-- The product of the words in registers 0 and 1, in register 3; it is the word of the product where registers 4 and 5 are equal:
+--     Constant 6 2
+--     Compute 3 ShiftRightSigned 0 6      the first integer itself
+--     Compute 4 MultiplyHigh 3 1
+--     Compute 3 Multiply 3 1
 --     Constant 6 31
---     Compute 7 ShiftRightSigned 4 6      all bits as the highest one of the product
+--     Compute 5 ShiftRightSigned 3 6      all bits as the highest one of the product
 abbrev pub untagged : ℕ → ℕ
 untagged a = shift_right_signed a 2
 
