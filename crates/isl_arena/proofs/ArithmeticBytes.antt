@@ -1,5 +1,5 @@
 -- Bytes in words: a byte of a text by its number, a text with one byte changed, and one whose bytes are all the same.
-use Rattle.std.proofs.Common.{◌≡◌, ℕ, zero, suc, ◌+◌, ◌-◌, ◌*◌, ◌/◌, ◌%◌, ◌^◌, ◌<◌, ◌≤◌, List, [], ◌∷◌, length, replicate, ⊎_elim, refl, sym, ap, ◌∙◌, arith}
+use Rattle.std.proofs.Common.{◌≡◌, ℕ, zero, suc, ◌+◌, ◌*◌, ◌/◌, ◌%◌, ◌^◌, ◌<◌, ◌≤◌, List, length, replicate, ⊎_elim, refl, sym, ap, ◌∙◌, arith}
 use Rattle.std.specs.Prelude.{slice_set, ◌≢◌}
 use Rattle.std.proofs.Math.ListN.{length-set, length-replicate}
 use Rattle.std.proofs.lemmas.List.{get_or-replicate, get_or-set_same, get_or-set_other, get_or_past}
@@ -78,6 +78,7 @@ byte_of_packed bytes i b = from (place_in_word i)
   where
     below : (k : ℕ) → byte_at bytes k < 256
     below k = byte_below bytes k b
+
     from : PlaceInWord i → (packed bytes (4 * (i / 4)) / 256 ^ (i % 4)) % 256 ≡ byte_at bytes i
     from (first e r) = rw r (byte_0 _ _ _ _ (below (4 * (i / 4))) (below (4 * (i / 4) + 1)) (below (4 * (i / 4) + 2)) (below (4 * (i / 4) + 3)) ∙ sym (ap (byte_at bytes) e))
     from (second e r) = rw r (byte_1 _ _ _ _ (below (4 * (i / 4))) (below (4 * (i / 4) + 1)) (below (4 * (i / 4) + 2)) (below (4 * (i / 4) + 3)) ∙ sym (ap (byte_at bytes) e))
@@ -161,10 +162,13 @@ word_changed_is bytes i new shift b h k l = from (place_in_word i)
   where
     at : (k : ℕ) → byte_at bytes (4 * (i / 4) + k) < 256
     at k = byte_below bytes (4 * (i / 4) + k) b
+
     other : (j : ℕ) → j ≢ i → byte_at (slice_set bytes i new) j ≡ byte_at bytes j
     other j n = byte_unchanged bytes i j new n
+
     itself : (j : ℕ) → i ≡ j → byte_at (slice_set bytes i new) j ≡ new
     itself j e = sym (ap (byte_at (slice_set bytes i new)) e) ∙ byte_changed bytes i new h
+
     from : PlaceInWord i → word_changed (packed bytes (4 * (i / 4))) (byte_at bytes i) new shift ≡ packed (slice_set bytes i new) (4 * (i / 4))
     from (first e r) =
         let s : shift % 32 ≡ 0 = omega arith in
@@ -288,6 +292,7 @@ packed_last n c k h e = ⊎_elim whole (λ l. rw (place l) (packed_partial n c h
   where
     place : n % 4 ≢ 0 → k ≡ n / 4
     place l = omega arith
+
     whole : n % 4 ≡ 0 → packed (replicate n c) (4 * k) ≡ last_word (full_word c) (4 * n)
     whole l =
         let s : last_shift (4 * n) % 32 ≡ 0 = omega arith in

@@ -1,14 +1,13 @@
 -- Quotients rounded down and their remainders, of integers on their words.
-use Rattle.std.proofs.Common.{◌≡◌, ℕ, zero, suc, ◌+◌, ◌-◌, ◌*◌, ◌/◌, ◌%◌, ◌^◌, ◌<◌, ◌≤◌, ℤ, pos, Bool, true, false, ⊎_elim, inl, inr, refl, sym, ap, ◌∙◌, arith}
-use Rattle.std.specs.Prelude.{negsuc, neg_ℤ, ◌+ℤ◌, ◌-ℤ◌, ◌*ℤ◌, ◌==◌, int_lt, int_div, int_rem, not, ◌⊎◌, unsigned_abs, FitsSigned, if◌then◌else◌}
-use Rattle.std.specs.Int.{w32}
+use Rattle.std.proofs.Common.{◌≡◌, ℕ, zero, suc, ◌+◌, ◌*◌, ◌/◌, ◌%◌, ◌^◌, ◌<◌, ◌≤◌, ℤ, pos, Bool, true, false, ⊎_elim, inl, inr, refl, sym, ap, ◌∙◌, arith}
+use Rattle.std.specs.Prelude.{negsuc, neg_ℤ, ◌+ℤ◌, ◌-ℤ◌, ◌*ℤ◌, ◌==◌, int_lt, int_div, int_rem, not, ◌⊎◌, unsigned_abs}
 use Rattle.std.proofs.Math.IntN.{*ℤ_comm}
 use Rattle.std.proofs.Math.Nat.{div-le_self, mod-lt, div-add-mod', mul-div-mul_left, zero-div, zero-mod}
 use Rattle.std.proofs.lemmas.Nat.{mul-le, div-mul-add, mod-mul-add}
 use Rattle.std.proofs.lemmas.Int.{ints, quot-rem, rem_below, unsigned_abs-mul}
 use Rattle.std.proofs.lemmas.Bool.{cases_lt, lt-ltb, eq-eqb, ne_eqb}
 use borrow.Author.Differences.{up, down, true_is_lt, false_is_lt}
-use Rattle.isl_mid.specs.Words.{low_word, signed, sum32, difference32, product32, high_signed, quotient_signed, remainder_signed, shift_left, shifted_down, less_signed, one_if_less_signed, one_if_less}
+use Rattle.isl_mid.specs.Words.{low_word, sum32, difference32, product32, high_signed, quotient_signed, remainder_signed, shift_left, shifted_down, less_signed, one_if_less_signed, one_if_less}
 use Rattle.isl_meaning.specs.Values.{in_range, int_equal}
 use Rattle.isl_meaning.specs.Primitives.{floor_quotient, floor_remainder}
 use Rattle.isl_arena.specs.Tags.{integer_word}
@@ -25,10 +24,12 @@ next_divided a b h = ⊎_elim (λ k. inr (within k)) (λ k. inl (at_end k)) (cas
   where
     split : a / b * b + a % b ≡ a
     split = div-add-mod' a b
+
     within : suc (a % b) < b → (0 < suc a % b) × (suc a / b ≡ a / b)
     within k =
         let is : suc a ≡ a / b * b + suc (a % b) = omega (arith, split) in
         (omega (arith, ap (λ x. x % b) is ∙ mod-mul-add (a / b) b (suc (a % b)) k), ap (λ x. x / b) is ∙ div-mul-add (a / b) b (suc (a % b)) k)
+
     at_end : b ≤ suc (a % b) → (suc a % b ≡ 0) × (suc a / b ≡ suc (a / b))
     at_end k =
         let below : a % b < b = mod-lt a h in
@@ -263,7 +264,9 @@ no_correction b =
     let none : one_if_less 0 (integer_word (pos 0)) ≡ 0 = ap (λ x. one_if_less 0 x) (low_word_of_pos 0) in
     ap (λ x. product32 (signs_differ_word (integer_word (pos 0)) (integer_word b)) x) none ∙ omega arith ∙ ap bit_of (sym (zero_by b))
 
-correction_by_is : (r b : ℤ) → in_range r ≡ true → in_range b ≡ true → int_equal b (pos 0) ≡ false → correction_by (integer_word r) (integer_word b) ≡ bit_of (int_lt (r *ℤ b) (pos 0))
+correction_by_is :
+    (r b : ℤ) → in_range r ≡ true → in_range b ≡ true → int_equal b (pos 0) ≡ false
+    → correction_by (integer_word r) (integer_word b) ≡ bit_of (int_lt (r *ℤ b) (pos 0))
 correction_by_is (pos zero) b g h n = no_correction b
 correction_by_is (pos (suc x)) b g h n =
     let range = range_tells (pos (suc x)) g in
@@ -293,12 +296,12 @@ module _ (a b : ℤ) (g : in_range a ≡ true) (h : in_range b ≡ true) (n : in
       let small = remainder_small a b h n in
       let range = range_tells b h in
       let size : unsigned_abs (pos 4 *ℤ r) * unsigned_abs (pos 4 *ℤ b) ≤ 2 ^ 31 * 2 ^ 31 =
-          mul-le (unsigned_abs (pos 4 *ℤ r)) (unsigned_abs (pos 4 *ℤ b)) (2 ^ 31) (2 ^ 31) (omega (arith, ints, small)) (omega (arith, ints, range.0, range.1)) in
+      mul-le (unsigned_abs (pos 4 *ℤ r)) (unsigned_abs (pos 4 *ℤ b)) (2 ^ 31) (2 ^ 31) (omega (arith, ints, small)) (omega (arith, ints, range.0, range.1)) in
       let bound : unsigned_abs ((pos 4 *ℤ r) *ℤ (pos 4 *ℤ b)) < 2 ^ 63 = rw (unsigned_abs-mul (pos 4 *ℤ r) (pos 4 *ℤ b)) (omega (arith, size)) in
       let high : high_signed (remainder_signed (integer_word a) (integer_word b)) (integer_word b) ≡ low_word (shifted_down ((pos 4 *ℤ r) *ℤ (pos 4 *ℤ b)) 32) =
-          rw remainder_signed_is (high_of_low_words (pos 4 *ℤ r) (pos 4 *ℤ b) (four_fits r (remainder_in_range a b h n)) (four_fits b h)) in
+      rw remainder_signed_is (high_of_low_words (pos 4 *ℤ r) (pos 4 *ℤ b) (four_fits r (remainder_in_range a b h n)) (four_fits b h)) in
       let sign : less_signed (high_signed (remainder_signed (integer_word a) (integer_word b)) (integer_word b)) 0 ≡ is_corrected a b =
-          rw high (high_is_negative _ bound ∙ ap (λ x. int_lt x (pos 0)) (sixteen_times r b) ∙ four_times_below (pos 4 *ℤ (r *ℤ b)) (pos 0) ∙ four_times_below (r *ℤ b) (pos 0)) in
+      rw high (high_is_negative _ bound ∙ ap (λ x. int_lt x (pos 0)) (sixteen_times r b) ∙ four_times_below (pos 4 *ℤ (r *ℤ b)) (pos 0) ∙ four_times_below (r *ℤ b) (pos 0)) in
       ap bit_of sign
 
   correction_low : correction_word (integer_word a) (integer_word b) ≡ low_word (pos (correction a b))
@@ -310,7 +313,8 @@ module _ (a b : ℤ) (g : in_range a ≡ true) (h : in_range b ≡ true) (n : in
 
   pub quotient_is : quotient_word (integer_word a) (integer_word b) ≡ integer_word (floor_quotient a b)
   quotient_is =
-      ap (λ x. shift_left x 2) quotient_number_is ∙ ap (λ x. product32 (low_word (floor_quotient a b)) x) (sym (low_word_of_pos 4)) ∙ product_of_low_words (floor_quotient a b) (pos 4) ∙ ap low_word (*ℤ_comm (floor_quotient a b) (pos 4))
+      ap (λ x. shift_left x 2) quotient_number_is ∙ ap (λ x. product32 (low_word (floor_quotient a b)) x) (sym (low_word_of_pos 4))
+      ∙ product_of_low_words (floor_quotient a b) (pos 4) ∙ ap low_word (*ℤ_comm (floor_quotient a b) (pos 4))
 
   pub quotient_in_range : not (quotient_number (integer_word a) (integer_word b) == 2 ^ 29) ≡ in_range (floor_quotient a b)
   quotient_in_range = rw quotient_number_is (number_in_range (floor_quotient a b) (floor_bounds a b g).0 (floor_bounds a b g).1)

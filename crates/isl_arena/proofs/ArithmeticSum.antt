@@ -1,14 +1,13 @@
 -- Sums and differences of integers on their words.
-use Rattle.std.proofs.Common.{◌≡◌, ℕ, zero, suc, ◌+◌, ◌-◌, ◌*◌, ◌/◌, ◌%◌, ◌^◌, ◌<◌, ◌≤◌, ℤ, pos, Bool, true, false, ⊎_elim, refl, sym, ap, ◌∙◌, arith}
-use Rattle.std.specs.Prelude.{negsuc, ◌*ℤ◌, ◌+ℤ◌, ◌-ℤ◌, neg_ℤ, ◌==◌, int_lt, if◌then◌else◌, FitsSigned}
-use Rattle.std.specs.Int.{w32}
+use Rattle.std.proofs.Common.{◌≡◌, ℕ, ◌+◌, ◌^◌, ◌<◌, ◌≤◌, ℤ, pos, Bool, true, false, ⊎_elim, refl, sym, ap, ◌∙◌, arith}
+use Rattle.std.specs.Prelude.{negsuc, ◌*ℤ◌, ◌+ℤ◌, ◌-ℤ◌, neg_ℤ, ◌==◌, int_lt, if◌then◌else◌}
 use Rattle.std.proofs.lemmas.Int.{ints}
 use Rattle.std.proofs.lemmas.Bool.{cases_lt}
 use borrow.Author.Differences.{up, down, true_is_lt, false_is_lt}
 use Rattle.isl_mid.specs.Words.{low_word, signed, sum32, difference32, one_if_less_signed}
 use Rattle.isl_meaning.specs.Values.{in_range}
 use Rattle.isl_arena.specs.Tags.{integer_word}
-use Rattle.isl_arena.proofs.WordFacts.{integer_word_below, signed_integer_word, signed_is, range_tells, in_range_is, above_range_is, below_range_is, same_truth, is_negative, is_positive, low_word_below, low_word_apart, low_word_is, same_low_word, low_word_of_pos, signed_low_word}
+use Rattle.isl_arena.proofs.WordFacts.{signed_integer_word, signed_is, range_tells, in_range_is, above_range_is, below_range_is, same_truth, is_negative}
 use Rattle.isl_arena.proofs.ArithmeticWords.{sum_of_low_words, difference_of_low_words}
 
 -- 1 or 0
@@ -55,8 +54,9 @@ module _ (a c : ℤ) (g : in_range a ≡ true) where
           let fits = in_range_is (a +ℤ c) (omega (arith, ints)) (omega (arith, ints)) in
           let falls = falls_as (pos 4 *ℤ (a +ℤ c)) (signed_integer_word (a +ℤ c) fits) in
           let same : int_lt (pos 4 *ℤ (a +ℤ c)) (pos 4 *ℤ a) ≡ int_lt c (pos 0) =
-              same_truth _ _ (λ t. sym (true_is_lt c (pos 0) (omega (arith, ints)))) (λ t. sym (true_is_lt (pos 4 *ℤ (a +ℤ c)) (pos 4 *ℤ a) (omega (arith, ints)))) in
+          same_truth _ _ (λ t. sym (true_is_lt c (pos 0) (omega (arith, ints)))) (λ t. sym (true_is_lt (pos 4 *ℤ (a +ℤ c)) (pos 4 *ℤ a) (omega (arith, ints)))) in
           rw (falls, same, fits) (equal_bits (int_lt c (pos 0)))
+
       above :
           2 ^ 29 + down a + down c ≤ up a + up c
           → (bit_of (int_lt c (pos 0)) == one_if_less_signed (integer_word (a +ℤ c)) (integer_word a)) ≡ in_range (a +ℤ c)
@@ -68,6 +68,7 @@ module _ (a c : ℤ) (g : in_range a ≡ true) where
           let less : int_lt r (pos 4 *ℤ a) ≡ true = sym (true_is_lt r (pos 4 *ℤ a) (omega (arith, ints))) in
           let positive : int_lt c (pos 0) ≡ false = sym (false_is_lt c (pos 0) (omega (arith, range.0, range.1))) in
           rw (falls, less, positive, out)
+
       below :
           2 ^ 29 + up a + up c + 1 ≤ down a + down c
           → (bit_of (int_lt c (pos 0)) == one_if_less_signed (integer_word (a +ℤ c)) (integer_word a)) ≡ in_range (a +ℤ c)
@@ -107,8 +108,9 @@ module _ (a c : ℤ) (g : in_range a ≡ true) where
           let fits = in_range_is (a +ℤ c) (omega (arith, ints)) (omega (arith, ints)) in
           let rises = rises_as (pos 4 *ℤ (a +ℤ c)) (signed_integer_word (a +ℤ c) fits) in
           let same : int_lt (pos 4 *ℤ a) (pos 4 *ℤ (a +ℤ c)) ≡ int_lt (pos 0) c =
-              same_truth _ _ (λ t. sym (true_is_lt (pos 0) c (omega (arith, ints)))) (λ t. sym (true_is_lt (pos 4 *ℤ a) (pos 4 *ℤ (a +ℤ c)) (omega (arith, ints)))) in
+          same_truth _ _ (λ t. sym (true_is_lt (pos 0) c (omega (arith, ints)))) (λ t. sym (true_is_lt (pos 4 *ℤ a) (pos 4 *ℤ (a +ℤ c)) (omega (arith, ints)))) in
           rw (rises, same, fits) (equal_bits (int_lt (pos 0) c))
+
       above :
           2 ^ 29 + down a + down c ≤ up a + up c
           → (bit_of (int_lt (pos 0) c) == one_if_less_signed (integer_word a) (integer_word (a +ℤ c))) ≡ in_range (a +ℤ c)
@@ -120,6 +122,7 @@ module _ (a c : ℤ) (g : in_range a ≡ true) where
           let less : int_lt (pos 4 *ℤ a) r ≡ false = sym (false_is_lt (pos 4 *ℤ a) r (omega (arith, ints))) in
           let positive : int_lt (pos 0) c ≡ true = sym (true_is_lt (pos 0) c (omega (arith, range.0, range.1))) in
           rw (rises, less, positive, out)
+
       below :
           2 ^ 29 + up a + up c + 1 ≤ down a + down c
           → (bit_of (int_lt (pos 0) c) == one_if_less_signed (integer_word a) (integer_word (a +ℤ c))) ≡ in_range (a +ℤ c)
@@ -152,6 +155,6 @@ pub difference_in_range :
 difference_in_range a b g h =
     let range = range_tells b h in
     let turned : int_lt b (pos 0) ≡ int_lt (pos 0) (neg_ℤ b) =
-        same_truth _ _ (λ t. sym (true_is_lt (pos 0) (neg_ℤ b) (omega (arith, ints)))) (λ t. sym (true_is_lt b (pos 0) (omega (arith, ints)))) in
+    same_truth _ _ (λ t. sym (true_is_lt (pos 0) (neg_ℤ b) (omega (arith, ints)))) (λ t. sym (true_is_lt b (pos 0) (omega (arith, ints)))) in
     let negative : is_negative_word (integer_word b) ≡ bit_of (int_lt (pos 0) (neg_ℤ b)) = ap bit_of (is_negative b h ∙ turned) in
     rw (negative, difference_is a b) (rise_in_range a (neg_ℤ b) g (omega (arith, ints, range.1)) (omega (arith, ints, range.0)))

@@ -1,10 +1,10 @@
 -- Facts about words: their tags and bytes, the words of integers, characters and pointers, and what tests on them tell.
-use Rattle.std.proofs.Common.{◌≡◌, ℕ, zero, suc, ◌+◌, ◌-◌, ◌*◌, ◌/◌, ◌%◌, ◌^◌, ◌<◌, ◌≤◌, ℤ, pos, Bool, true, false, Option, Some, None, ⊎_elim, refl, sym, ap, ◌∙◌, arith}
-use Rattle.std.specs.Prelude.{negsuc, ◌==◌, nat_lt, nat_le, int_lt, int_le, not, ◌&&◌, ◌||◌, ◌*ℤ◌, ◌+ℤ◌, neg_ℤ, FitsSigned, is_some, if◌then◌else◌, ◌≢◌}
+use Rattle.std.proofs.Common.{◌≡◌, ℕ, suc, ◌+◌, ◌-◌, ◌*◌, ◌/◌, ◌%◌, ◌^◌, ◌<◌, ◌≤◌, ℤ, pos, Bool, true, false, Option, Some, None, ⊎_elim, refl, sym, ap, ◌∙◌, arith}
+use Rattle.std.specs.Prelude.{negsuc, ◌==◌, nat_lt, nat_le, int_lt, int_le, not, ◌&&◌, ◌||◌, ◌*ℤ◌, FitsSigned, is_some, if◌then◌else◌, ◌≢◌}
 use Rattle.std.specs.Int.{w32}
 use Rattle.std.proofs.lemmas.Int.{ints}
-use borrow.Author.Differences.{up, down, same_in, same_out, true_is_lt, false_is_lt, true_is_le, false_is_le}
-use Rattle.std.proofs.lemmas.Bool.{cases_lt, eqb-true, eq-eqb, not-true, ltb-true, leb-true, lt-ltb, le-ltb, and_left, and_right}
+use borrow.Author.Differences.{up, down, true_is_lt, false_is_lt, true_is_le, false_is_le}
+use Rattle.std.proofs.lemmas.Bool.{cases_lt, eqb-true, eq-eqb, not-true, ltb-true, leb-true, le-ltb, and_left, and_right}
 use Rattle.std.proofs.lemmas.Bool.Decides.{nat_tests}
 use Rattle.isl_mid.specs.declared.operation.Comparison.TheVariants as comparison
 use Rattle.isl_mid.specs.Words.{compares, less_signed, sum32, product32, difference32, address}
@@ -187,6 +187,7 @@ integer_word_equal a b g h = same_truth _ _ there back
   where
     there : (integer_word a == integer_word b) ≡ true → int_equal a b ≡ true
     there e = rw (integer_word_one_to_one a b g h (eqb-true _ _ e)) (int_equal_same b)
+
     back : int_equal a b ≡ true → (integer_word a == integer_word b) ≡ true
     back e = rw (int_equal_tells a b e) (eq-eqb _ _ refl)
 
@@ -239,6 +240,7 @@ byte_tested (pos k) g =
   where
     four_times : (a : ℕ) → nat_lt (4 * a) 1024 ≡ nat_le a 255
     four_times a = grind (arith, nat_tests)
+
     there : (t : Bool) → t ≡ is_some (if◌then◌else◌ {A = Option ℕ} t (Some k) None)
     there true = refl
     there false = refl
@@ -281,6 +283,10 @@ character_word_byte c = omega arith
 
 pub character_word_tag : (c : ℕ) → character_word c % 4 ≡ 3
 character_word_tag c = omega arith
+
+-- the lowest byte tells characters from all other values: it has their tag, and it is not that of nil
+pub character_byte_tag : (w : ℕ) → w % 256 ≡ 15 → w % 4 ≡ 3
+character_byte_tag w h = omega arith
 
 pub character_word_one_to_one : (a b : ℕ) → character_word a ≡ character_word b → a ≡ b
 character_word_one_to_one a b e = omega arith
@@ -393,6 +399,7 @@ index_tested (pos i) count g h =
   where
     four_times_less : (a b : ℕ) → nat_lt (4 * a) (4 * b) ≡ nat_lt a b
     four_times_less a b = grind (arith, nat_tests)
+
     there : (t : Bool) → t ≡ is_some (if◌then◌else◌ {A = Option ℕ} t (Some i) None)
     there true = refl
     there false = refl
