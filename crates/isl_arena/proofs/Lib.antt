@@ -1,6 +1,14 @@
+pub mod Running
+pub mod Memory
 pub mod WordFacts
 pub mod ArithmeticWords
 pub mod ArithmeticSum
 pub mod ArithmeticProduct
 pub mod ArithmeticDivision
 pub mod ArithmeticBytes
+pub mod Keeping
+pub mod Representing
+pub mod Arguments
+pub mod Telling
+pub mod Sameness
+pub mod FixedChanges

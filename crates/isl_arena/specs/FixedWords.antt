@@ -7,9 +7,10 @@ use Rattle.isl_meaning.specs.Objects.{built_in_classes}
 use Rattle.isl_meaning.specs.Layout.{class_value, standard_input, standard_output}
 use Rattle.isl_meaning.specs.Primitives.{is_fresh_line}
 use Rattle.isl_mid.specs.Arena.{Arena, word_at}
-use Rattle.isl_arena.specs.Tags.{integer_word, nil_word}
+use Rattle.isl_arena.specs.Tags.{integer_word, nil_word, object_tag, symbol_header}
 use Rattle.isl_arena.specs.Places.{Spot, Places}
 use Rattle.isl_arena.specs.Standing.{ValueAt}
+use Rattle.isl_arena.specs.Layouts.{TextAt}
 
 -- the classes that are built in, each at its number
 abbrev pub class_address : ℕ → ℕ
@@ -41,9 +42,20 @@ peeked_address = 156
 abbrev pub pending_address : ℕ
 pending_address = 160
 
+-- the texts of nil and of a symbol without a name, laid as those of symbols are
+abbrev pub nil_name_address : ℕ
+nil_name_address = 164
+
+abbrev pub no_name_address : ℕ
+no_name_address = 176
+
 -- how many there are
 abbrev pub fixed_words : ℕ
-fixed_words = 41
+fixed_words = 46
+
+-- the text of nil, which is no symbol of a program
+abbrev pub nil_text : List ℕ
+nil_text = 110 ∷ 105 ∷ 108 ∷ []
 
 -- the input that is left, of which a byte may have been looked at
 pub data InputIs (a : Arena) (left : List ℕ) : List ℕ → Type 0 where
@@ -60,3 +72,5 @@ pub record FixedStand (names : List (List ℕ)) (program : ProgramRows) (places 
   pub serial : word_at a serial_address ≡ Some (4 * (symbols % 2 ^ 29))
   pub line : ValueAt places a line_address (truth (is_fresh_line printed))
   pub input : InputIs a left bytes
+  pub nil_name : TextAt a (record { address = nil_name_address; words = 3; tag = object_tag }) symbol_header nil_text
+  pub no_name : TextAt a (record { address = no_name_address; words = 2; tag = object_tag }) symbol_header []

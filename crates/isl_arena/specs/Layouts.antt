@@ -71,12 +71,13 @@ pub record FunctionAt (a : Arena) (s : Spot) : Type 0 where
   pub header : word_at a s.address ≡ Some function_header
 
 module _ (names : List (List ℕ)) (program : ProgramRows) where
-  -- the class, the slots, and the mark where it is a condition
+  -- the class, the slots, as many as the class has, and the mark where it is a condition
   pub record InstanceAt (places : Places) (a : Arena) (s : Spot) (c : ℕ) (values : List (Option Value)) (m : Value) : Type 0 where
     pub size : HasSize s (instance_words program c (length values)) object_tag
+    pub count : length values ≡ length (slots program c)
     pub header : word_at a s.address ≡ Some (instance_header (length values))
     pub class : ValueAt places a (s.address + 4) (class_value names program c)
-    pub slots : SlotsAt places a (s.address + 8) values
+    pub values_there : SlotsAt places a (s.address + 8) values
     pub mark : is_below program c serious_condition_class ≡ true → ValueAt places a (s.address + 8 + 4 * length values) m
 
   -- what a class says of a slot of its instances: its name, its initargs and its initform

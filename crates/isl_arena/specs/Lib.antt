@@ -5,3 +5,5 @@ pub mod FixedWords
 pub mod Layouts
 pub mod Represents
 pub mod Answers
+pub mod Steps
+pub mod Codes

@@ -9,12 +9,8 @@ use Rattle.isl_meaning.specs.State as meaning
 use Rattle.isl_mid.specs.State.{State}
 use Rattle.isl_arena.specs.Places.{Spot, Places, Owner, of_object, of_symbol, spot_of}
 use Rattle.isl_arena.specs.Standing.{ArenaStands, SpotStands, AllApart}
-use Rattle.isl_arena.specs.FixedWords.{FixedStand}
+use Rattle.isl_arena.specs.FixedWords.{nil_text, FixedStand}
 use Rattle.isl_arena.specs.Layouts.{AreBytes, ObjectAt, SymbolAt}
-
--- the text of nil, which is no symbol of a program
-abbrev pub nil_text : List ℕ
-nil_text = 110 ∷ 105 ∷ 108 ∷ []
 
 pub record Represents (names : List (List ℕ)) (program : ProgramRows) (places : Places) (z : meaning.State) (y : State) : Type 0 where
   pub built_in : begins_with_built_in program.classes built_in_precedence built_in_slots ≡ true

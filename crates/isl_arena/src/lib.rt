@@ -1,2 +1,20 @@
 // Values, objects and primitives of the language in the words of the arena.
 #![tactic(auto)]
+
+pub mod class_words;
+pub mod classes;
+pub mod code;
+pub mod line;
+pub mod loops;
+pub mod signals;
+pub mod steps;
+pub mod tests;
+pub mod numbers;
+pub mod strings;
+pub mod symbols;
+pub mod values;
+pub mod vectors;
+pub mod words;
+pub mod writing;
+
+pub use line::Line;

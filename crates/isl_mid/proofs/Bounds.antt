@@ -399,7 +399,7 @@ turns_bounded procedures below checked g (suc n) = record {
 levels_bounded : (procedures : List MidProcedure) (turns_each : ℕ) → AreChecked procedures → (k : ℕ) → TasksBounded (levels procedures turns_each k)
 unfolding levels
 levels_bounded procedures turns_each checked zero = record { at = λ task z h b. record { end = tt; point = record { registers = tt; state = b } } }
-levels_bounded procedures turns_each checked (suc k) = turns_bounded procedures _ checked (levels_bounded procedures turns_each checked k) turns_each
+levels_bounded procedures turns_each checked (suc k) = turns_bounded procedures _ checked (levels_bounded procedures turns_each checked k) (suc turns_each)
 
 -- procedures of a list that are in form
 one_checked :
@@ -416,4 +416,4 @@ unfolding runs
 law_of_words program k turns_each entry arguments z h g b =
     let checked : AreChecked program.procedures = record { at = λ n p e. one_checked program.procedures program.procedures n p h e } in
     at_top_bounded _ (with_some_bounded _ _ [] z (record { registers = tt; state = b }) (λ p e.
-    (turns_bounded program.procedures _ checked (levels_bounded program.procedures turns_each checked k) (suc turns_each)).at (enter p arguments) z (checked.at entry p e, g) b))
+    (levels_bounded program.procedures turns_each checked (suc k)).at (enter p arguments) z (checked.at entry p e, g) b))

@@ -311,4 +311,4 @@ turns_grow procedures below g (suc n) = record {
 pub levels_grow : (procedures : List MidProcedure) (turns_each k : ℕ) → TasksGrow (levels procedures turns_each k)
 unfolding levels
 levels_grow procedures turns_each zero = record { at = λ task z. same_grown z }
-levels_grow procedures turns_each (suc k) = turns_grow procedures _ (levels_grow procedures turns_each k) turns_each
+levels_grow procedures turns_each (suc k) = turns_grow procedures _ (levels_grow procedures turns_each k) (suc turns_each)

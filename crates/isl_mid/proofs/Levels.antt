@@ -275,13 +275,13 @@ unfolding levels
 levels_extend procedures m n h zero l e = record { at = λ task z. no_level_extends [] z _ ((levels_grow procedures n l).at task z) }
 levels_extend procedures m n h (suc k) zero e = absurd (omega arith)
 levels_extend procedures m n h (suc k) (suc l) e =
-    turns_extend procedures _ _ (levels_extend procedures m n h k l (omega arith)) (levels_grow procedures n l) m n h
+    turns_extend procedures _ _ (levels_extend procedures m n h k l (omega arith)) (levels_grow procedures n l) (suc m) (suc n) (omega (arith, h))
 
 grown : (program : MidProgram) (k turns_each entry : ℕ) (arguments : List ℕ) (z : State) → Grown z (runs program k turns_each entry arguments z).state
 unfolding runs
 grown program k turns_each entry arguments z =
     at_top_grown _ z (with_some_grown _ _ [] z (λ p.
-    (turns_grow program.procedures _ (levels_grow program.procedures turns_each k) (suc turns_each)).at (enter p arguments) z))
+    (levels_grow program.procedures turns_each (suc k)).at (enter p arguments) z))
 
 pub law_of_printing : LawOfPrinting
 law_of_printing program k turns_each entry arguments z = (grown program k turns_each entry arguments z).printed
@@ -296,5 +296,4 @@ pub law_of_levels : LawOfLevels
 unfolding runs
 law_of_levels program k l m n entry arguments z e h =
     at_top_extends _ _ (with_some_extends _ _ _ [] z (λ p.
-    (turns_extend program.procedures _ _ (levels_extend program.procedures m n h k l e) (levels_grow program.procedures n l)
-    (suc m) (suc n) (omega (arith, h))).at (enter p arguments) z))
+    (levels_extend program.procedures m n h (suc k) (suc l) (omega (arith, e))).at (enter p arguments) z))

@@ -3,3 +3,4 @@ pub mod Growth
 pub mod Levels
 pub mod WordBounds
 pub mod Bounds
+pub mod Blocks

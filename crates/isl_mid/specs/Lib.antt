@@ -6,6 +6,7 @@ pub mod State
 pub mod Meaning
 pub mod Checked
 pub mod Law
+pub mod BlockLaw
 pub mod Bounds
 pub mod Worked
 pub mod model

@@ -219,10 +219,11 @@ unfoldable pub turns : List MidProcedure → (below : Task → State → Outcome
 turns procedures below zero task z = ends no_turn [] z
 turns procedures below (suc n) task z = run_task (context_of procedures below (turns procedures below n)) task z
 
--- a task with so many levels, and so many turns at each of them; with none there is no level
+-- A task with so many levels, and so many turns at each of them. A level is entered by one turn more, so that takes none of them. With
+-- no levels the task ends for want of one.
 unfoldable pub levels : List MidProcedure → (turns_each : ℕ) → ℕ → Task → State → Outcome
 levels procedures turns_each zero task z = ends no_level [] z
-levels procedures turns_each (suc k) task z = turns procedures (levels procedures turns_each k) turns_each task z
+levels procedures turns_each (suc k) task z = turns procedures (levels procedures turns_each k) (suc turns_each) task z
 
 -- the end of a program: a cut that was not caught is stuck, and so is code that fell out
 abbrev pub at_top_from : End → Outcome → Outcome
@@ -240,9 +241,9 @@ at_top_from stuck r = r
 unfoldable pub at_top : Outcome → Outcome
 at_top r = at_top_from r.end r
 
--- A run of a program with so many levels, and so many turns at each: its procedure of a number is entered with arguments. That takes
--- no level, and the turn that it takes is one more.
+-- A run of a program with so many levels, and so many turns at each: its procedure of a number is entered with arguments, at a level
+-- that is one more.
 unfoldable pub runs : MidProgram → (k turns_each : ℕ) → (entry : ℕ) → List ℕ → State → Outcome
 runs program k turns_each entry arguments z =
     at_top (with_some (slice_get program.procedures entry)
-    (λ p rs y. turns program.procedures (levels program.procedures turns_each k) (suc turns_each) (enter p arguments) y) [] z)
+    (λ p rs y. levels program.procedures turns_each (suc k) (enter p arguments) y) [] z)

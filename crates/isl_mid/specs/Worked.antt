@@ -93,19 +93,19 @@ abbrev pub calling_by_word : List MidProcedure
 calling_by_word = procedure 0 3 4
     (perform (Constant 0 7) ∷ perform (Constant 1 1) ∷ perform (Call 2 (Word 1) (0 ∷ [])) ∷ return_word 2 ∷ []) ∷ doubling ∷ []
 
--- a call takes a level, and its frame is gone when it has returned
+-- a call takes a level and none of the turns there, and its frame is gone when it has returned
 abbrev pub Doubled : Type 0
 Doubled =
-    ((run calling 1 1 [] 8).end ≡ returns 14)
-    × ((run calling 1 1 [] 8).state.arena.blocks ≡ [])
-    × ((run calling_by_word 1 1 [] 8).end ≡ returns 14)
+    ((run calling 1 0 [] 8).end ≡ returns 14)
+    × ((run calling 1 0 [] 8).state.arena.blocks ≡ [])
+    × ((run calling_by_word 1 0 [] 8).end ≡ returns 14)
 
 -- with a level less there is none for the call; with three words less there is no room for its frame
 abbrev pub TooFewLevels : Type 0
-TooFewLevels = (run calling 0 1 [] 8).end ≡ no_level
+TooFewLevels = (run calling 0 0 [] 8).end ≡ no_level
 
 abbrev pub NoRoomForAFrame : Type 0
-NoRoomForAFrame = (run calling 1 1 [] 6).end ≡ no_room 3 2
+NoRoomForAFrame = (run calling 1 0 [] 6).end ≡ no_room 3 2
 
 -- a control record of one word is handed to a procedure, which lays one of two words more and cuts to the first with a word
 abbrev pub cutting : List MidProcedure
@@ -119,14 +119,14 @@ cutting = procedure 0 3 2
 -- a call, a constant, a cut and a halt are charged.
 abbrev pub CutAndLanded : Type 0
 CutAndLanded =
-    ((run cutting 1 1 [] 14).end ≡ halts 9)
-    × ((run cutting 1 1 [] 14).state.arena.blocks
+    ((run cutting 1 0 [] 14).end ≡ halts 9)
+    × ((run cutting 1 0 [] 14).state.arena.blocks
     ≡ record { words = 3; kind = closed_record } ∷ record { words = 2; kind = activation_frame } ∷ [])
-    × ((run cutting 1 1 [] 14).state.cost ≡ 20 + 36 + (40 + 6) + (20 + 6) + 36 + 6 + 16 + 6)
+    × ((run cutting 1 0 [] 14).state.cost ≡ 20 + 36 + (40 + 6) + (20 + 6) + 36 + 6 + 16 + 6)
 
 -- with four words less there is no room for the record of the procedure, which asks for two words more than it lends
 abbrev pub NoRoomForARecord : Type 0
-NoRoomForARecord = (run cutting 1 1 [] 10).end ≡ no_room 4 2
+NoRoomForARecord = (run cutting 1 0 [] 10).end ≡ no_room 4 2
 
 -- A control record inside another one, and a cut to the outer one; each landing gives its own number. The word that the inside stored
 -- in the outer record is still there in its landing.
@@ -158,7 +158,7 @@ FellOut =
 
 -- a procedure that is no program's entry, so that a cut out of it is not stuck by that
 abbrev pub run_alone : MidProcedure → Outcome
-run_alone p = levels (p ∷ []) 1 1 (enter p []) (start 8 [])
+run_alone p = levels (p ∷ []) 0 1 (enter p []) (start 8 [])
 
 -- a landing that cuts to the control record that it is of
 abbrev pub cutting_again : MidProcedure

@@ -1,6 +1,7 @@
 // Laws of the meaning of middle code, as the contracts of functions that do nothing.
 
 ghost use Rattle.isl_mid.specs.Law.{LawOfPrinting, LawOfCosts, LawOfArenas, LawOfLevels, LawOfWords};
+ghost use Rattle.isl_mid.specs.BlockLaw.{LawOfBlocks};
 
 /// What was printed stays, and more stands behind it.
 pub fn law_printing()
@@ -25,4 +26,10 @@ pub fn law_levels()
 /// Of a program in form, all words stay below 2^32: in the arena, in registers, and in the end.
 pub fn law_words()
     ensures { LawOfWords }
+{}
+
+/// Code that falls out leaves the blocks as they were, and so does a procedure that returns; a cut leaves an outer part of them, from an
+/// open control record on.
+pub fn law_blocks()
+    ensures { LawOfBlocks }
 {}

@@ -9,7 +9,7 @@ pub mod program;
 pub mod worked;
 
 pub use code::{Code, Step, StepKind};
-pub use laws::{law_arenas, law_costs, law_levels, law_printing, law_words};
+pub use laws::{law_arenas, law_blocks, law_costs, law_levels, law_printing, law_words};
 pub use operation::{
     Arithmetic, Callee, Comparison, Counted, Operation, Register, RegisterList, Test,
 };

@@ -1,0 +1,447 @@
+-- How a representation goes on: where the arena grows, where an object is made or changed, and where fixed words change.
+use Rattle.std.proofs.Common.{◌≡◌, ℕ, zero, suc, ◌+◌, ◌*◌, ◌%◌, ◌^◌, ◌<◌, ◌≤◌, Bool, true, false, List, [], ◌∷◌, ◌++◌, length, Option, Some, None, refl, sym, ap, ◌∙◌, arith}
+use Rattle.std.specs.Prelude.{◌==◌, slice_get, slice_set, if◌then◌else◌}
+use Rattle.std.proofs.lemmas.Option.{slice_get_within}
+use Rattle.std.proofs.lemmas.Bool.Decides.{nat_tests}
+use Rattle.std.proofs.Math.ListN.{length-append, length-set}
+use Rattle.isl_base.specs.Names.{slice_get-front, slice_get-behind}
+use Rattle.isl_meaning.specs.declared.program.ProgramRows.{ProgramRows}
+use Rattle.isl_meaning.specs.Values.{SymbolValue, Value}
+use Rattle.isl_meaning.specs.Objects.{Object, function}
+use Rattle.isl_meaning.specs.State as meaning
+use Rattle.isl_mid.specs.Arena.{Arena, stack_from, word_at}
+use Rattle.isl_mid.specs.State.{State, charged}
+use Rattle.isl_arena.specs.Tags.{symbol_header}
+use Rattle.isl_arena.specs.Places.{Spot, end_of, Places, Owner, same_owner, of_object, of_symbol, of_other, spot_in, spot_of, with_object}
+use Rattle.isl_arena.specs.Standing.{ArenaStands, IsLentPart, of_laid, of_heap, SpotStands, Apart, in_front, behind, SameWords, ValueAt}
+use Rattle.isl_arena.specs.FixedWords.{fixed_words, nil_text, class_address, input_address, output_address, true_address, serial_address, line_address, peeked_address, InputIs, untouched, looked_at, FixedStand}
+use Rattle.isl_arena.specs.Layouts.{AreBytes, ObjectAt, SymbolAt}
+use Rattle.isl_arena.specs.Represents.{Represents}
+use Rattle.isl_arena.specs.Answers.{Kept}
+use Rattle.isl_arena.proofs.Keeping.{spot_in_tells, Extends, extends_same, extends_one, old_spot, text_kept, value_kept, symbol_kept, object_kept}
+
+-- ---- arenas
+
+-- the same bounds but for the heap, which may have grown, and the same words in all that was laid or in the heap
+pub record Grows (earlier later : Arena) : Type 0 where
+  pub size : length later.memory ≡ length earlier.memory
+  pub laid_from : later.laid_from ≡ earlier.laid_from
+  pub laid_to : later.laid_to ≡ earlier.laid_to
+  pub heap_from : later.heap_from ≡ earlier.heap_from
+  pub heap_to : earlier.heap_to ≤ later.heap_to
+  pub stands : ArenaStands later
+  pub words : (x : ℕ) → x < earlier.heap_to → word_at later x ≡ word_at earlier x
+
+pub grows_same : (a : Arena) → ArenaStands a → Grows a a
+grows_same a stands = record { size = refl; laid_from = refl; laid_to = refl; heap_from = refl; heap_to = omega arith; stands = stands; words = λ x h. refl }
+
+pub grows_both : (a b c : Arena) → Grows a b → Grows b c → Grows a c
+grows_both a b c g h = record {
+  size = h.size ∙ g.size;
+  laid_from = h.laid_from ∙ g.laid_from;
+  laid_to = h.laid_to ∙ g.laid_to;
+  heap_from = h.heap_from ∙ g.heap_from;
+  heap_to = omega (arith, g.heap_to, h.heap_to);
+  stands = h.stands;
+  words = λ x low. h.words x (omega (arith, low, g.heap_to)) ∙ g.words x low;
+}
+
+-- a spot ends in what was laid or in the heap
+pub spot_below : (a : Arena) (s : Spot) → ArenaStands a → SpotStands a s → end_of s ≤ a.heap_to
+spot_below a s stands spot = by spot.part
+  where
+    by : IsLentPart a s → end_of s ≤ a.heap_to
+    by (of_laid low high) = omega (arith, high, stands.laid, stands.heap)
+    by (of_heap low high) = high
+
+-- a spot stands as long as the bounds only grow
+pub spot_stands :
+    (a b : Arena) (s : Spot) → b.laid_from ≡ a.laid_from → b.laid_to ≡ a.laid_to → b.heap_from ≡ a.heap_from → a.heap_to ≤ b.heap_to
+    → SpotStands a s → SpotStands b s
+spot_stands a b s laid_from laid_to heap_from heap_to spot = record { aligned = spot.aligned; some = spot.some; tag = spot.tag; part = by spot.part }
+  where
+    by : IsLentPart a s → IsLentPart b s
+    by (of_laid low high) = of_laid (omega arith) (omega arith)
+    by (of_heap low high) = of_heap (omega arith) (omega arith)
+
+pub spot_grown : (a b : Arena) (s : Spot) → Grows a b → SpotStands a s → SpotStands b s
+spot_grown a b s g = spot_stands a b s g.laid_from g.laid_to g.heap_from g.heap_to
+
+-- a spot that stood has the same words
+pub words_grown : (a b : Arena) (s : Spot) → Grows a b → ArenaStands a → SpotStands a s → SameWords a b s
+words_grown a b s g stands spot x low high = let below = spot_below a s stands spot in g.words x (omega arith)
+
+-- the same bounds but for the heap, which may have grown, and the same words in what was laid and in the heap but in a spot
+pub record Changes (s : Spot) (earlier later : Arena) : Type 0 where
+  pub laid_from : later.laid_from ≡ earlier.laid_from
+  pub laid_to : later.laid_to ≡ earlier.laid_to
+  pub heap_from : later.heap_from ≡ earlier.heap_from
+  pub heap_to : earlier.heap_to ≤ later.heap_to
+  pub stands : ArenaStands later
+  pub before : (x : ℕ) → x < s.address → word_at later x ≡ word_at earlier x
+  pub after : (x : ℕ) → end_of s ≤ x → x < earlier.heap_to → word_at later x ≡ word_at earlier x
+
+pub grows_changes : (s : Spot) (a b : Arena) → ArenaStands a → SpotStands a s → Grows a b → Changes s a b
+grows_changes s a b stands spot g = record {
+  laid_from = g.laid_from;
+  laid_to = g.laid_to;
+  heap_from = g.heap_from;
+  heap_to = g.heap_to;
+  stands = g.stands;
+  before = λ x h. let below = spot_below a s stands spot in g.words x (omega arith);
+  after = λ x low high. g.words x high;
+}
+
+pub changes_both : (s : Spot) (a b c : Arena) → Changes s a b → Changes s b c → Changes s a c
+changes_both s a b c g h = record {
+  laid_from = h.laid_from ∙ g.laid_from;
+  laid_to = h.laid_to ∙ g.laid_to;
+  heap_from = h.heap_from ∙ g.heap_from;
+  heap_to = omega (arith, g.heap_to, h.heap_to);
+  stands = h.stands;
+  before = λ x low. h.before x low ∙ g.before x low;
+  after = λ x low high. h.after x low (omega (arith, high, g.heap_to)) ∙ g.after x low high;
+}
+
+-- a change in a part of a spot is one in the spot
+pub changes_part : (s part : Spot) (a b : Arena) → s.address ≤ part.address → end_of part ≤ end_of s → Changes part a b → Changes s a b
+changes_part s part a b low high c = record {
+  laid_from = c.laid_from;
+  laid_to = c.laid_to;
+  heap_from = c.heap_from;
+  heap_to = c.heap_to;
+  stands = c.stands;
+  before = λ x h. c.before x (omega arith);
+  after = λ x h below. c.after x (omega arith) below;
+}
+
+pub spot_changed : (a b : Arena) (s one : Spot) → Changes s a b → SpotStands a one → SpotStands b one
+spot_changed a b s one c = spot_stands a b one c.laid_from c.laid_to c.heap_from c.heap_to
+
+-- a spot apart from the one that changed has the same words
+pub words_apart : (a b : Arena) (s one : Spot) → Changes s a b → ArenaStands a → SpotStands a one → Apart one s → SameWords a b one
+words_apart a b s one c stands spot (in_front h) x low high = c.before x (omega arith)
+words_apart a b s one c stands spot (behind h) x low high = let below = spot_below a one stands spot in c.after x (omega arith) (omega arith)
+
+-- ---- the fixed words
+
+abbrev pub fixed_spot : Spot
+fixed_spot = record { address = 0; words = fixed_words; tag = 0 }
+
+pub input_kept : (a b : Arena) (left bytes : List ℕ) → SameWords a b fixed_spot → InputIs a left bytes → InputIs b left bytes
+input_kept a b left bytes same (untouched e) = untouched (same peeked_address (omega arith) (omega arith) ∙ e)
+input_kept a b left bytes same (looked_at byte e) = looked_at byte (same peeked_address (omega arith) (omega arith) ∙ e)
+
+pub fixed_kept :
+    (names : List (List ℕ)) (program : ProgramRows) (before after : Places) (a b : Arena) (symbols : ℕ) (printed bytes left : List ℕ)
+    → Extends before after → slice_get after.others 0 ≡ slice_get before.others 0 → SameWords a b fixed_spot
+    → FixedStand names program before a symbols printed bytes left → FixedStand names program after b symbols printed bytes left
+fixed_kept names program before after a b symbols printed bytes left more others same f = record {
+  spot = others ∙ f.spot;
+  classes = λ class h. kept (class_address class) _ (omega arith) (f.classes class h);
+  input_stream = kept input_address _ (omega arith) f.input_stream;
+  output_stream = kept output_address _ (omega arith) f.output_stream;
+  true_value = kept true_address _ (omega arith) f.true_value;
+  serial = same serial_address (omega arith) (omega arith) ∙ f.serial;
+  line = kept line_address _ (omega arith) f.line;
+  input = input_kept a b left bytes same f.input;
+  nil_name = text_kept a b _ (λ x low high. same x (omega arith) (omega arith)) symbol_header nil_text f.nil_name;
+  no_name = text_kept a b _ (λ x low high. same x (omega arith) (omega arith)) symbol_header [] f.no_name;
+}
+  where
+    kept : (address : ℕ) (v : Value) → address < 184 → ValueAt before a address v → ValueAt after b address v
+    kept address v high = value_kept a b fixed_spot same before after more address v (omega arith) high
+
+-- ---- a growing arena
+
+-- each state with the same objects, fresh symbols, output and input is represented too
+pub represents_same :
+    (names : List (List ℕ)) (program : ProgramRows) (places : Places) (z z' : meaning.State) (y : State)
+    → z'.store ≡ z.store → z'.symbols ≡ z.symbols → z'.printed ≡ z.printed → z'.input ≡ z.input
+    → Represents names program places z y → Represents names program places z' y
+represents_same names program places z z' y store symbols printed input r = record {
+  built_in = r.built_in;
+  arena = r.arena;
+  spots = r.spots;
+  apart = r.apart;
+  count = rw store r.count;
+  objects = λ i o s found e. r.objects i o s (cc found) e;
+  symbols = r.symbols;
+  no_nil = r.no_nil;
+  fixed = rw (symbols, printed, input) r.fixed;
+  input = rw input r.input;
+  printed = r.printed ∙ sym printed;
+}
+
+-- ---- what is kept, step by step
+
+pub kept_both : (places : Places) (z : meaning.State) (a b c : Arena) → Kept places z a b → Kept places z b c → Kept places z a c
+kept_both places z a b c g h = record {
+  functions = λ i p s found e x low high. h.functions i p s found e x low high ∙ g.functions i p s found e x low high;
+  others = λ n s e x low high. h.others n s e x low high ∙ g.others n s e x low high;
+}
+
+-- with the same objects
+pub kept_same : (places : Places) (z z' : meaning.State) (a b : Arena) → z'.store ≡ z.store → Kept places z' a b → Kept places z a b
+kept_same places z z' a b store k = record {
+  functions = λ i p s found e. k.functions i p s (ap (λ os. slice_get os i) store ∙ found) e;
+  others = k.others;
+}
+
+-- with one object fewer
+pub kept_made :
+    (places : Places) (z : meaning.State) (s : Spot) (o : Object) (a b : Arena) → Kept (with_object s places) (meaning.stored o z) a b → Kept places z a b
+kept_made places z s o a b k = record {
+  functions = λ i p one found e. k.functions i p one (slice_get-front z.store (o ∷ []) i (function p) found) (old_spot s places (of_object i) one e);
+  others = k.others;
+}
+
+-- ---- one more object
+
+-- an item of a list with one more at its end
+pub data FrontOrEnd {X : Type 0} (xs : List X) (x : X) (i : ℕ) (item : X) : Type 0 where
+  at_front : slice_get xs i ≡ Some item → FrontOrEnd xs x i item
+  at_end : i ≡ length xs → item ≡ x → FrontOrEnd xs x i item
+
+pub front_or_end : {X : Type 0} (xs : List X) (x : X) (i : ℕ) (item : X) → slice_get (xs ++ x ∷ []) i ≡ Some item → FrontOrEnd xs x i item
+front_or_end [] x zero item e = at_end refl (cc e)
+front_or_end [] x (suc i) item e = absurd (cc e)
+front_or_end (y ∷ xs) x zero item e = at_front e
+front_or_end (y ∷ xs) x (suc i) item e = further (front_or_end xs x i item e)
+  where
+    further : FrontOrEnd xs x i item → FrontOrEnd (y ∷ xs) x (suc i) item
+    further (at_front h) = at_front h
+    further (at_end h same) = at_end (omega arith) same
+
+-- whose spot one is where there is one object more
+pub data OldOrNew (s : Spot) (places : Places) (p : Owner) (found : Spot) : Type 0 where
+  of_old : spot_of places p ≡ Some found → OldOrNew s places p found
+  of_new : p ≡ of_object (length places.objects) → found ≡ s → OldOrNew s places p found
+
+pub old_or_new : (s : Spot) (places : Places) (p : Owner) (found : Spot) → spot_of (with_object s places) p ≡ Some found → OldOrNew s places p found
+old_or_new s places (of_symbol v) found e = of_old e
+old_or_new s places (of_other n) found e = of_old e
+old_or_new s places (of_object i) found e = by (front_or_end places.objects (Some s) i (Some found) (spot_in_tells _ found e))
+  where
+    by : FrontOrEnd places.objects (Some s) i (Some found) → OldOrNew s places (of_object i) found
+    by (at_front h) = of_old (ap spot_in h)
+    by (at_end h same) = of_new (ap of_object h) (cc same)
+
+-- the new object has the new spot
+pub new_spot_found : (s : Spot) (places : Places) → spot_of (with_object s places) (of_object (length places.objects)) ≡ Some s
+new_spot_found s places = ap spot_in (slice_get-behind places.objects (Some s))
+
+-- an object that has a spot is in the store
+pub object_within : (places : Places) (i : ℕ) (s : Spot) → spot_of places (of_object i) ≡ Some s → i < length places.objects
+object_within places i s e = slice_get_within places.objects i (Some s) (spot_in_tells _ s e)
+
+-- an item of a list in which one was replaced
+pub data SetOrNot {X : Type 0} (xs : List X) (i : ℕ) (x : X) (j : ℕ) (item : X) : Type 0 where
+  at_place : j ≡ i → item ≡ x → SetOrNot xs i x j item
+  elsewhere : (j == i) ≡ false → slice_get xs j ≡ Some item → SetOrNot xs i x j item
+
+after_zero : (j : ℕ) → (suc j == 0) ≡ false
+after_zero j = grind (arith, nat_tests)
+
+before_later : (j : ℕ) → (0 == suc j) ≡ false
+before_later j = grind (arith, nat_tests)
+
+both_later : (i j : ℕ) → (j == i) ≡ false → (suc j == suc i) ≡ false
+both_later i j e = grind (arith, nat_tests)
+
+pub set_or_not : {X : Type 0} (xs : List X) (i : ℕ) (x : X) (j : ℕ) (item : X) → slice_get (slice_set xs i x) j ≡ Some item → SetOrNot xs i x j item
+set_or_not [] i x j item e = absurd (cc e)
+set_or_not (y ∷ ys) zero x zero item e = at_place refl (cc e)
+set_or_not (y ∷ ys) zero x (suc j) item e = elsewhere (after_zero j) e
+set_or_not (y ∷ ys) (suc i) x zero item e = elsewhere (before_later i) e
+set_or_not (y ∷ ys) (suc i) x (suc j) item e = further (set_or_not ys i x j item e)
+  where
+    further : SetOrNot ys i x j item → SetOrNot (y ∷ ys) (suc i) x (suc j) item
+    further (at_place h same) = at_place (omega arith) same
+    further (elsewhere h same) = elsewhere (both_later i j h) same
+
+-- ---- a represented state
+
+module _ (names : List (List ℕ)) (program : ProgramRows) (places : Places) (z : meaning.State) (y : State) (r : Represents names program places z y) where
+  -- units of the meaning
+  pub represents_charged : (n : ℕ) → Represents names program places (meaning.charged n z) y
+  represents_charged n = represents_same names program places z (meaning.charged n z) y refl refl refl refl r
+
+  pub fixed_stands : SpotStands y.arena fixed_spot
+  fixed_stands = r.spots (of_other 0) fixed_spot r.fixed.spot
+
+  -- what an owner's spot has stays
+  pub owned_grown : (b : Arena) → Grows y.arena b → (p : Owner) (s : Spot) → spot_of places p ≡ Some s → SameWords y.arena b s
+  owned_grown b g p s e = words_grown y.arena b s g r.arena (r.spots p s e)
+
+  pub kept_grown : (b : Arena) → Grows y.arena b → Kept places z y.arena b
+  kept_grown b g = record {
+    functions = λ i p s found e. owned_grown b g (of_object i) s e;
+    others = λ n s e. owned_grown b g (of_other (suc n)) s e;
+  }
+
+  module _ (y' : State) (g : Grows y.arena y'.arena) (printed : y'.printed ≡ y.printed) (input : y'.input ≡ y.input) where
+    pub represents_grown : Represents names program places z y'
+    represents_grown = record {
+      built_in = r.built_in;
+      arena = g.stands;
+      spots = λ p s e. spot_grown y.arena y'.arena s g (r.spots p s e);
+      apart = r.apart;
+      count = r.count;
+      objects = λ i o s found e.
+          object_kept y.arena y'.arena s (owned_grown y'.arena g (of_object i) s e) places places (extends_same places) names program o
+          (r.objects i o s found e);
+      symbols = λ v s e. symbol_kept y.arena y'.arena s (owned_grown y'.arena g (of_symbol v) s e) v (r.symbols v s e);
+      no_nil = r.no_nil;
+      fixed =
+          rw input (fixed_kept names program places places y.arena y'.arena z.symbols z.printed z.input y.input (extends_same places) refl
+          (owned_grown y'.arena g (of_other 0) fixed_spot r.fixed.spot) r.fixed);
+      input = r.input;
+      printed = printed ∙ r.printed;
+    }
+
+    -- an object more, at the end of the heap
+    module _
+        (s : Spot) (o : Object) (address : s.address ≡ y.arena.heap_to) (high : end_of s ≤ y'.arena.heap_to) (some : 1 ≤ s.words) (tag : s.tag < 4)
+        (made : ObjectAt names program (with_object s places) y'.arena s o)
+        where
+      pub new_stands : SpotStands y'.arena s
+      new_stands = record {
+        aligned = omega (arith, r.arena.aligned);
+        some = some;
+        tag = tag;
+        part = of_heap (omega (arith, g.heap_from, r.arena.heap)) high;
+      }
+
+      -- the old spots end where the new one begins
+      old_in_front : (p : Owner) (old : Spot) → spot_of places p ≡ Some old → end_of old ≤ s.address
+      old_in_front p old e = let below = spot_below y.arena old r.arena (r.spots p old e) in omega arith
+
+      made_apart : (p q : Owner) (first second : Spot) → same_owner p q ≡ false → OldOrNew s places p first → OldOrNew s places q second → Apart first second
+      made_apart p q first second different (of_old d) (of_old e) = r.apart p q first second different d e
+      made_apart p q first second different (of_old d) (of_new e same) = rw same (in_front (old_in_front p first d))
+      made_apart p q first second different (of_new d same) (of_old e) = rw same (behind (old_in_front q second e))
+      made_apart p q first second different (of_new d same) (of_new e same') =
+          let self : same_owner (of_object (length places.objects)) (of_object (length places.objects)) ≡ false = cc in
+          absurd (grind (arith, nat_tests))
+
+      made_spot : (p : Owner) (found : Spot) → OldOrNew s places p found → SpotStands y'.arena found
+      made_spot p found (of_old e) = spot_grown y.arena y'.arena found g (r.spots p found e)
+      made_spot p found (of_new e same) = rw same new_stands
+
+      made_object :
+          (i : ℕ) (one : Object) (found : Spot) → FrontOrEnd z.store o i one → OldOrNew s places (of_object i) found
+          → ObjectAt names program (with_object s places) y'.arena found one
+      made_object i one found (at_front d) (of_old e) =
+          object_kept y.arena y'.arena found (owned_grown y'.arena g (of_object i) found e) places (with_object s places) (extends_one s places) names program one
+          (r.objects i one found d e)
+      made_object i one found (at_front d) (of_new e same) =
+          let within = slice_get_within z.store i one d in
+          let last : i ≡ length places.objects = cc e in
+          absurd (omega (arith, r.count))
+      made_object i one found (at_end d same) (of_old e) = let within = object_within places i found e in absurd (omega (arith, r.count))
+      made_object i one found (at_end d same) (of_new e at) = rw (same, at) made
+
+      pub represents_made : Represents names program (with_object s places) (meaning.stored o z) y'
+      represents_made = record {
+        built_in = r.built_in;
+        arena = g.stands;
+        spots = λ p found e. made_spot p found (old_or_new s places p found e);
+        apart = λ p q first second different d e. made_apart p q first second different (old_or_new s places p first d) (old_or_new s places q second e);
+        count =
+            length-append places.objects (Some s ∷ []) ∙ ap (λ n. n + 1) r.count ∙ sym (length-append z.store (o ∷ []));
+        objects = λ i one found d e. made_object i one found (front_or_end z.store o i one d) (old_or_new s places (of_object i) found e);
+        symbols = λ v found e. symbol_kept y.arena y'.arena found (owned_grown y'.arena g (of_symbol v) found e) v (r.symbols v found e);
+        no_nil = r.no_nil;
+        fixed =
+            rw input (fixed_kept names program places (with_object s places) y.arena y'.arena z.symbols z.printed z.input y.input (extends_one s places) refl
+            (owned_grown y'.arena g (of_other 0) fixed_spot r.fixed.spot) r.fixed);
+        input = r.input;
+        printed = printed ∙ r.printed;
+      }
+
+  -- an object is changed in its spot
+  module _ (i : ℕ) (s : Spot) (at : spot_of places (of_object i) ≡ Some s) (b : Arena) (c : Changes s y.arena b) where
+    -- the spot of another owner keeps its words
+    other_kept : (p : Owner) (one : Spot) → same_owner p (of_object i) ≡ false → spot_of places p ≡ Some one → SameWords y.arena b one
+    other_kept p one different e =
+        words_apart y.arena b s one c r.arena (r.spots p one e) (r.apart p (of_object i) one s different e at)
+
+    -- which is none that a function has for itself
+    pub kept_changed : (o : Object) → slice_get z.store i ≡ Some o → ((p : ℕ) → o ≡ function p → ⊥) → Kept places z y.arena b
+    kept_changed o stored no_function = record {
+      functions = λ j p one found e. other_kept (of_object j) one (other j p found) e;
+      others = λ n one e. other_kept (of_other (suc n)) one refl e;
+    }
+      where
+        other : (j p : ℕ) → slice_get z.store j ≡ Some (function p) → (j == i) ≡ false
+        other j p found = by (j == i) refl
+          where
+            by : (b : Bool) → (j == i) ≡ b → b ≡ false
+            by false e = refl
+            by true e =
+                let equal : j ≡ i = grind (arith, nat_tests) in
+                let same : slice_get z.store i ≡ Some (function p) = rw (← equal) found in
+                absurd (no_function p (cc (stored, same)))
+
+    changed_object :
+        (now : Object) → ObjectAt names program places b s now
+        → (j : ℕ) (o : Object) (one : Spot) → SetOrNot z.store i now j o → spot_of places (of_object j) ≡ Some one → ObjectAt names program places b one o
+    changed_object now made j o one (at_place e same) found =
+        let spot : one ≡ s = cc (ap (λ k. spot_of places (of_object k)) e) in
+        rw (spot, same) made
+    changed_object now made j o one (elsewhere different stored) found =
+        object_kept y.arena b one (other_kept (of_object j) one different found) places places (extends_same places) names program o
+        (r.objects j o one stored found)
+
+  pub represents_changed :
+      (i : ℕ) (s : Spot) (now : Object) (y' : State) → spot_of places (of_object i) ≡ Some s → Changes s y.arena y'.arena
+      → ObjectAt names program places y'.arena s now → y'.printed ≡ y.printed → y'.input ≡ y.input
+      → Represents names program places (meaning.changed i now z) y'
+  represents_changed i s now y' at c made printed input = record {
+    built_in = r.built_in;
+    arena = c.stands;
+    spots = λ p one e. spot_changed y.arena y'.arena s one c (r.spots p one e);
+    apart = r.apart;
+    count = r.count ∙ sym (length-set z.store i now);
+    objects = λ j o one stored found. changed_object i s at y'.arena c now made j o one (set_or_not z.store i now j o stored) found;
+    symbols = λ v one e. symbol_kept y.arena y'.arena one (other_kept i s at y'.arena c (of_symbol v) one refl e) v (r.symbols v one e);
+    no_nil = r.no_nil;
+    fixed =
+        rw input (fixed_kept names program places places y.arena y'.arena z.symbols z.printed z.input y.input (extends_same places) refl
+        (other_kept i s at y'.arena c (of_other 0) fixed_spot refl r.fixed.spot) r.fixed);
+    input = r.input;
+    printed = printed ∙ r.printed;
+  }
+
+  -- fixed words change
+  module _ (b : Arena) (c : Changes fixed_spot y.arena b) where
+    not_fixed_kept : (p : Owner) (one : Spot) → same_owner p (of_other 0) ≡ false → spot_of places p ≡ Some one → SameWords y.arena b one
+    not_fixed_kept p one different e =
+        words_apart y.arena b fixed_spot one c r.arena (r.spots p one e) (r.apart p (of_other 0) one fixed_spot different e r.fixed.spot)
+
+    pub kept_fixed : Kept places z y.arena b
+    kept_fixed = record {
+      functions = λ i p s found e. not_fixed_kept (of_object i) s refl e;
+      others = λ n s e. not_fixed_kept (of_other (suc n)) s (after_zero n) e;
+    }
+
+  pub represents_fixed :
+      (z' : meaning.State) (y' : State) → Changes fixed_spot y.arena y'.arena → z'.store ≡ z.store
+      → FixedStand names program places y'.arena z'.symbols z'.printed z'.input y'.input → AreBytes z'.input → y'.printed ≡ z'.printed
+      → Represents names program places z' y'
+  represents_fixed z' y' c store fixed input printed = record {
+    built_in = r.built_in;
+    arena = c.stands;
+    spots = λ p s e. spot_changed y.arena y'.arena fixed_spot s c (r.spots p s e);
+    apart = r.apart;
+    count = r.count ∙ ap (λ os. length os) (sym store);
+    objects = λ i o s found e.
+        object_kept y.arena y'.arena s (not_fixed_kept y'.arena c (of_object i) s refl e) places places (extends_same places) names program o
+        (r.objects i o s (sym (ap (λ os. slice_get os i) store) ∙ found) e);
+    symbols = λ v s e. symbol_kept y.arena y'.arena s (not_fixed_kept y'.arena c (of_symbol v) s refl e) v (r.symbols v s e);
+    no_nil = r.no_nil;
+    fixed = fixed;
+    input = input;
+    printed = printed;
+  }

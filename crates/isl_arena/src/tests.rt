@@ -1,0 +1,74 @@
+// The steps that test an argument.
+
+ghost use Rattle.std.specs.Prelude.{◌≡◌, ◌++◌, OnOk, IfOk};
+ghost use Rattle.isl_arena.specs.Steps as steps;
+ghost use Rattle.isl_arena.specs.Steps.{steps_of};
+ghost use Rattle.isl_arena.specs.declared.line.Line.TheVariants as line;
+
+use crate::signals::domain_error;
+use crate::steps::{comparing, compute_by, constant, either, load};
+use crate::words::{CHARACTER_CLASS, HEADER, NIL, OBJECT_BITS, SYMBOL, SYMBOL_CLASS};
+use isl_base::NoMemory;
+use isl_mid::{Arithmetic, Code, Comparison, Register, Test};
+use std::alloc::Global;
+
+/// The test has to hold, or the argument is a domain error.
+pub fn need_test(code: &mut Code, alloc: Global, test: Test, of: Register, class: i32) -> Result<(), NoMemory>
+    ensures { OnOk result (code.new ≡ code.old ++ steps_of (line.NeedTest test of class)) }
+{
+    let error = domain_error(alloc, of, class)?;
+    code.push(either(test, Code::new(alloc), error))?;
+    Ok(())
+}
+
+/// The argument has to have that tag.
+pub fn need_tag(code: &mut Code, alloc: Global, of: Register, bits: u32, class: i32) -> Result<(), NoMemory>
+    ensures { OnOk result (code.new ≡ code.old ++ steps.need_tag of bits class) }
+{
+    compute_by(code, 7, Arithmetic::ShiftLeft, of, 30)?;
+    code.push(constant(6, bits))?;
+    need_test(code, alloc, comparing(Comparison::Equal, 7, 6), of, class)
+}
+
+/// It has to be a character.
+pub fn need_character(code: &mut Code, alloc: Global, of: Register) -> Result<(), NoMemory>
+    ensures { OnOk result (code.new ≡ code.old ++ steps_of (line.NeedCharacter of)) }
+{
+    compute_by(code, 7, Arithmetic::ShiftLeft, of, 24)?;
+    code.push(constant(6, 251658240))?;
+    need_test(code, alloc, comparing(Comparison::Equal, 7, 6), of, CHARACTER_CLASS)
+}
+
+/// It has to be an object with one of so many headers.
+#[tactic(auto, unfolding(crate::specs::Steps::need_header))]
+pub fn need_header(code: &mut Code, alloc: Global, of: Register, header: u32, count: u32, class: i32) -> Result<(), NoMemory>
+    ensures { OnOk result (code.new ≡ code.old ++ steps.need_header of header count class) }
+{
+    need_tag(code, alloc, of, OBJECT_BITS, class)?;
+    code.push(load(7, of, HEADER))?;
+    compute_by(code, 7, Arithmetic::Subtract, 7, header)?;
+    code.push(constant(6, count))?;
+    need_test(code, alloc, comparing(Comparison::LessUnsigned, 7, 6), of, class)
+}
+
+/// It has to be an instance.
+pub fn need_instance(code: &mut Code, alloc: Global, of: Register, class: i32) -> Result<(), NoMemory>
+    ensures { OnOk result (code.new ≡ code.old ++ steps_of (line.NeedInstance of class)) }
+{
+    need_tag(code, alloc, of, OBJECT_BITS, class)?;
+    code.push(load(7, of, HEADER))?;
+    compute_by(code, 7, Arithmetic::ShiftLeft, 7, 28)?;
+    code.push(constant(6, 805306368))?;
+    need_test(code, alloc, comparing(Comparison::Equal, 7, 6), of, class)
+}
+
+/// It has to be a symbol; nil is one.
+pub fn need_symbol(code: &mut Code, alloc: Global, of: Register) -> Result<(), NoMemory>
+    ensures { OnOk result (code.new ≡ code.old ++ steps_of (line.NeedSymbol of)) }
+{
+    let mut other = Code::new(alloc);
+    need_header(&mut other, alloc, of, SYMBOL, 2, SYMBOL_CLASS)?;
+    code.push(constant(6, NIL))?;
+    code.push(either(comparing(Comparison::Equal, of, 6), Code::new(alloc), other))?;
+    Ok(())
+}

@@ -1,0 +1,121 @@
+// Lines written as steps, and the procedure of a primitive.
+
+ghost use Rattle.std.specs.Prelude.{◌≡◌, ◌++◌, [], ◌∷◌, OnOk, IfOk};
+ghost use Rattle.isl_mid.specs.MidCode.{perform};
+ghost use Rattle.isl_arena.specs.Steps.{steps_of};
+ghost use Rattle.isl_arena.specs.Codes.{procedure_of};
+
+use crate::class_words::class_word;
+use crate::code::lines;
+use crate::line::Line;
+use crate::loops::{copy_words, fill, search_class, search_slot};
+use crate::signals::signal;
+use crate::steps::{compute, compute_by, constant, either, give, load, return_if, store};
+use crate::tests::{need_character, need_header, need_instance, need_symbol, need_tag, need_test};
+use isl_base::NoMemory;
+use isl_meaning::Primitive;
+use isl_mid::{Code, Counted, MidProcedure, Operation, Step, StepKind};
+use std::alloc::Global;
+
+/// The registers of each primitive's code, and the words that an activation of it has for itself: one for each register, and two more.
+pub const REGISTERS: usize = 8;
+
+pub const FRAME_WORDS: u32 = 10;
+
+// An operation.
+fn operation(code: &mut Code, operation: Operation) -> Result<(), NoMemory>
+    ensures { OnOk result (code.new ≡ code.old ++ perform operation ∷ []) }
+{
+    code.push(Step::new(StepKind::Do(operation)))?;
+    Ok(())
+}
+
+// Appends the steps of a line.
+fn write(code: &mut Code, alloc: Global, line: Line) -> Result<(), NoMemory>
+    ensures { OnOk result (code.new ≡ code.old ++ steps_of line) }
+{
+    match line {
+        Line::Set { to, word } => Ok(code.push(constant(to, word))?),
+        Line::Copy { to, from } => operation(code, Operation::Move { to, from }),
+        Line::SetIf { test, to, word } => {
+            let mut setting = Code::new(alloc);
+            setting.push(constant(to, word))?;
+            Ok(code.push(either(test, setting, Code::new(alloc)))?)
+        }
+        Line::Compute {
+            to,
+            which,
+            first,
+            second,
+        } => Ok(code.push(compute(to, which, first, second))?),
+        Line::ComputeBy {
+            to,
+            which,
+            first,
+            word,
+        } => compute_by(code, to, which, first, word),
+        Line::Load { to, base, offset } => Ok(code.push(load(to, base, offset))?),
+        Line::Store { from, base, offset } => Ok(code.push(store(from, base, offset))?),
+        Line::LoadFixed { to, address } => {
+            code.push(constant(to, 0))?;
+            Ok(code.push(load(to, to, address))?)
+        }
+        Line::StoreFixed { from, address } => {
+            code.push(constant(6, 0))?;
+            Ok(code.push(store(from, 6, address))?)
+        }
+        Line::Request { to, words } => operation(code, Operation::Request { to, words }),
+        Line::Put { from } => operation(code, Operation::Put { from }),
+        Line::Get { to } => operation(code, Operation::Get { to }),
+        Line::Return { from } => Ok(code.push(give(from))?),
+        Line::ReturnIf { test, from } => {
+            let ending = return_if(alloc, test, from)?;
+            Ok(code.push(ending)?)
+        }
+        Line::NeedTag { of, bits, class } => need_tag(code, alloc, of, bits, class),
+        Line::NeedCharacter { of } => need_character(code, alloc, of),
+        Line::NeedHeader {
+            of,
+            header,
+            count,
+            class,
+        } => need_header(code, alloc, of, header, count, class),
+        Line::NeedInstance { of, class } => need_instance(code, alloc, of, class),
+        Line::NeedSymbol { of } => need_symbol(code, alloc, of),
+        Line::NeedTest { test, of, class } => need_test(code, alloc, test, of, class),
+        Line::SignalUnless { test, class } => {
+            let error = signal(alloc, class)?;
+            Ok(code.push(either(test, Code::new(alloc), error))?)
+        }
+        Line::Signal { class } => {
+            let error = signal(alloc, class)?;
+            Ok(code.append_list(error)?)
+        }
+        Line::ClassWord { to, of } => {
+            let found = class_word(alloc, to, of)?;
+            Ok(code.append_list(found)?)
+        }
+        Line::Fill => fill(code, alloc),
+        Line::CopyWords => copy_words(code, alloc),
+        Line::SearchClass => search_class(code, alloc),
+        Line::SearchSlot => search_slot(code, alloc),
+    }
+}
+
+/// The procedure of a primitive: entered with the words of its arguments, it comes to what the primitive answers. It returns the word of a value; or
+/// `SIGNAL`, where it made a condition, whose word then stands at the address `PENDING_AT`.
+pub fn primitive(alloc: Global, which: Primitive) -> Result<MidProcedure, NoMemory>
+    ensures written { IfOk result (λ p. p ≡ procedure_of which) }
+{
+    let mut body = Code::new(alloc);
+    for line in lines(which) {
+        write(&mut body, alloc, *line)?;
+    }
+    Ok(MidProcedure {
+        counted: Counted::Turn,
+        parameters: which.arity() as usize,
+        registers: REGISTERS,
+        frame: FRAME_WORDS,
+        body,
+    })
+}
