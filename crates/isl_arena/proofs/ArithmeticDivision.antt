@@ -37,10 +37,10 @@ next_divided a b h = ⊎_elim (λ k. inr (within k)) (λ k. inl (at_end k)) (cas
         (ap (λ x. x % b) is ∙ mod-mul-add (suc (a / b)) b 0 h, ap (λ x. x / b) is ∙ div-mul-add (suc (a / b)) b 0 h)
 
 -- whether the remainder and the divisor have different signs
-abbrev is_corrected : ℤ → ℤ → Bool
+abbrev pub is_corrected : ℤ → ℤ → Bool
 is_corrected a b = int_lt (int_rem a b *ℤ b) (pos 0)
 
-abbrev correction : ℤ → ℤ → ℕ
+abbrev pub correction : ℤ → ℤ → ℕ
 correction a b = bit_of (is_corrected a b)
 
 uncorrected : (a b q : ℤ) → is_corrected a b ≡ false → q ≡ int_div a b → q ≡ int_div a b -ℤ pos (correction a b)
@@ -279,11 +279,11 @@ module _ (a b : ℤ) (g : in_range a ≡ true) (h : in_range b ≡ true) (n : in
   word_not_zero : (integer_word b == 0) ≡ false
   word_not_zero = integer_is_zero b h ∙ n
 
-  quotient_signed_is : quotient_signed (integer_word a) (integer_word b) ≡ low_word (int_div a b)
+  pub quotient_signed_is : quotient_signed (integer_word a) (integer_word b) ≡ low_word (int_div a b)
   unfolding quotient_signed
   quotient_signed_is = rw word_not_zero ((λ i. low_word (int_div (signed_integer_word a g i) (signed_integer_word b h i))) ∙ ap low_word (quotient_of_four a b))
 
-  remainder_signed_is : remainder_signed (integer_word a) (integer_word b) ≡ integer_word (int_rem a b)
+  pub remainder_signed_is : remainder_signed (integer_word a) (integer_word b) ≡ integer_word (int_rem a b)
   unfolding remainder_signed
   remainder_signed_is = rw word_not_zero ((λ i. low_word (int_rem (signed_integer_word a g i) (signed_integer_word b h i))) ∙ ap low_word (remainder_of_four a b))
 
