@@ -14,4 +14,5 @@ pub mod Sameness
 pub mod FixedChanges
 pub mod Doing
 pub mod Conditions
+pub mod Leaving
 pub mod Entering
