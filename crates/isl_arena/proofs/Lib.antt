@@ -17,5 +17,6 @@ pub mod Telling
 pub mod Sameness
 pub mod Doing
 pub mod Conditions
+pub mod Leaving
 pub mod Entering
 pub mod Checking
