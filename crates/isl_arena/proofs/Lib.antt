@@ -13,5 +13,7 @@ pub mod Telling
 pub mod Sameness
 pub mod FixedChanges
 pub mod Doing
+pub mod BuiltInFacts
+pub mod Making
 pub mod Conditions
 pub mod Entering
