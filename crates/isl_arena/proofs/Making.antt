@@ -1,25 +1,29 @@
 -- A new object at the end of the heap, whose words were requested and stored one after another: what the arena is then, that it represents
 -- the state with the object, and how a run ends that returns it. And the store of a condition that is to be signalled.
-use Rattle.std.proofs.Common.{◌≡◌, ℕ, zero, suc, ◌+◌, ◌-◌, ◌*◌, ◌%◌, ◌^◌, ◌<◌, ◌≤◌, Bool, true, false, List, [], ◌∷◌, length, Option, Some, None, refl, sym, ap, ◌∙◌, arith}
-use Rattle.std.specs.Prelude.{◌==◌, nat_le, map, slice_get}
+use Rattle.std.proofs.Common.{◌≡◌, ℕ, zero, suc, ◌+◌, ◌-◌, ◌*◌, ◌/◌, ◌%◌, ◌^◌, ◌<◌, ◌≤◌, Bool, true, false, List, [], ◌∷◌, ◌++◌, length, Option, Some, None, refl, sym, ap, subst, ◌∙◌, arith}
+use Rattle.std.specs.Prelude.{◌==◌, nat_le, map, slice_get, slice_index_or}
 use Rattle.std.proofs.lemmas.Bool.Decides.{nat_tests}
 use Rattle.std.proofs.lemmas.List.{length-map}
+use Rattle.std.proofs.Math.ListN.{length-append, length-set}
+use Rattle.isl_base.specs.Names.{slice_get-front, slice_get-behind}
 use Rattle.isl_meaning.specs.declared.program.ProgramRows.{ProgramRows}
 use Rattle.isl_meaning.specs.Values.{Value, nil, object}
-use Rattle.isl_meaning.specs.Objects.{Object, instance}
+use Rattle.isl_meaning.specs.Objects.{Object, instance, serious_condition_class}
 use Rattle.isl_meaning.specs.State as meaning
+use Rattle.isl_meaning.specs.Classes.{slots, is_below}
+use Rattle.isl_meaning.specs.Layout.{class_value}
 use Rattle.isl_meaning.specs.Primitives.{instance_words}
 use Rattle.isl_mid.specs.Arena.{Arena, left, is_lent, word_at, with_word, with_heap}
 use Rattle.isl_mid.specs.State.{Registers, State, Outcome, returns, no_room, ends}
-use Rattle.isl_arena.specs.Tags.{object_tag, signal_word}
-use Rattle.isl_arena.specs.Places.{Spot, end_of, pointer_to, Places, of_object, of_other, spot_of, with_object, pointer_in, word_of}
-use Rattle.isl_arena.specs.Standing.{ArenaStands, SpotStands, ValueAt}
+use Rattle.isl_arena.specs.Tags.{nil_word, instance_header, object_tag, signal_word}
+use Rattle.isl_arena.specs.Places.{Spot, end_of, pointer_to, Places, of_object, of_other, spot_of, with_object, pointer_in, word_of, WordsOf}
+use Rattle.isl_arena.specs.Standing.{ArenaStands, SpotStands, ValueAt, SlotAt}
 use Rattle.isl_arena.specs.FixedWords.{class_address, pending_address}
-use Rattle.isl_arena.specs.Layouts.{ObjectAt}
+use Rattle.isl_arena.specs.Layouts.{ObjectAt, InstanceAt}
 use Rattle.isl_arena.specs.Represents.{Represents}
-use Rattle.isl_arena.specs.Answers.{Enlarged, Returned, Signalled, RoomWanting, new_spot}
+use Rattle.isl_arena.specs.Answers.{Enlarged, Returned, Pending, Signalled, RoomWanting, new_spot}
 use Rattle.isl_arena.proofs.Memory.{Facts, heap_below, in_spot_lent, in_spot_there, word_here, word_elsewhere, stands_with_word, stands_with_heap, facts_with_heap, with_words, facts_with_words, words_stand}
-use Rattle.isl_arena.proofs.Keeping.{extends_one}
+use Rattle.isl_arena.proofs.Keeping.{same_word, words_extended, words_of_condition, words_at_least, extends_one}
 use Rattle.isl_arena.proofs.Representing.{Grows, grows_same, Changes, spot_below, spot_grown, fixed_spot, fixed_stands, represents_same, represents_grown, represents_made, represents_fixed, new_spot_found, kept_both, kept_same, kept_made, kept_grown, kept_fixed}
 use Rattle.isl_arena.proofs.FixedChanges.{one_word, represents_pending, word_of_fixed}
 use Rattle.isl_arena.proofs.Doing.{Alike, paid}
@@ -119,16 +123,34 @@ changes_stored {a} x w h aligned = record {
     behind : (y : ℕ) → x + 4 ≤ y → (x == y) ≡ false
     behind y low = grind (arith, nat_tests)
 
+-- ---- slots
+
+pub as_many_words : (places : Places) (vs : List Value) (ws : List ℕ) → WordsOf places vs ws → length ws ≡ length vs
+as_many_words places [] [] h = refl
+as_many_words places [] (w ∷ ws) h = absurd h
+as_many_words places (v ∷ vs) [] h = absurd h
+as_many_words places (v ∷ vs) (w ∷ ws) h = ap (λ n. suc n) (as_many_words places vs ws h.1)
+
+-- where the words of values stand, so do slots with these values
+pub slot_stands :
+    (places : Places) (a : Arena) (address : ℕ) (vs : List Value) (ws : List ℕ) (i : ℕ) → WordsOf places vs ws → i < length vs
+    → ((w : ℕ) → slice_get ws i ≡ Some w → word_at a address ≡ Some w) → SlotAt places a address (slice_index_or (map (λ v. Some v) vs) i None)
+slot_stands places a address [] ws i h low stand = absurd (omega arith)
+slot_stands places a address (v ∷ vs) [] i h low stand = absurd h
+slot_stands places a address (v ∷ vs) (w ∷ ws) zero h low stand = record { word = w; of_value = h.0; stands = stand w refl }
+slot_stands places a address (v ∷ vs) (w ∷ ws) (suc i) h low stand = slot_stands places a address vs ws i h.1 (omega arith) stand
+
 -- ---- a represented state
 
 module _ (names : List (List ℕ)) (program : ProgramRows) (places : Places) (z : meaning.State) (y : State) (r : Represents names program places z y) where
-  -- what the meaning says of a fixed word that is lent
+  -- the fixed words are lent, and stand below the heap's end
   pub fixed_below : 184 ≤ y.arena.heap_to
   fixed_below = spot_below y.arena fixed_spot r.arena (fixed_stands names program places z y r)
 
   pub fixed_lent : (x : ℕ) → x % 4 ≡ 0 → x < 184 → is_lent y.arena x ≡ true
   fixed_lent x aligned high = in_spot_lent x (fixed_stands names program places z y r) aligned (omega arith) high
 
+module _ (names : List (List ℕ)) (program : ProgramRows) (places : Places) (z : meaning.State) (y : State) (r : Represents names program places z y) where
   -- words that are not left were asked for, where nothing else changed
   pub room_wanting :
       (asked : ℕ) (rs : Registers) (k : ℕ) → left y.arena < asked
@@ -178,4 +200,127 @@ module _ (names : List (List ℕ)) (program : ProgramRows) (places : Places) (z 
         arena = enlarged_by words g to;
         blocks = blocks;
         kept = kept_grown names program places z y r y'.arena (grows_by g);
+      }
+
+  -- a condition, whose header, class, slots and mark were stored
+  module _
+      (class word : ℕ) (vs : List Value) (ws : List ℕ) (condition : is_below program class serious_condition_class ≡ true)
+      (count : length vs ≡ length (slots program class)) (of_class : word_of places (class_value names program class) ≡ Some word)
+      (are : WordsOf places vs ws) (room : 3 + length vs ≤ left y.arena)
+      where
+    -- its words, its spot, and the places with it
+    abbrev pub condition_words : List ℕ
+    condition_words = instance_header (length vs) ∷ word ∷ (ws ++ nil_word ∷ [])
+
+    abbrev pub condition_spot : Spot
+    condition_spot = record { address = y.arena.heap_to; words = 3 + length vs; tag = object_tag }
+
+    abbrev pub condition_places : Places
+    condition_places = with_object condition_spot places
+
+    abbrev pub condition_arena : Arena
+    condition_arena = begun (3 + length vs) condition_words y.arena
+
+    all_words : length condition_words ≤ 3 + length vs
+    all_words = omega (arith, length-append ws (nil_word ∷ []), as_many_words places vs ws are)
+
+    there : (i w : ℕ) → slice_get condition_words i ≡ Some w → word_at condition_arena (y.arena.heap_to + 4 * i) ≡ Some w
+    there i w found = begun_word (3 + length vs) condition_words i w r.arena room all_words found
+
+    moved : (x i w : ℕ) → x ≡ y.arena.heap_to + 4 * i → slice_get condition_words i ≡ Some w → word_at condition_arena x ≡ Some w
+    moved x i w same found = ap (word_at condition_arena) same ∙ there i w found
+
+    as_many : length (map (λ v. Some v) vs) ≡ length vs
+    as_many = length-map vs (λ v. Some v)
+
+    pub condition_at : InstanceAt names program condition_places condition_arena condition_spot class (map (λ v. Some v) vs) nil
+    condition_at = record {
+      size = record {
+        words = ap (λ n. 3 + n) (sym as_many) ∙ sym (words_of_condition program class (length (map (λ v. Some v) vs)) condition);
+        tag = refl;
+      };
+      count = as_many ∙ count;
+      header = moved y.arena.heap_to 0 (instance_header (length vs)) (omega arith) refl ∙ ap (λ n. Some (instance_header n)) (sym as_many);
+      class = record {
+        word = word;
+        of_value = same_word condition_spot places (class_value names program class) word of_class;
+        stands = moved (y.arena.heap_to + 4) 1 word (omega arith) refl;
+      };
+      values_there = λ i h.
+          slot_stands condition_places condition_arena (y.arena.heap_to + 8 + 4 * i) vs ws i
+          (words_extended places condition_places (extends_one condition_spot places) vs ws are) (omega (arith, as_many))
+          (λ w found. moved (y.arena.heap_to + 8 + 4 * i) (suc (suc i)) w (omega arith) (slice_get-front ws (nil_word ∷ []) i w found));
+      mark = λ e. record {
+        word = nil_word;
+        of_value = refl;
+        stands =
+            moved (y.arena.heap_to + 8 + 4 * length (map (λ v. Some v) vs)) (suc (suc (length ws))) nil_word
+            (omega (arith, as_many, as_many_words places vs ws are)) (slice_get-behind ws nil_word);
+      };
+    }
+
+  -- where a new condition stands, and its pointer was stored at the fixed address, it is to be signalled
+  pub signalled_new :
+      (class : ℕ) (vs : List Value) (words : ℕ) (z' : meaning.State) (y' : State) (rs : Registers) (k : ℕ) → Alike z z'
+      → words ≡ instance_words program class (length vs) → Facts y.arena y'.arena → y'.arena.heap_to ≡ y.arena.heap_to + 4 * words
+      → y'.arena.blocks ≡ y.arena.blocks → y'.printed ≡ y.printed → y'.input ≡ y.input
+      → InstanceAt names program (with_object (record { address = y.arena.heap_to; words = words; tag = object_tag }) places) y'.arena
+      (record { address = y.arena.heap_to; words = words; tag = object_tag }) class (map (λ v. Some v) vs) nil
+      → Signalled names program places z y class vs z'
+      (ends (returns signal_word) rs (record y' { arena = with_word pending_address (y.arena.heap_to + object_tag) y'.arena; cost = k }))
+  signalled_new class vs words z' y' rs k alike size g to blocks printed input made =
+      subst (λ n. Pending names program places z y (with_object (record { address = y.arena.heap_to; words = n; tag = object_tag }) places) class vs z' n ended) size pending
+    where
+      word : ℕ
+      word = y.arena.heap_to + object_tag
+
+      pending_state : State
+      pending_state = record y' { arena = with_word pending_address word y'.arena; cost = k }
+
+      ended : Outcome
+      ended = ends (returns signal_word) rs pending_state
+
+      spot : Spot
+      spot = record { address = y.arena.heap_to; words = words; tag = object_tag }
+
+      after : Places
+      after = with_object spot places
+
+      condition : Object
+      condition = instance class (map (λ v. Some v) vs) nil
+
+      some : 1 ≤ words
+      some = omega (arith, size, words_at_least program class (length vs))
+
+      there : Represents names program after (meaning.stored condition z') y'
+      there = represents_new words object_tag condition y' g to blocks printed input some (omega arith) z' alike made
+
+      stored : Changes (one_word pending_address) y'.arena pending_state.arena
+      stored = changes_stored pending_address word g.stands refl
+
+      pending : Pending names program places z y after class vs z' words ended
+      pending = record {
+        end = refl;
+        represents = represents_pending names program after (meaning.stored condition z') y' there pending_state stored refl refl;
+        pending = record {
+          word = word;
+          of_value = pointer_made words object_tag condition y' g to blocks printed input some (omega arith) z' alike made;
+          stands =
+              word_here y'.arena pending_address word (fixed_lent names program after (meaning.stored condition z') y' there pending_address refl (omega arith))
+              (in_spot_there {s = fixed_spot} pending_address g.stands (fixed_stands names program after (meaning.stored condition z') y' there) (omega arith));
+        };
+        arena = record {
+          size = length-set y'.arena.memory (pending_address / 4) (Some word) ∙ g.size;
+          laid_from = g.laid_from;
+          laid_to = g.laid_to;
+          heap_from = g.heap_from;
+          heap_to = to;
+        };
+        blocks = blocks;
+        kept =
+            kept_both places z y.arena y'.arena pending_state.arena (kept_grown names program places z y r y'.arena (grows_by g))
+            (kept_same places z z' y'.arena pending_state.arena alike.store
+            (kept_made places z' spot condition y'.arena pending_state.arena
+            (kept_fixed names program after (meaning.stored condition z') y' there pending_state.arena
+            (word_of_fixed names program after (meaning.stored condition z') y' there pending_address pending_state.arena (omega arith) stored))));
       }
