@@ -20,3 +20,4 @@ pub mod Conditions
 pub mod Leaving
 pub mod Entering
 pub mod Checking
+pub mod Saying
