@@ -14,7 +14,7 @@ use Rattle.isl_mid.specs.Meaning.{Task}
 use Rattle.isl_arena.specs.Places.{Places, word_of}
 use Rattle.isl_arena.specs.Represents.{Represents}
 use Rattle.isl_arena.specs.Answers.{Comes, done, no_words, Done, Returned, units_after}
-use Rattle.isl_arena.proofs.Running.{RunsTo, StepsTo, IsLast, turning, none_left, and_then, and_ends, return_ends, choose_first_falls, choose_second_falls, choose_first_ends, choose_second_ends}
+use Rattle.isl_arena.proofs.Running.{RunsTo, StepsTo, IsLast, turning, none_left, and_then, and_ends, return_ends, choose_first_falls, choose_second_falls, choose_first_ends, choose_second_ends, parts_then, parts_end}
 use Rattle.isl_arena.proofs.Growing.{grows_same}
 use Rattle.isl_arena.proofs.Representing.{kept_grown, represents_grown, represents_same}
 
@@ -121,3 +121,16 @@ module _ (names : List (List ℕ)) (program : ProgramRows) (places : Places) (z 
     second_answers {answer = answer} e f h more =
         let last : IsLast more.outcome.end = answers_last answer more.outcome more.answers in
         record { outcome = more.outcome; runs = and_ends last (choose_second_ends last e f h more.runs); answers = more.answers }
+
+    -- code in two parts: the first one falls out, or it comes to the answer
+    pub part_then :
+        {n budget k k' : ℕ} {answer : Answer} (ss ts : List MidStep) {rs rs' : Registers}
+        → RunsTo (turning procedures below n) (code_of ss) rs (paid y k) (ends falls rs' (paid y k'))
+        → Run n budget answer (code_of ts) rs' k' → Run n budget answer (code_of (ss ++ ts)) rs k
+    part_then ss ts g h = record { outcome = h.outcome; runs = parts_then ss ts g h.runs; answers = h.answers }
+
+    pub part_answers :
+        {n budget k : ℕ} {answer : Answer} (ss ts : List MidStep) {rs : Registers} → Run n budget answer (code_of ss) rs k
+        → Run n budget answer (code_of (ss ++ ts)) rs k
+    part_answers {answer = answer} ss ts h =
+        record { outcome = h.outcome; runs = parts_end ss ts (answers_last answer h.outcome h.answers) h.runs; answers = h.answers }

@@ -17,7 +17,8 @@ use Rattle.isl_arena.specs.Represents.{Represents}
 use Rattle.isl_arena.specs.Answers.{units_after, DoesPrimitive}
 use Rattle.isl_arena.specs.Codes.{code_of_primitive, registers, frame_words, procedure_of}
 use Rattle.isl_arena.proofs.Running.{entered, frame_of, enters, enters_wanting}
-use Rattle.isl_arena.proofs.Representing.{grows_same, represents_grown}
+use Rattle.isl_arena.proofs.Growing.{grows_same}
+use Rattle.isl_arena.proofs.Representing.{represents_grown}
 use Rattle.isl_arena.proofs.Doing.{paid, Run}
 use Rattle.isl_arena.proofs.Leaving.{leaves_cost, represents_frame, comes_with_frame, comes_without_frame}
 

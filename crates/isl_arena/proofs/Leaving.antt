@@ -13,7 +13,8 @@ use Rattle.isl_arena.specs.FixedWords.{pending_address}
 use Rattle.isl_arena.specs.Represents.{Represents}
 use Rattle.isl_arena.specs.Answers.{Enlarged, Kept, words_asked, Returned, Pending, Done, RoomWanting, Comes, done, no_words}
 use Rattle.isl_arena.proofs.Memory.{Facts, facts_with_new_block, left_with_new_block, facts_given_back}
-use Rattle.isl_arena.proofs.Representing.{Grows, spot_below, fixed_spot, fixed_stands, grows_same, kept_grown, kept_both, represents_grown}
+use Rattle.isl_arena.proofs.Growing.{Grows, spot_below, grows_same}
+use Rattle.isl_arena.proofs.Representing.{fixed_spot, fixed_stands, kept_grown, kept_both, represents_grown}
 
 -- what stays where an arena grows, in the words of representations
 pub facts_grow : {a b : Arena} → Facts a b → Grows a b
