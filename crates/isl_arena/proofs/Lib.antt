@@ -21,3 +21,4 @@ pub mod Leaving
 pub mod Entering
 pub mod Checking
 pub mod Saying
+pub mod Integers
