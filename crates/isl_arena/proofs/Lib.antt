@@ -22,3 +22,4 @@ pub mod Entering
 pub mod Checking
 pub mod Saying
 pub mod Integers
+pub mod Division
