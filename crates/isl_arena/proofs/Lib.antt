@@ -23,3 +23,4 @@ pub mod Checking
 pub mod Saying
 pub mod Integers
 pub mod Division
+pub mod Needing
