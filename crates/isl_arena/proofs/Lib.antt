@@ -22,4 +22,7 @@ pub mod Conditions
 pub mod Leaving
 pub mod Entering
 pub mod Checking
+pub mod Saying
+pub mod Integers
+pub mod Division
 pub mod Needing
