@@ -23,3 +23,5 @@ pub mod Leaving
 pub mod Entering
 pub mod Checking
 pub mod Needing
+pub mod Arrays
+pub mod Vectors
