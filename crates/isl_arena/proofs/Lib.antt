@@ -26,3 +26,5 @@ pub mod Saying
 pub mod Integers
 pub mod Division
 pub mod Needing
+pub mod Arrays
+pub mod Vectors
