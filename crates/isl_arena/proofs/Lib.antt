@@ -27,4 +27,4 @@ pub mod Integers
 pub mod Division
 pub mod Needing
 pub mod Arrays
-pub mod Vectors
+pub mod Slots
