@@ -24,4 +24,4 @@ pub mod Entering
 pub mod Checking
 pub mod Needing
 pub mod Arrays
-pub mod Vectors
+pub mod VectorElements
