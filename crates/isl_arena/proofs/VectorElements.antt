@@ -8,7 +8,7 @@ use Rattle.std.proofs.Math.ListN.{length-set}
 use Rattle.isl_meaning.specs.declared.program.ProgramRows.{ProgramRows}
 use Rattle.isl_meaning.specs.declared.primitive.Primitive.TheVariants.{VectorLength, VectorRef, SetVectorRef}
 use Rattle.isl_meaning.specs.Values.{Value, integer, nil, object}
-use Rattle.isl_meaning.specs.Objects.{Object, vector, program_error_class}
+use Rattle.isl_meaning.specs.Objects.{Object, vector, function, integer_class, program_error_class}
 use Rattle.isl_meaning.specs.State as meaning
 use Rattle.isl_meaning.specs.Classes.{fetch}
 use Rattle.isl_meaning.specs.Primitives.{Answer, result, an_integer, an_index, change}
@@ -94,3 +94,35 @@ vector_length_does = does_one VectorLength refl (λ v a names program places z y
     goes_on names program places z y procedures below
     (load_falls refl (address_above a 2 (it.spot.address + 4) (omega (arith, it.word)) (omega (arith, it.word, low))) it.stands.count)
     (returns_value names program places z y procedures below r refl (length_word_is places (length vs) (omega (arith, low))) (alike_self z) (omega arith))))
+
+-- the code behind the tests of the vector and the index
+abbrev index_test : (of : ℕ) → List MidStep → List MidStep
+index_test of rest = steps.either (steps.comparing LessUnsigned of 7) [] (steps.signal (pos (class_address program_error_class))) ∷ rest
+
+abbrev taking : List MidStep
+taking = steps.compute 5 which.Add 0 1 ∷ steps.load 5 5 (pos 6) ∷ return_word 5 ∷ []
+
+pub vector_ref_does : IsPrimitive VectorRef (procedure_of VectorRef)
+vector_ref_does = does_two VectorRef refl (λ v w a b names program places z y procedures below n r are units.
+    vector_needed names program places z y r procedures below n (y.cost + 130 + 244 * 2) y.cost 0 a v
+    (λ vs. an_integer w z (λ m. an_index m (length vs) z (λ i. result (slice_index_or vs i nil) z)))
+    (steps.need_tag 1 0 (pos (class_address integer_class)) ++ steps.load 7 0 (pos 2) ∷ index_test 1 taking)
+    (first_registers 8 (a ∷ b ∷ [])) (omega arith) refl refl are.0 (omega arith)
+    (λ vs found.
+    let it = object_found names program places z y r v a (vector vs) are.0 found in
+    let low = vector_low names program places z y r procedures below v a vs it in
+    integer_needed names program places z y r procedures below n (y.cost + 130 + 244 * 2) _ 1 b w
+    (λ m. an_index m (length vs) z (λ i. result (slice_index_or vs i nil) z)) (steps.load 7 0 (pos 2) ∷ index_test 1 taking)
+    _ (omega arith) refl refl are.1.0 (omega arith)
+    (λ m m_is range m_word.
+    goes_on names program places z y procedures below
+    (load_falls refl (address_above a 2 (it.spot.address + 4) (omega (arith, it.word)) (omega (arith, it.word, low))) it.stands.count)
+    (index_needed names program places z y r procedures below n (y.cost + 130 + 244 * 2) _ 1 (length vs) m (λ i. result (slice_index_or vs i nil) z) taking
+    _ refl (ap (λ x. Some x) m_word) refl range (omega (arith, low)) (omega arith)
+    (λ i inside i_word.
+    let at = it.stands.values i inside in
+    goes_on names program places z y procedures below
+    (compute_known refl refl (let sum : sum32 a b ≡ it.spot.address + 2 + 4 * i = omega (arith, it.word, m_word, i_word, low, inside) in sum))
+    (goes_on names program places z y procedures below
+    (load_falls refl (address_above (it.spot.address + 2 + 4 * i) 6 (it.spot.address + 8 + 4 * i) (omega arith) (omega (arith, it.word, low, inside))) at.stands)
+    (returns_value names program places z y procedures below r refl at.of_value (alike_self z) (omega arith))))))))
