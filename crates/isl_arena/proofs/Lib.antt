@@ -28,3 +28,4 @@ pub mod Division
 pub mod Needing
 pub mod Arrays
 pub mod Slots
+pub mod VectorElements
