@@ -73,6 +73,16 @@ slot_scratched w x count rs size =
 
 -- ---- the code that primitives of slots have in common
 
+-- what was paid where an instance was found, a place in it, and that it is one of its slots
+abbrev pub instance_paid : ℕ → ℕ
+instance_paid k = k + 6 + 10 + 6 + 12 + 2 + 8 + 6 + 10 + 6 + 12 + 2
+
+abbrev pub place_paid : ℕ → ℕ
+place_paid k = instance_paid k + 6 + 10 + 6 + 12 + 2
+
+abbrev pub slot_paid : ℕ → ℕ
+slot_paid k = place_paid k + 8 + 6 + 10 + 6 + 10 + 12 + 2
+
 -- four times the number of slots of an instance is put into register 7
 abbrev pub counting : (of : ℕ) → List MidStep → List MidStep
 counting of rest = steps.load 7 of (negsuc 1) ∷ steps.compute_by 7 which.ShiftRight 7 4 ++ steps.compute_by 7 which.ShiftLeft 7 2 ++ rest
@@ -114,7 +124,7 @@ module _ (names : List (List ℕ)) (program : ProgramRows) (places : Places) (z 
       → k + 300 + 250 * z.units ≤ budget + 250 * (z.units + 3)
       → ((c : ℕ) (values : List (Option Value)) (mark : Value) (j : ℕ) → ObjectFound names program places z y r v w (instance c values mark)
       → j < length values → x ≡ 4 * j
-      → Run names program places z y procedures below n budget (next (c, values, mark) j) (code_of rest) (slot_registers w x (length values) rs) (k + 170))
+      → Run names program places z y procedures below n budget (next (c, values, mark) j) (code_of rest) (slot_registers w x (length values) rs) (slot_paid k))
       → Run names program places z y procedures below n budget (a_slot v place z next) (code_of (need_slot of at rest)) rs k
   slot_needed n budget k of at w x v place next rest rs of_low at_low size of_held at_held of_word at_word cost more =
       instance_needed names program places z y r procedures below n of w standard_object_class v rs of_low size of_held of_word (omega arith) budget k
@@ -134,7 +144,7 @@ module _ (names : List (List ℕ)) (program : ProgramRows) (places : Places) (z 
           (c : ℕ) (values : List (Option Value)) (mark : Value) (m : ℤ) → ObjectFound names program places z y r v w (instance c values mark)
           → in_range m ≡ true → x ≡ integer_word m
           → Run names program places z y procedures below n budget (an_index m (length values) z (λ j. next (c, values, mark) j)) (code_of (counting of indexing))
-          (place_registers w x (length values) rs) (k + 116)
+          (place_registers w x (length values) rs) (place_paid k)
       counted c values mark m it range word =
           let low = instance_low v w c values mark it in
           let count : ℕ = length values in
@@ -151,7 +161,7 @@ module _ (names : List (List ℕ)) (program : ProgramRows) (places : Places) (z 
           (goes_on names program places z y procedures below constant_falls
           (goes_on names program places z y procedures below
           (compute_known (seven_behind_six _ _ _ (scratched_six _ _ _ first).size) (six_here _ _ second.size) (four_times_count count (omega (arith, low))))
-          (index_needed names program places z y r procedures below n budget (k + 156) at count m (λ j. next (c, values, mark) j) rest
+          (index_needed names program places z y r procedures below n budget (place_paid k + 8 + 6 + 10 + 6 + 10) at count m (λ j. next (c, values, mark) j) rest
           (slot_registers w x count rs) last.size (last.others at (omega arith) ∙ at_held ∙ ap (λ u. Some u) word)
           (register_here _ 7 (4 * count) (omega (arith, (scratched_six _ _ (Some 2) second).size))) range (omega (arith, low)) (omega (arith, cost))
           (λ j inside at_place. more c values mark j it inside (word ∙ at_place)))))))
