@@ -1,6 +1,6 @@
 -- How many slots an instance has, what is in a slot, whether something is, and a slot that is set: the code does what the meaning says of them.
 use Rattle.std.proofs.Common.{◌≡◌, ℕ, suc, ◌+◌, ◌-◌, ◌*◌, ◌/◌, ◌%◌, ◌^◌, ◌<◌, ◌≤◌, ℤ, pos, Bool, true, false, List, [], ◌∷◌, ◌++◌, length, Option, Some, None, ⊎_elim, refl, sym, ap, ◌∙◌, arith}
-use Rattle.std.specs.Prelude.{negsuc, ◌==◌, slice_get, slice_set, slice_index_or, ◌≢◌}
+use Rattle.std.specs.Prelude.{negsuc, ◌==◌, not, slice_get, slice_set, slice_index_or, ◌≢◌}
 use Rattle.std.proofs.lemmas.Bool.Decides.{nat_tests}
 use Rattle.std.proofs.lemmas.Bool.{cases_eq}
 use Rattle.std.proofs.lemmas.List.{get_or-set_same, get_or-set_other}
@@ -17,7 +17,7 @@ use Rattle.isl_meaning.specs.Primitives.{Answer, result, a_slot, an_integer, an_
 use Rattle.isl_mid.specs.declared.program.MidProcedure.{MidProcedure}
 use Rattle.isl_mid.specs.declared.operation.Arithmetic.TheVariants as which
 use Rattle.isl_mid.specs.declared.operation.Comparison.TheVariants.{LessUnsigned, Different}
-use Rattle.isl_mid.specs.Words.{sum32, shift_left, shift_right}
+use Rattle.isl_mid.specs.Words.{sum32, shift_left, shift_right, address}
 use Rattle.isl_mid.specs.Arena.{Arena, word_at, with_word}
 use Rattle.isl_mid.specs.MidCode.{MidStep, return_word, code_of}
 use Rattle.isl_mid.specs.State.{Registers, State, Outcome, returns, ends, register, first_registers}
@@ -100,7 +100,7 @@ header_without_kind count = omega arith
 four_times_count : (count : ℕ) → count < 2 ^ 29 → shift_left count 2 ≡ 4 * count
 four_times_count count h = omega arith
 
-module _ (names : List (List ℕ)) (program : ProgramRows) (places : Places) (z : meaning.State) (y : State) (r : Represents names program places z y) (procedures : List MidProcedure) (below : Task → State → Outcome) where
+module _ (names : List (List ℕ)) (program : ProgramRows) (places : Places) (z : meaning.State) (y : State) (r : Represents names program places z y) where
   -- an instance stands in the heap or beside the code, so its word and the number of its slots are not large
   pub instance_low :
       (v : Value) (w c : ℕ) (values : List (Option Value)) (mark : Value) → ObjectFound names program places z y r v w (instance c values mark)
@@ -117,6 +117,7 @@ module _ (names : List (List ℕ)) (program : ProgramRows) (places : Places) (z 
   no_value_unbound nil w e = let is : 3 ≡ w = cc e in rw (← is) refl
   no_value_unbound (object i) w e = let low = object_low names program places z y r i w e in grind (arith, nat_tests)
 
+module _ (names : List (List ℕ)) (program : ProgramRows) (places : Places) (z : meaning.State) (y : State) (r : Represents names program places z y) (procedures : List MidProcedure) (below : Task → State → Outcome) where
   -- an instance and a place of its slots, with which the code behind goes on, or a condition: it costs 170 to find them
   pub slot_needed :
       (n budget k of at w x : ℕ) (v place : Value) (next : ℕ × List (Option Value) × Value → ℕ → Answer) (rest : List MidStep) (rs : Registers)
@@ -146,7 +147,7 @@ module _ (names : List (List ℕ)) (program : ProgramRows) (places : Places) (z 
           → Run names program places z y procedures below n budget (an_index m (length values) z (λ j. next (c, values, mark) j)) (code_of (counting of indexing))
           (place_registers w x (length values) rs) (place_paid k)
       counted c values mark m it range word =
-          let low = instance_low v w c values mark it in
+          let low = instance_low names program places z y r v w c values mark it in
           let count : ℕ = length values in
           let place_there : Scratched rs (place_registers w x count rs) = place_scratched w x count rs size in
           let first : Scratched rs (slice_set (place_registers w x count rs) 7 (Some (instance_header count))) = scratched_seven _ _ _ place_there in
@@ -165,3 +166,187 @@ module _ (names : List (List ℕ)) (program : ProgramRows) (places : Places) (z 
           (slot_registers w x count rs) last.size (last.others at (omega arith) ∙ at_held ∙ ap (λ u. Some u) word)
           (register_here _ 7 (4 * count) (omega (arith, (scratched_six _ _ (Some 2) second).size))) range (omega (arith, low)) (omega (arith, cost))
           (λ j inside at_place. more c values mark j it inside (word ∙ at_place)))))))
+
+-- ---- slots one by one
+
+pub slot_count_does : IsPrimitive SlotCount (procedure_of SlotCount)
+slot_count_does = does_one SlotCount refl (λ v w names program places z y procedures below n r are units.
+    instance_needed names program places z y r procedures below n 0 w standard_object_class v (first_registers 8 (w ∷ [])) (omega arith) refl refl are.0 (omega arith)
+    (y.cost + 130 + 244 * 1) y.cost (λ i. result (integer (pos (length i.1))) z)
+    (steps.load 5 0 (negsuc 1) ∷ steps.compute_by 5 which.ShiftRight 5 4 ++ steps.compute_by 5 which.ShiftLeft 5 2 ++ return_word 5 ∷ []) (omega arith)
+    (λ c values mark found.
+    let it = object_found names program places z y r v w (instance c values mark) are.0 found in
+    let low = instance_low names program places z y r v w c values mark it in
+    goes_on names program places z y procedures below
+    (load_falls refl (address_below w 1 it.spot.address it.word (omega (arith, low))) it.stands.header)
+    (goes_on names program places z y procedures below constant_falls
+    (goes_on names program places z y procedures below (compute_known refl refl (header_without_kind (length values)))
+    (goes_on names program places z y procedures below constant_falls
+    (goes_on names program places z y procedures below (compute_known refl refl (four_times_count (length values) (omega (arith, low))))
+    (returns_value names program places z y procedures below r refl (length_word_is places (length values) (omega (arith, low))) (alike_self z) (omega arith))))))))
+
+-- the word of a slot, eight behind the address of the instance and six behind its word
+slot_address : (w x address j : ℕ) → w ≡ address + 2 → x ≡ 4 * j → w + x < 2 ^ 31 → sum32 w x ≡ w + x
+slot_address w x address j e f h = omega arith
+
+module _
+    (names : List (List ℕ)) (program : ProgramRows) (places : Places) (z : meaning.State) (y : State) (r : Represents names program places z y)
+    (w x c : ℕ) (v : Value) (values : List (Option Value)) (mark : Value) (j : ℕ)
+    (it : ObjectFound names program places z y r v w (instance c values mark)) (inside : j < length values) (place : x ≡ 4 * j)
+    where
+  low : w + 4 * length values + 8 < 2 ^ 27
+  low = instance_low names program places z y r v w c values mark it
+
+  -- the address of the slot's word, as it is computed
+  pub slot_sum : sum32 w x ≡ w + x
+  slot_sum = omega (arith, low)
+
+  pub slot_word_address : address (w + x) (pos 6) ≡ it.spot.address + 8 + 4 * j
+  slot_word_address = address_above (w + x) 6 (it.spot.address + 8 + 4 * j) (omega (arith, it.word)) (omega (arith, it.word, low))
+
+  -- what the slot has
+  pub data SlotHolds : Type 0 where
+    no_value : slice_get values j ≡ Some None → word_at y.arena (it.spot.address + 8 + 4 * j) ≡ Some unbound_word → SlotHolds
+    a_value :
+        (u : Value) (word : ℕ) → slice_get values j ≡ Some (Some u) → word_of places u ≡ Some word → word_at y.arena (it.spot.address + 8 + 4 * j) ≡ Some word
+        → SlotHolds
+
+  pub slot_holds : SlotHolds
+  slot_holds = by (slice_index_or values j None) (slice_get-get_or values j None inside) (it.stands.values_there j inside)
+    where
+      by : (o : Option Value) → slice_get values j ≡ Some o → SlotAt places y.arena (it.spot.address + 8 + 4 * j) o → SlotHolds
+      by None got at = no_value got at
+      by (Some u) got at = a_value u at.word got at.of_value at.stands
+
+-- the lines behind the test of a place
+abbrev taking : List MidStep
+taking =
+    steps.compute 5 which.Add 0 1 ∷ steps.load 5 5 (pos 6) ∷ steps.constant 6 unbound_word
+    ∷ steps.either (steps.comparing Different 5 6) [] (steps.signal (pos (class_address program_error_class))) ∷ return_word 5 ∷ []
+
+abbrev telling : List MidStep
+telling =
+    steps.compute 5 which.Add 0 1 ∷ steps.load 4 5 (pos 6) ∷ steps.constant 6 unbound_word ∷ saying (steps.comparing Different 4 6)
+
+abbrev setting : List MidStep
+setting = steps.compute 5 which.Add 1 2 ∷ steps.store 0 5 (pos 6) ∷ return_word 0 ∷ []
+
+-- registers where the address of the slot was computed, or the slot's word
+abbrev summed : (w x count : ℕ) → Registers
+summed w x count = slice_set (slot_registers w x count (first_registers 8 (w ∷ x ∷ []))) 5 (Some (w + x))
+
+module _
+    (names : List (List ℕ)) (program : ProgramRows) (places : Places) (z : meaning.State) (y : State) (r : Represents names program places z y)
+    (w x c : ℕ) (v : Value) (values : List (Option Value)) (mark : Value) (j : ℕ)
+    (it : ObjectFound names program places z y r v w (instance c values mark)) (inside : j < length values) (place : x ≡ 4 * j)
+    (procedures : List MidProcedure) (below : Task → State → Outcome) (n budget k : ℕ)
+    where
+  taken :
+      SlotHolds names program places z y r w x c v values mark j it inside place → k + 250 ≤ budget
+      → Run names program places z y procedures below n budget (slot_value (slice_get values j) z)
+      (code_of (steps.load 5 5 (pos 6) ∷ steps.constant 6 unbound_word
+      ∷ steps.either (steps.comparing Different 5 6) [] (steps.signal (pos (class_address program_error_class))) ∷ return_word 5 ∷ []))
+      (summed w x (length values)) k
+  taken (no_value got at) cost =
+      rw got
+      (goes_on names program places z y procedures below (load_falls refl (slot_word_address names program places z y r w x c v values mark j it inside place) at)
+      (goes_on names program places z y procedures below constant_falls
+      (second_answers names program places z y procedures below refl refl refl
+      (signal_run names program places z y r procedures below n budget _ program_error_class z _ refl of_program (alike_self z) (omega (arith, cost))))))
+  taken (a_value u word got is at) cost =
+      rw got
+      (goes_on names program places z y procedures below (load_falls refl (slot_word_address names program places z y r w x c v values mark j it inside place) at)
+      (goes_on names program places z y procedures below constant_falls
+      (test_passes names program places z y procedures below refl refl (ap not (no_value_unbound names program places z y r u word is))
+      (returns_value names program places z y procedures below r refl is (alike_self z) (omega (arith, cost))))))
+
+  told :
+      SlotHolds names program places z y r w x c v values mark j it inside place → k + 250 ≤ budget
+      → Run names program places z y procedures below n budget (says (has_value (slice_get values j)) z)
+      (code_of (steps.load 4 5 (pos 6) ∷ steps.constant 6 unbound_word ∷ saying (steps.comparing Different 4 6))) (summed w x (length values)) k
+  told (no_value got at) cost =
+      rw got
+      (goes_on names program places z y procedures below (load_falls refl (slot_word_address names program places z y r w x c v values mark j it inside place) at)
+      (goes_on names program places z y procedures below constant_falls
+      (says_run names program places z y r procedures below n budget _ unbound_word unbound_word false (steps.comparing Different 4 6) z _ refl
+      (λ e. omega arith) (λ e. omega arith) refl refl refl (alike_self z) (omega (arith, cost)))))
+  told (a_value u word got is at) cost =
+      rw got
+      (goes_on names program places z y procedures below (load_falls refl (slot_word_address names program places z y r w x c v values mark j it inside place) at)
+      (goes_on names program places z y procedures below constant_falls
+      (says_run names program places z y r procedures below n budget _ word unbound_word true (steps.comparing Different 4 6) z _ refl
+      (λ e. omega arith) (λ e. omega arith) refl refl (ap not (no_value_unbound names program places z y r u word is)) (alike_self z) (omega (arith, cost)))))
+
+pub slot_ref_does : IsPrimitive SlotRef (procedure_of SlotRef)
+slot_ref_does = does_two SlotRef refl (λ v u w x names program places z y procedures below n r are units.
+    slot_needed names program places z y r procedures below n (y.cost + 130 + 244 * 2) y.cost 0 1 w x v u (λ i at. slot_value (slice_get i.1 at) z)
+    taking (first_registers 8 (w ∷ x ∷ [])) (omega arith) (omega arith) refl refl refl are.0 are.1.0 (omega arith)
+    (λ c values mark j it inside place.
+    goes_on names program places z y procedures below (compute_known refl refl (slot_sum names program places z y r w x c v values mark j it inside place))
+    (taken names program places z y r w x c v values mark j it inside place procedures below n _ _
+    (slot_holds names program places z y r w x c v values mark j it inside place) (omega arith))))
+
+pub slot_bound_does : IsPrimitive SlotBound (procedure_of SlotBound)
+slot_bound_does = does_two SlotBound refl (λ v u w x names program places z y procedures below n r are units.
+    slot_needed names program places z y r procedures below n (y.cost + 130 + 244 * 2) y.cost 0 1 w x v u (λ i at. says (has_value (slice_get i.1 at)) z)
+    telling (first_registers 8 (w ∷ x ∷ [])) (omega arith) (omega arith) refl refl refl are.0 are.1.0 (omega arith)
+    (λ c values mark j it inside place.
+    goes_on names program places z y procedures below (compute_known refl refl (slot_sum names program places z y r w x c v values mark j it inside place))
+    (told names program places z y r w x c v values mark j it inside place procedures below n _ _
+    (slot_holds names program places z y r w x c v values mark j it inside place) (omega arith))))
+
+-- an instance in whose spot one slot was set
+pub instance_set :
+    (names : List (List ℕ)) (program : ProgramRows) (places : Places) (a : Arena) (s : Spot) (c : ℕ) (values : List (Option Value)) (mark : Value) (i w : ℕ) (v : Value)
+    → ArenaStands a → SpotStands a s → i < length values → word_of places v ≡ Some w → InstanceAt names program places a s c values mark
+    → InstanceAt names program places (with_word (s.address + 4 * (2 + i)) w a) s c (slice_set values i (Some v)) mark
+instance_set names program places a s c values mark i w v arena stands low word t =
+    record {
+      size = record { words = t.size.words ∙ ap (instance_words program c) (sym same); tag = t.size.tag };
+      count = same ∙ t.count;
+      header = elsewhere s.address (λ e. omega arith) ∙ t.header ∙ ap (λ n. Some (instance_header n)) (sym same);
+      class = record { word = t.class.word; of_value = t.class.of_value; stands = elsewhere (s.address + 4) (λ e. omega arith) ∙ t.class.stands };
+      values_there = λ j h. ⊎_elim (here j) (beside j (omega (arith, same))) (cases_eq j i);
+      mark = λ e. mark_there (t.mark e);
+    }
+  where
+    same : length (slice_set values i (Some v)) ≡ length values
+    same = length-set values i (Some v)
+
+    elsewhere : (x : ℕ) → s.address + 4 * (2 + i) ≢ x → word_at (with_word (s.address + 4 * (2 + i)) w a) x ≡ word_at a x
+    elsewhere x other = word_elsewhere a (s.address + 4 * (2 + i)) w x (omega (arith, stands.aligned)) (grind (arith, nat_tests))
+
+    mark_there : ValueAt places a (s.address + 8 + 4 * length values) mark
+        → ValueAt places (with_word (s.address + 4 * (2 + i)) w a) (s.address + 8 + 4 * length (slice_set values i (Some v))) mark
+    mark_there at = record {
+      word = at.word;
+      of_value = at.of_value;
+      stands = elsewhere (s.address + 8 + 4 * length (slice_set values i (Some v))) (λ e. omega (arith, same)) ∙ ap (λ n. word_at a (s.address + 8 + 4 * n)) same ∙ at.stands;
+    }
+
+    here : (j : ℕ) → j ≡ i → SlotAt places (with_word (s.address + 4 * (2 + i)) w a) (s.address + 8 + 4 * j) (slice_index_or (slice_set values i (Some v)) j None)
+    here j e =
+        let is : slice_index_or (slice_set values i (Some v)) j None ≡ Some v =
+          ap (λ k. slice_index_or (slice_set values i (Some v)) k None) e ∙ get_or-set_same values i (Some v) None low
+        in
+        rw is (record {
+          word = w;
+          of_value = word;
+          stands =
+              ap (word_at (with_word (s.address + 4 * (2 + i)) w a)) (omega arith)
+              ∙ stored_in_spot (2 + i) w arena stands (omega (arith, t.size.words, words_at_least program c (length values)));
+        })
+
+    beside :
+        (j : ℕ) → j < length values → j ≢ i
+        → SlotAt places (with_word (s.address + 4 * (2 + i)) w a) (s.address + 8 + 4 * j) (slice_index_or (slice_set values i (Some v)) j None)
+    beside j h other =
+        rw (get_or-set_other values i j (Some v) None other) (moved (slice_index_or values j None) (t.values_there j h))
+      where
+        moved : (o : Option Value) → SlotAt places a (s.address + 8 + 4 * j) o → SlotAt places (with_word (s.address + 4 * (2 + i)) w a) (s.address + 8 + 4 * j) o
+        moved None at = elsewhere (s.address + 8 + 4 * j) (λ e. other (omega arith)) ∙ at
+        moved (Some u) at = record {
+          word = at.word;
+          of_value = at.of_value;
+          stands = elsewhere (s.address + 8 + 4 * j) (λ e. other (omega arith)) ∙ at.stands;
+        }
