@@ -28,4 +28,6 @@ pub mod Division
 pub mod Needing
 pub mod Arrays
 pub mod Slots
+pub mod ClassesThere
+pub mod SlotRows
 pub mod VectorElements

@@ -94,10 +94,10 @@ need_slot of at rest =
     ++ steps.need_tag at 0 (pos (class_address integer_class))
     ++ counting of (steps.either (steps.comparing LessUnsigned at 7) [] (steps.signal (pos (class_address program_error_class))) ∷ rest)
 
-header_without_kind : (count : ℕ) → shift_right (instance_header count) 4 ≡ count
+pub header_without_kind : (count : ℕ) → shift_right (instance_header count) 4 ≡ count
 header_without_kind count = omega arith
 
-four_times_count : (count : ℕ) → count < 2 ^ 29 → shift_left count 2 ≡ 4 * count
+pub four_times_count : (count : ℕ) → count < 2 ^ 29 → shift_left count 2 ≡ 4 * count
 four_times_count count h = omega arith
 
 module _ (names : List (List ℕ)) (program : ProgramRows) (places : Places) (z : meaning.State) (y : State) (r : Represents names program places z y) where

@@ -1,0 +1,134 @@
+-- What the class of an instance says of a slot, and the mark of a condition: the code does what the meaning says of them.
+use Rattle.std.proofs.Common.{◌≡◌, ℕ, suc, ◌+◌, ◌-◌, ◌*◌, ◌%◌, ◌^◌, ◌<◌, ◌≤◌, pos, Bool, true, false, List, [], ◌∷◌, ◌++◌, length, Option, Some, None, refl, sym, ap, ◌∙◌, arith}
+use Rattle.std.specs.Prelude.{ℤ, negsuc, ◌==◌, not, nat_le, slice_get, slice_set, slice_index_or, if◌then◌else◌}
+use Rattle.isl_meaning.specs.declared.program.ProgramRows.{ProgramRows}
+use Rattle.isl_meaning.specs.declared.program.SlotRow.{SlotRow}
+use Rattle.isl_meaning.specs.declared.primitive.Primitive.TheVariants.{SlotInitargs, SlotInitform, Continuable}
+use Rattle.isl_meaning.specs.Values.{Value, integer, character, symbol, nil, object, t, truth, same}
+use Rattle.isl_meaning.specs.Objects.{Object, cons, string, vector, instance, function, closure, generic_function, class_object, input_stream, output_stream, fresh_symbol, serious_condition_class}
+use Rattle.isl_meaning.specs.State as meaning
+use Rattle.isl_meaning.specs.Classes.{fetch, class_of, class_of_object, precedence, slots, is_below, is_condition}
+use Rattle.isl_meaning.specs.Layout.{class_value, initargs_value, initform_value}
+use Rattle.isl_meaning.specs.Primitives.{Answer, result, domain_error, needs, an_instance, as_instance, a_slot, primitive}
+use Rattle.isl_mid.specs.declared.program.MidProcedure.{MidProcedure}
+use Rattle.isl_mid.specs.declared.operation.Arithmetic.TheVariants as which
+use Rattle.isl_mid.specs.declared.operation.Comparison.TheVariants.{Different}
+use Rattle.isl_mid.specs.Words.{sum32, product32, address}
+use Rattle.isl_mid.specs.MidCode.{MidStep, return_word, code_of}
+use Rattle.isl_mid.specs.State.{Registers, State, Outcome, register, first_registers}
+use Rattle.isl_mid.specs.Meaning.{Task}
+use Rattle.isl_arena.specs.Tags.{nil_word, instance_header}
+use Rattle.isl_arena.specs.Places.{Spot, Places, word_of}
+use Rattle.isl_arena.specs.Standing.{ValueAt}
+use Rattle.isl_arena.specs.FixedWords.{class_address}
+use Rattle.isl_arena.specs.Layouts.{SlotRowAt}
+use Rattle.isl_arena.specs.Represents.{Represents}
+use Rattle.isl_arena.specs.Answers.{IsPrimitive}
+use Rattle.isl_arena.specs.Codes.{procedure_of}
+use Rattle.isl_arena.specs.Steps as steps
+use Rattle.isl_arena.proofs.Running.{load_falls, constant_falls, compute_known, address_above, address_below}
+use Rattle.isl_arena.proofs.Growing.{spot_below}
+use Rattle.isl_arena.proofs.Arguments.{ObjectFound, object_found, item_there}
+use Rattle.isl_arena.proofs.Telling.{nil_told}
+use Rattle.isl_arena.proofs.BuiltInFacts.{no_condition_class}
+use Rattle.isl_arena.proofs.Doing.{alike_self, Run, goes_on, returns_value, test_passes, second_answers}
+use Rattle.isl_arena.proofs.Conditions.{domain_error_run}
+use Rattle.isl_arena.proofs.Checking.{instance_registers}
+use Rattle.isl_arena.proofs.Needing.{instance_needed}
+use Rattle.isl_arena.proofs.Arrays.{does_one, does_two}
+use Rattle.isl_arena.proofs.ClassesThere.{ClassesThere}
+use Rattle.isl_arena.proofs.Slots.{counting, slot_registers, slot_needed, instance_low, header_without_kind, four_times_count}
+
+-- in each state that is represented the classes are there
+abbrev pub ClassesAreThere : Type 0
+ClassesAreThere =
+    (names : List (List ℕ)) (program : ProgramRows) (places : Places) (z : meaning.State) (y : State)
+    → Represents names program places z y → ClassesThere names program z
+
+module _ (names : List (List ℕ)) (program : ProgramRows) (places : Places) (z : meaning.State) (y : State) (r : Represents names program places z y) (classes : ClassesThere names program z) where
+  -- the class of an instance
+  pub class_found :
+      (v : Value) (w c : ℕ) (values : List (Option Value)) (mark : Value) (it : ObjectFound names program places z y r v w (instance c values mark))
+      → ObjectFound names program places z y r (class_value names program c) it.stands.class.word (class_object c)
+  class_found v w c values mark it =
+      object_found names program places z y r (class_value names program c) it.stands.class.word (class_object c) it.stands.class.of_value
+      (classes.objects c (classes.instances it.number c values mark it.stored))
+
+  -- it stands in the heap or beside the code
+  pub class_low :
+      (v : Value) (w c : ℕ) → ObjectFound names program places z y r v w (class_object c)
+      → w + 28 + 4 * length (precedence program c) + 12 * length (slots program c) < 2 ^ 27
+  class_low v w c it =
+      let high = spot_below y.arena it.spot r.arena it.spot_stands in
+      omega (arith, it.word, it.stands.size.words, high, r.arena.room, r.arena.size)
+
+-- the lines behind the test of a place: so far behind the word of the class, behind four times the classes above and twelve times the place
+abbrev rows_of : (offset : ℕ) → List MidStep
+rows_of offset =
+    steps.load 4 0 (pos 2) ∷ steps.load 5 4 (pos 18) ∷ steps.compute 4 which.Add 4 5 ∷ steps.compute_by 5 which.Multiply 1 3
+    ++ steps.compute 4 which.Add 4 5 ∷ steps.load 5 4 (pos offset) ∷ return_word 5 ∷ []
+
+module _
+    (names : List (List ℕ)) (program : ProgramRows) (places : Places) (z : meaning.State) (y : State) (r : Represents names program places z y)
+    (classes : ClassesThere names program z) (w x c : ℕ) (v : Value) (values : List (Option Value)) (mark : Value) (j : ℕ)
+    (it : ObjectFound names program places z y r v w (instance c values mark)) (inside : j < length values) (place : x ≡ 4 * j)
+    where
+  -- the row of the slot
+  row_there : (row : SlotRow) × (slice_get (slots program c) j ≡ Some row)
+  row_there = item_there (slots program c) j (omega (arith, inside, it.stands.count))
+
+  of_class : ObjectFound names program places z y r (class_value names program c) it.stands.class.word (class_object c)
+  of_class = class_found names program places z y r classes v w c values mark it
+
+  -- the address of its three words
+  abbrev row_address : ℕ
+  row_address = of_class.spot.address + 28 + 4 * length (precedence program c) + 12 * j
+
+  row_stands : SlotRowAt names program places y.arena row_address c j row_there.0
+  row_stands = of_class.stands.rows j row_there.0 row_there.1
+
+  row_run :
+      (extra : ℕ) (u : Value) (procedures : List MidProcedure) (below : Task → State → Outcome) (n budget k : ℕ) → extra < 9
+      → ValueAt places y.arena (row_address + extra) u → k + 80 ≤ budget
+      → Run names program places z y procedures below n budget (result u z) (code_of (rows_of (26 + extra)))
+      (slot_registers w x (length values) (first_registers 8 (w ∷ x ∷ []))) k
+  row_run extra u procedures below n budget k small at cost =
+      let low = instance_low names program places z y r v w c values mark it in
+      let high = class_low names program places z y r classes (class_value names program c) it.stands.class.word c of_class in
+      let class_word : ℕ = it.stands.class.word in
+      let above : ℕ = 4 * length (precedence program c) in
+      let is_word : class_word ≡ of_class.spot.address + 2 = of_class.word in
+      let inner : j < length (slots program c) = omega (arith, inside, it.stands.count) in
+      goes_on names program places z y procedures below
+      (load_falls refl (address_above w 2 (it.spot.address + 4) (omega (arith, it.word)) (omega (arith, it.word, low))) it.stands.class.stands)
+      (goes_on names program places z y procedures below
+      (load_falls refl (address_above class_word 18 (of_class.spot.address + 20) (omega (arith, is_word)) (omega (arith, is_word, high))) of_class.stands.above)
+      (goes_on names program places z y procedures below
+      (compute_known refl refl (let sum : sum32 class_word above ≡ class_word + above = omega (arith, high) in sum))
+      (goes_on names program places z y procedures below constant_falls
+      (goes_on names program places z y procedures below
+      (compute_known refl refl (let product : product32 x 3 ≡ 12 * j = omega (arith, place, inner, high) in product))
+      (goes_on names program places z y procedures below
+      (compute_known refl refl (let sum : sum32 (class_word + above) (12 * j) ≡ class_word + above + 12 * j = omega (arith, high, inner) in sum))
+      (goes_on names program places z y procedures below
+      (load_falls refl
+      (address_above (class_word + above + 12 * j) (26 + extra) (row_address + extra) (omega (arith, is_word)) (omega (arith, is_word, high, inner, small))) at.stands)
+      (returns_value names program places z y procedures below r refl at.of_value (alike_self z) (omega (arith, cost)))))))))
+
+pub slot_initargs_does : ClassesAreThere → IsPrimitive SlotInitargs (procedure_of SlotInitargs)
+slot_initargs_does there = does_two SlotInitargs refl (λ v u w x names program places z y procedures below n r are units.
+    slot_needed names program places z y r procedures below n (y.cost + 130 + 244 * 2) y.cost 0 1 w x v u (λ i at. result (initargs_value names program i.0 at) z)
+    (rows_of 30) (first_registers 8 (w ∷ x ∷ [])) (omega arith) (omega arith) refl refl refl are.0 are.1.0 (omega arith)
+    (λ c values mark j it inside place.
+    row_run names program places z y r (there names program places z y r) w x c v values mark j it inside place 4 (initargs_value names program c j)
+    procedures below n _ _ (omega arith)
+    (row_stands names program places z y r (there names program places z y r) w x c v values mark j it inside place).initargs (omega arith)))
+
+pub slot_initform_does : ClassesAreThere → IsPrimitive SlotInitform (procedure_of SlotInitform)
+slot_initform_does there = does_two SlotInitform refl (λ v u w x names program places z y procedures below n r are units.
+    slot_needed names program places z y r procedures below n (y.cost + 130 + 244 * 2) y.cost 0 1 w x v u (λ i at. result (initform_value names program i.0 at) z)
+    (rows_of 34) (first_registers 8 (w ∷ x ∷ [])) (omega arith) (omega arith) refl refl refl are.0 are.1.0 (omega arith)
+    (λ c values mark j it inside place.
+    row_run names program places z y r (there names program places z y r) w x c v values mark j it inside place 8 (initform_value names program c j)
+    procedures below n _ _ (omega arith)
+    (row_stands names program places z y r (there names program places z y r) w x c v values mark j it inside place).initform (omega arith)))
