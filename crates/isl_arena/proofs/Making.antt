@@ -12,7 +12,7 @@ use Rattle.isl_meaning.specs.Objects.{Object, instance, serious_condition_class}
 use Rattle.isl_meaning.specs.State as meaning
 use Rattle.isl_meaning.specs.Classes.{slots, is_below}
 use Rattle.isl_meaning.specs.Layout.{class_value}
-use Rattle.isl_meaning.specs.Primitives.{instance_words}
+use Rattle.isl_meaning.specs.Primitives.{Answer, instance_words}
 use Rattle.isl_mid.specs.Arena.{Arena, left, is_lent, word_at, with_word, with_heap}
 use Rattle.isl_mid.specs.State.{Registers, State, Outcome, returns, no_room, ends}
 use Rattle.isl_arena.specs.Tags.{nil_word, instance_header, object_tag, signal_word}
@@ -21,12 +21,12 @@ use Rattle.isl_arena.specs.Standing.{ArenaStands, SpotStands, ValueAt, SlotAt}
 use Rattle.isl_arena.specs.FixedWords.{class_address, pending_address}
 use Rattle.isl_arena.specs.Layouts.{ObjectAt, InstanceAt}
 use Rattle.isl_arena.specs.Represents.{Represents}
-use Rattle.isl_arena.specs.Answers.{Enlarged, Returned, Pending, Signalled, RoomWanting, new_spot}
+use Rattle.isl_arena.specs.Answers.{Enlarged, Returned, Pending, Signalled, RoomWanting, no_words, words_asked, units_after, new_spot}
 use Rattle.isl_arena.proofs.Memory.{Facts, heap_below, in_spot_lent, in_spot_there, word_here, word_elsewhere, stands_with_word, stands_with_heap, facts_with_heap, with_words, facts_with_words, words_stand}
 use Rattle.isl_arena.proofs.Keeping.{same_word, words_extended, words_of_condition, words_at_least, extends_one}
 use Rattle.isl_arena.proofs.Representing.{Grows, grows_same, Changes, spot_below, spot_grown, fixed_spot, fixed_stands, represents_same, represents_grown, represents_made, represents_fixed, new_spot_found, kept_both, kept_same, kept_made, kept_grown, kept_fixed}
 use Rattle.isl_arena.proofs.FixedChanges.{one_word, represents_pending, word_of_fixed}
-use Rattle.isl_arena.proofs.Doing.{Alike, paid}
+use Rattle.isl_arena.proofs.Doing.{Alike, Answers, paid}
 
 -- ---- arenas
 
@@ -163,6 +163,16 @@ module _ (names : List (List ℕ)) (program : ProgramRows) (places : Places) (z 
     together = omega (arith, lacking);
     represents = represents_grown names program places z y r (paid y k) (grows_same y.arena r.arena) refl refl;
     kept = kept_grown names program places z y r y.arena (grows_same y.arena r.arena);
+  }
+
+  -- so a run that ends with it answers
+  pub answers_wanting :
+      {budget : ℕ} {answer : Answer} (asked : ℕ) (rs : Registers) (k : ℕ) → left y.arena < asked → asked ≡ words_asked names program answer
+      → k + 250 * z.units ≤ budget + 250 * units_after names program answer
+      → Answers names program places z y budget answer (ends (no_room asked (left y.arena)) rs (paid y k))
+  answers_wanting asked rs k lacking same cost = record {
+    comes = no_words (subst (λ n. RoomWanting names program places z y 0 n (ends (no_room asked (left y.arena)) rs (paid y k))) same (room_wanting asked rs k lacking));
+    cost = cost;
   }
 
   -- a new object, at the end of the heap, in an arena that grew by its words
