@@ -23,3 +23,4 @@ pub mod Leaving
 pub mod Entering
 pub mod Checking
 pub mod Needing
+pub mod NeedingSymbols
