@@ -24,3 +24,5 @@ pub mod Entering
 pub mod Checking
 pub mod Needing
 pub mod NeedingSymbols
+pub mod Arrays
+pub mod VectorElements
