@@ -3,7 +3,7 @@ use Rattle.std.proofs.Common.{◌≡◌, ℕ, zero, suc, ◌+◌, ◌-◌, ◌*�
 use Rattle.std.specs.Prelude.{negsuc, ◌==◌, ◌||◌, not, nat_lt, slice_set}
 use Rattle.std.proofs.lemmas.Bool.Decides.{nat_tests}
 use Rattle.isl_meaning.specs.declared.program.ProgramRows.{ProgramRows}
-use Rattle.isl_meaning.specs.Values.{Value, nil, symbol, named}
+use Rattle.isl_meaning.specs.Values.{Value, integer, character, symbol, nil, object, named}
 use Rattle.isl_meaning.specs.Objects.{symbol_class}
 use Rattle.isl_meaning.specs.State as meaning
 use Rattle.isl_meaning.specs.Primitives.{Answer, domain_error, Spelt, by_name, by_serial, as_symbol, a_symbol}
@@ -21,6 +21,9 @@ use Rattle.isl_arena.specs.Steps as steps
 use Rattle.isl_arena.specs.Steps.{steps_of}
 use Rattle.isl_arena.specs.declared.line.Line.TheVariants as line
 use Rattle.isl_arena.proofs.WordFacts.{two_headers_tested}
+use Rattle.isl_arena.proofs.Memory.{heap_below}
+use Rattle.isl_arena.proofs.Growing.{spot_below}
+use Rattle.isl_arena.proofs.Arguments.{value_tag, tag_told, symbol_there, object_there}
 use Rattle.isl_arena.proofs.Telling.{SymbolTold, nil_found, name_found, serial_found, no_symbol_header, no_symbol_tag, symbol_told}
 use Rattle.isl_arena.proofs.Running.{constant_falls, choose_second_falls}
 use Rattle.isl_arena.proofs.Doing.{Run, goes_on, test_passes, second_answers}
@@ -28,14 +31,14 @@ use Rattle.isl_arena.proofs.Conditions.{EightRegisters, eight, eight_registers}
 use Rattle.isl_arena.proofs.Checking.{Scratched, scratched_six, scratched_seven, not_scratched, six_here, same_size, register_beside, header_registers, header_passes, header_errs, header_errs_by_tag, header_bounded}
 
 -- A symbol that was found, and how it is spelt: nil by its word, one with a name and one without by their headers, behind which the
--- latter has its serial.
+-- latter has its serial. A pointer is far from the end of all words.
 pub data SymbolFound (a : Arena) (v : Value) (w : ℕ) (s : Spelt) : Type 0 where
   is_nil : v ≡ nil → s ≡ by_name nil_text → (w == nil_word) ≡ true → SymbolFound a v w s
   is_named :
-      (name : List ℕ) → v ≡ symbol (named name) → s ≡ by_name name → (w == nil_word) ≡ false → word_at a (w - 2) ≡ Some symbol_header
-      → SymbolFound a v w s
+      (name : List ℕ) → v ≡ symbol (named name) → s ≡ by_name name → (w == nil_word) ≡ false → (w % 4 == 2) ≡ true
+      → word_at a (w - 2) ≡ Some symbol_header → SymbolFound a v w s
   is_fresh :
-      (serial : ℕ) → s ≡ by_serial serial → (w == nil_word) ≡ false → (w % 4 == 2) ≡ true → word_at a (w - 2) ≡ Some fresh_header
+      (serial : ℕ) → s ≡ by_serial serial → (w == nil_word) ≡ false → (w % 4 == 2) ≡ true → w < 2 ^ 27 → word_at a (w - 2) ≡ Some fresh_header
       → word_at a (w + 2) ≡ Some (4 * (serial % 2 ^ 29)) → SymbolFound a v w s
 
 -- eight registers of which the last two were used: the others are as they were
@@ -62,6 +65,24 @@ module _
     (names : List (List ℕ)) (program : ProgramRows) (places : Places) (z : meaning.State) (y : State) (r : Represents names program places z y)
     (procedures : List MidProcedure) (below : Task → State → Outcome)
     where
+  -- the word of what has the tag of objects is the address of a spot, and the tag
+  pointer_small : (v : Value) (w : ℕ) → word_of places v ≡ Some w → (w % 4 == 2) ≡ true → w < 2 ^ 27
+  pointer_small v w e tag =
+      let tag_is : w % 4 ≡ 2 = grind (arith, nat_tests) in
+      by v e (sym (tag_told names program places z y r v w e) ∙ tag_is)
+    where
+      by : (v : Value) → word_of places v ≡ Some w → value_tag z v ≡ 2 → w < 2 ^ 27
+      by (integer n) e h = absurd (omega (arith, h))
+      by (character c) e h = absurd (omega (arith, h))
+      by (symbol s) e h =
+          let there = symbol_there names program places z y r s w e in
+          omega (arith, there.word, spot_below y.arena there.spot r.arena there.spot_stands, heap_below r.arena)
+      by nil e h = absurd (omega (arith, h))
+      by (object i) e h =
+          let there = object_there names program places z y r i w e in
+          omega (arith, there.word, there.tag, there.spot_stands.tag, spot_below y.arena there.spot r.arena there.spot_stands, heap_below r.arena)
+
+  -- the argument is a symbol, with which the code behind goes on, or a domain error
   pub symbol_needed :
       (n budget k of w : ℕ) (v : Value) (next : Spelt → Answer) (rest : List MidStep) (rs : Registers) → of < 3 → length rs ≡ 8 → register of rs ≡ Some w
       → word_of places v ≡ Some w → k + 268 + 250 * z.units ≤ budget + 250 * (z.units + 5)
@@ -108,9 +129,9 @@ module _
           (test_passes names program places z y procedures below still_held (six_here rs nil_word size) same
           (more (by_name nil_text) nil_put (k + 6 + 12 + 2) (is_nil v_is refl same) put_scratched (omega arith))))
       by (name_found name v_is other tag at) =
-          with_header symbol_header (by_name name) (ap (as_symbol z) v_is) other tag at refl (is_named name v_is refl other at)
+          with_header symbol_header (by_name name) (ap (as_symbol z) v_is) other tag at refl (is_named name v_is refl other tag at)
       by (serial_found serial found other tag at behind) =
-          with_header fresh_header (by_serial serial) found other tag at refl (is_fresh serial refl other tag at behind)
+          with_header fresh_header (by_serial serial) found other tag at refl (is_fresh serial refl other tag (pointer_small v w word tag) at behind)
       by (no_symbol_header h none other tag at first second) =
           rw none
           (goes_on names program places z y procedures below constant_falls
