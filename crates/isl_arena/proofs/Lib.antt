@@ -27,3 +27,4 @@ pub mod NeedingSymbols
 pub mod Arrays
 pub mod VectorElements
 pub mod SymbolSerials
+pub mod FreshSymbols
