@@ -28,3 +28,4 @@ pub mod Arrays
 pub mod VectorElements
 pub mod SymbolSerials
 pub mod FreshSymbols
+pub mod CopyingWords
