@@ -26,8 +26,12 @@ pub mod Saying
 pub mod Integers
 pub mod Division
 pub mod Needing
+pub mod NeedingSymbols
 pub mod Arrays
 pub mod Slots
 pub mod ClassesThere
 pub mod SlotRows
 pub mod VectorElements
+pub mod SymbolSerials
+pub mod FreshSymbols
+pub mod CopyingWords
