@@ -31,6 +31,7 @@ pub mod Arrays
 pub mod Slots
 pub mod ClassesThere
 pub mod SlotRows
+pub mod SlotSearch
 pub mod VectorElements
 pub mod SymbolSerials
 pub mod FreshSymbols
