@@ -32,6 +32,7 @@ pub mod Slots
 pub mod ClassesThere
 pub mod SlotRows
 pub mod SlotSearch
+pub mod SlotPlaces
 pub mod VectorElements
 pub mod SymbolSerials
 pub mod FreshSymbols

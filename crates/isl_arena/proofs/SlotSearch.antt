@@ -56,7 +56,7 @@ module _ {X : Type 0} (p : X → Bool) where
   position_later : (x : X) (xs : List X) → p x ≡ false → position_or_len p (x ∷ xs) ≡ suc (position_or_len p xs)
   position_later x xs e = rw e (omega arith)
 
-  position_at_most : (xs : List X) → position_or_len p xs ≤ length xs
+  pub position_at_most : (xs : List X) → position_or_len p xs ≤ length xs
   position_at_most xs = prefix_len-le-length (λ x. not (p x)) xs
 
 -- ---- the loop
@@ -71,7 +71,7 @@ below_is m n h = grind (arith, nat_tests)
 not_below_is : (m n : ℕ) → n ≤ m → nat_lt m n ≡ false
 not_below_is m n h = grind (arith, nat_tests)
 
-sum_is : (a b : ℕ) → a + b < 2 ^ 32 → sum32 a b ≡ a + b
+pub sum_is : (a b : ℕ) → a + b < 2 ^ 32 → sum32 a b ≡ a + b
 sum_is a b h = omega arith
 
 module _ (procedures : List MidProcedure) (below : Task → State → Outcome) (y : State) (x : ℕ) (p : SlotRow → Bool) where
