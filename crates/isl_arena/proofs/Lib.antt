@@ -29,3 +29,4 @@ pub mod VectorElements
 pub mod SymbolSerials
 pub mod FreshSymbols
 pub mod CopyingWords
+pub mod SymbolNames

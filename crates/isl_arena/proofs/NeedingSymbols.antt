@@ -86,7 +86,7 @@ module _
   pub symbol_needed :
       (n budget k of w : ℕ) (v : Value) (next : Spelt → Answer) (rest : List MidStep) (rs : Registers) → of < 3 → length rs ≡ 8 → register of rs ≡ Some w
       → word_of places v ≡ Some w → k + 268 + 250 * z.units ≤ budget + 250 * (z.units + 5)
-      → ((s : Spelt) (rs' : Registers) (k' : ℕ) → SymbolFound y.arena v w s → Scratched rs rs' → k' ≤ k + 100
+      → ((s : Spelt) (rs' : Registers) (k' : ℕ) → as_symbol z v ≡ Some s → SymbolFound y.arena v w s → Scratched rs rs' → k' ≤ k + 100
       → Run names program places z y procedures below n budget (next s) (code_of rest) rs' k')
       → Run names program places z y procedures below n budget (a_symbol v z next) (code_of (steps_of (line.NeedSymbol of) ++ rest)) rs k
   symbol_needed n budget k of w v next rest rs low size held word cost more = by (symbol_told names program places z y r v w word)
@@ -115,7 +115,7 @@ module _
           (choose_second_falls still_held (six_here rs nil_word size) other
           (header_passes names program places z y r procedures below n of w symbol_class v nil_put low put_size still_held word (omega arith) h symbol_header 2 (k + 6 + 12) tag at
           (two_headers_tested h symbol_header (header_bounded names program places z y r procedures below v w h word tag at) (omega arith) ∙ kind)))
-          (more s (header_registers w h symbol_header 2 nil_put) _ it
+          (more s (header_registers w h symbol_header 2 nil_put) _ found it
           (scratched_six _ _ _ (scratched_seven _ _ _ (scratched_six _ _ _ (scratched_seven _ _ _ (scratched_six _ _ _ (scratched_seven _ _ _ (scratched_six _ _ _ put_scratched)))))))
           (omega arith))))
 
@@ -127,7 +127,7 @@ module _
           rw found
           (goes_on names program places z y procedures below constant_falls
           (test_passes names program places z y procedures below still_held (six_here rs nil_word size) same
-          (more (by_name nil_text) nil_put (k + 6 + 12 + 2) (is_nil v_is refl same) put_scratched (omega arith))))
+          (more (by_name nil_text) nil_put (k + 6 + 12 + 2) found (is_nil v_is refl same) put_scratched (omega arith))))
       by (name_found name v_is other tag at) =
           with_header symbol_header (by_name name) (ap (as_symbol z) v_is) other tag at refl (is_named name v_is refl other tag at)
       by (serial_found serial found other tag at behind) =

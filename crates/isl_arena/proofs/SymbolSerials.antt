@@ -85,6 +85,6 @@ pub symbol_serial_does : IsPrimitive SymbolSerial (procedure_of SymbolSerial)
 symbol_serial_does = does_one SymbolSerial refl (λ v w names program places z y procedures below n r are units.
     symbol_needed names program places z y r procedures below n (y.cost + 130 + 244) y.cost 0 w v (λ s. result (serial_of s) z) serial_lines
     (first_registers 8 (w ∷ [])) (omega arith) refl refl are.0 (omega arith)
-    (λ s rs k found scratched paid.
+    (λ s rs k spelt found scratched paid.
     let last = last_two scratched in
     rw last.same (serial_run names program places z y r procedures below n (y.cost + 130 + 244) k w v s last.six last.seven are.0 found (omega (arith, paid)))))
