@@ -29,4 +29,5 @@ pub mod VectorElements
 pub mod SymbolSerials
 pub mod FreshSymbols
 pub mod CopyingWords
+pub mod NewTexts
 pub mod SymbolNames
