@@ -1,25 +1,25 @@
 -- What the word of a value tells of it in a represented state: its tag, and the header to which it points.
 use Rattle.std.proofs.Common.{◌≡◌, ℕ, zero, suc, ◌+◌, ◌-◌, ◌*◌, ◌%◌, ◌^◌, ◌<◌, ◌≤◌, ℤ, pos, Bool, true, false, List, [], ◌∷◌, length, Option, Some, None, refl, sym, ap, ◌∙◌, arith}
-use Rattle.std.specs.Prelude.{negsuc, ◌*ℤ◌, ◌==◌, ◌||◌, nat_le, is_some, slice_get, if◌then◌else◌}
+use Rattle.std.specs.Prelude.{negsuc, ◌*ℤ◌, nat_le, slice_get, if◌then◌else◌}
 use Rattle.std.proofs.lemmas.Bool.Decides.{nat_tests}
 use Rattle.std.proofs.lemmas.Int.{ints}
 use Rattle.isl_meaning.specs.declared.program.ProgramRows.{ProgramRows}
-use Rattle.isl_meaning.specs.Values.{SymbolValue, named, unnamed, Value, integer, character, symbol, nil, object, in_range}
-use Rattle.isl_meaning.specs.Objects.{Object, cons, string, vector, instance, function, closure, generic_function, class_object, input_stream, output_stream, fresh_symbol}
+use Rattle.isl_meaning.specs.Values.{SymbolValue, Value, integer, character, symbol, nil, object, in_range}
+use Rattle.isl_meaning.specs.Objects.{Object, cons}
 use Rattle.isl_meaning.specs.State as meaning
 use Rattle.isl_meaning.specs.Classes.{fetch}
-use Rattle.isl_meaning.specs.Primitives.{as_integer, as_character, as_cons, as_string, as_vector, as_class, as_instance, as_stream, as_symbol, Spelt, by_name, by_serial, is_function, is_generic}
 use Rattle.isl_mid.specs.Words.{low_word}
-use Rattle.isl_mid.specs.Arena.{Arena, word_at}
+use Rattle.isl_mid.specs.Arena.{word_at}
 use Rattle.isl_mid.specs.State.{State}
 use Rattle.isl_mid.proofs.WordBounds.{low_word_bounded}
-use Rattle.isl_arena.specs.Tags.{cons_tag, object_tag, integer_word, nil_word, character_word, string_header, vector_header, class_header, input_header, output_header, function_header, generic_header, symbol_header, fresh_header, tag_of}
-use Rattle.isl_arena.specs.Places.{Spot, end_of, pointer_to, Places, Owner, of_object, of_symbol, spot_of, word_of}
+use Rattle.isl_arena.specs.Tags.{object_tag, integer_word, nil_word, character_word, tag_of}
+use Rattle.isl_arena.specs.Places.{Spot, Places, of_object, of_symbol, spot_of, word_of}
 use Rattle.isl_arena.specs.Standing.{SpotStands}
 use Rattle.isl_arena.specs.Layouts.{ObjectAt, SymbolAt}
 use Rattle.isl_arena.specs.Represents.{Represents}
-use Rattle.isl_arena.proofs.Keeping.{Pointer, pointer_tells, header_of, header_of_symbol, symbol_tag, header_at_symbol, object_tag_is, header_at_object}
-use Rattle.isl_arena.proofs.Representing.{spot_below, object_within}
+use Rattle.isl_arena.proofs.Keeping.{pointer_tells, header_of, header_of_symbol, symbol_tag, header_at_symbol, object_tag_is, header_at_object}
+use Rattle.isl_arena.proofs.Growing.{spot_below}
+use Rattle.isl_arena.proofs.Owners.{object_within}
 
 -- ---- words of atoms
 
@@ -199,3 +199,26 @@ module _ (names : List (List ℕ)) (program : ProgramRows) (places : Places) (z 
       let there = object_there i w e in
       let below = spot_below y.arena there.spot r.arena there.spot_stands in
       omega (arith, there.word, there.tag, there.spot_stands.tag, below, there.spot_stands.some, r.arena.room, r.arena.size)
+
+  -- the two words behind the word of a cons
+  pub record ConsWords (w : ℕ) (car cdr : Value) : Type 0 where
+    pub car_word : ℕ
+    pub of_car : word_of places car ≡ Some car_word
+    pub car_at : word_at y.arena (w - 1) ≡ Some car_word
+    pub cdr_word : ℕ
+    pub of_cdr : word_of places cdr ≡ Some cdr_word
+    pub cdr_at : word_at y.arena (w + 3) ≡ Some cdr_word
+
+  pub cons_words : (v : Value) (w : ℕ) (car cdr : Value) → word_of places v ≡ Some w → fetch z v ≡ Some (cons car cdr) → ConsWords w car cdr
+  cons_words v w car cdr e f =
+      let it = object_found v w (cons car cdr) e f in
+      let first : w - 1 ≡ it.spot.address = omega (arith, it.word) in
+      let second : w + 3 ≡ it.spot.address + 4 = omega (arith, it.word) in
+      record {
+        car_word = it.stands.car.word;
+        of_car = it.stands.car.of_value;
+        car_at = rw first it.stands.car.stands;
+        cdr_word = it.stands.cdr.word;
+        of_cdr = it.stands.cdr.of_value;
+        cdr_at = rw second it.stands.cdr.stands;
+      }

@@ -1,11 +1,12 @@
 -- Bytes in words: a byte of a text by its number, a text with one byte changed, and one whose bytes are all the same.
-use Rattle.std.proofs.Common.{◌≡◌, ℕ, zero, suc, ◌+◌, ◌-◌, ◌*◌, ◌/◌, ◌%◌, ◌^◌, ◌<◌, ◌≤◌, List, [], ◌∷◌, length, replicate, ⊎_elim, refl, sym, ap, ◌∙◌, arith}
+use Rattle.std.proofs.Common.{◌≡◌, ℕ, zero, suc, ◌+◌, ◌*◌, ◌/◌, ◌%◌, ◌^◌, ◌<◌, ◌≤◌, List, length, replicate, ⊎_elim, refl, sym, ap, ◌∙◌, arith}
 use Rattle.std.specs.Prelude.{slice_set, ◌≢◌}
 use Rattle.std.proofs.Math.ListN.{length-set, length-replicate}
 use Rattle.std.proofs.lemmas.List.{get_or-replicate, get_or-set_same, get_or-set_other, get_or_past}
 use Rattle.std.proofs.lemmas.Bool.{cases_lt, cases_eq}
 use Rattle.isl_mid.specs.Words.{sum32, difference32, product32, shift_left, shift_right}
 use Rattle.isl_arena.proofs.WordFacts.{low_byte_alone}
+use Rattle.isl_arena.specs.Tags.{character_word}
 use Rattle.isl_arena.specs.Layouts.{byte_words, byte_at, packed, AreBytes}
 
 -- ---- bytes of a list
@@ -77,6 +78,7 @@ byte_of_packed bytes i b = from (place_in_word i)
   where
     below : (k : ℕ) → byte_at bytes k < 256
     below k = byte_below bytes k b
+
     from : PlaceInWord i → (packed bytes (4 * (i / 4)) / 256 ^ (i % 4)) % 256 ≡ byte_at bytes i
     from (first e r) = rw r (byte_0 _ _ _ _ (below (4 * (i / 4))) (below (4 * (i / 4) + 1)) (below (4 * (i / 4) + 2)) (below (4 * (i / 4) + 3)) ∙ sym (ap (byte_at bytes) e))
     from (second e r) = rw r (byte_1 _ _ _ _ (below (4 * (i / 4))) (below (4 * (i / 4) + 1)) (below (4 * (i / 4) + 2)) (below (4 * (i / 4) + 3)) ∙ sym (ap (byte_at bytes) e))
@@ -85,37 +87,50 @@ byte_of_packed bytes i b = from (place_in_word i)
 
 -- ---- by code
 
--- The offset of the word with a byte from the first one, where the register w has the index's word 4 i, and the number of bits in front of the byte, of which
--- shifts take the lowest five bits:
---     Constant k 4
---     Compute offset ShiftRight w k
---     Constant k 2
---     Compute offset ShiftLeft offset k
---     Compute shift Add w w
+-- The offset of the word with a byte from the first one, in register 5, and the number of bits in front of the byte in its word, in register 4, where
+-- register 1 has the word of the byte's number:
+--     Constant 6 4
+--     Compute 5 ShiftRight 1 6
+--     Constant 6 2
+--     Compute 5 ShiftLeft 5 6
+--     Constant 6 28
+--     Compute 4 ShiftLeft 1 6
+--     Constant 6 27
+--     Compute 4 ShiftRight 4 6
+-- (`Compute 4 Add 1 1` would serve too, since shifts take the lowest five bits.)
 abbrev pub byte_offset : ℕ → ℕ
 byte_offset w = shift_left (shift_right w 4) 2
 
 abbrev pub byte_shift : ℕ → ℕ
-byte_shift w = sum32 w w
+byte_shift w = shift_right (shift_left w 28) 27
 
--- the byte of a word:
---     Compute byte ShiftRight word shift
---     Constant k 24
---     Compute byte ShiftLeft byte k
---     Compute byte ShiftRight byte k
+-- The byte of a word, in register 5, where the word was there:
+--     Compute 5 ShiftRight 5 4
+--     Constant 6 24
+--     Compute 5 ShiftLeft 5 6
+--     Constant 6 24
+--     Compute 5 ShiftRight 5 6
 abbrev pub byte_in : (word shift : ℕ) → ℕ
 byte_in word shift = shift_right (shift_left (shift_right word shift) 24) 24
 
--- the word with a byte changed:
---     Compute word Subtract new old, and ShiftLeft by shift, and Add to the word
+-- The word of the character, with 16 for the second 24, and
+--     Constant 6 15
+--     Compute 5 Add 5 6
+abbrev pub character_in : (word shift : ℕ) → ℕ
+character_in word shift = sum32 (shift_right (shift_left (shift_right word shift) 24) 16) 15
+
+-- The word with a byte changed: the old byte is taken away where it stands, and the new one is added.
 abbrev pub word_changed : (word old new shift : ℕ) → ℕ
-word_changed word old new shift = sum32 word (shift_left (difference32 new old) shift)
+word_changed word old new shift = sum32 (difference32 word (shift_left old shift)) (shift_left new shift)
 
 pub byte_offset_is : (i : ℕ) → 4 * i < 2 ^ 32 → byte_offset (4 * i) ≡ 4 * (i / 4)
 byte_offset_is i h = omega arith
 
 pub byte_shift_is : (i : ℕ) → byte_shift (4 * i) % 32 ≡ 8 * (i % 4)
 byte_shift_is i = omega arith
+
+pub double_shift_is : (i : ℕ) → sum32 (4 * i) (4 * i) % 32 ≡ 8 * (i % 4)
+double_shift_is i = omega arith
 
 -- a shift by the bits in front of a byte is by a power of 256
 pub byte_power : (i shift : ℕ) → shift % 32 ≡ 8 * (i % 4) → 2 ^ (shift % 32) ≡ 256 ^ (i % 4)
@@ -132,6 +147,14 @@ byte_in_is bytes i shift b h =
     let word = packed bytes (4 * (i / 4)) in
     low_byte_alone (shift_right word shift) ∙ ap (λ p. word / p % 256) (byte_power i shift h) ∙ byte_of_packed bytes i b
 
+pub character_in_is :
+    (bytes : List ℕ) (i shift : ℕ) → AreBytes bytes → shift % 32 ≡ 8 * (i % 4) → character_in (packed bytes (4 * (i / 4))) shift ≡ character_word (byte_at bytes i)
+character_in_is bytes i shift b h =
+    raised (shift_right (packed bytes (4 * (i / 4))) shift) ∙ ap character_word (byte_in_is bytes i shift b h)
+  where
+    raised : (w : ℕ) → sum32 (shift_right (shift_left w 24) 16) 15 ≡ character_word (shift_right (shift_left w 24) 24)
+    raised w = omega arith
+
 pub word_changed_is :
     (bytes : List ℕ) (i new shift : ℕ) → AreBytes bytes → i < length bytes → new < 256 → shift % 32 ≡ 8 * (i % 4)
     → word_changed (packed bytes (4 * (i / 4))) (byte_at bytes i) new shift ≡ packed (slice_set bytes i new) (4 * (i / 4))
@@ -139,10 +162,13 @@ word_changed_is bytes i new shift b h k l = from (place_in_word i)
   where
     at : (k : ℕ) → byte_at bytes (4 * (i / 4) + k) < 256
     at k = byte_below bytes (4 * (i / 4) + k) b
+
     other : (j : ℕ) → j ≢ i → byte_at (slice_set bytes i new) j ≡ byte_at bytes j
     other j n = byte_unchanged bytes i j new n
+
     itself : (j : ℕ) → i ≡ j → byte_at (slice_set bytes i new) j ≡ new
     itself j e = sym (ap (byte_at (slice_set bytes i new)) e) ∙ byte_changed bytes i new h
+
     from : PlaceInWord i → word_changed (packed bytes (4 * (i / 4))) (byte_at bytes i) new shift ≡ packed (slice_set bytes i new) (4 * (i / 4))
     from (first e r) =
         let s : shift % 32 ≡ 0 = omega arith in
@@ -202,9 +228,11 @@ word_of_byte_there count i h = omega arith
 
 -- ---- texts of one byte many times
 
--- A word of four bytes c: Constant k 16843009, Compute full Multiply k c.
+-- The word of four bytes c, from c in register 4, in register 4:
+--     Constant 6 16843009
+--     Compute 4 Multiply 4 6
 abbrev pub full_word : ℕ → ℕ
-full_word c = product32 16843009 c
+full_word c = product32 c 16843009
 
 pub full_word_is : (c : ℕ) → c < 256 → full_word c ≡ 16843009 * c
 full_word_is c h = omega arith
@@ -218,13 +246,19 @@ packed_full n c k h l =
     let b3 = replicated_byte n c (4 * k + 3) (omega arith) in
     omega arith
 
--- The last word is full too, or the bytes above those that are left are clear. The register w has the word 4 n of their number:
---     Compute shift Add w w
---     Constant k 0
---     Compute shift Subtract k shift      as many bits as are to be clear, in the lowest five bits
---     Compute last ShiftRight full shift
+-- The last word, in register 7: it is full too, or the bytes above those that are left are clear. Register 0 has the word of the number of all.
+--     Constant 6 28
+--     Compute 7 ShiftLeft 0 6
+--     Constant 6 27
+--     Compute 7 ShiftRight 7 6
+--     Constant 6 32
+--     Compute 7 Subtract 6 7          as many bits as are to be clear, in the lowest five bits
+--     Compute 7 ShiftRight 4 7
+abbrev pub last_shift : ℕ → ℕ
+last_shift w = difference32 32 (byte_shift w)
+
 abbrev pub last_word : (full w : ℕ) → ℕ
-last_word full w = shift_right full (difference32 0 (sum32 w w))
+last_word full w = shift_right full (last_shift w)
 
 pub packed_partial : (n c : ℕ) → c < 256 → n % 4 ≢ 0 → packed (replicate n c) (4 * (n / 4)) ≡ last_word (full_word c) (4 * n)
 packed_partial n c h l = from (place_in_word n)
@@ -232,21 +266,21 @@ packed_partial n c h l = from (place_in_word n)
     from : PlaceInWord n → packed (replicate n c) (4 * (n / 4)) ≡ last_word (full_word c) (4 * n)
     from (first e r) = absurd (l r)
     from (second e r) =
-        let s : difference32 0 (sum32 (4 * n) (4 * n)) % 32 ≡ 24 = omega arith in
+        let s : last_shift (4 * n) % 32 ≡ 24 = omega arith in
         let b0 = replicated_byte n c (4 * (n / 4)) (omega arith) in
         let b1 = behind_replicated n c (4 * (n / 4) + 1) (omega arith) in
         let b2 = behind_replicated n c (4 * (n / 4) + 2) (omega arith) in
         let b3 = behind_replicated n c (4 * (n / 4) + 3) (omega arith) in
         rw s (omega arith)
     from (third e r) =
-        let s : difference32 0 (sum32 (4 * n) (4 * n)) % 32 ≡ 16 = omega arith in
+        let s : last_shift (4 * n) % 32 ≡ 16 = omega arith in
         let b0 = replicated_byte n c (4 * (n / 4)) (omega arith) in
         let b1 = replicated_byte n c (4 * (n / 4) + 1) (omega arith) in
         let b2 = behind_replicated n c (4 * (n / 4) + 2) (omega arith) in
         let b3 = behind_replicated n c (4 * (n / 4) + 3) (omega arith) in
         rw s (omega arith)
     from (fourth e r) =
-        let s : difference32 0 (sum32 (4 * n) (4 * n)) % 32 ≡ 8 = omega arith in
+        let s : last_shift (4 * n) % 32 ≡ 8 = omega arith in
         let b0 = replicated_byte n c (4 * (n / 4)) (omega arith) in
         let b1 = replicated_byte n c (4 * (n / 4) + 1) (omega arith) in
         let b2 = replicated_byte n c (4 * (n / 4) + 2) (omega arith) in
@@ -258,9 +292,10 @@ packed_last n c k h e = ⊎_elim whole (λ l. rw (place l) (packed_partial n c h
   where
     place : n % 4 ≢ 0 → k ≡ n / 4
     place l = omega arith
+
     whole : n % 4 ≡ 0 → packed (replicate n c) (4 * k) ≡ last_word (full_word c) (4 * n)
     whole l =
-        let s : difference32 0 (sum32 (4 * n) (4 * n)) % 32 ≡ 0 = omega arith in
+        let s : last_shift (4 * n) % 32 ≡ 0 = omega arith in
         let full = packed_full n c k h (omega arith) in
         rw s (omega (arith, full))
 

@@ -1,24 +1,24 @@
 -- Products of integers on their words.
-use Rattle.std.proofs.Common.{◌≡◌, ℕ, zero, suc, ◌+◌, ◌-◌, ◌*◌, ◌/◌, ◌%◌, ◌^◌, ◌<◌, ◌≤◌, ℤ, pos, Bool, true, false, ⊎_elim, refl, sym, ap, ◌∙◌, arith}
+use Rattle.std.proofs.Common.{◌≡◌, ℕ, suc, ◌-◌, ◌*◌, ◌/◌, ◌%◌, ◌^◌, ◌<◌, ◌≤◌, ℤ, pos, Bool, true, ⊎_elim, sym, ap, ◌∙◌, arith}
 use Rattle.std.specs.Prelude.{negsuc, ◌*ℤ◌, ◌==◌, nat_lt, unsigned_abs, FitsSigned}
 use Rattle.std.specs.Int.{w32}
 use Rattle.std.proofs.lemmas.Nat.{mul-le}
 use Rattle.std.proofs.lemmas.Int.{ints, unsigned_abs-mul}
-use Rattle.std.proofs.lemmas.Bool.{cases_lt, ne_eqb, lt-ltb, le-ltb, ltb-true, ltb-false}
+use Rattle.std.proofs.lemmas.Bool.{cases_lt, ne_eqb, lt-ltb, le-ltb}
 use borrow.Author.Differences.{up, down}
-use Rattle.isl_mid.specs.Words.{low_word, signed, product32, high_signed, shift_right_signed, shifted_down}
+use Rattle.isl_mid.specs.Words.{low_word, product32, high_signed, shift_right_signed, shifted_down}
 use Rattle.isl_meaning.specs.Values.{in_range}
 use Rattle.isl_arena.specs.Tags.{integer_word}
 use Rattle.isl_arena.proofs.WordFacts.{low_word_of_pos, low_word_of_negsuc, signed_low, signed_high, four_fits, range_tells, in_range_is, above_range_is, below_range_is}
 use Rattle.isl_arena.proofs.ArithmeticWords.{product_of_low_words, divided_down_is, shift_of_low_word, high_of_low_words}
 
--- The product of the words in registers 0 and 1, in register 4; it is the word of the product where registers 5 and 7 are equal:
---     Constant 2 2
---     Compute 3 ShiftRightSigned 0 2      the first integer itself
---     Compute 4 Multiply 3 1
---     Compute 5 MultiplyHigh 3 1
+-- The product of the words in registers 0 and 1, in register 3; it is the word of the product where registers 4 and 5 are equal:
+--     Constant 6 2
+--     Compute 3 ShiftRightSigned 0 6      the first integer itself
+--     Compute 4 MultiplyHigh 3 1
+--     Compute 3 Multiply 3 1
 --     Constant 6 31
---     Compute 7 ShiftRightSigned 4 6      all bits as the highest one of the product
+--     Compute 5 ShiftRightSigned 3 6      all bits as the highest one of the product
 abbrev pub untagged : ℕ → ℕ
 untagged a = shift_right_signed a 2
 
@@ -65,18 +65,22 @@ sign_of_pos n h = ⊎_elim small (λ k. ⊎_elim (middle k) large (cases_lt n (2
   where
     high : low_word (shifted_down (pos n) 32) ≡ n / 2 ^ 32
     high = low_word_of_pos (n / 2 ^ 32) ∙ omega arith
+
     low : low_word (pos n) ≡ n % 2 ^ 32
     low = low_word_of_pos n
+
     small : n < 2 ^ 31 → is_all_sign (pos n) ≡ nat_lt n (2 ^ 31)
     small k =
         let first : n / 2 ^ 32 ≡ 0 = omega arith in
         let sign : shift_right_signed (low_word (pos n)) 31 ≡ 0 = rw low (sign_of_low (n % 2 ^ 32) (omega arith)) in
         equal_words _ _ 0 0 (high ∙ first) sign ∙ sym (lt-ltb n (2 ^ 31) k)
+
     middle : 2 ^ 31 ≤ n → n < 2 ^ 32 → is_all_sign (pos n) ≡ nat_lt n (2 ^ 31)
     middle k l =
         let first : n / 2 ^ 32 ≡ 0 = omega arith in
         let sign : shift_right_signed (low_word (pos n)) 31 ≡ 2 ^ 32 - 1 = rw low (sign_of_high (n % 2 ^ 32) (omega arith) (omega arith)) in
         equal_words _ _ 0 (2 ^ 32 - 1) (high ∙ first) sign ∙ sym (le-ltb n (2 ^ 31) k)
+
     large : 2 ^ 32 ≤ n → is_all_sign (pos n) ≡ nat_lt n (2 ^ 31)
     large k =
         let bound : n % 2 ^ 32 < 2 ^ 32 = omega arith in
@@ -90,18 +94,22 @@ sign_of_negsuc n h = ⊎_elim small (λ k. ⊎_elim (middle k) large (cases_lt n
   where
     high : low_word (shifted_down (negsuc n) 32) ≡ 2 ^ 32 - 1 - n / 2 ^ 32
     high = low_word_of_negsuc (n / 2 ^ 32) ∙ omega arith
+
     low : low_word (negsuc n) ≡ 2 ^ 32 - 1 - n % 2 ^ 32
     low = low_word_of_negsuc n
+
     small : n < 2 ^ 31 → is_all_sign (negsuc n) ≡ nat_lt n (2 ^ 31)
     small k =
         let first : n / 2 ^ 32 ≡ 0 = omega arith in
         let sign : shift_right_signed (low_word (negsuc n)) 31 ≡ 2 ^ 32 - 1 = rw low (sign_of_high _ (omega arith) (omega arith)) in
         equal_words _ _ (2 ^ 32 - 1) (2 ^ 32 - 1) (omega (arith, high, first)) sign ∙ sym (lt-ltb n (2 ^ 31) k)
+
     middle : 2 ^ 31 ≤ n → n < 2 ^ 32 → is_all_sign (negsuc n) ≡ nat_lt n (2 ^ 31)
     middle k l =
         let first : n / 2 ^ 32 ≡ 0 = omega arith in
         let sign : shift_right_signed (low_word (negsuc n)) 31 ≡ 0 = rw low (sign_of_low _ (omega arith)) in
         equal_words _ _ (2 ^ 32 - 1) 0 (omega (arith, high, first)) sign ∙ sym (le-ltb n (2 ^ 31) k)
+
     large : 2 ^ 32 ≤ n → is_all_sign (negsuc n) ≡ nat_lt n (2 ^ 31)
     large k =
         ne_eqb _ _ (λ e. ⊎_elim
@@ -131,10 +139,11 @@ product_in_range a b g h =
     let q = a *ℤ (pos 4 *ℤ b) in
     let first = range_tells a g in
     let second = range_tells b h in
-    let size : unsigned_abs a * unsigned_abs (pos 4 *ℤ b) ≤ 2 ^ 29 * 2 ^ 31 = mul-le (unsigned_abs a) (unsigned_abs (pos 4 *ℤ b)) (2 ^ 29) (2 ^ 31) (omega (arith, ints, first.0, first.1)) (omega (arith, ints, second.0, second.1)) in
+    let size : unsigned_abs a * unsigned_abs (pos 4 *ℤ b) ≤ 2 ^ 29 * 2 ^ 31 =
+    mul-le (unsigned_abs a) (unsigned_abs (pos 4 *ℤ b)) (2 ^ 29) (2 ^ 31) (omega (arith, ints, first.0, first.1)) (omega (arith, ints, second.0, second.1)) in
     let bound : unsigned_abs q < 2 ^ 63 = rw (unsigned_abs-mul a (pos 4 *ℤ b)) (omega (arith, size)) in
     let fits : FitsSigned w32 a = omega (arith, ints, first.0, first.1) in
     let high : product_high (integer_word a) (integer_word b) ≡ low_word (shifted_down q 32) =
-        rw (untagged_is a g) (high_of_low_words a (pos 4 *ℤ b) fits (four_fits b h)) in
+    rw (untagged_is a g) (high_of_low_words a (pos 4 *ℤ b) fits (four_fits b h)) in
     let sign : product_sign (integer_word a) (integer_word b) ≡ shift_right_signed (low_word q) 31 = rw (product_is a b g, ← (four_times_factor a b)) in
     equal_words _ _ _ _ high sign ∙ sign_of_four (a *ℤ b) q (sym (four_times_factor a b)) bound

@@ -1,14 +1,13 @@
 -- Sums, differences, products and shifts of the lowest 32 bits of numbers are those of the sums, differences, products and quotients.
-use Rattle.std.proofs.Common.{◌≡◌, ℕ, zero, suc, ◌+◌, ◌-◌, ◌*◌, ◌/◌, ◌%◌, ◌^◌, ◌<◌, ◌≤◌, ℤ, pos, Bool, true, false, ⊎_elim, refl, sym, ap, ◌∙◌, arith}
+use Rattle.std.proofs.Common.{◌≡◌, ℕ, ◌+◌, ◌-◌, ◌*◌, ◌/◌, ◌%◌, ◌^◌, ◌<◌, ◌≤◌, ℤ, pos, sym, ap, ◌∙◌, arith}
 use Rattle.std.specs.Prelude.{negsuc, ◌*ℤ◌, ◌+ℤ◌, ◌-ℤ◌, FitsSigned}
 use Rattle.std.specs.Int.{w32, int_div_euclid}
 use Rattle.std.proofs.Math.IntN.{*ℤ_comm}
 use Rattle.std.proofs.Math.Nat.{div-eq_of_lt-le}
 use Rattle.std.proofs.lemmas.Int.{ints}
 use borrow.Author.Differences.{up, down}
-use Rattle.isl_mid.specs.Words.{low_word, signed, sum32, difference32, product32, shifted_down, shift_right_signed, high_signed}
-use Rattle.isl_arena.specs.Tags.{integer_word}
-use Rattle.isl_arena.proofs.WordFacts.{low_word_below, low_word_apart, low_word_is, same_low_word, low_word_of_pos, signed_low_word}
+use Rattle.isl_mid.specs.Words.{low_word, sum32, difference32, product32, shifted_down, shift_right_signed, high_signed}
+use Rattle.isl_arena.proofs.WordFacts.{low_word_apart, low_word_is, same_low_word, low_word_of_pos, signed_low_word}
 
 pub sum_of_low_words : (y z : ℤ) → sum32 (low_word y) (low_word z) ≡ low_word (y +ℤ z)
 sum_of_low_words y z =

@@ -4,18 +4,18 @@ use Rattle.std.specs.Prelude.{slice_set}
 use Rattle.isl_meaning.specs.declared.program.ProgramRows.{ProgramRows}
 use Rattle.isl_meaning.specs.Values.{Value}
 use Rattle.isl_meaning.specs.State as meaning
-use Rattle.isl_meaning.specs.Primitives.{Answer, result}
+use Rattle.isl_meaning.specs.Primitives.{Answer, result, makes, makes_symbol, fails, domain_error}
 use Rattle.isl_mid.specs.declared.program.MidProcedure.{MidProcedure}
 use Rattle.isl_mid.specs.declared.operation.Test.{Test}
 use Rattle.isl_mid.specs.Words.{compares}
 use Rattle.isl_mid.specs.MidCode.{MidStep, choose, return_word, MidCode, no_step, step_and, code_of}
-use Rattle.isl_mid.specs.State.{Registers, State, Outcome, End, falls, returns, ends, charged, register}
+use Rattle.isl_mid.specs.State.{Registers, State, Outcome, End, falls, returns, cuts, no_room, no_level, no_turn, halts, unhandled, exhausted, stuck, ends, charged, register}
 use Rattle.isl_mid.specs.Meaning.{Task}
 use Rattle.isl_arena.specs.Places.{Places, word_of}
 use Rattle.isl_arena.specs.Represents.{Represents}
-use Rattle.isl_arena.specs.Answers.{Comes, done, Returned, units_after}
-use Rattle.isl_arena.proofs.Running.{RunsTo, StepsTo, turning, and_then, and_ends, return_ends, choose_first_falls}
-use Rattle.isl_arena.proofs.Representing.{grows_same}
+use Rattle.isl_arena.specs.Answers.{Comes, done, no_words, Done, Returned, units_after}
+use Rattle.isl_arena.proofs.Running.{RunsTo, StepsTo, IsLast, turning, none_left, and_then, and_ends, return_ends, choose_first_falls, choose_second_falls, choose_first_ends, choose_second_ends, parts_then, parts_end}
+use Rattle.isl_arena.proofs.Growing.{grows_same}
 use Rattle.isl_arena.proofs.Representing.{kept_grown, represents_grown, represents_same}
 
 -- a state of the meaning with the same objects, fresh symbols, output and input
@@ -40,6 +40,24 @@ module _ (names : List (List ℕ)) (program : ProgramRows) (places : Places) (z 
   pub record Answers (budget : ℕ) (answer : Answer) (r : Outcome) : Type 0 where
     pub comes : Comes names program places z y 0 answer r
     pub cost : r.state.cost + 250 * z.units ≤ budget + 250 * units_after names program answer
+
+  -- what came to an answer did not fall out
+  pub answers_last : {budget : ℕ} (answer : Answer) (r : Outcome) → Answers budget answer r → IsLast r.end
+  answers_last answer r a = by answer a.comes
+    where
+      returned : (w : ℕ) → r.end ≡ returns w → IsLast r.end
+      returned w e = rw e tt
+
+      of_done : (one : Answer) → Done names program places z y one r → IsLast r.end
+      of_done (result v x) d = returned d.word d.end
+      of_done (makes size besides o x) d = returned d.word d.end
+      of_done (makes_symbol x) d = returned d.word d.end
+      of_done (fails class slots x) d = returned _ d.end
+      of_done (domain_error v expected x) d = returned _ d.end
+
+      by : (one : Answer) → Comes names program places z y 0 one r → IsLast r.end
+      by one (done d) = of_done one d
+      by one (no_words w) = rw w.end tt
 
   module _ (procedures : List MidProcedure) (below : Task → State → Outcome) where
     -- code that comes to an answer, with so many turns, from registers on, where so much was paid
@@ -78,3 +96,41 @@ module _ (names : List (List ℕ)) (program : ProgramRows) (places : Places) (z 
         cost = cost;
       };
     }
+
+    -- a test holds, and its branch falls out at once; or its branch comes to the answer, or the other branch
+    pub test_passes :
+        {n budget k a b : ℕ} {answer : Answer} {t : Test} {second code : MidCode} {rs : Registers} → register t.first rs ≡ Some a → register t.second rs ≡ Some b
+        → compares t.comparison a b ≡ true → Run n budget answer code rs (k + 12 + 2) → Run n budget answer (step_and (choose t no_step second) code) rs k
+    test_passes e f h more = goes_on (choose_first_falls e f h none_left) more
+
+    pub test_fails :
+        {n budget k a b : ℕ} {answer : Answer} {t : Test} {first code : MidCode} {rs : Registers} → register t.first rs ≡ Some a → register t.second rs ≡ Some b
+        → compares t.comparison a b ≡ false → Run n budget answer code rs (k + 12 + 2) → Run n budget answer (step_and (choose t first no_step) code) rs k
+    test_fails e f h more = goes_on (choose_second_falls e f h none_left) more
+
+    pub first_answers :
+        {n budget k a b : ℕ} {answer : Answer} {t : Test} {first second code : MidCode} {rs : Registers} → register t.first rs ≡ Some a → register t.second rs ≡ Some b
+        → compares t.comparison a b ≡ true → Run n budget answer first rs (k + 12) → Run n budget answer (step_and (choose t first second) code) rs k
+    first_answers {answer = answer} e f h more =
+        let last : IsLast more.outcome.end = answers_last answer more.outcome more.answers in
+        record { outcome = more.outcome; runs = and_ends last (choose_first_ends last e f h more.runs); answers = more.answers }
+
+    pub second_answers :
+        {n budget k a b : ℕ} {answer : Answer} {t : Test} {first second code : MidCode} {rs : Registers} → register t.first rs ≡ Some a → register t.second rs ≡ Some b
+        → compares t.comparison a b ≡ false → Run n budget answer second rs (k + 12) → Run n budget answer (step_and (choose t first second) code) rs k
+    second_answers {answer = answer} e f h more =
+        let last : IsLast more.outcome.end = answers_last answer more.outcome more.answers in
+        record { outcome = more.outcome; runs = and_ends last (choose_second_ends last e f h more.runs); answers = more.answers }
+
+    -- code in two parts: the first one falls out, or it comes to the answer
+    pub part_then :
+        {n budget k k' : ℕ} {answer : Answer} (ss ts : List MidStep) {rs rs' : Registers}
+        → RunsTo (turning procedures below n) (code_of ss) rs (paid y k) (ends falls rs' (paid y k'))
+        → Run n budget answer (code_of ts) rs' k' → Run n budget answer (code_of (ss ++ ts)) rs k
+    part_then ss ts g h = record { outcome = h.outcome; runs = parts_then ss ts g h.runs; answers = h.answers }
+
+    pub part_answers :
+        {n budget k : ℕ} {answer : Answer} (ss ts : List MidStep) {rs : Registers} → Run n budget answer (code_of ss) rs k
+        → Run n budget answer (code_of (ss ++ ts)) rs k
+    part_answers {answer = answer} ss ts h =
+        record { outcome = h.outcome; runs = parts_end ss ts (answers_last answer h.outcome h.answers) h.runs; answers = h.answers }

@@ -1,20 +1,33 @@
 -- The procedure of a primitive does what its code does.
-use Rattle.std.proofs.Common.{◌≡◌, ℕ, zero, suc, ◌+◌, ◌-◌, ◌*◌, ◌^◌, ◌<◌, ◌≤◌, Bool, true, false, List, [], ◌∷◌, ◌++◌, length, Option, Some, None, refl, sym, ap, ◌∙◌, arith}
+use Rattle.std.proofs.Common.{◌≡◌, ℕ, suc, ◌+◌, ◌*◌, ◌<◌, ◌≤◌, List, [], ◌∷◌, length, refl, ap, ◌∙◌, ⊎_elim, arith}
+use Rattle.std.proofs.lemmas.Bool.{cases_lt}
 use Rattle.isl_meaning.specs.declared.program.ProgramRows.{ProgramRows}
 use Rattle.isl_meaning.specs.declared.primitive.Primitive.{Primitive}
 use Rattle.isl_meaning.specs.Arity.{arity}
 use Rattle.isl_meaning.specs.Values.{Value}
 use Rattle.isl_meaning.specs.State as meaning
-use Rattle.isl_meaning.specs.Primitives.{primitive}
+use Rattle.isl_meaning.specs.Primitives.{Answer, primitive}
 use Rattle.isl_mid.specs.declared.program.MidProcedure.{MidProcedure}
+use Rattle.isl_mid.specs.Arena.{left}
 use Rattle.isl_mid.specs.MidCode.{code_of}
 use Rattle.isl_mid.specs.State.{State, Outcome, first_registers}
 use Rattle.isl_mid.specs.Meaning.{Task, enter, turns}
 use Rattle.isl_arena.specs.Places.{Places, WordsOf}
 use Rattle.isl_arena.specs.Represents.{Represents}
-use Rattle.isl_arena.specs.Answers.{DoesPrimitive}
-use Rattle.isl_arena.specs.Codes.{code_of_primitive, registers, procedure_of}
-use Rattle.isl_arena.proofs.Doing.{Run}
+use Rattle.isl_arena.specs.Answers.{units_after, DoesPrimitive}
+use Rattle.isl_arena.specs.Codes.{code_of_primitive, registers, frame_words, procedure_of}
+use Rattle.isl_arena.proofs.Running.{entered, frame_of, enters, enters_wanting}
+use Rattle.isl_arena.proofs.Growing.{grows_same}
+use Rattle.isl_arena.proofs.Representing.{represents_grown}
+use Rattle.isl_arena.proofs.Doing.{paid, Run}
+use Rattle.isl_arena.proofs.Leaving.{leaves_cost, represents_frame, comes_with_frame, comes_without_frame}
+
+-- the words of values are as many as the values
+pub words_length : (places : Places) (vs : List Value) (ws : List ℕ) → WordsOf places vs ws → length ws ≡ length vs
+words_length places [] [] h = refl
+words_length places [] (w ∷ ws) h = absurd h
+words_length places (v ∷ vs) [] h = absurd h
+words_length places (v ∷ vs) (w ∷ ws) h = ap (λ n. suc n) (words_length places vs ws h.1)
 
 -- In a represented state where the frame of a primitive is laid and its entry is paid, its code comes to the primitive's answer, within what
 -- is left of 150 and 250 for each argument.
@@ -26,4 +39,36 @@ pub does_by_code :
     → Run names program places z y' procedures below n (y'.cost + 130 + 244 * arity which) (primitive names program which vs z)
     (code_of (code_of_primitive which)) (first_registers registers ws) y'.cost)
     → DoesPrimitive names program which (procedure_of which) places z y vs (turns procedures below (suc n) (enter (procedure_of which) ws) y)
-does_by_code names program places z y procedures below n which vs ws r are count code = ?
+does_by_code names program places z y procedures below n which vs ws r are count code =
+    ⊎_elim without (λ some. with_room some (code (entered (procedure_of which) y) (represents_frame names program places z y r (frame_of (procedure_of which)) _ some)))
+    (cases_lt (left y.arena) frame_words)
+  where
+    many : length ws ≡ arity which
+    many = words_length places vs ws are ∙ count
+
+    answer : Answer
+    answer = primitive names program which vs z
+
+    -- the units behind the answer, as the code says that begins where nothing was paid
+    units : 250 * z.units ≤ 130 + 244 * arity which + 250 * units_after names program answer
+    units =
+        let run = code (paid y 0) (represents_grown names program places z y r (paid y 0) (grows_same y.arena r.arena) refl refl) in
+        omega (arith, run.answers.cost)
+
+    without : left y.arena < frame_words → DoesPrimitive names program which (procedure_of which) places z y vs (turns procedures below (suc n) (enter (procedure_of which) ws) y)
+    without few =
+        rw (enters_wanting {procedures = procedures} {below = below} {n = n} {p = procedure_of which} {ws = ws} {z = y} many few).same (record {
+          comes = comes_without_frame names program places z y _ frame_words answer _ r few;
+          cost = omega (arith, units);
+        })
+
+    with_room :
+        frame_words ≤ left y.arena
+        → Run names program places z (entered (procedure_of which) y) procedures below n ((entered (procedure_of which) y).cost + 130 + 244 * arity which) answer
+        (code_of (code_of_primitive which)) (first_registers registers ws) (entered (procedure_of which) y).cost
+        → DoesPrimitive names program which (procedure_of which) places z y vs (turns procedures below (suc n) (enter (procedure_of which) ws) y)
+    with_room some run =
+        rw (enters {p = procedure_of which} {z = y} many some run.runs).same (record {
+          comes = comes_with_frame names program places z y r (frame_of (procedure_of which)) _ some run.outcome answer run.answers.comes;
+          cost = omega (arith, leaves_cost y.arena.blocks run.outcome, run.answers.cost);
+        })

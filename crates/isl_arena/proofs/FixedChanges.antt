@@ -1,22 +1,22 @@
 -- A representation goes on where one of the fixed words that change is stored: the serial, the line, the byte that was looked at, or the
 -- condition that is to be signalled.
-use Rattle.std.proofs.Common.{◌≡◌, ℕ, ◌+◌, ◌*◌, ◌%◌, ◌^◌, ◌<◌, ◌≤◌, List, [], Option, Some, refl, sym, ap, ◌∙◌, arith}
+use Rattle.std.proofs.Common.{◌≡◌, ℕ, ◌*◌, ◌%◌, ◌^◌, ◌<◌, ◌≤◌, List, Some, refl, ◌∙◌, arith, ◌+◌, []}
 use Rattle.isl_meaning.specs.declared.program.ProgramRows.{ProgramRows}
 use Rattle.isl_meaning.specs.Values.{Value, truth}
 use Rattle.isl_meaning.specs.State as meaning
 use Rattle.isl_meaning.specs.Primitives.{is_fresh_line}
 use Rattle.isl_mid.specs.Arena.{Arena, word_at}
 use Rattle.isl_mid.specs.State.{State}
-use Rattle.isl_arena.specs.Places.{Spot, end_of, Places}
-use Rattle.isl_arena.specs.Standing.{SpotStands, Apart, in_front, behind, ValueAt}
-use Rattle.isl_arena.specs.FixedWords.{class_address, input_address, output_address, true_address, serial_address, line_address, peeked_address, pending_address, InputIs, untouched, looked_at, FixedStand}
-use Rattle.isl_arena.specs.Layouts.{AreBytes}
-use Rattle.isl_arena.specs.Represents.{Represents}
 use Rattle.isl_arena.specs.Tags.{object_tag, symbol_header}
-use Rattle.isl_arena.specs.Layouts.{TextAt}
-use Rattle.isl_arena.specs.FixedWords.{nil_text}
+use Rattle.isl_arena.specs.Places.{Spot, Places}
+use Rattle.isl_arena.specs.Standing.{Apart, in_front, behind, ValueAt}
+use Rattle.isl_arena.specs.FixedWords.{nil_text, class_address, input_address, output_address, true_address, serial_address, line_address}
+use Rattle.isl_arena.specs.FixedWords.{peeked_address, pending_address, InputIs, untouched, looked_at, FixedStand}
+use Rattle.isl_arena.specs.Layouts.{AreBytes, TextAt}
+use Rattle.isl_arena.specs.Represents.{Represents}
 use Rattle.isl_arena.proofs.Keeping.{text_kept}
-use Rattle.isl_arena.proofs.Representing.{Changes, changes_part, spot_below, fixed_spot, fixed_stands, represents_fixed}
+use Rattle.isl_arena.proofs.Growing.{Changes, changes_part, spot_below}
+use Rattle.isl_arena.proofs.Representing.{fixed_spot, fixed_stands, represents_fixed}
 
 -- the spot of one word at an address
 abbrev pub one_word : ℕ → Spot
@@ -47,7 +47,10 @@ module _ (names : List (List ℕ)) (program : ProgramRows) (places : Places) (z 
         by left bytes (looked_at byte e) = looked_at byte (word_kept peeked_address (omega arith) apart ∙ e)
 
     -- the texts at fixed addresses stand behind all words that change
-    name_kept : (address words : ℕ) (bytes : List ℕ) → changed ≤ 160 → 164 ≤ address → address + 4 * words ≤ 184 → TextAt y.arena (record { address = address; words = words; tag = object_tag }) symbol_header bytes → TextAt b (record { address = address; words = words; tag = object_tag }) symbol_header bytes
+    name_kept :
+        (address words : ℕ) (bytes : List ℕ) → changed ≤ 160 → 164 ≤ address → address + 4 * words ≤ 184
+        → TextAt y.arena (record { address = address; words = words; tag = object_tag }) symbol_header bytes
+        → TextAt b (record { address = address; words = words; tag = object_tag }) symbol_header bytes
     name_kept address words bytes low from to t =
         text_kept y.arena b (record { address = address; words = words; tag = object_tag }) (λ x below above. word_kept x (omega arith) (behind (omega arith))) symbol_header bytes t
 

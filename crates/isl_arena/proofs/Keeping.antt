@@ -1,6 +1,6 @@
 -- By kind of object: its words say the same as long as they stay and its values have the words that they had.
-use Rattle.std.proofs.Common.{◌≡◌, ℕ, ◌+◌, ◌*◌, ◌/◌, ◌%◌, ◌^◌, ◌<◌, ◌≤◌, Bool, true, false, List, [], ◌∷◌, length, Option, Some, None, refl, sym, ap, ◌∙◌, arith}
-use Rattle.std.specs.Prelude.{slice_get, slice_index_or, if◌then◌else◌}
+use Rattle.std.proofs.Common.{◌≡◌, ℕ, ◌+◌, ◌*◌, ◌<◌, ◌≤◌, true, List, [], ◌∷◌, length, Option, Some, None, refl, ap, ◌∙◌, arith}
+use Rattle.std.specs.Prelude.{slice_index_or}
 use Rattle.std.proofs.lemmas.Option.{slice_get_within}
 use Rattle.isl_base.specs.Names.{slice_get-front}
 use Rattle.isl_meaning.specs.declared.program.ProgramRows.{ProgramRows}
@@ -10,10 +10,11 @@ use Rattle.isl_meaning.specs.Objects.{Object, cons, string, vector, instance, fu
 use Rattle.isl_meaning.specs.Classes.{precedence, slots, is_below}
 use Rattle.isl_meaning.specs.Primitives.{instance_words}
 use Rattle.isl_mid.specs.Arena.{Arena, word_at}
-use Rattle.isl_arena.specs.Tags.{object_tag, string_header, vector_header, instance_header, function_header, generic_header, class_header, input_header, output_header, symbol_header, fresh_header, tag_of}
+use Rattle.isl_arena.specs.Tags.{object_tag, string_header, vector_header, instance_header, function_header, generic_header}
+use Rattle.isl_arena.specs.Tags.{class_header, input_header, output_header, symbol_header, fresh_header, tag_of}
 use Rattle.isl_arena.specs.Places.{Spot, end_of, pointer_to, Places, Owner, of_object, of_symbol, of_other, spot_in, spot_of, with_object, pointer_in, word_of, WordsOf}
-use Rattle.isl_arena.specs.Standing.{SameWords, ValueAt, SlotAt, ValuesAt, SlotsAt}
-use Rattle.isl_arena.specs.Layouts.{TextAt, byte_words, ConsAt, VectorAt, PairAt, StreamAt, FunctionAt, InstanceAt, SlotRowAt, ClassAt, ObjectAt, SymbolAt}
+use Rattle.isl_arena.specs.Standing.{SameWords, ValueAt, SlotAt}
+use Rattle.isl_arena.specs.Layouts.{TextAt, ConsAt, VectorAt, PairAt, StreamAt, FunctionAt, InstanceAt, SlotRowAt, ClassAt, ObjectAt, SymbolAt}
 
 -- places
 

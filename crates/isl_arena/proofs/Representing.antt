@@ -1,127 +1,27 @@
 -- How a representation goes on: where the arena grows, where an object is made or changed, and where fixed words change.
-use Rattle.std.proofs.Common.{◌≡◌, ℕ, zero, suc, ◌+◌, ◌*◌, ◌%◌, ◌^◌, ◌<◌, ◌≤◌, Bool, true, false, List, [], ◌∷◌, ◌++◌, length, Option, Some, None, refl, sym, ap, ◌∙◌, arith}
-use Rattle.std.specs.Prelude.{◌==◌, slice_get, slice_set, if◌then◌else◌}
+use Rattle.std.proofs.Common.{◌≡◌, ℕ, suc, ◌+◌, ◌<◌, ◌≤◌, Bool, true, false, List, [], ◌∷◌, length, Some, refl, sym, ap, ◌∙◌, arith}
+use Rattle.std.specs.Prelude.{◌==◌, slice_get}
 use Rattle.std.proofs.lemmas.Option.{slice_get_within}
 use Rattle.std.proofs.lemmas.Bool.Decides.{nat_tests}
 use Rattle.std.proofs.Math.ListN.{length-append, length-set}
-use Rattle.isl_base.specs.Names.{slice_get-front, slice_get-behind}
+use Rattle.isl_base.specs.Names.{slice_get-front}
 use Rattle.isl_meaning.specs.declared.program.ProgramRows.{ProgramRows}
-use Rattle.isl_meaning.specs.Values.{SymbolValue, Value}
+use Rattle.isl_meaning.specs.Values.{Value, object}
 use Rattle.isl_meaning.specs.Objects.{Object, function}
 use Rattle.isl_meaning.specs.State as meaning
-use Rattle.isl_mid.specs.Arena.{Arena, stack_from, word_at}
+use Rattle.isl_mid.specs.Arena.{Arena}
 use Rattle.isl_mid.specs.State.{State, charged}
 use Rattle.isl_arena.specs.Tags.{symbol_header}
-use Rattle.isl_arena.specs.Places.{Spot, end_of, Places, Owner, same_owner, of_object, of_symbol, of_other, spot_in, spot_of, with_object}
-use Rattle.isl_arena.specs.Standing.{ArenaStands, IsLentPart, of_laid, of_heap, SpotStands, Apart, in_front, behind, SameWords, ValueAt}
+use Rattle.isl_arena.specs.Places.{Spot, end_of, pointer_to, pointer_in, word_of, Places, Owner, same_owner, of_object, of_symbol, of_other, spot_of, with_object}
+use Rattle.isl_arena.specs.Standing.{of_heap, SpotStands, Apart, in_front, behind, SameWords, ValueAt}
 use Rattle.isl_arena.specs.FixedWords.{fixed_words, nil_text, class_address, input_address, output_address, true_address, serial_address, line_address, peeked_address, InputIs, untouched, looked_at, FixedStand}
-use Rattle.isl_arena.specs.Layouts.{AreBytes, ObjectAt, SymbolAt}
+use Rattle.isl_arena.specs.Layouts.{AreBytes, ObjectAt}
 use Rattle.isl_arena.specs.Represents.{Represents}
 use Rattle.isl_arena.specs.Answers.{Kept}
-use Rattle.isl_arena.proofs.Keeping.{spot_in_tells, Extends, extends_same, extends_one, old_spot, text_kept, value_kept, symbol_kept, object_kept}
-
--- ---- arenas
-
--- the same bounds but for the heap, which may have grown, and the same words in all that was laid or in the heap
-pub record Grows (earlier later : Arena) : Type 0 where
-  pub size : length later.memory ≡ length earlier.memory
-  pub laid_from : later.laid_from ≡ earlier.laid_from
-  pub laid_to : later.laid_to ≡ earlier.laid_to
-  pub heap_from : later.heap_from ≡ earlier.heap_from
-  pub heap_to : earlier.heap_to ≤ later.heap_to
-  pub stands : ArenaStands later
-  pub words : (x : ℕ) → x < earlier.heap_to → word_at later x ≡ word_at earlier x
-
-pub grows_same : (a : Arena) → ArenaStands a → Grows a a
-grows_same a stands = record { size = refl; laid_from = refl; laid_to = refl; heap_from = refl; heap_to = omega arith; stands = stands; words = λ x h. refl }
-
-pub grows_both : (a b c : Arena) → Grows a b → Grows b c → Grows a c
-grows_both a b c g h = record {
-  size = h.size ∙ g.size;
-  laid_from = h.laid_from ∙ g.laid_from;
-  laid_to = h.laid_to ∙ g.laid_to;
-  heap_from = h.heap_from ∙ g.heap_from;
-  heap_to = omega (arith, g.heap_to, h.heap_to);
-  stands = h.stands;
-  words = λ x low. h.words x (omega (arith, low, g.heap_to)) ∙ g.words x low;
-}
-
--- a spot ends in what was laid or in the heap
-pub spot_below : (a : Arena) (s : Spot) → ArenaStands a → SpotStands a s → end_of s ≤ a.heap_to
-spot_below a s stands spot = by spot.part
-  where
-    by : IsLentPart a s → end_of s ≤ a.heap_to
-    by (of_laid low high) = omega (arith, high, stands.laid, stands.heap)
-    by (of_heap low high) = high
-
--- a spot stands as long as the bounds only grow
-pub spot_stands :
-    (a b : Arena) (s : Spot) → b.laid_from ≡ a.laid_from → b.laid_to ≡ a.laid_to → b.heap_from ≡ a.heap_from → a.heap_to ≤ b.heap_to
-    → SpotStands a s → SpotStands b s
-spot_stands a b s laid_from laid_to heap_from heap_to spot = record { aligned = spot.aligned; some = spot.some; tag = spot.tag; part = by spot.part }
-  where
-    by : IsLentPart a s → IsLentPart b s
-    by (of_laid low high) = of_laid (omega arith) (omega arith)
-    by (of_heap low high) = of_heap (omega arith) (omega arith)
-
-pub spot_grown : (a b : Arena) (s : Spot) → Grows a b → SpotStands a s → SpotStands b s
-spot_grown a b s g = spot_stands a b s g.laid_from g.laid_to g.heap_from g.heap_to
-
--- a spot that stood has the same words
-pub words_grown : (a b : Arena) (s : Spot) → Grows a b → ArenaStands a → SpotStands a s → SameWords a b s
-words_grown a b s g stands spot x low high = let below = spot_below a s stands spot in g.words x (omega arith)
-
--- the same bounds but for the heap, which may have grown, and the same words in what was laid and in the heap but in a spot
-pub record Changes (s : Spot) (earlier later : Arena) : Type 0 where
-  pub laid_from : later.laid_from ≡ earlier.laid_from
-  pub laid_to : later.laid_to ≡ earlier.laid_to
-  pub heap_from : later.heap_from ≡ earlier.heap_from
-  pub heap_to : earlier.heap_to ≤ later.heap_to
-  pub stands : ArenaStands later
-  pub before : (x : ℕ) → x < s.address → word_at later x ≡ word_at earlier x
-  pub after : (x : ℕ) → end_of s ≤ x → x < earlier.heap_to → word_at later x ≡ word_at earlier x
-
-pub grows_changes : (s : Spot) (a b : Arena) → ArenaStands a → SpotStands a s → Grows a b → Changes s a b
-grows_changes s a b stands spot g = record {
-  laid_from = g.laid_from;
-  laid_to = g.laid_to;
-  heap_from = g.heap_from;
-  heap_to = g.heap_to;
-  stands = g.stands;
-  before = λ x h. let below = spot_below a s stands spot in g.words x (omega arith);
-  after = λ x low high. g.words x high;
-}
-
-pub changes_both : (s : Spot) (a b c : Arena) → Changes s a b → Changes s b c → Changes s a c
-changes_both s a b c g h = record {
-  laid_from = h.laid_from ∙ g.laid_from;
-  laid_to = h.laid_to ∙ g.laid_to;
-  heap_from = h.heap_from ∙ g.heap_from;
-  heap_to = omega (arith, g.heap_to, h.heap_to);
-  stands = h.stands;
-  before = λ x low. h.before x low ∙ g.before x low;
-  after = λ x low high. h.after x low (omega (arith, high, g.heap_to)) ∙ g.after x low high;
-}
-
--- a change in a part of a spot is one in the spot
-pub changes_part : (s part : Spot) (a b : Arena) → s.address ≤ part.address → end_of part ≤ end_of s → Changes part a b → Changes s a b
-changes_part s part a b low high c = record {
-  laid_from = c.laid_from;
-  laid_to = c.laid_to;
-  heap_from = c.heap_from;
-  heap_to = c.heap_to;
-  stands = c.stands;
-  before = λ x h. c.before x (omega arith);
-  after = λ x h below. c.after x (omega arith) below;
-}
-
-pub spot_changed : (a b : Arena) (s one : Spot) → Changes s a b → SpotStands a one → SpotStands b one
-spot_changed a b s one c = spot_stands a b one c.laid_from c.laid_to c.heap_from c.heap_to
-
--- a spot apart from the one that changed has the same words
-pub words_apart : (a b : Arena) (s one : Spot) → Changes s a b → ArenaStands a → SpotStands a one → Apart one s → SameWords a b one
-words_apart a b s one c stands spot (in_front h) x low high = c.before x (omega arith)
-words_apart a b s one c stands spot (behind h) x low high = let below = spot_below a one stands spot in c.after x (omega arith) (omega arith)
+use Rattle.isl_arena.proofs.Keeping.{Extends, extends_same, extends_one, old_spot, text_kept, value_kept, symbol_kept, object_kept}
+use Rattle.isl_arena.proofs.Growing.{Grows, Changes, spot_below, spot_grown, words_grown, spot_changed, words_apart}
+use Rattle.isl_arena.proofs.Owners.{after_zero, FrontOrEnd, at_front, at_end, front_or_end, OldOrNew, of_old}
+use Rattle.isl_arena.proofs.Owners.{of_new, old_or_new, new_spot_found, object_within, SetOrNot, at_place, elsewhere, set_or_not}
 
 -- ---- the fixed words
 
@@ -173,6 +73,24 @@ represents_same names program places z z' y store symbols printed input r = reco
   printed = r.printed ∙ sym printed;
 }
 
+-- in each state with the same arena, output and input it is represented too
+pub represents_state :
+    (names : List (List ℕ)) (program : ProgramRows) (places : Places) (z : meaning.State) (y y' : State) → y'.arena ≡ y.arena
+    → y'.printed ≡ y.printed → y'.input ≡ y.input → Represents names program places z y → Represents names program places z y'
+represents_state names program places z y y' arena printed input r = record {
+  built_in = r.built_in;
+  arena = rw arena r.arena;
+  spots = λ p s e. rw arena (r.spots p s e);
+  apart = r.apart;
+  count = r.count;
+  objects = λ i o s found e. rw arena (r.objects i o s found e);
+  symbols = λ v s e. rw arena (r.symbols v s e);
+  no_nil = r.no_nil;
+  fixed = rw (arena, input) r.fixed;
+  input = r.input;
+  printed = printed ∙ r.printed;
+}
+
 -- ---- what is kept, step by step
 
 pub kept_both : (places : Places) (z : meaning.State) (a b c : Arena) → Kept places z a b → Kept places z b c → Kept places z a c
@@ -196,70 +114,6 @@ kept_made places z s o a b k = record {
   others = k.others;
 }
 
--- ---- one more object
-
--- an item of a list with one more at its end
-pub data FrontOrEnd {X : Type 0} (xs : List X) (x : X) (i : ℕ) (item : X) : Type 0 where
-  at_front : slice_get xs i ≡ Some item → FrontOrEnd xs x i item
-  at_end : i ≡ length xs → item ≡ x → FrontOrEnd xs x i item
-
-pub front_or_end : {X : Type 0} (xs : List X) (x : X) (i : ℕ) (item : X) → slice_get (xs ++ x ∷ []) i ≡ Some item → FrontOrEnd xs x i item
-front_or_end [] x zero item e = at_end refl (cc e)
-front_or_end [] x (suc i) item e = absurd (cc e)
-front_or_end (y ∷ xs) x zero item e = at_front e
-front_or_end (y ∷ xs) x (suc i) item e = further (front_or_end xs x i item e)
-  where
-    further : FrontOrEnd xs x i item → FrontOrEnd (y ∷ xs) x (suc i) item
-    further (at_front h) = at_front h
-    further (at_end h same) = at_end (omega arith) same
-
--- whose spot one is where there is one object more
-pub data OldOrNew (s : Spot) (places : Places) (p : Owner) (found : Spot) : Type 0 where
-  of_old : spot_of places p ≡ Some found → OldOrNew s places p found
-  of_new : p ≡ of_object (length places.objects) → found ≡ s → OldOrNew s places p found
-
-pub old_or_new : (s : Spot) (places : Places) (p : Owner) (found : Spot) → spot_of (with_object s places) p ≡ Some found → OldOrNew s places p found
-old_or_new s places (of_symbol v) found e = of_old e
-old_or_new s places (of_other n) found e = of_old e
-old_or_new s places (of_object i) found e = by (front_or_end places.objects (Some s) i (Some found) (spot_in_tells _ found e))
-  where
-    by : FrontOrEnd places.objects (Some s) i (Some found) → OldOrNew s places (of_object i) found
-    by (at_front h) = of_old (ap spot_in h)
-    by (at_end h same) = of_new (ap of_object h) (cc same)
-
--- the new object has the new spot
-pub new_spot_found : (s : Spot) (places : Places) → spot_of (with_object s places) (of_object (length places.objects)) ≡ Some s
-new_spot_found s places = ap spot_in (slice_get-behind places.objects (Some s))
-
--- an object that has a spot is in the store
-pub object_within : (places : Places) (i : ℕ) (s : Spot) → spot_of places (of_object i) ≡ Some s → i < length places.objects
-object_within places i s e = slice_get_within places.objects i (Some s) (spot_in_tells _ s e)
-
--- an item of a list in which one was replaced
-pub data SetOrNot {X : Type 0} (xs : List X) (i : ℕ) (x : X) (j : ℕ) (item : X) : Type 0 where
-  at_place : j ≡ i → item ≡ x → SetOrNot xs i x j item
-  elsewhere : (j == i) ≡ false → slice_get xs j ≡ Some item → SetOrNot xs i x j item
-
-after_zero : (j : ℕ) → (suc j == 0) ≡ false
-after_zero j = grind (arith, nat_tests)
-
-before_later : (j : ℕ) → (0 == suc j) ≡ false
-before_later j = grind (arith, nat_tests)
-
-both_later : (i j : ℕ) → (j == i) ≡ false → (suc j == suc i) ≡ false
-both_later i j e = grind (arith, nat_tests)
-
-pub set_or_not : {X : Type 0} (xs : List X) (i : ℕ) (x : X) (j : ℕ) (item : X) → slice_get (slice_set xs i x) j ≡ Some item → SetOrNot xs i x j item
-set_or_not [] i x j item e = absurd (cc e)
-set_or_not (y ∷ ys) zero x zero item e = at_place refl (cc e)
-set_or_not (y ∷ ys) zero x (suc j) item e = elsewhere (after_zero j) e
-set_or_not (y ∷ ys) (suc i) x zero item e = elsewhere (before_later i) e
-set_or_not (y ∷ ys) (suc i) x (suc j) item e = further (set_or_not ys i x j item e)
-  where
-    further : SetOrNot ys i x j item → SetOrNot (y ∷ ys) (suc i) x (suc j) item
-    further (at_place h same) = at_place (omega arith) same
-    further (elsewhere h same) = elsewhere (both_later i j h) same
-
 -- ---- a represented state
 
 module _ (names : List (List ℕ)) (program : ProgramRows) (places : Places) (z : meaning.State) (y : State) (r : Represents names program places z y) where
@@ -267,8 +121,16 @@ module _ (names : List (List ℕ)) (program : ProgramRows) (places : Places) (z 
   pub represents_charged : (n : ℕ) → Represents names program places (meaning.charged n z) y
   represents_charged n = represents_same names program places z (meaning.charged n z) y refl refl refl refl r
 
+  -- the cost of middle code
+  pub represents_cost : (n : ℕ) → Represents names program places z (charged n y)
+  represents_cost n = represents_state names program places z y (charged n y) refl refl refl r
+
   pub fixed_stands : SpotStands y.arena fixed_spot
   fixed_stands = r.spots (of_other 0) fixed_spot r.fixed.spot
+
+  -- the word of the object that is made next, where it is given that spot
+  pub made_word : (s : Spot) → word_of (with_object s places) (object (length z.store)) ≡ Some (pointer_to s)
+  made_word s = rw (← r.count) (ap pointer_in (new_spot_found s places))
 
   -- what an owner's spot has stays
   pub owned_grown : (b : Arena) → Grows y.arena b → (p : Owner) (s : Spot) → spot_of places p ≡ Some s → SameWords y.arena b s
@@ -304,61 +166,61 @@ module _ (names : List (List ℕ)) (program : ProgramRows) (places : Places) (z 
     module _
         (s : Spot) (o : Object) (address : s.address ≡ y.arena.heap_to) (high : end_of s ≤ y'.arena.heap_to) (some : 1 ≤ s.words) (tag : s.tag < 4)
         (made : ObjectAt names program (with_object s places) y'.arena s o)
-        where
-      pub new_stands : SpotStands y'.arena s
-      new_stands = record {
-        aligned = omega (arith, r.arena.aligned);
-        some = some;
-        tag = tag;
-        part = of_heap (omega (arith, g.heap_from, r.arena.heap)) high;
-      }
+      where
+        pub new_stands : SpotStands y'.arena s
+        new_stands = record {
+          aligned = omega (arith, r.arena.aligned);
+          some = some;
+          tag = tag;
+          part = of_heap (omega (arith, g.heap_from, r.arena.heap)) high;
+        }
 
-      -- the old spots end where the new one begins
-      old_in_front : (p : Owner) (old : Spot) → spot_of places p ≡ Some old → end_of old ≤ s.address
-      old_in_front p old e = let below = spot_below y.arena old r.arena (r.spots p old e) in omega arith
+        -- the old spots end where the new one begins
+        old_in_front : (p : Owner) (old : Spot) → spot_of places p ≡ Some old → end_of old ≤ s.address
+        old_in_front p old e = let below = spot_below y.arena old r.arena (r.spots p old e) in omega arith
 
-      made_apart : (p q : Owner) (first second : Spot) → same_owner p q ≡ false → OldOrNew s places p first → OldOrNew s places q second → Apart first second
-      made_apart p q first second different (of_old d) (of_old e) = r.apart p q first second different d e
-      made_apart p q first second different (of_old d) (of_new e same) = rw same (in_front (old_in_front p first d))
-      made_apart p q first second different (of_new d same) (of_old e) = rw same (behind (old_in_front q second e))
-      made_apart p q first second different (of_new d same) (of_new e same') =
-          let self : same_owner (of_object (length places.objects)) (of_object (length places.objects)) ≡ false = cc in
-          absurd (grind (arith, nat_tests))
+        made_apart : (p q : Owner) (first second : Spot) → same_owner p q ≡ false → OldOrNew s places p first → OldOrNew s places q second → Apart first second
+        made_apart p q first second different (of_old d) (of_old e) = r.apart p q first second different d e
+        made_apart p q first second different (of_old d) (of_new e same) = rw same (in_front (old_in_front p first d))
+        made_apart p q first second different (of_new d same) (of_old e) = rw same (behind (old_in_front q second e))
+        made_apart p q first second different (of_new d same) (of_new e same') =
+            let self : same_owner (of_object (length places.objects)) (of_object (length places.objects)) ≡ false = cc in
+            absurd (grind (arith, nat_tests))
 
-      made_spot : (p : Owner) (found : Spot) → OldOrNew s places p found → SpotStands y'.arena found
-      made_spot p found (of_old e) = spot_grown y.arena y'.arena found g (r.spots p found e)
-      made_spot p found (of_new e same) = rw same new_stands
+        made_spot : (p : Owner) (found : Spot) → OldOrNew s places p found → SpotStands y'.arena found
+        made_spot p found (of_old e) = spot_grown y.arena y'.arena found g (r.spots p found e)
+        made_spot p found (of_new e same) = rw same new_stands
 
-      made_object :
-          (i : ℕ) (one : Object) (found : Spot) → FrontOrEnd z.store o i one → OldOrNew s places (of_object i) found
-          → ObjectAt names program (with_object s places) y'.arena found one
-      made_object i one found (at_front d) (of_old e) =
-          object_kept y.arena y'.arena found (owned_grown y'.arena g (of_object i) found e) places (with_object s places) (extends_one s places) names program one
-          (r.objects i one found d e)
-      made_object i one found (at_front d) (of_new e same) =
-          let within = slice_get_within z.store i one d in
-          let last : i ≡ length places.objects = cc e in
-          absurd (omega (arith, r.count))
-      made_object i one found (at_end d same) (of_old e) = let within = object_within places i found e in absurd (omega (arith, r.count))
-      made_object i one found (at_end d same) (of_new e at) = rw (same, at) made
+        made_object :
+            (i : ℕ) (one : Object) (found : Spot) → FrontOrEnd z.store o i one → OldOrNew s places (of_object i) found
+            → ObjectAt names program (with_object s places) y'.arena found one
+        made_object i one found (at_front d) (of_old e) =
+            object_kept y.arena y'.arena found (owned_grown y'.arena g (of_object i) found e) places (with_object s places) (extends_one s places) names program one
+            (r.objects i one found d e)
+        made_object i one found (at_front d) (of_new e same) =
+            let within = slice_get_within z.store i one d in
+            let last : i ≡ length places.objects = cc e in
+            absurd (omega (arith, r.count))
+        made_object i one found (at_end d same) (of_old e) = let within = object_within places i found e in absurd (omega (arith, r.count))
+        made_object i one found (at_end d same) (of_new e at) = rw (same, at) made
 
-      pub represents_made : Represents names program (with_object s places) (meaning.stored o z) y'
-      represents_made = record {
-        built_in = r.built_in;
-        arena = g.stands;
-        spots = λ p found e. made_spot p found (old_or_new s places p found e);
-        apart = λ p q first second different d e. made_apart p q first second different (old_or_new s places p first d) (old_or_new s places q second e);
-        count =
-            length-append places.objects (Some s ∷ []) ∙ ap (λ n. n + 1) r.count ∙ sym (length-append z.store (o ∷ []));
-        objects = λ i one found d e. made_object i one found (front_or_end z.store o i one d) (old_or_new s places (of_object i) found e);
-        symbols = λ v found e. symbol_kept y.arena y'.arena found (owned_grown y'.arena g (of_symbol v) found e) v (r.symbols v found e);
-        no_nil = r.no_nil;
-        fixed =
-            rw input (fixed_kept names program places (with_object s places) y.arena y'.arena z.symbols z.printed z.input y.input (extends_one s places) refl
-            (owned_grown y'.arena g (of_other 0) fixed_spot r.fixed.spot) r.fixed);
-        input = r.input;
-        printed = printed ∙ r.printed;
-      }
+        pub represents_made : Represents names program (with_object s places) (meaning.stored o z) y'
+        represents_made = record {
+          built_in = r.built_in;
+          arena = g.stands;
+          spots = λ p found e. made_spot p found (old_or_new s places p found e);
+          apart = λ p q first second different d e. made_apart p q first second different (old_or_new s places p first d) (old_or_new s places q second e);
+          count =
+              length-append places.objects (Some s ∷ []) ∙ ap (λ n. n + 1) r.count ∙ sym (length-append z.store (o ∷ []));
+          objects = λ i one found d e. made_object i one found (front_or_end z.store o i one d) (old_or_new s places (of_object i) found e);
+          symbols = λ v found e. symbol_kept y.arena y'.arena found (owned_grown y'.arena g (of_symbol v) found e) v (r.symbols v found e);
+          no_nil = r.no_nil;
+          fixed =
+              rw input (fixed_kept names program places (with_object s places) y.arena y'.arena z.symbols z.printed z.input y.input (extends_one s places) refl
+              (owned_grown y'.arena g (of_other 0) fixed_spot r.fixed.spot) r.fixed);
+          input = r.input;
+          printed = printed ∙ r.printed;
+        }
 
   -- an object is changed in its spot
   module _ (i : ℕ) (s : Spot) (at : spot_of places (of_object i) ≡ Some s) (b : Arena) (c : Changes s y.arena b) where

@@ -364,6 +364,14 @@ unfolding go_on
 parts_then {c = c} ss ts {rs = rs} {z = z} g h =
     record { same = in_two_parts c ss ts rs z ∙ ap (λ r. go_on r (λ rs' y. exec c (code_of ts) rs' y)) g.same ∙ h.same }
 
+-- the first part ends otherwise
+pub parts_end :
+    {c : Context} (ss ts : List MidStep) {e : End} {rs rs' : Registers} {z z' : State} → IsLast e → RunsTo c (code_of ss) rs z (ends e rs' z')
+    → RunsTo c (code_of (ss ++ ts)) rs z (ends e rs' z')
+unfolding go_on
+parts_end {c = c} ss ts {e = e} {rs = rs} {rs' = rs'} {z = z} {z' = z'} l g =
+    record { same = in_two_parts c ss ts rs z ∙ ap (λ r. go_on r (λ rs' y. exec c (code_of ts) rs' y)) g.same ∙ go_on_last e rs' z' _ l }
+
 -- loops
 
 -- the test fails, and the loop falls out

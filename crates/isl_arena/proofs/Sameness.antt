@@ -1,7 +1,6 @@
 -- Two values are the same exactly where their words are.
-use Rattle.std.proofs.Common.{◌≡◌, ℕ, zero, suc, ◌+◌, ◌-◌, ◌*◌, ◌%◌, ◌^◌, ◌<◌, ◌≤◌, ℤ, pos, Bool, true, false, List, [], ◌∷◌, Option, Some, None, refl, sym, ap, ◌∙◌, arith}
-use Rattle.std.specs.Prelude.{negsuc, ◌==◌, ◌&&◌, ◌*ℤ◌, slice_get}
-use Rattle.std.specs.Str.{bytes_eq}
+use Rattle.std.proofs.Common.{◌≡◌, ℕ, ◌+◌, ◌-◌, ◌%◌, ◌^◌, ◌<◌, ◌≤◌, ℤ, pos, Bool, true, false, List, Some, refl, sym, ap, ◌∙◌, arith}
+use Rattle.std.specs.Prelude.{negsuc, ◌==◌, ◌&&◌, ◌*ℤ◌}
 use Rattle.std.proofs.lemmas.Bool.Decides.{nat_tests}
 use Rattle.std.proofs.lemmas.Slice.Eq.{bytes_eq-Decides}
 use Rattle.std.proofs.lemmas.Int.{ints}
@@ -12,12 +11,12 @@ use Rattle.isl_meaning.specs.Objects.{Object, cons}
 use Rattle.isl_meaning.specs.State as meaning
 use Rattle.isl_mid.specs.Words.{low_word}
 use Rattle.isl_mid.specs.State.{State}
-use Rattle.isl_arena.specs.Tags.{object_tag, integer_word, nil_word, tag_of}
-use Rattle.isl_arena.specs.Places.{Spot, end_of, Places, Owner, of_object, of_symbol, same_owner, spot_of, word_of}
+use Rattle.isl_arena.specs.Tags.{integer_word, nil_word, tag_of}
+use Rattle.isl_arena.specs.Places.{Spot, Places, Owner, of_object, of_symbol, same_owner, spot_of, word_of}
 use Rattle.isl_arena.specs.Standing.{Apart, in_front, behind}
 use Rattle.isl_arena.specs.Represents.{Represents}
 use Rattle.isl_arena.proofs.Arguments.{integer_word_is, character_word_is, tag_in, value_tag, tag_told, symbol_there, object_there}
-use Rattle.isl_arena.proofs.Telling.{tag_low, integer_low, symbol_low, object_low, nil_told}
+use Rattle.isl_arena.proofs.Telling.{object_low, nil_told}
 
 -- ---- integers
 

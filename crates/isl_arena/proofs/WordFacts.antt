@@ -1,18 +1,18 @@
 -- Facts about words: their tags and bytes, the words of integers, characters and pointers, and what tests on them tell.
-use Rattle.std.proofs.Common.{◌≡◌, ℕ, zero, suc, ◌+◌, ◌-◌, ◌*◌, ◌/◌, ◌%◌, ◌^◌, ◌<◌, ◌≤◌, ℤ, pos, Bool, true, false, Option, Some, None, ⊎_elim, refl, sym, ap, ◌∙◌, arith}
-use Rattle.std.specs.Prelude.{negsuc, ◌==◌, nat_lt, nat_le, int_lt, int_le, not, ◌&&◌, ◌*ℤ◌, ◌+ℤ◌, neg_ℤ, FitsSigned, is_some, if◌then◌else◌, ◌≢◌}
+use Rattle.std.proofs.Common.{◌≡◌, ℕ, suc, ◌+◌, ◌-◌, ◌*◌, ◌/◌, ◌%◌, ◌^◌, ◌<◌, ◌≤◌, ℤ, pos, Bool, true, false, Option, Some, None, ⊎_elim, refl, sym, ap, ◌∙◌, arith}
+use Rattle.std.specs.Prelude.{negsuc, ◌==◌, nat_lt, nat_le, int_lt, int_le, not, ◌&&◌, ◌||◌, ◌*ℤ◌, FitsSigned, is_some, if◌then◌else◌, ◌≢◌}
 use Rattle.std.specs.Int.{w32}
 use Rattle.std.proofs.lemmas.Int.{ints}
-use borrow.Author.Differences.{up, down, same_in, same_out, true_is_lt, false_is_lt, true_is_le, false_is_le}
-use Rattle.std.proofs.lemmas.Bool.{cases_lt, eqb-true, eq-eqb, not-true, ltb-true, lt-ltb, le-ltb, and_left, and_right}
+use borrow.Author.Differences.{up, down, true_is_lt, false_is_lt, true_is_le, false_is_le}
+use Rattle.std.proofs.lemmas.Bool.{cases_lt, eqb-true, eq-eqb, not-true, ltb-true, leb-true, le-ltb, and_left, and_right}
 use Rattle.std.proofs.lemmas.Bool.Decides.{nat_tests}
 use Rattle.isl_mid.specs.declared.operation.Comparison.TheVariants as comparison
-use Rattle.isl_mid.specs.Words.{compares, less_signed, sum32, difference32, address}
+use Rattle.isl_mid.specs.Words.{compares, less_signed, sum32, product32, difference32, address}
 use Rattle.isl_mid.proofs.WordBounds.{first_true, second_true}
 use Rattle.isl_mid.specs.Words.{low_word, signed, shift_left, shift_right}
 use Rattle.isl_meaning.specs.Values.{in_range, int_equal}
-use Rattle.isl_meaning.specs.Primitives.{index_of}
-use Rattle.isl_arena.specs.Tags.{integer_word, character_word, nil_word}
+use Rattle.isl_meaning.specs.Primitives.{index_of, length_of, byte_of}
+use Rattle.isl_arena.specs.Tags.{integer_word, character_word, nil_word, instance_header}
 use Rattle.isl_arena.specs.Places.{Spot, pointer_to}
 use Rattle.isl_arena.specs.Standing.{Apart, in_front, behind}
 
@@ -55,6 +55,9 @@ bits_in_front w = omega arith
 -- to compare the shifted tag with a tag's bits tells the tag
 pub tag_tested : (w t : ℕ) → (shift_left w 30 == 2 ^ 30 * t) ≡ (w % 4 == t)
 tag_tested w t = grind (arith, nat_tests)
+
+pub low_four_bits_tested : (w t : ℕ) → (shift_left w 28 == 2 ^ 28 * t) ≡ (w % 16 == t)
+low_four_bits_tested w t = grind (arith, nat_tests)
 
 pub low_byte_tested : (w c : ℕ) → (shift_left w 24 == 2 ^ 24 * c) ≡ (w % 256 == c)
 low_byte_tested w c = grind (arith, nat_tests)
@@ -184,6 +187,7 @@ integer_word_equal a b g h = same_truth _ _ there back
   where
     there : (integer_word a == integer_word b) ≡ true → int_equal a b ≡ true
     there e = rw (integer_word_one_to_one a b g h (eqb-true _ _ e)) (int_equal_same b)
+
     back : int_equal a b ≡ true → (integer_word a == integer_word b) ≡ true
     back e = rw (int_equal_tells a b e) (eq-eqb _ _ refl)
 
@@ -213,6 +217,62 @@ is_negative a g = (λ i. int_lt (signed_integer_word a g i) (pos 0)) ∙ four_ti
 pub is_positive : (a : ℤ) → in_range a ≡ true → less_signed 0 (integer_word a) ≡ int_lt (pos 0) a
 is_positive a g = (λ i. int_lt (pos 0) (signed_integer_word a g i)) ∙ four_times_below (pos 0) a
 
+pub integers_compare_at_most : (a b : ℤ) → in_range a ≡ true → in_range b ≡ true → compares comparison.AtLeast (integer_word b) (integer_word a) ≡ int_le a b
+integers_compare_at_most a b g h = integers_compare_at_least b a h g ∙ not_below b a
+
+-- integers as lengths and as codes of characters
+
+pub length_tested : (n : ℤ) → in_range n ≡ true → compares comparison.AtLeast (integer_word n) 0 ≡ is_some (length_of n)
+length_tested (pos k) g = ap not (is_negative (pos k) g ∙ sym (false_is_lt (pos k) (pos 0) (omega arith)))
+length_tested (negsuc k) g = ap not (is_negative (negsuc k) g)
+
+pub length_word : (n : ℤ) (k : ℕ) → in_range n ≡ true → length_of n ≡ Some k → (n ≡ pos k) × (integer_word n ≡ 4 * k) × (k < 2 ^ 29)
+length_word (pos j) k g e =
+    let range = range_tells (pos j) g in
+    let same : j ≡ k = cc e in
+    (ap pos same, integer_word_of_pos j (omega (arith, range.0)) ∙ ap (λ x. 4 * x) same, omega (arith, range.0, same))
+length_word (negsuc j) k g e = absurd (cc e)
+
+pub byte_tested : (n : ℤ) → in_range n ≡ true → compares comparison.LessUnsigned (integer_word n) 1024 ≡ is_some (byte_of n)
+byte_tested (pos k) g =
+    let range = range_tells (pos k) g in
+    rw (integer_word_of_pos k (omega (arith, range.0))) (four_times k ∙ there (nat_le k 255))
+  where
+    four_times : (a : ℕ) → nat_lt (4 * a) 1024 ≡ nat_le a 255
+    four_times a = grind (arith, nat_tests)
+
+    there : (t : Bool) → t ≡ is_some (if◌then◌else◌ {A = Option ℕ} t (Some k) None)
+    there true = refl
+    there false = refl
+byte_tested (negsuc k) g =
+    let range = range_tells (negsuc k) g in
+    rw (integer_word_of_negsuc k (omega (arith, range.1))) (le-ltb _ _ (omega (arith, range.1)))
+
+pub byte_word : (n : ℤ) (c : ℕ) → byte_of n ≡ Some c → (n ≡ pos c) × (c ≤ 255) × (integer_word n ≡ 4 * c)
+byte_word (pos k) c e = from (nat_le k 255) refl e
+  where
+    from : (t : Bool) → nat_le k 255 ≡ t → (if t then Some k else None) ≡ Some c → (pos k ≡ pos c) × (c ≤ 255) × (integer_word (pos k) ≡ 4 * c)
+    from true below is =
+        let same : k ≡ c = cc is in
+        let small = leb-true k 255 below in
+        (ap pos same, omega (arith, same, small), integer_word_of_pos k (omega (arith, small)) ∙ ap (λ x. 4 * x) same)
+    from false above is = absurd (cc is)
+byte_word (negsuc k) c e = absurd (cc e)
+
+-- an integer that is read as a byte, and the one that is read at the end
+pub byte_read : (c : ℕ) → c < 256 → shift_left c 2 ≡ integer_word (pos c)
+byte_read c h = rw (integer_word_of_pos c (omega arith)) (omega arith)
+
+pub end_read : shift_left (2 ^ 32 - 1) 2 ≡ integer_word (negsuc 0)
+end_read = sym (integer_word_of_negsuc 0 (omega arith))
+
+pub byte_is_no_end : (c : ℕ) → c < 256 → integer_word (pos c) ≢ integer_word (negsuc 0)
+byte_is_no_end c h e = omega (arith, e, integer_word_of_pos c (omega arith), integer_word_of_negsuc 0 (omega arith))
+
+-- the next serial number, as an integer of 29 bits
+pub next_serial : (n : ℕ) → shift_right (shift_left (sum32 (4 * (n % 2 ^ 29)) 4) 1) 1 ≡ 4 * ((n + 1) % 2 ^ 29)
+next_serial n = omega arith
+
 -- ---- characters
 
 pub character_word_below : (c : ℕ) → c ≤ 255 → character_word c < 2 ^ 16
@@ -223,6 +283,10 @@ character_word_byte c = omega arith
 
 pub character_word_tag : (c : ℕ) → character_word c % 4 ≡ 3
 character_word_tag c = omega arith
+
+-- the lowest byte tells characters from all other values: it has their tag, and it is not that of nil
+pub character_byte_tag : (w : ℕ) → w % 256 ≡ 15 → w % 4 ≡ 3
+character_byte_tag w h = omega arith
 
 pub character_word_one_to_one : (a b : ℕ) → character_word a ≡ character_word b → a ≡ b
 character_word_one_to_one a b e = omega arith
@@ -240,6 +304,39 @@ character_integer c h = rw (integer_word_of_pos c (omega arith)) (omega arith)
 -- and back
 pub character_of_integer : (c : ℕ) → c ≤ 255 → sum32 (shift_left (integer_word (pos c)) 6) 15 ≡ character_word c
 character_of_integer c h = rw (integer_word_of_pos c (omega arith)) (omega arith)
+
+-- ---- headers
+
+-- whether a header is one of so many from that one on
+pub header_tested : (h header : ℕ) → h < 2 ^ 32 → header < 2 ^ 32 → nat_lt (difference32 h header) 1 ≡ (h == header)
+header_tested h header g k = grind (arith, nat_tests)
+
+pub two_headers_tested : (h header : ℕ) → h < 2 ^ 32 → suc header < 2 ^ 32 → nat_lt (difference32 h header) 2 ≡ (h == header || h == suc header)
+two_headers_tested h header g k = grind (arith, nat_tests)
+
+pub instance_header_bits : (slots : ℕ) → shift_left (instance_header slots) 28 ≡ 2 ^ 28 * 3
+instance_header_bits slots = omega arith
+
+pub instance_header_count : (slots : ℕ) → 4 * slots < 2 ^ 32 → shift_left (shift_right (instance_header slots) 4) 2 ≡ 4 * slots
+instance_header_count slots h = omega arith
+
+pub instance_header_made : (slots : ℕ) → 16 * slots + 3 < 2 ^ 32 → sum32 (shift_left (4 * slots) 2) 3 ≡ instance_header slots
+instance_header_made slots h = omega arith
+
+-- ---- words of t and nil
+
+-- 1 or 0 for a word that is not nil, or is
+pub truth_bit : (w : ℕ) → w < 2 ^ 32 → nat_lt 0 (difference32 w nil_word) ≡ not (w == nil_word)
+truth_bit w h = grind (arith, nat_tests)
+
+-- a word or nil, for 1 or 0
+pub word_or_nil : (w : ℕ) (b : Bool) → w < 2 ^ 32 → sum32 (product32 (difference32 w nil_word) (if b then 1 else 0)) nil_word ≡ if b then w else nil_word
+word_or_nil w true h = omega arith
+word_or_nil w false h = omega arith
+
+-- 1 where a word is that one, as a difference that is below 1
+pub equal_bit : (a b : ℕ) → a < 2 ^ 32 → b < 2 ^ 32 → nat_lt (difference32 a b) 1 ≡ (a == b)
+equal_bit = header_tested
 
 -- ---- pointers
 
@@ -302,6 +399,7 @@ index_tested (pos i) count g h =
   where
     four_times_less : (a b : ℕ) → nat_lt (4 * a) (4 * b) ≡ nat_lt a b
     four_times_less a b = grind (arith, nat_tests)
+
     there : (t : Bool) → t ≡ is_some (if◌then◌else◌ {A = Option ℕ} t (Some i) None)
     there true = refl
     there false = refl

@@ -42,7 +42,13 @@ fn class_where(
 }
 
 // One class where the word in register 7 is below another, else the other class.
-fn class_below(alloc: Global, to: Register, word: u32, class: i32, other: i32) -> Result<Code, NoMemory>
+fn class_below(
+    alloc: Global,
+    to: Register,
+    word: u32,
+    class: i32,
+    other: i32,
+) -> Result<Code, NoMemory>
     ensures { IfOk result (λ code. code ≡ steps.class_below to word class other) }
 {
     let below = fixed(alloc, to, class)?;

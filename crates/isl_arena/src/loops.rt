@@ -4,8 +4,10 @@ ghost use Rattle.std.specs.Prelude.{◌≡◌, ◌++◌, OnOk, IfOk};
 ghost use Rattle.isl_arena.specs.Steps.{steps_of};
 ghost use Rattle.isl_arena.specs.declared.line.Line.TheVariants as line;
 
-use crate::steps::{comparing, compute_by, either, give, load, constant, return_if, store, while_below};
-use crate::words::{TRUE_AT};
+use crate::steps::{
+    comparing, compute_by, constant, either, give, load, return_if, store, while_below,
+};
+use crate::words::TRUE_AT;
 use isl_base::NoMemory;
 use isl_mid::{Arithmetic, Code, Comparison};
 use std::alloc::Global;

@@ -88,7 +88,13 @@ pub fn return_if(alloc: Global, test: Test, from: Register) -> Result<Step, NoMe
 }
 
 /// What is computed of a word and that word, which is put into register 6.
-pub fn compute_by(code: &mut Code, to: Register, which: Arithmetic, first: Register, word: u32) -> Result<(), NoMemory>
+pub fn compute_by(
+    code: &mut Code,
+    to: Register,
+    which: Arithmetic,
+    first: Register,
+    word: u32,
+) -> Result<(), NoMemory>
     ensures { OnOk result (code.new ≡ code.old ++ steps.compute_by to which first word) }
 {
     code.push(constant(6, word))?;

@@ -13,7 +13,13 @@ use isl_mid::{Arithmetic, Code, Comparison, Register, Test};
 use std::alloc::Global;
 
 /// The test has to hold, or the argument is a domain error.
-pub fn need_test(code: &mut Code, alloc: Global, test: Test, of: Register, class: i32) -> Result<(), NoMemory>
+pub fn need_test(
+    code: &mut Code,
+    alloc: Global,
+    test: Test,
+    of: Register,
+    class: i32,
+) -> Result<(), NoMemory>
     ensures { OnOk result (code.new ≡ code.old ++ steps_of (line.NeedTest test of class)) }
 {
     let error = domain_error(alloc, of, class)?;
@@ -22,7 +28,13 @@ pub fn need_test(code: &mut Code, alloc: Global, test: Test, of: Register, class
 }
 
 /// The argument has to have that tag.
-pub fn need_tag(code: &mut Code, alloc: Global, of: Register, bits: u32, class: i32) -> Result<(), NoMemory>
+pub fn need_tag(
+    code: &mut Code,
+    alloc: Global,
+    of: Register,
+    bits: u32,
+    class: i32,
+) -> Result<(), NoMemory>
     ensures { OnOk result (code.new ≡ code.old ++ steps.need_tag of bits class) }
 {
     compute_by(code, 7, Arithmetic::ShiftLeft, of, 30)?;
@@ -36,23 +48,47 @@ pub fn need_character(code: &mut Code, alloc: Global, of: Register) -> Result<()
 {
     compute_by(code, 7, Arithmetic::ShiftLeft, of, 24)?;
     code.push(constant(6, 251658240))?;
-    need_test(code, alloc, comparing(Comparison::Equal, 7, 6), of, CHARACTER_CLASS)
+    need_test(
+        code,
+        alloc,
+        comparing(Comparison::Equal, 7, 6),
+        of,
+        CHARACTER_CLASS,
+    )
 }
 
 /// It has to be an object with one of so many headers.
 #[tactic(auto, unfolding(crate::specs::Steps::need_header))]
-pub fn need_header(code: &mut Code, alloc: Global, of: Register, header: u32, count: u32, class: i32) -> Result<(), NoMemory>
+pub fn need_header(
+    code: &mut Code,
+    alloc: Global,
+    of: Register,
+    header: u32,
+    count: u32,
+    class: i32,
+) -> Result<(), NoMemory>
     ensures { OnOk result (code.new ≡ code.old ++ steps.need_header of header count class) }
 {
     need_tag(code, alloc, of, OBJECT_BITS, class)?;
     code.push(load(7, of, HEADER))?;
     compute_by(code, 7, Arithmetic::Subtract, 7, header)?;
     code.push(constant(6, count))?;
-    need_test(code, alloc, comparing(Comparison::LessUnsigned, 7, 6), of, class)
+    need_test(
+        code,
+        alloc,
+        comparing(Comparison::LessUnsigned, 7, 6),
+        of,
+        class,
+    )
 }
 
 /// It has to be an instance.
-pub fn need_instance(code: &mut Code, alloc: Global, of: Register, class: i32) -> Result<(), NoMemory>
+pub fn need_instance(
+    code: &mut Code,
+    alloc: Global,
+    of: Register,
+    class: i32,
+) -> Result<(), NoMemory>
     ensures { OnOk result (code.new ≡ code.old ++ steps_of (line.NeedInstance of class)) }
 {
     need_tag(code, alloc, of, OBJECT_BITS, class)?;

@@ -2,17 +2,21 @@
 
 /// The tags of conses and of other objects.
 pub const CONS: u32 = 1;
+
 pub const OBJECT: u32 = 2;
 
 /// Tags as the two highest bits of a word.
 pub const INTEGER_BITS: u32 = 0;
+
 pub const CONS_BITS: u32 = 1073741824;
+
 pub const OBJECT_BITS: u32 = 2147483648;
 
 /// Words that are no integers and no pointers.
 pub const NIL: u32 = 3;
 
 pub const UNBOUND: u32 = 7;
+
 pub const SIGNAL: u32 = 11;
 
 /// Headers of objects.
@@ -36,22 +40,39 @@ pub const FRESH: u32 = 10;
 
 /// The addresses of the words of built-in classes: four times their numbers.
 pub const VECTOR_CLASS: i32 = 12;
+
 pub const STRING_CLASS: i32 = 16;
+
 pub const CHARACTER_CLASS: i32 = 20;
+
 pub const FUNCTION_CLASS: i32 = 24;
+
 pub const GENERIC_CLASS: i32 = 28;
+
 pub const CONS_CLASS: i32 = 36;
+
 pub const SYMBOL_CLASS: i32 = 40;
+
 pub const NULL_CLASS: i32 = 44;
+
 pub const INTEGER_CLASS: i32 = 52;
+
 pub const STREAM_CLASS: i32 = 56;
+
 pub const BUILT_IN_CLASS: i32 = 60;
+
 pub const STANDARD_CLASS: i32 = 64;
+
 pub const STANDARD_OBJECT: i32 = 68;
+
 pub const SERIOUS_CONDITION: i32 = 72;
+
 pub const PROGRAM_ERROR: i32 = 96;
+
 pub const DIVISION_BY_ZERO: i32 = 108;
+
 pub const INTEGER_OVERFLOW: i32 = 112;
+
 pub const DOMAIN_ERROR: i32 = 116;
 
 /// Fixed addresses.
@@ -70,6 +91,7 @@ pub const PEEKED_AT: i32 = 156;
 pub const NIL_NAME_AT: u32 = 164;
 
 pub const NO_NAME_AT: u32 = 176;
+
 pub const PENDING_AT: i32 = 160;
 
 /// Offsets from the word of a cons, and from that of another object.
