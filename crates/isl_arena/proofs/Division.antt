@@ -28,7 +28,8 @@ use Rattle.isl_arena.proofs.ArithmeticDivision.{short_correction_word, quotient_
 use Rattle.isl_arena.proofs.Running.{constant_falls, compute_falls, compute_known}
 use Rattle.isl_arena.proofs.Doing.{Run, goes_on}
 use Rattle.isl_arena.proofs.Conditions.{division_by_zero}
-use Rattle.isl_arena.proofs.Integers.{integer_registers, integers_needed, does_two, signals_unless, unless_overflow, returns_integer}
+use Rattle.isl_arena.proofs.Taking.{does_two}
+use Rattle.isl_arena.proofs.Integers.{integer_registers, integers_needed, signals_unless, unless_overflow, returns_integer}
 
 -- the quotient and the remainder as the code has them
 module _ (i j : ℤ) (g : in_range i ≡ true) (h : in_range j ≡ true) (some : int_equal j (pos 0) ≡ false) where

@@ -25,21 +25,17 @@ use Rattle.isl_arena.specs.Represents.{Represents}
 use Rattle.isl_arena.specs.Answers.{DoesPrimitive, IsPrimitive, units_after}
 use Rattle.isl_arena.specs.Codes.{code_of_primitive, procedure_of}
 use Rattle.isl_arena.specs.Steps as steps
-use Rattle.isl_arena.proofs.WordFacts.{tag_tested, integers_compare_equal, integers_compare_different, integers_compare_less, integers_compare_at_least, integers_compare_at_most, not_below}
+use Rattle.isl_arena.proofs.WordFacts.{integers_compare_equal, integers_compare_different, integers_compare_less, integers_compare_at_least, integers_compare_at_most, not_below}
 use Rattle.isl_arena.proofs.ArithmeticSum.{sum_is, sum_in_range, difference_is, difference_in_range}
 use Rattle.isl_arena.proofs.ArithmeticProduct.{product_is, product_in_range}
 use Rattle.isl_arena.proofs.Running.{constant_falls, compute_falls, compute_known}
 use Rattle.isl_arena.proofs.Doing.{Alike, alike_self, Run, goes_on, returns_value, test_passes, test_fails, second_answers, part_then, part_answers}
 use Rattle.isl_arena.proofs.Conditions.{PlainCondition, integer_overflow, signal_run}
-use Rattle.isl_arena.proofs.Checking.{tag_registers, tag_passes, tag_errs}
-use Rattle.isl_arena.proofs.Telling.{IntegerTold, integer_found, no_integer, integer_told}
-use Rattle.isl_arena.proofs.Entering.{does_by_code}
+use Rattle.isl_arena.proofs.Checking.{tag_registers, integer_needed}
+use Rattle.isl_arena.proofs.Taking.{two_registers, does_two}
 use Rattle.isl_arena.proofs.Saying.{saying, says_run}
 
--- the registers at the start, with two arguments, and where both are integers
-abbrev pub two_registers : ℕ → ℕ → Registers
-two_registers a b = first_registers 8 (a ∷ b ∷ [])
-
+-- the registers where both arguments are integers
 abbrev pub integer_registers : ℕ → ℕ → Registers
 integer_registers a b = tag_registers b 0 (tag_registers a 0 (two_registers a b))
 
@@ -47,52 +43,7 @@ integer_registers a b = tag_registers b 0 (tag_registers a 0 (two_registers a b)
 abbrev pub need_integers : List MidStep → List MidStep
 need_integers rest = steps.need_tag 0 0 (pos (class_address integer_class)) ++ steps.need_tag 1 0 (pos (class_address integer_class)) ++ rest
 
--- the code of a primitive of two arguments comes to its answer
-abbrev pub DoesTwo : Primitive → Type 0
-DoesTwo which =
-    (names : List (List ℕ)) (program : ProgramRows) (places : Places) (z : meaning.State) (y : State) (procedures : List MidProcedure)
-    (below : Task → State → Outcome) (n : ℕ) (v w : Value) (a b : ℕ)
-    → Represents names program places z y → word_of places v ≡ Some a → word_of places w ≡ Some b
-    → Run names program places z y procedures below n (y.cost + 130 + 244 * arity which) (primitive names program which (v ∷ w ∷ []) z)
-    (code_of (code_of_primitive which)) (two_registers a b) y.cost
-
-pub does_two : (which : Primitive) → arity which ≡ 2 → DoesTwo which → IsPrimitive which (procedure_of which)
-does_two which two code names program procedures below n places z y vs ws r are count units =
-    does_by_code names program places z y procedures below n which vs ws r are count (λ y' r'. by y' r' vs ws are (count ∙ two))
-  where
-    by :
-        (y' : State) → Represents names program places z y' → (vs : List Value) (ws : List ℕ) → WordsOf places vs ws → length vs ≡ 2
-        → Run names program places z y' procedures below n (y'.cost + 130 + 244 * arity which) (primitive names program which vs z)
-        (code_of (code_of_primitive which)) (first_registers 8 ws) y'.cost
-    by y' r' (v ∷ w ∷ []) (a ∷ b ∷ []) are count = code names program places z y' procedures below n v w a b r' are.0 are.1.0
-    by y' r' [] ws are count = absurd (omega (arith, count))
-    by y' r' (v ∷ []) ws are count = absurd (omega (arith, count))
-    by y' r' (v ∷ w ∷ u ∷ vs) ws are count = absurd (omega (arith, count))
-    by y' r' (v ∷ w ∷ []) [] are count = absurd are
-    by y' r' (v ∷ w ∷ []) (a ∷ []) are count = absurd are.1
-    by y' r' (v ∷ w ∷ []) (a ∷ b ∷ c ∷ ws) are count = absurd are.1.1
-
 module _ (names : List (List ℕ)) (program : ProgramRows) (places : Places) (z : meaning.State) (y : State) (r : Represents names program places z y) (procedures : List MidProcedure) (below : Task → State → Outcome) where
-  -- the argument is an integer, with which the code behind goes on, or a domain error
-  integer_needed :
-      (n budget k of w : ℕ) (v : Value) (next : ℤ → Answer) (rest : List MidStep) (rs : Registers) → of < 3 → length rs ≡ 8 → register of rs ≡ Some w
-      → word_of places v ≡ Some w → k + 210 + 250 * z.units ≤ budget + 250 * (z.units + 5)
-      → ((i : ℤ) → v ≡ integer i → in_range i ≡ true → w ≡ integer_word i
-      → Run names program places z y procedures below n budget (next i) (code_of rest) (tag_registers w 0 rs) (k + 6 + 10 + 6 + 12 + 2))
-      → Run names program places z y procedures below n budget (an_integer v z next) (code_of (steps.need_tag of 0 (pos (class_address integer_class)) ++ rest)) rs k
-  integer_needed n budget k of w v next rest rs low size held word cost more = by (integer_told names program places z y r v w word)
-    where
-      by :
-          IntegerTold v w
-          → Run names program places z y procedures below n budget (an_integer v z next) (code_of (steps.need_tag of 0 (pos (class_address integer_class)) ++ rest)) rs k
-      by (integer_found i same found range at tag) =
-          rw found (part_then names program places z y procedures below (steps.need_tag of 0 (pos (class_address integer_class))) rest
-          (tag_passes names program places z y r procedures below n of w integer_class v rs low size held word (omega arith) 0 k (tag_tested w 0 ∙ tag))
-          (more i same range at))
-      by (no_integer none tag) =
-          rw none (part_answers names program places z y procedures below (steps.need_tag of 0 (pos (class_address integer_class))) rest
-          (tag_errs names program places z y r procedures below n of w integer_class v rs low size held word (omega arith) 0 budget k (tag_tested w 0 ∙ tag) cost))
-
   -- both arguments are tested, and the code behind goes on with the words of two integers
   pub integers_needed :
       (n budget k a b : ℕ) (v w : Value) (next : ℤ → ℤ → meaning.State → Answer) (rest : List MidStep) → word_of places v ≡ Some a → word_of places w ≡ Some b
@@ -102,10 +53,10 @@ module _ (names : List (List ℕ)) (program : ProgramRows) (places : Places) (z 
       (k + 6 + 10 + 6 + 12 + 2 + 6 + 10 + 6 + 12 + 2))
       → Run names program places z y procedures below n budget (of_integers next (v ∷ w ∷ []) z) (code_of (need_integers rest)) (two_registers a b) k
   integers_needed n budget k a b v w next rest first second cost more =
-      integer_needed n budget k 0 a v (λ i. an_integer w z (λ j. next i j z))
+      integer_needed names program places z y r procedures below n budget k 0 a v (λ i. an_integer w z (λ j. next i j z))
       (steps.need_tag 1 0 (pos (class_address integer_class)) ++ rest) (two_registers a b) (omega arith) refl refl first (omega (arith, cost))
       (λ i i_is i_range i_word.
-      integer_needed n budget (k + 6 + 10 + 6 + 12 + 2) 1 b w (λ j. next i j z)
+      integer_needed names program places z y r procedures below n budget (k + 6 + 10 + 6 + 12 + 2) 1 b w (λ j. next i j z)
       rest (tag_registers a 0 (two_registers a b)) (omega arith) refl refl second (omega (arith, cost))
       (λ j j_is j_range j_word. rw (i_word, j_word) (more i j i_range j_range)))
 

@@ -20,7 +20,9 @@ pub mod Conditions
 pub mod Leaving
 pub mod Entering
 pub mod Checking
+pub mod Needing
 pub mod Saying
+pub mod Taking
 pub mod Integers
 pub mod Division
-pub mod Needing
+pub mod CharacterCodes
