@@ -23,3 +23,8 @@ pub mod Leaving
 pub mod Entering
 pub mod Checking
 pub mod Needing
+pub mod Saying
+pub mod Taking
+pub mod Integers
+pub mod Division
+pub mod CharacterCodes
