@@ -31,3 +31,8 @@ pub mod FreshSymbols
 pub mod CopyingWords
 pub mod NewTexts
 pub mod SymbolNames
+pub mod Saying
+pub mod Taking
+pub mod Integers
+pub mod Division
+pub mod CharacterCodes
