@@ -1,28 +1,24 @@
 -- The line that copies words: what its loop comes to.
-use Rattle.std.proofs.Common.{◌≡◌, ℕ, zero, suc, ◌+◌, ◌-◌, ◌*◌, ◌%◌, ◌^◌, ◌<◌, ◌≤◌, pos, Bool, true, false, List, [], ◌∷◌, length, Option, Some, None, refl, sym, ap, ◌∙◌, arith}
+use Rattle.std.proofs.Common.{◌≡◌, ℕ, zero, suc, ◌+◌, ◌*◌, ◌%◌, ◌^◌, ◌<◌, ◌≤◌, pos, true, false, List, [], ◌∷◌, ◌++◌, length, Option, Some, refl, sym, ap, ◌∙◌, arith}
 use Rattle.std.specs.Prelude.{◌==◌, nat_lt, slice_get}
 use Rattle.std.proofs.lemmas.Bool.Decides.{nat_tests}
 use Rattle.std.proofs.lemmas.Option.{slice_get_within}
 use Rattle.isl_mid.specs.declared.operation.Arithmetic.TheVariants as which
 use Rattle.isl_mid.specs.declared.program.MidProcedure.{MidProcedure}
 use Rattle.isl_mid.specs.Words.{sum32}
-use Rattle.isl_mid.specs.Arena.{Arena, word_at, with_word}
+use Rattle.isl_mid.specs.Arena.{word_at, with_word}
 use Rattle.isl_mid.specs.MidCode.{MidStep}
-use Rattle.isl_mid.specs.State.{Registers, State, Outcome, falls, ends}
+use Rattle.isl_mid.specs.State.{State, Outcome, falls, ends}
 use Rattle.isl_mid.specs.Meaning.{Task}
 use Rattle.isl_arena.specs.Standing.{ArenaStands}
 use Rattle.isl_arena.specs.Steps as steps
 use Rattle.isl_arena.proofs.Memory.{heap_below, word_elsewhere, stands_with_word, with_words}
-use Rattle.isl_arena.proofs.Running.{RunsTo, StepsTo, turning, none_left, and_then, constant_falls, compute_known, load_falls, store_in_heap, address_above, repeat_falls, repeat_turn}
+use Rattle.isl_arena.proofs.Running.{StepsTo, turning, none_left, and_then, constant_falls, compute_known, load_falls, store_in_heap, address_above, repeat_falls, repeat_turn}
 
 -- the loop
 abbrev pub copy_words : MidStep
-copy_words = steps.while_below 7 5 (copy_body)
-  where
-    copy_body : List MidStep
-    copy_body =
-        steps.load 6 4 (pos 6) ∷ steps.store 6 7 (pos 8) ∷ steps.constant 6 4 ∷ steps.compute 7 which.Add 7 6 ∷ steps.constant 6 4
-        ∷ steps.compute 4 which.Add 4 6 ∷ []
+copy_words =
+    steps.while_below 7 5 (steps.load 6 4 (pos 6) ∷ steps.store 6 7 (pos 8) ∷ steps.compute_by 7 which.Add 7 4 ++ steps.compute_by 4 which.Add 4 4)
 
 sum_of_four : (a : ℕ) → a + 4 < 2 ^ 32 → sum32 a 4 ≡ a + 4
 sum_of_four a h = omega arith

@@ -1,34 +1,33 @@
 -- Quotients rounded down and their remainders do what the meaning says of them.
-use Rattle.std.proofs.Common.{◌≡◌, ℕ, ◌+◌, ◌*◌, ◌^◌, ◌<◌, ◌≤◌, ℤ, pos, Bool, true, false, List, [], ◌∷◌, length, Option, Some, refl, sym, ap, ◌∙◌, arith}
-use Rattle.std.specs.Prelude.{◌==◌, not}
+use Rattle.std.proofs.Common.{◌≡◌, ℕ, ◌+◌, ◌*◌, ◌^◌, ◌≤◌, ℤ, pos, Bool, true, false, List, [], ◌∷◌, refl, sym, ap, ◌∙◌, arith}
+use Rattle.std.specs.Prelude.{not}
 use Rattle.isl_meaning.specs.declared.program.ProgramRows.{ProgramRows}
-use Rattle.isl_meaning.specs.declared.primitive.Primitive.{Primitive}
 use Rattle.isl_meaning.specs.declared.primitive.Primitive.TheVariants.{Divide, Modulo}
-use Rattle.isl_meaning.specs.Arity.{arity}
-use Rattle.isl_meaning.specs.Values.{Value, in_range, int_equal}
+use Rattle.isl_meaning.specs.Values.{in_range, int_equal}
 use Rattle.isl_meaning.specs.Objects.{division_by_zero_class, integer_overflow_class}
 use Rattle.isl_meaning.specs.State as meaning
-use Rattle.isl_meaning.specs.Primitives.{Answer, fails, integer_result, floor_quotient, floor_remainder, division}
+use Rattle.isl_meaning.specs.Primitives.{fails, integer_result, floor_quotient, floor_remainder, division}
 use Rattle.isl_mid.specs.declared.program.MidProcedure.{MidProcedure}
 use Rattle.isl_mid.specs.declared.operation.Arithmetic.TheVariants as which
 use Rattle.isl_mid.specs.declared.operation.Comparison.TheVariants as comparison
 use Rattle.isl_mid.specs.Words.{sum32, product32, difference32, quotient_signed, remainder_signed}
 use Rattle.isl_mid.specs.MidCode.{MidStep, return_word, code_of}
-use Rattle.isl_mid.specs.State.{Registers, State, Outcome, register}
+use Rattle.isl_mid.specs.State.{State, Outcome}
 use Rattle.isl_mid.specs.Meaning.{Task}
 use Rattle.isl_arena.specs.Tags.{integer_word}
-use Rattle.isl_arena.specs.Places.{Places, word_of}
+use Rattle.isl_arena.specs.Places.{Places}
 use Rattle.isl_arena.specs.FixedWords.{class_address}
 use Rattle.isl_arena.specs.Represents.{Represents}
 use Rattle.isl_arena.specs.Answers.{IsPrimitive}
 use Rattle.isl_arena.specs.Codes.{procedure_of}
 use Rattle.isl_arena.specs.Steps as steps
 use Rattle.isl_arena.proofs.WordFacts.{integer_is_zero}
-use Rattle.isl_arena.proofs.ArithmeticDivision.{short_correction_word, quotient_number, modulo_word, correction_is, short_correction_is, quotient_in_range, quotient_is, modulo_is, floor_remainder_in_range}
+use Rattle.isl_arena.proofs.ArithmeticDivision.{short_correction_word, quotient_number, correction_is, short_correction_is, quotient_in_range, quotient_is, modulo_is, floor_remainder_in_range}
 use Rattle.isl_arena.proofs.Running.{constant_falls, compute_falls, compute_known}
 use Rattle.isl_arena.proofs.Doing.{Run, goes_on}
 use Rattle.isl_arena.proofs.Conditions.{division_by_zero}
-use Rattle.isl_arena.proofs.Integers.{integer_registers, integers_needed, does_two, signals_unless, unless_overflow, returns_integer}
+use Rattle.isl_arena.proofs.Taking.{does_two}
+use Rattle.isl_arena.proofs.Integers.{integer_registers, integers_needed, signals_unless, unless_overflow, returns_integer}
 
 -- the quotient and the remainder as the code has them
 module _ (i j : ℤ) (g : in_range i ≡ true) (h : in_range j ≡ true) (some : int_equal j (pos 0) ≡ false) where
@@ -63,29 +62,32 @@ taking_remainder =
     steps.compute 4 which.Remainder 0 1 ∷ steps.compute 5 which.MultiplyHigh 4 1 ∷ steps.compute 5 which.Less 5 6 ∷ steps.compute 5 which.Multiply 5 1
     ∷ steps.compute 4 which.Add 4 5 ∷ return_word 4 ∷ []
 
-module _ (names : List (List ℕ)) (program : ProgramRows) (places : Places) (z : meaning.State) (y : State) (r : Represents names program places z y) (procedures : List MidProcedure) (below : Task → State → Outcome) where
-  -- the second integer is not zero, and the code behind goes on, or the condition for that is signalled
-  divisor_needed :
-      (n budget k : ℕ) (i j : ℤ) (f : ℤ → ℤ → ℤ) (rest : List MidStep) → in_range j ≡ true → k + 148 ≤ budget
-      → (int_equal j (pos 0) ≡ false
-      → Run names program places z y procedures below n budget (integer_result (f i j) z) (code_of rest) (integer_registers (integer_word i) (integer_word j)) (k + 6 + 12 + 2))
-      → Run names program places z y procedures below n budget (division f i j z) (code_of (need_divisor rest)) (integer_registers (integer_word i) (integer_word j)) k
-  divisor_needed n budget k i j f rest range cost more =
-      goes_on names program places z y procedures below constant_falls
-      (signals_unless names program places z y r procedures below n budget (k + 6) (integer_word j) 0 division_by_zero_class (division f i j z)
-      (steps.comparing comparison.Different 1 6) rest (integer_registers (integer_word i) (integer_word j)) refl division_by_zero refl refl (omega (arith, cost))
-      (λ e. by_true (int_equal j (pos 0)) refl (sym (ap not (integer_is_zero j range)) ∙ e))
-      (λ e. by_false (int_equal j (pos 0)) refl (sym (ap not (integer_is_zero j range)) ∙ e)))
-    where
-      by_true :
-          (zero : Bool) → int_equal j (pos 0) ≡ zero → not zero ≡ true
-          → Run names program places z y procedures below n budget (division f i j z) (code_of rest) (integer_registers (integer_word i) (integer_word j)) (k + 6 + 12 + 2)
-      by_true true e h = absurd (cc h)
-      by_true false e h = rw e (more e)
+module _
+    (names : List (List ℕ)) (program : ProgramRows) (places : Places) (z : meaning.State) (y : State) (r : Represents names program places z y)
+    (procedures : List MidProcedure) (below : Task → State → Outcome)
+  where
+    -- the second integer is not zero, and the code behind goes on, or the condition for that is signalled
+    divisor_needed :
+        (n budget k : ℕ) (i j : ℤ) (f : ℤ → ℤ → ℤ) (rest : List MidStep) → in_range j ≡ true → k + 148 ≤ budget
+        → (int_equal j (pos 0) ≡ false
+        → Run names program places z y procedures below n budget (integer_result (f i j) z) (code_of rest) (integer_registers (integer_word i) (integer_word j)) (k + 6 + 12 + 2))
+        → Run names program places z y procedures below n budget (division f i j z) (code_of (need_divisor rest)) (integer_registers (integer_word i) (integer_word j)) k
+    divisor_needed n budget k i j f rest range cost more =
+        goes_on names program places z y procedures below constant_falls
+        (signals_unless names program places z y r procedures below n budget (k + 6) (integer_word j) 0 division_by_zero_class (division f i j z)
+        (steps.comparing comparison.Different 1 6) rest (integer_registers (integer_word i) (integer_word j)) refl division_by_zero refl refl (omega (arith, cost))
+        (λ e. by_true (int_equal j (pos 0)) refl (sym (ap not (integer_is_zero j range)) ∙ e))
+        (λ e. by_false (int_equal j (pos 0)) refl (sym (ap not (integer_is_zero j range)) ∙ e)))
+      where
+        by_true :
+            (zero : Bool) → int_equal j (pos 0) ≡ zero → not zero ≡ true
+            → Run names program places z y procedures below n budget (division f i j z) (code_of rest) (integer_registers (integer_word i) (integer_word j)) (k + 6 + 12 + 2)
+        by_true true e h = absurd (cc h)
+        by_true false e h = rw e (more e)
 
-      by_false : (zero : Bool) → int_equal j (pos 0) ≡ zero → not zero ≡ false → division f i j z ≡ fails division_by_zero_class [] z
-      by_false true e h = rw e refl
-      by_false false e h = absurd (cc h)
+        by_false : (zero : Bool) → int_equal j (pos 0) ≡ zero → not zero ≡ false → division f i j z ≡ fails division_by_zero_class [] z
+        by_false true e h = rw e refl
+        by_false false e h = absurd (cc h)
 
 pub divide_does : IsPrimitive Divide (procedure_of Divide)
 divide_does = does_two Divide refl (λ names program places z y procedures below n v w a b r first second.

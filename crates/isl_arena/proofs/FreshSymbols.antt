@@ -1,16 +1,15 @@
 -- A fresh symbol is made with the serial that comes next, as the meaning says.
-use Rattle.std.proofs.Common.{◌≡◌, ℕ, zero, suc, ◌+◌, ◌-◌, ◌*◌, ◌/◌, ◌%◌, ◌^◌, ◌<◌, ◌≤◌, pos, Bool, true, false, List, [], ◌∷◌, length, Option, Some, None, refl, sym, ap, ◌∙◌, arith}
+use Rattle.std.proofs.Common.{◌≡◌, ℕ, ◌+◌, ◌*◌, ◌/◌, ◌%◌, ◌^◌, ◌≤◌, true, List, [], ◌∷◌, length, Some, None, refl, ap, ◌∙◌, arith}
 use Rattle.std.specs.Prelude.{slice_get}
 use Rattle.std.proofs.Math.ListN.{length-set}
 use Rattle.isl_meaning.specs.declared.program.ProgramRows.{ProgramRows}
 use Rattle.isl_meaning.specs.declared.primitive.Primitive.TheVariants.{Gensym}
-use Rattle.isl_meaning.specs.Values.{Value, object}
+use Rattle.isl_meaning.specs.Values.{Value}
 use Rattle.isl_meaning.specs.Objects.{Object, fresh_symbol}
 use Rattle.isl_meaning.specs.State as meaning
 use Rattle.isl_meaning.specs.Primitives.{makes_symbol, primitive}
 use Rattle.isl_mid.specs.declared.program.MidProcedure.{MidProcedure}
 use Rattle.isl_mid.specs.Arena.{Arena, left, is_lent, word_at, with_word}
-use Rattle.isl_mid.specs.Words.{sum32, shift_left, shift_right}
 use Rattle.isl_mid.specs.MidCode.{code_of}
 use Rattle.isl_mid.specs.State.{Registers, State, Outcome, returns, no_room, ends, first_registers}
 use Rattle.isl_mid.specs.Meaning.{Task, Context}
@@ -19,15 +18,17 @@ use Rattle.isl_arena.specs.Places.{Spot, Places, WordsOf, with_object}
 use Rattle.isl_arena.specs.FixedWords.{serial_address}
 use Rattle.isl_arena.specs.Layouts.{PairAt}
 use Rattle.isl_arena.specs.Represents.{Represents}
-use Rattle.isl_arena.specs.Answers.{Done, done, units_after, IsPrimitive}
+use Rattle.isl_arena.specs.Answers.{Done, done, IsPrimitive}
 use Rattle.isl_arena.specs.Codes.{code_of_primitive, procedure_of}
 use Rattle.isl_arena.proofs.Memory.{Facts, heap_below, in_spot_lent, in_spot_there, spot_still_stands, word_here}
 use Rattle.isl_arena.proofs.Growing.{Changes}
 use Rattle.isl_arena.proofs.WordFacts.{next_serial}
-use Rattle.isl_arena.proofs.Running.{RunsTo, turning, and_then, and_ends, costing, constant_falls, compute_falls, compute_known, load_falls, store_falls, store_in_heap, request_falls, request_wanting, return_ends, address_above, address_here}
+use Rattle.isl_arena.proofs.Running.{RunsTo, and_then, and_ends, costing, constant_falls, compute_falls, compute_known, load_falls, store_falls, store_in_heap, request_falls, request_wanting}
+use Rattle.isl_arena.proofs.Running.{return_ends, address_above, address_here}
 use Rattle.isl_arena.proofs.Representing.{fixed_spot, fixed_stands, kept_both, kept_made, kept_grown, kept_fixed}
 use Rattle.isl_arena.proofs.FixedChanges.{one_word, represents_serial, word_of_fixed}
-use Rattle.isl_arena.proofs.Making.{Room, is_left, is_wanting, room_for, begun, begun_facts, begun_heap, begun_blocks, begun_word, grows_by, changes_stored, fixed_below, answers_wanting, represents_new, pointer_made}
+use Rattle.isl_arena.proofs.Making.{Room, is_left, is_wanting, room_for, begun, begun_facts, begun_heap, begun_blocks, begun_word, grows_by, changes_stored, fixed_below, answers_wanting}
+use Rattle.isl_arena.proofs.Making.{represents_new, pointer_made}
 use Rattle.isl_arena.proofs.Doing.{alike_self, Run, paid}
 use Rattle.isl_arena.proofs.Entering.{does_by_code}
 
@@ -62,7 +63,7 @@ module _ (names : List (List ℕ)) (program : ProgramRows) (places : Places) (z 
       let small = heap_below r.arena in
       let fixed = fixed_below names program places z y r in
       let loaded : word_at (begun 2 (fresh_header ∷ []) y.arena) serial_address ≡ Some (serial_word z) =
-          (begun_facts 2 (fresh_header ∷ []) r.arena room).words serial_address (omega arith) ∙ r.fixed.serial in
+      (begun_facts 2 (fresh_header ∷ []) r.arena room).words serial_address (omega arith) ∙ r.fixed.serial in
       costing
       (and_then constant_falls
       (and_then (request_falls refl room)
@@ -147,23 +148,26 @@ module _ (names : List (List ℕ)) (program : ProgramRows) (places : Places) (z 
           word_here symbol_arena serial_address (next_word z) serial_lent
           (in_spot_there {s = fixed_spot} serial_address grown.stands (fixed_stands names program after (meaning.stored one z) with_symbol there) (omega arith))
 
-module _ (names : List (List ℕ)) (program : ProgramRows) (places : Places) (z : meaning.State) (y : State) (r : Represents names program places z y) (procedures : List MidProcedure) (below : Task → State → Outcome) where
-  gensym_run :
-      (n : ℕ) → Run names program places z y procedures below n (y.cost + 130 + 244 * 0) (primitive names program Gensym [] z) (code_of (code_of_primitive Gensym))
-      (first_registers 8 []) y.cost
-  gensym_run n = by (room_for 2 y.arena)
-    where
-      by : Room 2 y.arena → Run names program places z y procedures below n (y.cost + 130 + 244 * 0) (makes_symbol z) (code_of (code_of_primitive Gensym)) (first_registers 8 []) y.cost
-      by (is_wanting lacking) = record {
-        outcome = ends (no_room 2 (left y.arena)) (None ∷ None ∷ None ∷ Some 2 ∷ None ∷ None ∷ None ∷ None ∷ []) (paid y (y.cost + 26));
-        runs = costing (and_then constant_falls (and_ends tt (request_wanting refl lacking))) (omega arith);
-        answers = answers_wanting names program places z y r 2 _ (y.cost + 26) lacking refl (omega arith);
-      }
-      by (is_left room) = record {
-        outcome = _;
-        runs = gensym_ends names program places z y r room y.cost;
-        answers = record { comes = done (gensym_done names program places z y r room _ (y.cost + 154)); cost = omega arith };
-      }
+module _
+    (names : List (List ℕ)) (program : ProgramRows) (places : Places) (z : meaning.State) (y : State) (r : Represents names program places z y)
+    (procedures : List MidProcedure) (below : Task → State → Outcome)
+  where
+    gensym_run :
+        (n : ℕ) → Run names program places z y procedures below n (y.cost + 130 + 244 * 0) (primitive names program Gensym [] z) (code_of (code_of_primitive Gensym))
+        (first_registers 8 []) y.cost
+    gensym_run n = by (room_for 2 y.arena)
+      where
+        by : Room 2 y.arena → Run names program places z y procedures below n (y.cost + 130 + 244 * 0) (makes_symbol z) (code_of (code_of_primitive Gensym)) (first_registers 8 []) y.cost
+        by (is_wanting lacking) = record {
+          outcome = ends (no_room 2 (left y.arena)) (None ∷ None ∷ None ∷ Some 2 ∷ None ∷ None ∷ None ∷ None ∷ []) (paid y (y.cost + 26));
+          runs = costing (and_then constant_falls (and_ends tt (request_wanting refl lacking))) (omega arith);
+          answers = answers_wanting names program places z y r 2 _ (y.cost + 26) lacking refl (omega arith);
+        }
+        by (is_left room) = record {
+          outcome = _;
+          runs = gensym_ends names program places z y r room y.cost;
+          answers = record { comes = done (gensym_done names program places z y r room _ (y.cost + 154)); cost = omega arith };
+        }
 
 pub gensym_does : IsPrimitive Gensym (procedure_of Gensym)
 gensym_does names program procedures below n places z y vs ws r are count units =

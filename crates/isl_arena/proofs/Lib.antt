@@ -22,9 +22,6 @@ pub mod Conditions
 pub mod Leaving
 pub mod Entering
 pub mod Checking
-pub mod Saying
-pub mod Integers
-pub mod Division
 pub mod Needing
 pub mod NeedingSymbols
 pub mod Arrays
@@ -37,3 +34,10 @@ pub mod VectorElements
 pub mod SymbolSerials
 pub mod FreshSymbols
 pub mod CopyingWords
+pub mod NewTexts
+pub mod SymbolNames
+pub mod Saying
+pub mod Taking
+pub mod Integers
+pub mod Division
+pub mod CharacterCodes
