@@ -38,7 +38,7 @@ use Rattle.isl_arena.proofs.Arguments.{ObjectFound, object_found}
 use Rattle.isl_arena.proofs.Doing.{alike_self, Run, goes_on, returns_value}
 use Rattle.isl_arena.proofs.Checking.{header_registers, tag_registers, integer_needed}
 use Rattle.isl_arena.proofs.Needing.{vector_needed}
-use Rattle.isl_arena.proofs.Arrays.{does_one, does_two, does_three, length_word_is, index_needed, returns_changed}
+use Rattle.isl_arena.proofs.Arrays.{does_one, does_two, does_three, length_word_is, index_needed, stores_changed}
 
 -- a vector in whose spot one element was set
 pub vector_set :
@@ -126,3 +126,32 @@ vector_ref_does = does_two VectorRef refl (λ v w a b names program places z y p
     (goes_on names program places z y procedures below
     (load_falls refl (address_above (it.spot.address + 2 + 4 * i) 6 (it.spot.address + 8 + 4 * i) (omega arith) (omega (arith, it.word, low, inside))) at.stands)
     (returns_value names program places z y procedures below r refl at.of_value (alike_self z) (omega arith))))))))
+
+abbrev setting : List MidStep
+setting = steps.compute 5 which.Add 1 2 ∷ steps.store 0 5 (pos 6) ∷ return_word 0 ∷ []
+
+pub set_vector_ref_does : IsPrimitive SetVectorRef (procedure_of SetVectorRef)
+set_vector_ref_does = does_three SetVectorRef refl (λ v w u a b c names program places z y procedures below n r are units.
+    vector_needed names program places z y r procedures below n (y.cost + 130 + 244 * 3) y.cost 1 b w
+    (λ vs. an_integer u z (λ m. an_index m (length vs) z (λ i. result v (change w (vector (slice_set vs i v)) z))))
+    (steps.need_tag 2 0 (pos (class_address integer_class)) ++ steps.load 7 1 (pos 2) ∷ index_test 2 setting)
+    (first_registers 8 (a ∷ b ∷ c ∷ [])) (omega arith) refl refl are.1.0 (omega arith)
+    (λ vs found.
+    let it = object_found names program places z y r w b (vector vs) are.1.0 found in
+    let low = vector_low names program places z y r procedures below w b vs it in
+    integer_needed names program places z y r procedures below n (y.cost + 130 + 244 * 3) _ 2 c u
+    (λ m. an_index m (length vs) z (λ i. result v (change w (vector (slice_set vs i v)) z))) (steps.load 7 1 (pos 2) ∷ index_test 2 setting)
+    _ (omega arith) refl refl are.1.1.0 (omega arith)
+    (λ m m_is range m_word.
+    goes_on names program places z y procedures below
+    (load_falls refl (address_above b 2 (it.spot.address + 4) (omega (arith, it.word)) (omega (arith, it.word, low))) it.stands.count)
+    (index_needed names program places z y r procedures below n (y.cost + 130 + 244 * 3) _ 2 (length vs) m
+    (λ i. result v (change w (vector (slice_set vs i v)) z)) setting _ refl (ap (λ x. Some x) m_word) refl range (omega (arith, low)) (omega arith)
+    (λ i inside i_word.
+    goes_on names program places z y procedures below
+    (compute_known refl refl (let sum : sum32 b c ≡ it.spot.address + 2 + 4 * i = omega (arith, it.word, m_word, i_word, low, inside) in sum))
+    (stores_changed names program places z y r procedures below n (y.cost + 130 + 244 * 3) _ it.number 0 5 0 (it.spot.address + 2 + 4 * i)
+    (it.spot.address + 4 * (2 + i)) a a (pos 6) it.spot (vector vs) (vector (slice_set vs i v)) v w _ refl refl
+    (address_above (it.spot.address + 2 + 4 * i) 6 (it.spot.address + 4 * (2 + i)) (omega arith) (omega (arith, it.word, low, inside)))
+    refl are.0 (omega (arith, it.spot_stands.aligned)) (omega arith) (omega (arith, it.stands.size.words)) it.stored (λ p e. cc e) it.found it.value
+    (vector_set places y.arena it.spot vs i a v r.arena it.spot_stands inside are.0 it.stands) (omega arith)))))))
