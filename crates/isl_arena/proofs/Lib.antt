@@ -25,3 +25,4 @@ pub mod Checking
 pub mod Needing
 pub mod Arrays
 pub mod VectorElements
+pub mod StringBytes
