@@ -26,3 +26,4 @@ pub mod Needing
 pub mod Arrays
 pub mod VectorElements
 pub mod StringBytes
+pub mod Filling
