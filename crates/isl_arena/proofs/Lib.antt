@@ -27,3 +27,4 @@ pub mod Arrays
 pub mod VectorElements
 pub mod StringBytes
 pub mod Filling
+pub mod MakeVectors
