@@ -1,34 +1,39 @@
 -- What the primitives of vectors and strings have in common: their arguments, the word of a length, the test of an index, and the return
 -- from a state where an object was changed.
-use Rattle.std.proofs.Common.{◌≡◌, ℕ, suc, ◌+◌, ◌*◌, ◌^◌, ◌<◌, ◌≤◌, ℤ, pos, Bool, true, false, List, [], ◌∷◌, ◌++◌, length, Option, Some, None, refl, sym, ap, ◌∙◌, arith}
-use Rattle.std.specs.Prelude.{is_some, slice_get}
+use Rattle.std.proofs.Common.{◌≡◌, ℕ, ◌+◌, ◌*◌, ◌/◌, ◌%◌, ◌^◌, ◌<◌, ◌≤◌, ℤ, pos, true, List, [], ◌∷◌, length, Option, Some, None, refl, ap, ◌∙◌, arith}
+use Rattle.std.specs.Prelude.{is_some, slice_get, slice_set}
+use Rattle.std.proofs.Math.ListN.{length-set}
 use Rattle.isl_meaning.specs.declared.program.ProgramRows.{ProgramRows}
 use Rattle.isl_meaning.specs.declared.primitive.Primitive.{Primitive}
 use Rattle.isl_meaning.specs.Arity.{arity}
-use Rattle.isl_meaning.specs.Values.{Value, integer, in_range}
-use Rattle.isl_meaning.specs.Objects.{Object, function, program_error_class}
+use Rattle.isl_meaning.specs.Values.{Value, integer, object, in_range}
+use Rattle.isl_meaning.specs.Objects.{Object, function, integer_class, program_error_class}
 use Rattle.isl_meaning.specs.State as meaning
-use Rattle.isl_meaning.specs.Primitives.{Answer, result, needs, program_error, index_of, an_index, primitive}
+use Rattle.isl_meaning.specs.Primitives.{Answer, result, needs, program_error, domain_error, length_of, index_of, an_index, change, primitive}
 use Rattle.isl_mid.specs.declared.program.MidProcedure.{MidProcedure}
-use Rattle.isl_mid.specs.declared.operation.Comparison.TheVariants.{LessUnsigned}
-use Rattle.isl_mid.specs.Words.{compares}
-use Rattle.isl_mid.specs.Arena.{Arena}
-use Rattle.isl_mid.specs.MidCode.{MidStep, code_of}
+use Rattle.isl_mid.specs.declared.operation.Comparison.TheVariants.{AtLeast, LessUnsigned}
+use Rattle.isl_mid.specs.Words.{compares, address}
+use Rattle.isl_mid.specs.Arena.{Arena, with_word}
+use Rattle.isl_mid.specs.MidCode.{MidStep, return_word, code_of}
 use Rattle.isl_mid.specs.State.{Registers, State, Outcome, returns, ends, register, first_registers}
 use Rattle.isl_mid.specs.Meaning.{Task}
 use Rattle.isl_arena.specs.Tags.{integer_word}
-use Rattle.isl_arena.specs.Places.{Spot, Places, of_object, spot_of, word_of, WordsOf}
+use Rattle.isl_arena.specs.Places.{Spot, end_of, Places, of_object, spot_of, word_of, WordsOf}
 use Rattle.isl_arena.specs.FixedWords.{class_address}
 use Rattle.isl_arena.specs.Layouts.{ObjectAt}
 use Rattle.isl_arena.specs.Represents.{Represents}
 use Rattle.isl_arena.specs.Answers.{done, units_after, IsPrimitive}
 use Rattle.isl_arena.specs.Codes.{code_of_primitive, procedure_of}
 use Rattle.isl_arena.specs.Steps as steps
-use Rattle.isl_arena.proofs.WordFacts.{integer_word_of_pos, in_range_is, index_is, index_word, index_tested}
-use Rattle.isl_arena.proofs.Growing.{Changes}
+use Rattle.isl_arena.proofs.WordFacts.{integer_word_of_pos, in_range_is, length_tested, length_word, index_is, index_word, index_tested}
+use Rattle.isl_arena.proofs.Running.{constant_falls, and_then, and_ends, store_in_spot, return_ends}
+use Rattle.isl_arena.proofs.Growing.{Changes, changes_part}
 use Rattle.isl_arena.proofs.Representing.{represents_changed, kept_changed}
-use Rattle.isl_arena.proofs.Doing.{alike_self, Answers, Run, test_passes, second_answers}
-use Rattle.isl_arena.proofs.Conditions.{program_error as of_program, signal_run}
+use Rattle.isl_arena.proofs.FixedChanges.{one_word}
+use Rattle.isl_arena.proofs.Making.{changes_stored}
+use Rattle.isl_arena.proofs.Doing.{alike_self, Answers, Run, goes_on, test_passes, second_answers}
+use Rattle.isl_arena.proofs.Conditions.{program_error as of_program, domain_error_run, signal_run}
+use Rattle.isl_arena.proofs.Checking.{Scratched, scratched_six, not_scratched, six_here}
 use Rattle.isl_arena.proofs.Entering.{does_by_code}
 
 -- ---- arguments
@@ -149,3 +154,54 @@ module _ (names : List (List ℕ)) (program : ProgramRows) (places : Places) (z 
     });
     cost = omega (arith, cost);
   }
+
+  -- a word of an object is stored, which changes it, and a value is returned
+  pub stores_changed :
+      (n budget k i from base at b x stored_word w : ℕ) (offset : ℤ) (s : Spot) (before now : Object) (v of : Value) (rs : Registers)
+      → register from rs ≡ Some stored_word → register base rs ≡ Some b → address b offset ≡ x → register at rs ≡ Some w → word_of places v ≡ Some w
+      → x % 4 ≡ 0 → s.address ≤ x → x < end_of s → slice_get z.store i ≡ Some before → ((p : ℕ) → before ≡ function p → ⊥)
+      → spot_of places (of_object i) ≡ Some s → of ≡ object i → ObjectAt names program places (with_word x stored_word y.arena) s now → k + 22 ≤ budget
+      → Run names program places z y procedures below n budget (result v (change of now z)) (code_of (steps.store from base offset ∷ return_word at ∷ [])) rs k
+  stores_changed n budget k i from base at b x stored_word w offset s before now v of rs held based same returned word aligned low high there no_function spot value made cost =
+      let stands = r.spots (of_object i) s spot in
+      rw value (record {
+        outcome = ends (returns w) rs (record y { arena = with_word x stored_word y.arena; cost = k + 8 + 14 });
+        runs = and_then (store_in_spot stands held based same aligned low high) (and_ends tt (return_ends returned));
+        answers =
+            returns_changed budget (k + 8 + 14) i w s before now v (with_word x stored_word y.arena) rs there no_function spot
+            (changes_part s (one_word x) y.arena (with_word x stored_word y.arena) low (omega (arith, stands.aligned)) (changes_stored x stored_word r.arena aligned))
+            made word (length-set y.arena.memory (x / 4) (Some stored_word)) refl refl (omega (arith, cost));
+      })
+
+  -- An integer whose word is in register 0 is a length, or the answer is a domain error. It costs 20 to find it.
+  pub length_needed :
+      (n budget k a : ℕ) (i : ℤ) (v : Value) (next : ℕ → Answer) (rest : List MidStep) (rs : Registers) → length rs ≡ 8 → register 0 rs ≡ Some a
+      → word_of places v ≡ Some a → in_range i ≡ true → a ≡ integer_word i → k + 178 + 250 * z.units ≤ budget + 250 * (z.units + 5)
+      → ((count : ℕ) → length_of i ≡ Some count → count < 2 ^ 29 → a ≡ 4 * count
+      → Run names program places z y procedures below n budget (next count) (code_of rest) (slice_set rs 6 (Some 0)) (k + 6 + 12 + 2))
+      → Run names program places z y procedures below n budget (needs (length_of i) (domain_error v integer_class z) next)
+      (code_of (steps.constant 6 0 ∷ steps.either (steps.comparing AtLeast 0 6) [] (steps.domain_error 0 (pos (class_address integer_class))) ∷ rest)) rs k
+  length_needed n budget k a i v next rest rs size held word range same cost more = by (length_of i) refl
+    where
+      scratched : Scratched rs (slice_set rs 6 (Some 0))
+      scratched = scratched_six _ _ _ (not_scratched rs size)
+
+      tested : (o : Option ℕ) → length_of i ≡ o → compares AtLeast a 0 ≡ is_some o
+      tested o e = ap (λ w. compares AtLeast w 0) same ∙ length_tested i range ∙ ap (λ x. is_some x) e
+
+      by :
+          (o : Option ℕ) → length_of i ≡ o
+          → Run names program places z y procedures below n budget (needs (length_of i) (domain_error v integer_class z) next)
+          (code_of (steps.constant 6 0 ∷ steps.either (steps.comparing AtLeast 0 6) [] (steps.domain_error 0 (pos (class_address integer_class))) ∷ rest)) rs k
+      by None e =
+          rw e
+          (goes_on names program places z y procedures below constant_falls
+          (second_answers names program places z y procedures below (scratched.others 0 (omega arith) ∙ held) (six_here rs 0 size) (tested None e)
+          (domain_error_run names program places z y r procedures below n budget (k + 6 + 12) 0 a integer_class v z (slice_set rs 6 (Some 0)) (omega arith) scratched.size
+          (scratched.others 0 (omega arith) ∙ held) word (omega arith) (alike_self z) (omega (arith, cost)))))
+      by (Some count) e =
+          let it = length_word i count range e in
+          rw e
+          (goes_on names program places z y procedures below constant_falls
+          (test_passes names program places z y procedures below (scratched.others 0 (omega arith) ∙ held) (six_here rs 0 size) (tested (Some count) e)
+          (more count e it.2 (same ∙ it.1))))

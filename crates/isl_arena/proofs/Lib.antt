@@ -41,3 +41,6 @@ pub mod Taking
 pub mod Integers
 pub mod Division
 pub mod CharacterCodes
+pub mod StringBytes
+pub mod Filling
+pub mod MakeVectors

@@ -1,27 +1,25 @@
 -- The length of a vector, an element of it, and an element that is set do what the meaning says of them.
-use Rattle.std.proofs.Common.{◌≡◌, ℕ, suc, ◌+◌, ◌-◌, ◌*◌, ◌%◌, ◌^◌, ◌<◌, ◌≤◌, ℤ, pos, Bool, true, false, List, [], ◌∷◌, ◌++◌, length, Option, Some, None, ⊎_elim, refl, sym, ap, ◌∙◌, arith}
-use Rattle.std.specs.Prelude.{◌==◌, slice_get, slice_set, slice_index_or, ◌≢◌}
+use Rattle.std.proofs.Common.{◌≡◌, ℕ, ◌+◌, ◌*◌, ◌^◌, ◌<◌, pos, List, [], ◌∷◌, ◌++◌, length, Some, ⊎_elim, refl, sym, ap, ◌∙◌, arith}
+use Rattle.std.specs.Prelude.{slice_set, slice_index_or, ◌≢◌}
 use Rattle.std.proofs.lemmas.Bool.Decides.{nat_tests}
 use Rattle.std.proofs.lemmas.Bool.{cases_eq}
 use Rattle.std.proofs.lemmas.List.{get_or-set_same, get_or-set_other}
 use Rattle.std.proofs.Math.ListN.{length-set}
 use Rattle.isl_meaning.specs.declared.program.ProgramRows.{ProgramRows}
 use Rattle.isl_meaning.specs.declared.primitive.Primitive.TheVariants.{VectorLength, VectorRef, SetVectorRef}
-use Rattle.isl_meaning.specs.Values.{Value, integer, nil, object}
-use Rattle.isl_meaning.specs.Objects.{Object, vector, function, integer_class, program_error_class}
+use Rattle.isl_meaning.specs.Values.{Value, integer, nil}
+use Rattle.isl_meaning.specs.Objects.{vector, integer_class, program_error_class}
 use Rattle.isl_meaning.specs.State as meaning
-use Rattle.isl_meaning.specs.Classes.{fetch}
-use Rattle.isl_meaning.specs.Primitives.{Answer, result, an_integer, an_index, change}
+use Rattle.isl_meaning.specs.Primitives.{result, an_integer, an_index, change}
 use Rattle.isl_mid.specs.declared.program.MidProcedure.{MidProcedure}
 use Rattle.isl_mid.specs.declared.operation.Arithmetic.TheVariants as which
 use Rattle.isl_mid.specs.declared.operation.Comparison.TheVariants.{LessUnsigned}
 use Rattle.isl_mid.specs.Words.{sum32}
 use Rattle.isl_mid.specs.Arena.{Arena, word_at, with_word}
-use Rattle.isl_mid.specs.MidCode.{MidStep, return_word, code_of}
-use Rattle.isl_mid.specs.State.{Registers, State, Outcome, returns, ends, register, first_registers}
+use Rattle.isl_mid.specs.MidCode.{MidStep, return_word}
+use Rattle.isl_mid.specs.State.{State, Outcome, first_registers}
 use Rattle.isl_mid.specs.Meaning.{Task}
-use Rattle.isl_arena.specs.Tags.{object_tag, vector_header}
-use Rattle.isl_arena.specs.Places.{Spot, end_of, Places, of_object, spot_of, word_of}
+use Rattle.isl_arena.specs.Places.{Spot, Places, word_of}
 use Rattle.isl_arena.specs.Standing.{ArenaStands, SpotStands, ValueAt}
 use Rattle.isl_arena.specs.FixedWords.{class_address}
 use Rattle.isl_arena.specs.Layouts.{VectorAt}
@@ -29,16 +27,14 @@ use Rattle.isl_arena.specs.Represents.{Represents}
 use Rattle.isl_arena.specs.Answers.{IsPrimitive}
 use Rattle.isl_arena.specs.Codes.{procedure_of}
 use Rattle.isl_arena.specs.Steps as steps
-use Rattle.isl_arena.proofs.Running.{load_falls, compute_known, address_above, store_in_spot, and_then, and_ends, return_ends}
-use Rattle.isl_arena.proofs.Memory.{word_elsewhere, stored_in_spot, others_in_spot}
-use Rattle.isl_arena.proofs.Growing.{Changes, changes_part, spot_below}
-use Rattle.isl_arena.proofs.Making.{changes_stored}
-use Rattle.isl_arena.proofs.FixedChanges.{one_word}
+use Rattle.isl_arena.proofs.Running.{load_falls, compute_known, address_above}
+use Rattle.isl_arena.proofs.Memory.{word_elsewhere, stored_in_spot}
+use Rattle.isl_arena.proofs.Growing.{spot_below}
 use Rattle.isl_arena.proofs.Arguments.{ObjectFound, object_found}
-use Rattle.isl_arena.proofs.Doing.{alike_self, Run, goes_on, returns_value}
-use Rattle.isl_arena.proofs.Checking.{header_registers, tag_registers, integer_needed}
+use Rattle.isl_arena.proofs.Doing.{alike_self, goes_on, returns_value}
+use Rattle.isl_arena.proofs.Checking.{integer_needed}
 use Rattle.isl_arena.proofs.Needing.{vector_needed}
-use Rattle.isl_arena.proofs.Arrays.{does_one, does_two, does_three, length_word_is, index_needed, returns_changed}
+use Rattle.isl_arena.proofs.Arrays.{does_one, does_two, does_three, length_word_is, index_needed, stores_changed}
 
 -- a vector in whose spot one element was set
 pub vector_set :
@@ -126,3 +122,32 @@ vector_ref_does = does_two VectorRef refl (λ v w a b names program places z y p
     (goes_on names program places z y procedures below
     (load_falls refl (address_above (it.spot.address + 2 + 4 * i) 6 (it.spot.address + 8 + 4 * i) (omega arith) (omega (arith, it.word, low, inside))) at.stands)
     (returns_value names program places z y procedures below r refl at.of_value (alike_self z) (omega arith))))))))
+
+abbrev setting : List MidStep
+setting = steps.compute 5 which.Add 1 2 ∷ steps.store 0 5 (pos 6) ∷ return_word 0 ∷ []
+
+pub set_vector_ref_does : IsPrimitive SetVectorRef (procedure_of SetVectorRef)
+set_vector_ref_does = does_three SetVectorRef refl (λ v w u a b c names program places z y procedures below n r are units.
+    vector_needed names program places z y r procedures below n (y.cost + 130 + 244 * 3) y.cost 1 b w
+    (λ vs. an_integer u z (λ m. an_index m (length vs) z (λ i. result v (change w (vector (slice_set vs i v)) z))))
+    (steps.need_tag 2 0 (pos (class_address integer_class)) ++ steps.load 7 1 (pos 2) ∷ index_test 2 setting)
+    (first_registers 8 (a ∷ b ∷ c ∷ [])) (omega arith) refl refl are.1.0 (omega arith)
+    (λ vs found.
+    let it = object_found names program places z y r w b (vector vs) are.1.0 found in
+    let low = vector_low names program places z y r procedures below w b vs it in
+    integer_needed names program places z y r procedures below n (y.cost + 130 + 244 * 3) _ 2 c u
+    (λ m. an_index m (length vs) z (λ i. result v (change w (vector (slice_set vs i v)) z))) (steps.load 7 1 (pos 2) ∷ index_test 2 setting)
+    _ (omega arith) refl refl are.1.1.0 (omega arith)
+    (λ m m_is range m_word.
+    goes_on names program places z y procedures below
+    (load_falls refl (address_above b 2 (it.spot.address + 4) (omega (arith, it.word)) (omega (arith, it.word, low))) it.stands.count)
+    (index_needed names program places z y r procedures below n (y.cost + 130 + 244 * 3) _ 2 (length vs) m
+    (λ i. result v (change w (vector (slice_set vs i v)) z)) setting _ refl (ap (λ x. Some x) m_word) refl range (omega (arith, low)) (omega arith)
+    (λ i inside i_word.
+    goes_on names program places z y procedures below
+    (compute_known refl refl (let sum : sum32 b c ≡ it.spot.address + 2 + 4 * i = omega (arith, it.word, m_word, i_word, low, inside) in sum))
+    (stores_changed names program places z y r procedures below n (y.cost + 130 + 244 * 3) _ it.number 0 5 0 (it.spot.address + 2 + 4 * i)
+    (it.spot.address + 4 * (2 + i)) a a (pos 6) it.spot (vector vs) (vector (slice_set vs i v)) v w _ refl refl
+    (address_above (it.spot.address + 2 + 4 * i) 6 (it.spot.address + 4 * (2 + i)) (omega arith) (omega (arith, it.word, low, inside)))
+    refl are.0 (omega (arith, it.spot_stands.aligned)) (omega arith) (omega (arith, it.stands.size.words)) it.stored (λ p e. cc e) it.found it.value
+    (vector_set places y.arena it.spot vs i a v r.arena it.spot_stands inside are.0 it.stands) (omega arith)))))))
