@@ -44,3 +44,4 @@ pub mod CharacterCodes
 pub mod StringBytes
 pub mod Filling
 pub mod MakeVectors
+pub mod Allocating
