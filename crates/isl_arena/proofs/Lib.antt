@@ -28,3 +28,4 @@ pub mod VectorElements
 pub mod StringBytes
 pub mod Filling
 pub mod MakeVectors
+pub mod MakeStrings
