@@ -1,6 +1,6 @@
 -- The loop that stores the same word again and again: with a turn for each word, it falls out where all were stored.
 use Rattle.std.proofs.Common.{◌≡◌, ℕ, zero, suc, ◌+◌, ◌*◌, ◌%◌, ◌^◌, ◌<◌, ◌≤◌, true, false, List, [], ◌∷◌, ◌++◌, replicate, Option, Some, refl, ap, ◌∙◌, arith}
-use Rattle.std.specs.Prelude.{pos, nat_lt}
+use Rattle.std.specs.Prelude.{pos, nat_lt, slice_get}
 use Rattle.std.proofs.lemmas.Bool.Decides.{nat_tests}
 use Rattle.isl_mid.specs.declared.operation.Arithmetic.TheVariants as which
 use Rattle.isl_mid.specs.declared.program.MidProcedure.{MidProcedure}
@@ -11,6 +11,12 @@ use Rattle.isl_mid.specs.Arena.{with_word}
 use Rattle.isl_arena.specs.Steps as steps
 use Rattle.isl_arena.proofs.Memory.{with_words}
 use Rattle.isl_arena.proofs.Running.{RunsTo, StepsTo, turning, none_left, and_then, costing, constant_falls, compute_known, store_in_heap, address_above, repeat_falls, repeat_turn}
+
+-- each item of a list with the same item many times
+pub replicated : (n i w : ℕ) → i < n → slice_get (replicate n w) i ≡ Some w
+replicated zero i w h = absurd (omega arith)
+replicated (suc n) zero w h = refl
+replicated (suc n) (suc i) w h = replicated n i w (omega arith)
 
 -- the step with the loop, and what is done in a turn
 abbrev turn_of_fill : List MidStep

@@ -45,3 +45,4 @@ pub mod StringBytes
 pub mod Filling
 pub mod MakeVectors
 pub mod Allocating
+pub mod MakeStrings

@@ -32,13 +32,8 @@ use Rattle.isl_arena.proofs.Running.{RunsTo, turning, none_left, parts_then, and
 use Rattle.isl_arena.proofs.Making.{Room, is_left, is_wanting, room_for, begun, begun_facts, begun_heap, begun_blocks, begun_word, answers_made, answers_wanting}
 use Rattle.isl_arena.proofs.Doing.{alike_self, Run, paid}
 use Rattle.isl_arena.proofs.Checking.{integer_needed}
-use Rattle.isl_arena.proofs.Filling.{fill, six_after, fill_falls}
+use Rattle.isl_arena.proofs.Filling.{fill, fill_falls, replicated}
 use Rattle.isl_arena.proofs.Arrays.{does_two, length_needed}
-
-replicated : (n i w : ℕ) → i < n → slice_get (replicate n w) i ≡ Some w
-replicated zero i w h = absurd (omega arith)
-replicated (suc n) zero w h = refl
-replicated (suc n) (suc i) w h = replicated n i w (omega arith)
 
 -- the code behind the tests of the length, with four times the length in register 0 and the element in register 1: how many words are wanted
 abbrev asking_code : List MidStep
