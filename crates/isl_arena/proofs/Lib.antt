@@ -26,6 +26,7 @@ pub mod Needing
 pub mod NeedingSymbols
 pub mod Arrays
 pub mod Slots
+pub mod SlotSetting
 pub mod ClassesThere
 pub mod SlotRows
 pub mod SlotSearch
@@ -44,5 +45,6 @@ pub mod CharacterCodes
 pub mod StringBytes
 pub mod Filling
 pub mod MakeVectors
+pub mod Allotting
 pub mod Allocating
 pub mod MakeStrings
