@@ -1,28 +1,25 @@
 -- A new instance of a class has slots without values, as the meaning says, and nil in the place of its mark where it is a condition.
-use Rattle.std.proofs.Common.{◌≡◌, ℕ, zero, suc, ◌+◌, ◌-◌, ◌*◌, ◌/◌, ◌%◌, ◌^◌, ◌<◌, ◌≤◌, pos, Bool, true, false, List, [], ◌∷◌, ◌++◌, length, replicate, Option, Some, None, refl, sym, ap, ◌∙◌, arith}
-use Rattle.std.specs.Prelude.{◌==◌, not, nat_lt, slice_get, slice_set, slice_index_or, if◌then◌else◌}
-use Rattle.std.proofs.lemmas.Bool.Decides.{nat_tests}
+use Rattle.std.proofs.Common.{◌≡◌, ℕ, suc, ◌+◌, ◌*◌, ◌<◌, ◌≤◌, pos, Bool, true, false, List, [], ◌∷◌, ◌++◌, length, replicate, Option, Some, None, refl, sym, ap, ◌∙◌, arith}
+use Rattle.std.specs.Prelude.{◌==◌, not, nat_lt, slice_get, slice_index_or, if◌then◌else◌}
 use Rattle.std.proofs.lemmas.List.{get_or-replicate, length-replicate}
 use Rattle.isl_meaning.specs.declared.program.ProgramRows.{ProgramRows}
 use Rattle.isl_meaning.specs.declared.primitive.Primitive.TheVariants.{Allocate}
 use Rattle.isl_meaning.specs.Values.{Value, nil, object, truth, same}
 use Rattle.isl_meaning.specs.Objects.{Object, instance, class_object, serious_condition_class, program_error_class}
 use Rattle.isl_meaning.specs.State as meaning
-use Rattle.isl_meaning.specs.Classes.{fetch, precedence, slots, is_below}
+use Rattle.isl_meaning.specs.Classes.{fetch, slots, is_below}
 use Rattle.isl_meaning.specs.Layout.{class_value}
 use Rattle.isl_meaning.specs.Primitives.{Answer, makes, program_error, can_be_made, instance_words, primitive}
 use Rattle.isl_mid.specs.declared.program.MidProcedure.{MidProcedure}
-use Rattle.isl_mid.specs.declared.operation.Arithmetic.TheVariants as which
 use Rattle.isl_mid.specs.declared.operation.Comparison.TheVariants.{Different}
-use Rattle.isl_mid.specs.declared.operation.Operation.TheVariants.{Move, Request}
-use Rattle.isl_mid.specs.Words.{sum32, shift_left, shift_right, one_if_less, difference32}
-use Rattle.isl_mid.specs.Arena.{Arena, left, word_at, with_word, with_heap}
-use Rattle.isl_mid.specs.MidCode.{MidStep, perform, return_word, code_of}
-use Rattle.isl_mid.specs.State.{Registers, State, Outcome, falls, returns, no_room, ends, first_registers}
+use Rattle.isl_mid.specs.Words.{sum32, shift_right, one_if_less, difference32}
+use Rattle.isl_mid.specs.Arena.{Arena, left, word_at}
+use Rattle.isl_mid.specs.MidCode.{MidStep, code_of}
+use Rattle.isl_mid.specs.State.{State, Outcome, falls, returns, no_room, ends, first_registers}
 use Rattle.isl_mid.specs.Meaning.{Task, Context}
-use Rattle.isl_arena.specs.Tags.{object_tag, nil_word, unbound_word, instance_header, class_header}
+use Rattle.isl_arena.specs.Tags.{object_tag, nil_word, unbound_word, instance_header}
 use Rattle.isl_arena.specs.Places.{Spot, Places, with_object, word_of}
-use Rattle.isl_arena.specs.Standing.{ArenaStands, ValueAt, SlotAt}
+use Rattle.isl_arena.specs.Standing.{SlotAt}
 use Rattle.isl_arena.specs.FixedWords.{class_address}
 use Rattle.isl_arena.specs.Layouts.{InstanceAt}
 use Rattle.isl_arena.specs.Represents.{Represents}
@@ -30,17 +27,15 @@ use Rattle.isl_arena.specs.Answers.{IsPrimitive, units_after}
 use Rattle.isl_arena.specs.Codes.{procedure_of}
 use Rattle.isl_arena.specs.Steps as steps
 use Rattle.isl_arena.proofs.Keeping.{same_word}
-use Rattle.isl_arena.proofs.WordFacts.{instance_header_made, truth_bit}
-use Rattle.isl_arena.proofs.Memory.{Facts, heap_below, stands_with_word, stands_with_heap, facts_with_heap, facts_stored, facts_with_words, with_words, words_stand, words_behind, stored_in_heap}
-use Rattle.isl_arena.proofs.Running.{RunsTo, turning, none_left, parts_then, and_then, and_ends, costing, constant_falls, compute_known, move_falls, load_falls, store_in_heap, request_falls, request_wanting, return_ends, address_here, address_above}
+use Rattle.isl_arena.proofs.WordFacts.{truth_bit}
+use Rattle.isl_arena.proofs.Running.{RunsTo, none_left, parts_then, and_then, and_ends, costing, constant_falls, compute_known, load_falls, request_wanting, address_above}
 use Rattle.isl_arena.proofs.Arguments.{ObjectFound, object_found, word_told}
 use Rattle.isl_arena.proofs.Telling.{nil_told}
 use Rattle.isl_arena.proofs.Making.{Room, is_left, is_wanting, room_for, answers_made, answers_wanting}
 use Rattle.isl_arena.proofs.Doing.{alike_self, Run, goes_on, test_passes, second_answers, paid}
 use Rattle.isl_arena.proofs.Conditions.{program_error as of_program, signal_run}
-use Rattle.isl_arena.proofs.Checking.{header_registers}
 use Rattle.isl_arena.proofs.Needing.{class_needed}
-use Rattle.isl_arena.proofs.Filling.{fill, fill_falls, replicated}
+use Rattle.isl_arena.proofs.Filling.{replicated}
 use Rattle.isl_arena.proofs.Arrays.{does_one}
 use Rattle.isl_arena.proofs.ClassesThere.{ClassesThere}
 use Rattle.isl_arena.proofs.SlotRows.{ClassesAreThere, class_low}

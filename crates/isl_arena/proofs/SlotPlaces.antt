@@ -1,6 +1,6 @@
 -- The place of a slot of that name: the code does what the meaning says of it.
-use Rattle.std.proofs.Common.{◌≡◌, ℕ, zero, suc, ◌+◌, ◌-◌, ◌*◌, ◌%◌, ◌^◌, ◌<◌, ◌≤◌, pos, Bool, true, false, List, [], ◌∷◌, ◌++◌, length, Option, Some, None, refl, sym, ap, ◌∙◌, arith}
-use Rattle.std.specs.Prelude.{◌==◌, nat_lt, slice_get, slice_set}
+use Rattle.std.proofs.Common.{◌≡◌, ℕ, ◌+◌, ◌*◌, ◌^◌, ◌<◌, ◌≤◌, pos, Bool, true, false, List, [], ◌∷◌, ◌++◌, length, Option, Some, None, refl, arith}
+use Rattle.std.specs.Prelude.{nat_lt, slice_get}
 use Rattle.std.specs.List.{position_or_len}
 use Rattle.std.proofs.lemmas.Bool.Decides.{nat_tests}
 use Rattle.isl_meaning.specs.declared.program.ProgramRows.{ProgramRows}
@@ -11,7 +11,7 @@ use Rattle.isl_meaning.specs.Objects.{instance, class_object, program_error_clas
 use Rattle.isl_meaning.specs.State as meaning
 use Rattle.isl_meaning.specs.Classes.{precedence, slots}
 use Rattle.isl_meaning.specs.Layout.{class_value}
-use Rattle.isl_meaning.specs.Primitives.{Answer, result, Spelt, as_symbol, a_symbol, index_of, is_slot, slot_place, primitive}
+use Rattle.isl_meaning.specs.Primitives.{result, Spelt, as_symbol, a_symbol, is_slot, slot_place}
 use Rattle.isl_mid.specs.declared.program.MidProcedure.{MidProcedure}
 use Rattle.isl_mid.specs.declared.operation.Arithmetic.TheVariants as which
 use Rattle.isl_mid.specs.Words.{sum32, product32}
@@ -35,7 +35,7 @@ use Rattle.isl_arena.proofs.Doing.{Alike, alike_charged, Answers, Run, goes_on, 
 use Rattle.isl_arena.proofs.Conditions.{program_error as of_program, signal_run}
 use Rattle.isl_arena.proofs.Checking.{instance_registers}
 use Rattle.isl_arena.proofs.Needing.{instance_needed}
-use Rattle.isl_arena.proofs.NeedingSymbols.{symbol_needed, LastTwo, last_two}
+use Rattle.isl_arena.proofs.NeedingSymbols.{symbol_needed, last_two}
 use Rattle.isl_arena.proofs.Arrays.{does_two, length_word_is}
 use Rattle.isl_arena.proofs.ClassesThere.{ClassesThere}
 use Rattle.isl_arena.proofs.Slots.{instance_low}

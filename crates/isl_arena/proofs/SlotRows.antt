@@ -1,24 +1,24 @@
 -- What the class of an instance says of a slot, and the mark of a condition: the code does what the meaning says of them.
-use Rattle.std.proofs.Common.{◌≡◌, ℕ, suc, ◌+◌, ◌-◌, ◌*◌, ◌%◌, ◌^◌, ◌<◌, ◌≤◌, pos, Bool, true, false, List, [], ◌∷◌, ◌++◌, length, Option, Some, None, refl, sym, ap, ◌∙◌, arith}
-use Rattle.std.specs.Prelude.{ℤ, negsuc, ◌==◌, not, nat_le, slice_get, slice_set, slice_index_or, if◌then◌else◌}
+use Rattle.std.proofs.Common.{◌≡◌, ℕ, ◌+◌, ◌*◌, ◌^◌, ◌<◌, ◌≤◌, pos, Bool, true, false, List, [], ◌∷◌, ◌++◌, length, Option, Some, None, refl, ap, ◌∙◌, arith}
+use Rattle.std.specs.Prelude.{◌==◌, not, nat_le, slice_get, slice_set, if◌then◌else◌}
 use Rattle.isl_meaning.specs.declared.program.ProgramRows.{ProgramRows}
 use Rattle.isl_meaning.specs.declared.program.SlotRow.{SlotRow}
 use Rattle.isl_meaning.specs.declared.primitive.Primitive.TheVariants.{SlotInitargs, SlotInitform, Continuable}
-use Rattle.isl_meaning.specs.Values.{Value, integer, character, symbol, nil, object, t, truth, same}
+use Rattle.isl_meaning.specs.Values.{Value, integer, character, symbol, nil, object, truth, same}
 use Rattle.isl_meaning.specs.Objects.{Object, cons, string, vector, instance, function, closure, generic_function, class_object, input_stream, output_stream, fresh_symbol, serious_condition_class}
 use Rattle.isl_meaning.specs.State as meaning
 use Rattle.isl_meaning.specs.Classes.{fetch, class_of, class_of_object, precedence, slots, is_below, is_condition}
 use Rattle.isl_meaning.specs.Layout.{class_value, initargs_value, initform_value}
-use Rattle.isl_meaning.specs.Primitives.{Answer, result, domain_error, needs, an_instance, as_instance, a_slot, primitive}
+use Rattle.isl_meaning.specs.Primitives.{Answer, result, domain_error, needs, as_instance, primitive}
 use Rattle.isl_mid.specs.declared.program.MidProcedure.{MidProcedure}
 use Rattle.isl_mid.specs.declared.operation.Arithmetic.TheVariants as which
 use Rattle.isl_mid.specs.declared.operation.Comparison.TheVariants.{Different}
-use Rattle.isl_mid.specs.Words.{sum32, product32, address}
+use Rattle.isl_mid.specs.Words.{sum32, product32}
 use Rattle.isl_mid.specs.MidCode.{MidStep, return_word, code_of}
-use Rattle.isl_mid.specs.State.{Registers, State, Outcome, register, first_registers}
+use Rattle.isl_mid.specs.State.{State, Outcome, first_registers}
 use Rattle.isl_mid.specs.Meaning.{Task}
 use Rattle.isl_arena.specs.Tags.{nil_word, instance_header}
-use Rattle.isl_arena.specs.Places.{Spot, Places, word_of}
+use Rattle.isl_arena.specs.Places.{Places, word_of}
 use Rattle.isl_arena.specs.Standing.{ValueAt}
 use Rattle.isl_arena.specs.FixedWords.{class_address}
 use Rattle.isl_arena.specs.Layouts.{SlotRowAt}

@@ -1,6 +1,6 @@
 -- The search for a slot by its name: what the loop comes to, and the place of a slot beside what the meaning says of it.
-use Rattle.std.proofs.Common.{◌≡◌, ℕ, zero, suc, ◌+◌, ◌-◌, ◌*◌, ◌%◌, ◌^◌, ◌<◌, ◌≤◌, pos, Bool, true, false, List, [], ◌∷◌, ◌++◌, length, Option, Some, None, refl, sym, ap, ◌∙◌, arith}
-use Rattle.std.specs.Prelude.{◌==◌, not, nat_lt, slice_get, slice_set}
+use Rattle.std.proofs.Common.{◌≡◌, ℕ, zero, suc, ◌+◌, ◌*◌, ◌^◌, ◌<◌, ◌≤◌, pos, Bool, true, false, List, [], ◌∷◌, ◌++◌, length, Option, Some, None, refl, sym, ap, ◌∙◌, arith}
+use Rattle.std.specs.Prelude.{◌==◌, not, nat_lt, slice_get}
 use Rattle.std.specs.List.{position_or_len}
 use Rattle.std.specs.Str.{bytes_eq}
 use Rattle.std.proofs.lemmas.Bool.Decides.{nat_tests}
@@ -8,44 +8,28 @@ use Rattle.std.proofs.lemmas.List.Sums.{prefix_len-le-length}
 use Rattle.std.proofs.lemmas.Slice.Eq.{bytes_eq-Decides}
 use Rattle.isl_meaning.specs.declared.program.ProgramRows.{ProgramRows}
 use Rattle.isl_meaning.specs.declared.program.SlotRow.{SlotRow}
-use Rattle.isl_meaning.specs.declared.primitive.Primitive.TheVariants.{SlotPlace}
 use Rattle.isl_meaning.specs.Lookup.{text}
 use Rattle.isl_meaning.specs.Values.{Value, integer, character, symbol, named, unnamed, nil, object, same}
-use Rattle.isl_meaning.specs.Objects.{Object, instance, fresh_symbol, class_object, program_error_class, standard_object_class}
+use Rattle.isl_meaning.specs.Objects.{Object, fresh_symbol}
 use Rattle.isl_meaning.specs.State as meaning
-use Rattle.isl_meaning.specs.Classes.{precedence, slots}
-use Rattle.isl_meaning.specs.Layout.{class_value}
-use Rattle.isl_meaning.specs.Primitives.{Answer, result, Spelt, by_name, by_serial, fresh_in, as_symbol, a_symbol, index_of, is_slot, slot_place, primitive}
+use Rattle.isl_meaning.specs.Primitives.{Spelt, by_name, by_serial, fresh_in, as_symbol, is_slot}
 use Rattle.isl_mid.specs.declared.program.MidProcedure.{MidProcedure}
 use Rattle.isl_mid.specs.declared.operation.Arithmetic.TheVariants as which
 use Rattle.isl_mid.specs.declared.operation.Comparison.TheVariants.{Equal}
-use Rattle.isl_mid.specs.Words.{sum32, product32}
+use Rattle.isl_mid.specs.Words.{sum32}
 use Rattle.isl_mid.specs.Arena.{word_at}
-use Rattle.isl_mid.specs.MidCode.{MidStep, code_of}
-use Rattle.isl_mid.specs.State.{Registers, State, Outcome, falls, returns, ends, register, first_registers}
+use Rattle.isl_mid.specs.MidCode.{MidStep}
+use Rattle.isl_mid.specs.State.{Registers, State, Outcome, falls, returns, ends}
 use Rattle.isl_mid.specs.Meaning.{Task}
 use Rattle.isl_arena.specs.Places.{Places, of_symbol, spot_of, word_of}
-use Rattle.isl_arena.specs.Standing.{ValueAt}
-use Rattle.isl_arena.specs.FixedWords.{class_address, nil_text}
+use Rattle.isl_arena.specs.FixedWords.{nil_text}
 use Rattle.isl_arena.specs.Represents.{Represents}
-use Rattle.isl_arena.specs.Answers.{done, units_after, IsPrimitive}
-use Rattle.isl_arena.specs.Codes.{procedure_of}
 use Rattle.isl_arena.specs.Steps as steps
 use Rattle.isl_arena.specs.Steps.{steps_of}
-use Rattle.isl_arena.specs.declared.line.Line.TheVariants as line
-use Rattle.isl_arena.proofs.Running.{StepsTo, turning, none_left, and_then, and_ends, constant_falls, compute_known, load_falls, return_ends, choose_first_ends, choose_second_falls, address_here, address_above, repeat_falls, repeat_ends, repeat_turn}
-use Rattle.isl_arena.proofs.Growing.{grows_same}
-use Rattle.isl_arena.proofs.Representing.{represents_same, represents_grown, kept_grown}
-use Rattle.isl_arena.proofs.Arguments.{ObjectFound, object_found, symbol_there}
+use Rattle.isl_arena.proofs.Running.{StepsTo, turning, none_left, and_then, and_ends, constant_falls, compute_known, load_falls, return_ends, choose_first_ends, choose_second_falls, address_here, repeat_falls, repeat_ends, repeat_turn}
+use Rattle.isl_arena.proofs.Arguments.{symbol_there}
 use Rattle.isl_arena.proofs.Sameness.{same_value_same_word}
-use Rattle.isl_arena.proofs.Doing.{Alike, alike_charged, Answers, Run, goes_on, paid}
-use Rattle.isl_arena.proofs.Conditions.{program_error as of_program, signal_run}
-use Rattle.isl_arena.proofs.Needing.{instance_needed}
-use Rattle.isl_arena.proofs.NeedingSymbols.{symbol_needed, LastTwo, last_two}
-use Rattle.isl_arena.proofs.Arrays.{does_two, length_word_is}
-use Rattle.isl_arena.proofs.ClassesThere.{ClassesThere}
-use Rattle.isl_arena.proofs.Slots.{instance_low}
-use Rattle.isl_arena.proofs.SlotRows.{ClassesAreThere, class_found, class_low}
+use Rattle.isl_arena.proofs.Doing.{paid}
 
 -- ---- places
 

@@ -1,44 +1,35 @@
 -- How many slots an instance has, what is in a slot, whether something is, and a slot that is set: the code does what the meaning says of them.
-use Rattle.std.proofs.Common.{◌≡◌, ℕ, suc, ◌+◌, ◌-◌, ◌*◌, ◌/◌, ◌%◌, ◌^◌, ◌<◌, ◌≤◌, ℤ, pos, Bool, true, false, List, [], ◌∷◌, ◌++◌, length, Option, Some, None, ⊎_elim, refl, sym, ap, ◌∙◌, arith}
-use Rattle.std.specs.Prelude.{negsuc, ◌==◌, not, slice_get, slice_set, slice_index_or, ◌≢◌}
+use Rattle.std.proofs.Common.{◌≡◌, ℕ, ◌+◌, ◌*◌, ◌^◌, ◌<◌, ◌≤◌, ℤ, pos, true, false, List, [], ◌∷◌, ◌++◌, length, Option, Some, None, refl, ap, ◌∙◌, arith}
+use Rattle.std.specs.Prelude.{negsuc, ◌==◌, not, slice_get, slice_set, slice_index_or}
 use Rattle.std.proofs.lemmas.Bool.Decides.{nat_tests}
-use Rattle.std.proofs.lemmas.Bool.{cases_eq}
-use Rattle.std.proofs.lemmas.List.{get_or-set_same, get_or-set_other}
 use Rattle.std.proofs.lemmas.Option.{slice_get-get_or}
-use Rattle.std.proofs.Math.ListN.{length-set}
 use Rattle.isl_meaning.specs.declared.program.ProgramRows.{ProgramRows}
-use Rattle.isl_meaning.specs.declared.primitive.Primitive.TheVariants.{SlotCount, SlotRef, SlotSet, SlotBound}
+use Rattle.isl_meaning.specs.declared.primitive.Primitive.TheVariants.{SlotCount, SlotRef, SlotBound}
 use Rattle.isl_meaning.specs.Values.{Value, integer, character, symbol, nil, object, in_range}
-use Rattle.isl_meaning.specs.Objects.{Object, instance, program_error_class, standard_object_class, integer_class}
+use Rattle.isl_meaning.specs.Objects.{instance, program_error_class, standard_object_class, integer_class}
 use Rattle.isl_meaning.specs.State as meaning
-use Rattle.isl_meaning.specs.Classes.{fetch}
-use Rattle.isl_meaning.specs.Layout.{class_value}
-use Rattle.isl_meaning.specs.Primitives.{Answer, result, a_slot, an_integer, an_index, change, says, slot_value, has_value, instance_words}
+use Rattle.isl_meaning.specs.Primitives.{Answer, result, a_slot, an_integer, an_index, says, slot_value, has_value}
 use Rattle.isl_mid.specs.declared.program.MidProcedure.{MidProcedure}
 use Rattle.isl_mid.specs.declared.operation.Arithmetic.TheVariants as which
 use Rattle.isl_mid.specs.declared.operation.Comparison.TheVariants.{LessUnsigned, Different}
 use Rattle.isl_mid.specs.Words.{sum32, shift_left, shift_right, address}
-use Rattle.isl_mid.specs.Arena.{Arena, word_at, with_word}
+use Rattle.isl_mid.specs.Arena.{word_at}
 use Rattle.isl_mid.specs.MidCode.{MidStep, return_word, code_of}
-use Rattle.isl_mid.specs.State.{Registers, State, Outcome, returns, ends, register, first_registers}
+use Rattle.isl_mid.specs.State.{Registers, State, Outcome, register, first_registers}
 use Rattle.isl_mid.specs.Meaning.{Task}
-use Rattle.isl_arena.specs.Tags.{object_tag, integer_word, instance_header, unbound_word}
-use Rattle.isl_arena.specs.Places.{Spot, end_of, Places, of_object, spot_of, word_of}
-use Rattle.isl_arena.specs.Standing.{ArenaStands, SpotStands, ValueAt, SlotAt}
+use Rattle.isl_arena.specs.Tags.{integer_word, instance_header, unbound_word}
+use Rattle.isl_arena.specs.Places.{Places, word_of}
+use Rattle.isl_arena.specs.Standing.{SlotAt}
 use Rattle.isl_arena.specs.FixedWords.{class_address}
-use Rattle.isl_arena.specs.Layouts.{InstanceAt}
 use Rattle.isl_arena.specs.Represents.{Represents}
 use Rattle.isl_arena.specs.Answers.{IsPrimitive}
 use Rattle.isl_arena.specs.Codes.{procedure_of}
 use Rattle.isl_arena.specs.Steps as steps
 use Rattle.isl_arena.specs.Steps.{steps_of}
 use Rattle.isl_arena.specs.declared.line.Line.TheVariants as line
-use Rattle.isl_arena.proofs.Running.{load_falls, constant_falls, compute_known, address_above, address_below, store_in_spot, and_then, and_ends, return_ends}
-use Rattle.isl_arena.proofs.Memory.{word_elsewhere, stored_in_spot}
+use Rattle.isl_arena.proofs.Running.{load_falls, constant_falls, compute_known, address_above, address_below}
 use Rattle.isl_arena.proofs.Keeping.{words_at_least}
-use Rattle.isl_arena.proofs.Growing.{Changes, changes_part, spot_below}
-use Rattle.isl_arena.proofs.Making.{changes_stored}
-use Rattle.isl_arena.proofs.FixedChanges.{one_word}
+use Rattle.isl_arena.proofs.Growing.{spot_below}
 use Rattle.isl_arena.proofs.Arguments.{ObjectFound, object_found, character_word_is}
 use Rattle.isl_arena.proofs.Telling.{integer_low, symbol_low, object_low}
 use Rattle.isl_arena.proofs.Doing.{alike_self, Run, goes_on, returns_value, test_passes, second_answers}
@@ -46,7 +37,7 @@ use Rattle.isl_arena.proofs.Conditions.{program_error as of_program, signal_run}
 use Rattle.isl_arena.proofs.Checking.{register_here, Scratched, scratched_six, scratched_seven, not_scratched, six_here, seven_behind_six, tag_registers, instance_registers, integer_needed}
 use Rattle.isl_arena.proofs.Needing.{instance_needed}
 use Rattle.isl_arena.proofs.Saying.{saying, says_run}
-use Rattle.isl_arena.proofs.Arrays.{does_one, does_two, does_three, length_word_is, index_needed, returns_changed}
+use Rattle.isl_arena.proofs.Arrays.{does_one, does_two, length_word_is, index_needed}
 
 -- ---- registers
 
