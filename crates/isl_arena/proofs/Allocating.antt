@@ -218,33 +218,33 @@ module _
     (classes : ClassesThere names program z) (v : Value) (w c : ℕ) (word : word_of places v ≡ Some w) (it : ObjectFound names program places z y r v w (class_object c))
     (procedures : List MidProcedure) (below : Task → State → Outcome) (n budget k : ℕ) (turns : can_be_made program c ≡ true → length (slots program c) ≤ n)
     (cost : k + 200 ≤ budget)
-    where
-  making_run :
-      (six seven : Option ℕ)
-      → Run names program places z y procedures below n budget (allocation program c z) (code_of making)
-      (Some w ∷ None ∷ None ∷ None ∷ None ∷ None ∷ six ∷ seven ∷ []) k
-  making_run six seven =
-      let high = class_low names program places z y r classes v w c it in
-      goes_on names program places z y procedures below
-      (load_falls refl (address_above w 10 (it.spot.address + 12) (omega (arith, it.word)) (omega (arith, it.word, high))) it.stands.made.stands)
-      (goes_on names program places z y procedures below constant_falls (by (can_be_made program c) refl))
-    where
-      tested : not (it.stands.made.word == nil_word) ≡ can_be_made program c
-      tested = truth_told names program places z y r (can_be_made program c) it.stands.made.word it.stands.made.of_value
+  where
+    making_run :
+        (six seven : Option ℕ)
+        → Run names program places z y procedures below n budget (allocation program c z) (code_of making)
+        (Some w ∷ None ∷ None ∷ None ∷ None ∷ None ∷ six ∷ seven ∷ []) k
+    making_run six seven =
+        let high = class_low names program places z y r classes v w c it in
+        goes_on names program places z y procedures below
+        (load_falls refl (address_above w 10 (it.spot.address + 12) (omega (arith, it.word)) (omega (arith, it.word, high))) it.stands.made.stands)
+        (goes_on names program places z y procedures below constant_falls (by (can_be_made program c) refl))
+      where
+        tested : not (it.stands.made.word == nil_word) ≡ can_be_made program c
+        tested = truth_told names program places z y r (can_be_made program c) it.stands.made.word it.stands.made.of_value
 
-      by :
-          (b : Bool) → can_be_made program c ≡ b
-          → Run names program places z y procedures below n budget (allocation program c z)
-          (code_of (steps.either (steps.comparing Different 4 6) [] (steps.signal (pos (class_address program_error_class))) ∷ allocating_code))
-          (Some w ∷ None ∷ None ∷ None ∷ Some it.stands.made.word ∷ None ∷ Some nil_word ∷ seven ∷ []) (k + 8 + 6)
-      by true e =
-          rw e
-          (test_passes names program places z y procedures below refl refl (tested ∙ e)
-          (allocating_run names program places z y r classes v w c word it procedures below n budget _ _ _ _ _ _ _ _ (turns e) (omega (arith, cost))))
-      by false e =
-          rw e
-          (second_answers names program places z y procedures below refl refl (tested ∙ e)
-          (signal_run names program places z y r procedures below n budget _ program_error_class z _ refl of_program (alike_self z) (omega (arith, cost))))
+        by :
+            (b : Bool) → can_be_made program c ≡ b
+            → Run names program places z y procedures below n budget (allocation program c z)
+            (code_of (steps.either (steps.comparing Different 4 6) [] (steps.signal (pos (class_address program_error_class))) ∷ allocating_code))
+            (Some w ∷ None ∷ None ∷ None ∷ Some it.stands.made.word ∷ None ∷ Some nil_word ∷ seven ∷ []) (k + 8 + 6)
+        by true e =
+            rw e
+            (test_passes names program places z y procedures below refl refl (tested ∙ e)
+            (allocating_run names program places z y r classes v w c word it procedures below n budget _ _ _ _ _ _ _ _ (turns e) (omega (arith, cost))))
+        by false e =
+            rw e
+            (second_answers names program places z y procedures below refl refl (tested ∙ e)
+            (signal_run names program places z y r procedures below n budget _ program_error_class z _ refl of_program (alike_self z) (omega (arith, cost))))
 
 pub allocate_does : ClassesAreThere → IsPrimitive Allocate (procedure_of Allocate)
 allocate_does there = does_one Allocate refl (λ v w names program places z y procedures below n r are units.

@@ -86,77 +86,77 @@ module _ (names : List (List ℕ)) (program : ProgramRows) (places : Places) (z 
   module _
       (procedures : List MidProcedure) (below : Task → State → Outcome) (n budget : ℕ) (rows : List SlotRow) (p : SlotRow → Bool) (few : length rows < 2 ^ 28)
       (x : ℕ)
-      where
-    -- where the search ends, it comes to the place, or to a program error
-    searched :
-        (k : ℕ) (rs : Registers) → k + 200 ≤ budget → Searched procedures below y x p n rows 0 k rs
-        → Run names program places z y procedures below n budget (slot_place rows p z) (code_of sought) rs k
-    searched k rs cost (found j k' rs' place inside within run) =
-        let less : nat_lt j (length rows) ≡ true = grind (arith, nat_tests) in
-        rw (place, less) (record {
-          outcome = ends (returns (4 * j)) rs' (paid y k');
-          runs = let same : 0 + j ≡ j = omega arith in and_ends tt (rw same at run);
-          answers =
-              value_answers budget k' (4 * j) (integer (pos j)) (meaning.charged (j + 1) z) rs' (length_word_is places j (omega (arith, few, inside))) (alike_charged z (j + 1))
-              (omega (arith, within, cost));
-        })
-    searched k rs cost (missed k' rs' place size within run) =
-        let not_less : nat_lt (length rows) (length rows) ≡ false = grind (arith, nat_tests) in
-        rw (place, not_less)
-        (goes_on names program places z y procedures below run
-        (part_answers names program places z y procedures below (steps.signal (pos (class_address program_error_class))) []
-        (signal_run names program places z y r procedures below n budget k' program_error_class (meaning.charged (length rows) z) rs' size of_program
-        (alike_charged z (length rows)) (omega (arith, within, cost)))))
+    where
+      -- where the search ends, it comes to the place, or to a program error
+      searched :
+          (k : ℕ) (rs : Registers) → k + 200 ≤ budget → Searched procedures below y x p n rows 0 k rs
+          → Run names program places z y procedures below n budget (slot_place rows p z) (code_of sought) rs k
+      searched k rs cost (found j k' rs' place inside within run) =
+          let less : nat_lt j (length rows) ≡ true = grind (arith, nat_tests) in
+          rw (place, less) (record {
+            outcome = ends (returns (4 * j)) rs' (paid y k');
+            runs = let same : 0 + j ≡ j = omega arith in and_ends tt (rw same at run);
+            answers =
+                value_answers budget k' (4 * j) (integer (pos j)) (meaning.charged (j + 1) z) rs' (length_word_is places j (omega (arith, few, inside))) (alike_charged z (j + 1))
+                (omega (arith, within, cost));
+          })
+      searched k rs cost (missed k' rs' place size within run) =
+          let not_less : nat_lt (length rows) (length rows) ≡ false = grind (arith, nat_tests) in
+          rw (place, not_less)
+          (goes_on names program places z y procedures below run
+          (part_answers names program places z y procedures below (steps.signal (pos (class_address program_error_class))) []
+          (signal_run names program places z y r procedures below n budget k' program_error_class (meaning.charged (length rows) z) rs' size of_program
+          (alike_charged z (length rows)) (omega (arith, within, cost)))))
 
 module _
     (names : List (List ℕ)) (program : ProgramRows) (places : Places) (z : meaning.State) (y : State) (r : Represents names program places z y)
     (classes : ClassesThere names program z) (w x c : ℕ) (v u : Value) (values : List (Option Value)) (mark : Value) (s : Spelt)
     (it : ObjectFound names program places z y r v w (instance c values mark)) (word : word_of places u ≡ Some x) (spelt : as_symbol z u ≡ Some s)
     (procedures : List MidProcedure) (below : Task → State → Outcome) (n budget : ℕ) (turns : position_or_len (is_slot names s) (slots program c) ≤ n)
-    where
-  of_class : ObjectFound names program places z y r (class_value names program c) it.stands.class.word (class_object c)
-  of_class = class_found names program places z y r classes v w c values mark it
+  where
+    of_class : ObjectFound names program places z y r (class_value names program c) it.stands.class.word (class_object c)
+    of_class = class_found names program places z y r classes v w c values mark it
 
-  -- the address of the first row
-  abbrev rows_from : ℕ
-  rows_from = of_class.spot.address + 28 + 4 * length (precedence program c)
+    -- the address of the first row
+    abbrev rows_from : ℕ
+    rows_from = of_class.spot.address + 28 + 4 * length (precedence program c)
 
-  -- the names of the slots stand there
-  row_name : (j : ℕ) (row : SlotRow) → slice_get (slots program c) j ≡ Some row → NameAt procedures below y x (is_slot names s) (rows_from + 12 * j) row
-  row_name j row e =
-      let at = (of_class.stands.rows j row e).name in
-      record { word = at.word; stands = at.stands; tells = slot_told names program places z y r u x s row at.word word spelt at.of_value }
+    -- the names of the slots stand there
+    row_name : (j : ℕ) (row : SlotRow) → slice_get (slots program c) j ≡ Some row → NameAt procedures below y x (is_slot names s) (rows_from + 12 * j) row
+    row_name j row e =
+        let at = (of_class.stands.rows j row e).name in
+        record { word = at.word; stands = at.stands; tells = slot_told names program places z y r u x s row at.word word spelt at.of_value }
 
-  place_run :
-      (six seven : Option ℕ) (k : ℕ) → k + 300 ≤ budget
-      → Run names program places z y procedures below n budget (slot_place (slots program c) (is_slot names s) z) (code_of (seeking sought))
-      (Some w ∷ Some x ∷ None ∷ None ∷ None ∷ None ∷ six ∷ seven ∷ []) k
-  place_run six seven k cost =
-      let low = instance_low names program places z y r v w c values mark it in
-      let high = class_low names program places z y r classes (class_value names program c) it.stands.class.word c of_class in
-      let class_word : ℕ = it.stands.class.word in
-      let above : ℕ = 4 * length (precedence program c) in
-      let count : ℕ = length (slots program c) in
-      let is_word : class_word ≡ of_class.spot.address + 2 = of_class.word in
-      goes_on names program places z y procedures below
-      (load_falls refl (address_above w 2 (it.spot.address + 4) (omega (arith, it.word)) (omega (arith, it.word, low))) it.stands.class.stands)
-      (goes_on names program places z y procedures below
-      (load_falls refl (address_above class_word 18 (of_class.spot.address + 20) (omega (arith, is_word)) (omega (arith, is_word, high))) of_class.stands.above)
-      (goes_on names program places z y procedures below (compute_known refl refl (sum_is above class_word (omega (arith, high))))
-      (goes_on names program places z y procedures below constant_falls
-      (goes_on names program places z y procedures below
-      (compute_known refl refl (let sum : sum32 (above + class_word) 26 ≡ rows_from = omega (arith, is_word, high) in sum))
-      (goes_on names program places z y procedures below
-      (load_falls refl (address_above class_word 22 (of_class.spot.address + 24) (omega (arith, is_word)) (omega (arith, is_word, high))) of_class.stands.count)
-      (goes_on names program places z y procedures below constant_falls
-      (goes_on names program places z y procedures below
-      (compute_known refl refl (let product : product32 (4 * count) 3 ≡ 12 * count = omega (arith, high) in product))
-      (goes_on names program places z y procedures below
-      (compute_known refl refl (let sum : sum32 (12 * count) rows_from ≡ rows_from + 12 * count = omega (arith, is_word, high) in sum))
-      (goes_on names program places z y procedures below constant_falls
-      (searched names program places z y r procedures below n budget (slots program c) (is_slot names s) (omega (arith, high)) x _ _ (omega (arith, cost))
-      (search procedures below y x (is_slot names s) (slots program c) n 0 _ rows_from (rows_from + 12 * count) (Some w) None (Some class_word) (Some 3)
-      row_name refl (omega (arith, is_word, high)) (omega (arith, high)) turns)))))))))))
+    place_run :
+        (six seven : Option ℕ) (k : ℕ) → k + 300 ≤ budget
+        → Run names program places z y procedures below n budget (slot_place (slots program c) (is_slot names s) z) (code_of (seeking sought))
+        (Some w ∷ Some x ∷ None ∷ None ∷ None ∷ None ∷ six ∷ seven ∷ []) k
+    place_run six seven k cost =
+        let low = instance_low names program places z y r v w c values mark it in
+        let high = class_low names program places z y r classes (class_value names program c) it.stands.class.word c of_class in
+        let class_word : ℕ = it.stands.class.word in
+        let above : ℕ = 4 * length (precedence program c) in
+        let count : ℕ = length (slots program c) in
+        let is_word : class_word ≡ of_class.spot.address + 2 = of_class.word in
+        goes_on names program places z y procedures below
+        (load_falls refl (address_above w 2 (it.spot.address + 4) (omega (arith, it.word)) (omega (arith, it.word, low))) it.stands.class.stands)
+        (goes_on names program places z y procedures below
+        (load_falls refl (address_above class_word 18 (of_class.spot.address + 20) (omega (arith, is_word)) (omega (arith, is_word, high))) of_class.stands.above)
+        (goes_on names program places z y procedures below (compute_known refl refl (sum_is above class_word (omega (arith, high))))
+        (goes_on names program places z y procedures below constant_falls
+        (goes_on names program places z y procedures below
+        (compute_known refl refl (let sum : sum32 (above + class_word) 26 ≡ rows_from = omega (arith, is_word, high) in sum))
+        (goes_on names program places z y procedures below
+        (load_falls refl (address_above class_word 22 (of_class.spot.address + 24) (omega (arith, is_word)) (omega (arith, is_word, high))) of_class.stands.count)
+        (goes_on names program places z y procedures below constant_falls
+        (goes_on names program places z y procedures below
+        (compute_known refl refl (let product : product32 (4 * count) 3 ≡ 12 * count = omega (arith, high) in product))
+        (goes_on names program places z y procedures below
+        (compute_known refl refl (let sum : sum32 (12 * count) rows_from ≡ rows_from + 12 * count = omega (arith, is_word, high) in sum))
+        (goes_on names program places z y procedures below constant_falls
+        (searched names program places z y r procedures below n budget (slots program c) (is_slot names s) (omega (arith, high)) x _ _ (omega (arith, cost))
+        (search procedures below y x (is_slot names s) (slots program c) n 0 _ rows_from (rows_from + 12 * count) (Some w) None (Some class_word) (Some 3)
+        row_name refl (omega (arith, is_word, high)) (omega (arith, high)) turns)))))))))))
 
 pub slot_place_does : ClassesAreThere → IsPrimitive SlotPlace (procedure_of SlotPlace)
 slot_place_does there = does_two SlotPlace refl (λ v u w x names program places z y procedures below n r are units.

@@ -72,48 +72,48 @@ module _
     (names : List (List ℕ)) (program : ProgramRows) (places : Places) (z : meaning.State) (y : State) (r : Represents names program places z y)
     (classes : ClassesThere names program z) (w x c : ℕ) (v : Value) (values : List (Option Value)) (mark : Value) (j : ℕ)
     (it : ObjectFound names program places z y r v w (instance c values mark)) (inside : j < length values) (place : x ≡ 4 * j)
-    where
-  -- the row of the slot
-  row_there : (row : SlotRow) × (slice_get (slots program c) j ≡ Some row)
-  row_there = item_there (slots program c) j (omega (arith, inside, it.stands.count))
+  where
+    -- the row of the slot
+    row_there : (row : SlotRow) × (slice_get (slots program c) j ≡ Some row)
+    row_there = item_there (slots program c) j (omega (arith, inside, it.stands.count))
 
-  of_class : ObjectFound names program places z y r (class_value names program c) it.stands.class.word (class_object c)
-  of_class = class_found names program places z y r classes v w c values mark it
+    of_class : ObjectFound names program places z y r (class_value names program c) it.stands.class.word (class_object c)
+    of_class = class_found names program places z y r classes v w c values mark it
 
-  -- the address of its three words
-  abbrev row_address : ℕ
-  row_address = of_class.spot.address + 28 + 4 * length (precedence program c) + 12 * j
+    -- the address of its three words
+    abbrev row_address : ℕ
+    row_address = of_class.spot.address + 28 + 4 * length (precedence program c) + 12 * j
 
-  row_stands : SlotRowAt names program places y.arena row_address c j row_there.0
-  row_stands = of_class.stands.rows j row_there.0 row_there.1
+    row_stands : SlotRowAt names program places y.arena row_address c j row_there.0
+    row_stands = of_class.stands.rows j row_there.0 row_there.1
 
-  row_run :
-      (extra : ℕ) (u : Value) (procedures : List MidProcedure) (below : Task → State → Outcome) (n budget k : ℕ) → extra < 9
-      → ValueAt places y.arena (row_address + extra) u → k + 80 ≤ budget
-      → Run names program places z y procedures below n budget (result u z) (code_of (rows_of (26 + extra)))
-      (slot_registers w x (length values) (first_registers 8 (w ∷ x ∷ []))) k
-  row_run extra u procedures below n budget k small at cost =
-      let low = instance_low names program places z y r v w c values mark it in
-      let high = class_low names program places z y r classes (class_value names program c) it.stands.class.word c of_class in
-      let class_word : ℕ = it.stands.class.word in
-      let above : ℕ = 4 * length (precedence program c) in
-      let is_word : class_word ≡ of_class.spot.address + 2 = of_class.word in
-      let inner : j < length (slots program c) = omega (arith, inside, it.stands.count) in
-      goes_on names program places z y procedures below
-      (load_falls refl (address_above w 2 (it.spot.address + 4) (omega (arith, it.word)) (omega (arith, it.word, low))) it.stands.class.stands)
-      (goes_on names program places z y procedures below
-      (load_falls refl (address_above class_word 18 (of_class.spot.address + 20) (omega (arith, is_word)) (omega (arith, is_word, high))) of_class.stands.above)
-      (goes_on names program places z y procedures below
-      (compute_known refl refl (let sum : sum32 class_word above ≡ class_word + above = omega (arith, high) in sum))
-      (goes_on names program places z y procedures below constant_falls
-      (goes_on names program places z y procedures below
-      (compute_known refl refl (let product : product32 x 3 ≡ 12 * j = omega (arith, place, inner, high) in product))
-      (goes_on names program places z y procedures below
-      (compute_known refl refl (let sum : sum32 (class_word + above) (12 * j) ≡ class_word + above + 12 * j = omega (arith, high, inner) in sum))
-      (goes_on names program places z y procedures below
-      (load_falls refl
-      (address_above (class_word + above + 12 * j) (26 + extra) (row_address + extra) (omega (arith, is_word)) (omega (arith, is_word, high, inner, small))) at.stands)
-      (returns_value names program places z y procedures below r refl at.of_value (alike_self z) (omega (arith, cost)))))))))
+    row_run :
+        (extra : ℕ) (u : Value) (procedures : List MidProcedure) (below : Task → State → Outcome) (n budget k : ℕ) → extra < 9
+        → ValueAt places y.arena (row_address + extra) u → k + 80 ≤ budget
+        → Run names program places z y procedures below n budget (result u z) (code_of (rows_of (26 + extra)))
+        (slot_registers w x (length values) (first_registers 8 (w ∷ x ∷ []))) k
+    row_run extra u procedures below n budget k small at cost =
+        let low = instance_low names program places z y r v w c values mark it in
+        let high = class_low names program places z y r classes (class_value names program c) it.stands.class.word c of_class in
+        let class_word : ℕ = it.stands.class.word in
+        let above : ℕ = 4 * length (precedence program c) in
+        let is_word : class_word ≡ of_class.spot.address + 2 = of_class.word in
+        let inner : j < length (slots program c) = omega (arith, inside, it.stands.count) in
+        goes_on names program places z y procedures below
+        (load_falls refl (address_above w 2 (it.spot.address + 4) (omega (arith, it.word)) (omega (arith, it.word, low))) it.stands.class.stands)
+        (goes_on names program places z y procedures below
+        (load_falls refl (address_above class_word 18 (of_class.spot.address + 20) (omega (arith, is_word)) (omega (arith, is_word, high))) of_class.stands.above)
+        (goes_on names program places z y procedures below
+        (compute_known refl refl (let sum : sum32 class_word above ≡ class_word + above = omega (arith, high) in sum))
+        (goes_on names program places z y procedures below constant_falls
+        (goes_on names program places z y procedures below
+        (compute_known refl refl (let product : product32 x 3 ≡ 12 * j = omega (arith, place, inner, high) in product))
+        (goes_on names program places z y procedures below
+        (compute_known refl refl (let sum : sum32 (class_word + above) (12 * j) ≡ class_word + above + 12 * j = omega (arith, high, inner) in sum))
+        (goes_on names program places z y procedures below
+        (load_falls refl
+        (address_above (class_word + above + 12 * j) (26 + extra) (row_address + extra) (omega (arith, is_word)) (omega (arith, is_word, high, inner, small))) at.stands)
+        (returns_value names program places z y procedures below r refl at.of_value (alike_self z) (omega (arith, cost)))))))))
 
 pub slot_initargs_does : ClassesAreThere → IsPrimitive SlotInitargs (procedure_of SlotInitargs)
 slot_initargs_does there = does_two SlotInitargs refl (λ v u w x names program places z y procedures below n r are units.
@@ -206,83 +206,83 @@ module _
     (classes : ClassesThere names program z) (w c : ℕ) (v : Value) (values : List (Option Value)) (mark : Value)
     (it : ObjectFound names program places z y r v w (instance c values mark)) (word : word_of places v ≡ Some w)
     (procedures : List MidProcedure) (below : Task → State → Outcome) (n budget k : ℕ)
-    where
-  mark_run :
-      (u paid_so_far : ℕ) → ValueAt places y.arena (it.spot.address + 8 + 4 * length values) mark → paid_so_far + 100 ≤ budget
-      → Run names program places z y procedures below n budget (result mark z) (code_of marking)
-      (slice_set (slice_set (slice_set (instance_registers w (instance_header (length values)) (first_registers 8 (w ∷ []))) 4 (Some it.stands.class.word)) 5 (Some u)) 6 (Some 3)) paid_so_far
-  mark_run u paid_so_far at cost =
-      let low = instance_low names program places z y r v w c values mark it in
-      let count : ℕ = length values in
-      goes_on names program places z y procedures below
-      (load_falls refl (address_below w 1 it.spot.address it.word (omega (arith, low))) it.stands.header)
-      (goes_on names program places z y procedures below constant_falls
-      (goes_on names program places z y procedures below (compute_known refl refl (header_without_kind count))
-      (goes_on names program places z y procedures below constant_falls
-      (goes_on names program places z y procedures below (compute_known refl refl (four_times_count count (omega (arith, low))))
-      (goes_on names program places z y procedures below
-      (compute_known refl refl (let sum : sum32 (4 * count) w ≡ w + 4 * count = omega (arith, low) in sum))
-      (goes_on names program places z y procedures below
-      (load_falls refl (address_above (w + 4 * count) 6 (it.spot.address + 8 + 4 * count) (omega (arith, it.word)) (omega (arith, it.word, low))) at.stands)
-      (returns_value names program places z y procedures below r refl at.of_value (alike_self z) (omega (arith, cost)))))))))
+  where
+    mark_run :
+        (u paid_so_far : ℕ) → ValueAt places y.arena (it.spot.address + 8 + 4 * length values) mark → paid_so_far + 100 ≤ budget
+        → Run names program places z y procedures below n budget (result mark z) (code_of marking)
+        (slice_set (slice_set (slice_set (instance_registers w (instance_header (length values)) (first_registers 8 (w ∷ []))) 4 (Some it.stands.class.word)) 5 (Some u)) 6 (Some 3)) paid_so_far
+    mark_run u paid_so_far at cost =
+        let low = instance_low names program places z y r v w c values mark it in
+        let count : ℕ = length values in
+        goes_on names program places z y procedures below
+        (load_falls refl (address_below w 1 it.spot.address it.word (omega (arith, low))) it.stands.header)
+        (goes_on names program places z y procedures below constant_falls
+        (goes_on names program places z y procedures below (compute_known refl refl (header_without_kind count))
+        (goes_on names program places z y procedures below constant_falls
+        (goes_on names program places z y procedures below (compute_known refl refl (four_times_count count (omega (arith, low))))
+        (goes_on names program places z y procedures below
+        (compute_known refl refl (let sum : sum32 (4 * count) w ≡ w + 4 * count = omega (arith, low) in sum))
+        (goes_on names program places z y procedures below
+        (load_falls refl (address_above (w + 4 * count) 6 (it.spot.address + 8 + 4 * count) (omega (arith, it.word)) (omega (arith, it.word, low))) at.stands)
+        (returns_value names program places z y procedures below r refl at.of_value (alike_self z) (omega (arith, cost)))))))))
 
-  -- the class says whether its instances are conditions
-  marks_run :
-      k + 200 ≤ budget
-      → Run names program places z y procedures below n budget (marks program v z (c, values, mark)) (code_of (needing_condition ++ marking))
-      (instance_registers w (instance_header (length values)) (first_registers 8 (w ∷ []))) k
-  marks_run cost = by (is_below program c serious_condition_class) refl
-    where
-      low : w + 4 * length values + 8 < 2 ^ 27
-      low = instance_low names program places z y r v w c values mark it
+    -- the class says whether its instances are conditions
+    marks_run :
+        k + 200 ≤ budget
+        → Run names program places z y procedures below n budget (marks program v z (c, values, mark)) (code_of (needing_condition ++ marking))
+        (instance_registers w (instance_header (length values)) (first_registers 8 (w ∷ []))) k
+    marks_run cost = by (is_below program c serious_condition_class) refl
+      where
+        low : w + 4 * length values + 8 < 2 ^ 27
+        low = instance_low names program places z y r v w c values mark it
 
-      of_class : ObjectFound names program places z y r (class_value names program c) it.stands.class.word (class_object c)
-      of_class = class_found names program places z y r classes v w c values mark it
+        of_class : ObjectFound names program places z y r (class_value names program c) it.stands.class.word (class_object c)
+        of_class = class_found names program places z y r classes v w c values mark it
 
-      high : it.stands.class.word + 28 + 4 * length (precedence program c) + 12 * length (slots program c) < 2 ^ 27
-      high = class_low names program places z y r classes (class_value names program c) it.stands.class.word c of_class
+        high : it.stands.class.word + 28 + 4 * length (precedence program c) + 12 * length (slots program c) < 2 ^ 27
+        high = class_low names program places z y r classes (class_value names program c) it.stands.class.word c of_class
 
-      condition : ValueAt places y.arena (of_class.spot.address + 16) (truth (is_below program c serious_condition_class))
-      condition = of_class.stands.condition
+        condition : ValueAt places y.arena (of_class.spot.address + 16) (truth (is_below program c serious_condition_class))
+        condition = of_class.stands.condition
 
-      test_told : (b : Bool) → is_below program c serious_condition_class ≡ b → not (condition.word == nil_word) ≡ b
-      test_told b e = ap not (nil_told names program places z y r _ condition.word condition.of_value ∙ ap (λ b. same (truth b) nil) e) ∙ turned b
-        where
-          turned : (b : Bool) → not (same (truth b) nil) ≡ b
-          turned true = refl
-          turned false = refl
+        test_told : (b : Bool) → is_below program c serious_condition_class ≡ b → not (condition.word == nil_word) ≡ b
+        test_told b e = ap not (nil_told names program places z y r _ condition.word condition.of_value ∙ ap (λ b. same (truth b) nil) e) ∙ turned b
+          where
+            turned : (b : Bool) → not (same (truth b) nil) ≡ b
+            turned true = refl
+            turned false = refl
 
-      tested :
-          (answer : Answer)
-          → Run names program places z y procedures below n budget answer
-          (code_of (steps.either (steps.comparing Different 5 6) [] (steps.domain_error 0 (pos (class_address serious_condition_class))) ∷ marking))
-          (slice_set (slice_set (slice_set (instance_registers w (instance_header (length values)) (first_registers 8 (w ∷ []))) 4 (Some it.stands.class.word))
-          5 (Some condition.word)) 6 (Some 3)) (k + 8 + 8 + 6)
-          → Run names program places z y procedures below n budget answer (code_of (needing_condition ++ marking))
-          (instance_registers w (instance_header (length values)) (first_registers 8 (w ∷ []))) k
-      tested answer more =
-          goes_on names program places z y procedures below
-          (load_falls refl (address_above w 2 (it.spot.address + 4) (omega (arith, it.word)) (omega (arith, it.word, low))) it.stands.class.stands)
-          (goes_on names program places z y procedures below
-          (load_falls refl
-          (address_above it.stands.class.word 14 (of_class.spot.address + 16) (omega (arith, of_class.word)) (omega (arith, of_class.word, high))) condition.stands)
-          (goes_on names program places z y procedures below constant_falls more))
+        tested :
+            (answer : Answer)
+            → Run names program places z y procedures below n budget answer
+            (code_of (steps.either (steps.comparing Different 5 6) [] (steps.domain_error 0 (pos (class_address serious_condition_class))) ∷ marking))
+            (slice_set (slice_set (slice_set (instance_registers w (instance_header (length values)) (first_registers 8 (w ∷ []))) 4 (Some it.stands.class.word))
+            5 (Some condition.word)) 6 (Some 3)) (k + 8 + 8 + 6)
+            → Run names program places z y procedures below n budget answer (code_of (needing_condition ++ marking))
+            (instance_registers w (instance_header (length values)) (first_registers 8 (w ∷ []))) k
+        tested answer more =
+            goes_on names program places z y procedures below
+            (load_falls refl (address_above w 2 (it.spot.address + 4) (omega (arith, it.word)) (omega (arith, it.word, low))) it.stands.class.stands)
+            (goes_on names program places z y procedures below
+            (load_falls refl
+            (address_above it.stands.class.word 14 (of_class.spot.address + 16) (omega (arith, of_class.word)) (omega (arith, of_class.word, high))) condition.stands)
+            (goes_on names program places z y procedures below constant_falls more))
 
-      by :
-          (b : Bool) → is_below program c serious_condition_class ≡ b
-          → Run names program places z y procedures below n budget (marks program v z (c, values, mark)) (code_of (needing_condition ++ marking))
-          (instance_registers w (instance_header (length values)) (first_registers 8 (w ∷ []))) k
-      by true e =
-          rw e
-          (tested (result mark z)
-          (test_passes names program places z y procedures below refl refl (test_told true e)
-          (mark_run condition.word _ (it.stands.mark e) (omega (arith, cost)))))
-      by false e =
-          rw e
-          (tested (domain_error v serious_condition_class z)
-          (second_answers names program places z y procedures below refl refl (test_told false e)
-          (domain_error_run names program places z y r procedures below n budget _ 0 w serious_condition_class v z _ (omega arith) refl refl word (omega arith)
-          (alike_self z) (omega (arith, cost)))))
+        by :
+            (b : Bool) → is_below program c serious_condition_class ≡ b
+            → Run names program places z y procedures below n budget (marks program v z (c, values, mark)) (code_of (needing_condition ++ marking))
+            (instance_registers w (instance_header (length values)) (first_registers 8 (w ∷ []))) k
+        by true e =
+            rw e
+            (tested (result mark z)
+            (test_passes names program places z y procedures below refl refl (test_told true e)
+            (mark_run condition.word _ (it.stands.mark e) (omega (arith, cost)))))
+        by false e =
+            rw e
+            (tested (domain_error v serious_condition_class z)
+            (second_answers names program places z y procedures below refl refl (test_told false e)
+            (domain_error_run names program places z y r procedures below n budget _ 0 w serious_condition_class v z _ (omega arith) refl refl word (omega arith)
+            (alike_self z) (omega (arith, cost)))))
 
 pub continuable_does : ClassesAreThere → IsPrimitive Continuable (procedure_of Continuable)
 continuable_does there = does_one Continuable refl (λ v w names program places z y procedures below n r are units.

@@ -83,11 +83,11 @@ module _ (procedures : List MidProcedure) (below : Task → State → Outcome) (
     search_here passes =
         found 0 (k + 12 + 8 + 12 + 14) (searching r0 r2 (Some at.word) r6 i a e) (position_here p row rows passes) (omega arith) (omega arith)
         (let ends_so :
-          StepsTo (turning procedures below n) search_slot (searching r0 r2 r4 r6 i a e) (paid y k)
-          (ends (returns (4 * i)) (searching r0 r2 (Some at.word) r6 i a e) (paid y (k + 12 + 8 + 12 + 14))) =
-          repeat_ends tt none_left refl refl (below_is a e more)
-          (and_then (load_falls refl (address_here a (omega arith)) at.stands)
-          (and_ends tt (choose_first_ends tt refl refl (at.tells ∙ passes) (and_ends tt (return_ends refl)))))
+        StepsTo (turning procedures below n) search_slot (searching r0 r2 r4 r6 i a e) (paid y k)
+        (ends (returns (4 * i)) (searching r0 r2 (Some at.word) r6 i a e) (paid y (k + 12 + 8 + 12 + 14))) =
+        repeat_ends tt none_left refl refl (below_is a e more)
+        (and_then (load_falls refl (address_here a (omega arith)) at.stands)
+        (and_ends tt (choose_first_ends tt refl refl (at.tells ∙ passes) (and_ends tt (return_ends refl)))))
         in
         let same : i + 0 ≡ i = omega arith in
         rw same ends_so)

@@ -69,7 +69,7 @@ instance_set names program places a s c values mark i w v arena stands low word 
     here : (j : ℕ) → j ≡ i → SlotAt places (with_word (s.address + 4 * (2 + i)) w a) (s.address + 8 + 4 * j) (slice_index_or (slice_set values i (Some v)) j None)
     here j e =
         let is : slice_index_or (slice_set values i (Some v)) j None ≡ Some v =
-          ap (λ k. slice_index_or (slice_set values i (Some v)) k None) e ∙ get_or-set_same values i (Some v) None low
+        ap (λ k. slice_index_or (slice_set values i (Some v)) k None) e ∙ get_or-set_same values i (Some v) None low
         in
         rw is (record {
           word = w;
@@ -102,44 +102,44 @@ module _
     (w x c : ℕ) (v : Value) (values : List (Option Value)) (mark : Value) (j : ℕ)
     (it : ObjectFound names program places z y r v w (instance c values mark)) (inside : j < length values) (place : x ≡ 4 * j)
     (u : Value) (word : ℕ) (of_value : word_of places u ≡ Some word)
-    where
-  -- the arena where the slot was set, and the object
-  abbrev slot_stored : Arena
-  slot_stored = with_word (it.spot.address + 4 * (2 + j)) word y.arena
+  where
+    -- the arena where the slot was set, and the object
+    abbrev slot_stored : Arena
+    slot_stored = with_word (it.spot.address + 4 * (2 + j)) word y.arena
 
-  abbrev now : Object
-  now = instance c (slice_set values j (Some u)) mark
+    abbrev now : Object
+    now = instance c (slice_set values j (Some u)) mark
 
-  slot_within : it.spot.address + 4 * (2 + j) + 4 ≤ end_of it.spot
-  slot_within = omega (arith, it.stands.size.words, words_at_least program c (length values))
+    slot_within : it.spot.address + 4 * (2 + j) + 4 ≤ end_of it.spot
+    slot_within = omega (arith, it.stands.size.words, words_at_least program c (length values))
 
-  slot_changes : Changes it.spot y.arena slot_stored
-  slot_changes =
-      changes_part it.spot (one_word (it.spot.address + 4 * (2 + j))) y.arena slot_stored (omega arith) slot_within
-      (changes_stored (it.spot.address + 4 * (2 + j)) word r.arena (omega (arith, it.spot_stands.aligned)))
+    slot_changes : Changes it.spot y.arena slot_stored
+    slot_changes =
+        changes_part it.spot (one_word (it.spot.address + 4 * (2 + j))) y.arena slot_stored (omega arith) slot_within
+        (changes_stored (it.spot.address + 4 * (2 + j)) word r.arena (omega (arith, it.spot_stands.aligned)))
 
-  set_run :
-      (procedures : List MidProcedure) (below : Task → State → Outcome) (n budget k : ℕ) → k + 32 ≤ budget
-      → Run names program places z y procedures below n budget (result u (change v now z)) (code_of setting)
-      (slot_registers w x (length values) (first_registers 8 (word ∷ w ∷ x ∷ []))) k
-  set_run procedures below n budget k cost =
-      let low = instance_low names program places z y r v w c values mark it in
-      let registers : Registers = slice_set (slot_registers w x (length values) (first_registers 8 (word ∷ w ∷ x ∷ []))) 5 (Some (w + x)) in
-      rw it.value (record {
-        outcome = ends (returns word) registers (record y { arena = slot_stored; cost = k + 10 + 8 + 14 });
-        runs =
-            and_then (compute_known refl refl (slot_sum names program places z y r w x c v values mark j it inside place))
-            (and_then
-            (store_in_spot it.spot_stands refl refl
-            (address_above (w + x) 6 (it.spot.address + 4 * (2 + j)) (omega (arith, it.word)) (omega (arith, it.word, low)))
-            (omega (arith, it.spot_stands.aligned)) (omega arith) (omega (arith, slot_within)))
-            (and_ends tt (return_ends refl)));
-        answers =
-            returns_changed names program places z y r procedures below budget (k + 10 + 8 + 14) it.number word it.spot (instance c values mark) now u slot_stored registers
-            it.stored (λ p e. absurd (cc e)) it.found slot_changes
-            (instance_set names program places y.arena it.spot c values mark j word u r.arena it.spot_stands inside of_value it.stands)
-            of_value (length-set y.arena.memory ((it.spot.address + 4 * (2 + j)) / 4) (Some word)) refl refl (omega (arith, cost));
-      })
+    set_run :
+        (procedures : List MidProcedure) (below : Task → State → Outcome) (n budget k : ℕ) → k + 32 ≤ budget
+        → Run names program places z y procedures below n budget (result u (change v now z)) (code_of setting)
+        (slot_registers w x (length values) (first_registers 8 (word ∷ w ∷ x ∷ []))) k
+    set_run procedures below n budget k cost =
+        let low = instance_low names program places z y r v w c values mark it in
+        let registers : Registers = slice_set (slot_registers w x (length values) (first_registers 8 (word ∷ w ∷ x ∷ []))) 5 (Some (w + x)) in
+        rw it.value (record {
+          outcome = ends (returns word) registers (record y { arena = slot_stored; cost = k + 10 + 8 + 14 });
+          runs =
+              and_then (compute_known refl refl (slot_sum names program places z y r w x c v values mark j it inside place))
+              (and_then
+              (store_in_spot it.spot_stands refl refl
+              (address_above (w + x) 6 (it.spot.address + 4 * (2 + j)) (omega (arith, it.word)) (omega (arith, it.word, low)))
+              (omega (arith, it.spot_stands.aligned)) (omega arith) (omega (arith, slot_within)))
+              (and_ends tt (return_ends refl)));
+          answers =
+              returns_changed names program places z y r procedures below budget (k + 10 + 8 + 14) it.number word it.spot (instance c values mark) now u slot_stored registers
+              it.stored (λ p e. absurd (cc e)) it.found slot_changes
+              (instance_set names program places y.arena it.spot c values mark j word u r.arena it.spot_stands inside of_value it.stands)
+              of_value (length-set y.arena.memory ((it.spot.address + 4 * (2 + j)) / 4) (Some word)) refl refl (omega (arith, cost));
+        })
 
 pub slot_set_does : IsPrimitive SlotSet (procedure_of SlotSet)
 slot_set_does = does_three SlotSet refl (λ u v p word w x names program places z y procedures below n r are units.

@@ -143,7 +143,7 @@ module _ (names : List (List ℕ)) (program : ProgramRows) (places : Places) (z 
           let place_there : Scratched rs (place_registers w x count rs) = place_scratched w x count rs size in
           let first : Scratched rs (slice_set (place_registers w x count rs) 7 (Some (instance_header count))) = scratched_seven _ _ _ place_there in
           let second : Scratched rs (slice_set (slice_set (slice_set (place_registers w x count rs) 7 (Some (instance_header count))) 6 (Some 4)) 7 (Some count)) =
-              scratched_seven _ _ _ (scratched_six _ _ _ first) in
+          scratched_seven _ _ _ (scratched_six _ _ _ first) in
           let last : Scratched rs (slot_registers w x count rs) = slot_scratched w x count rs size in
           goes_on names program places z y procedures below
           (load_falls (place_there.others of (omega arith) ∙ of_held) (address_below w 1 it.spot.address it.word (omega (arith, low))) it.stands.header)
@@ -184,30 +184,30 @@ module _
     (names : List (List ℕ)) (program : ProgramRows) (places : Places) (z : meaning.State) (y : State) (r : Represents names program places z y)
     (w x c : ℕ) (v : Value) (values : List (Option Value)) (mark : Value) (j : ℕ)
     (it : ObjectFound names program places z y r v w (instance c values mark)) (inside : j < length values) (place : x ≡ 4 * j)
-    where
-  low : w + 4 * length values + 8 < 2 ^ 27
-  low = instance_low names program places z y r v w c values mark it
+  where
+    low : w + 4 * length values + 8 < 2 ^ 27
+    low = instance_low names program places z y r v w c values mark it
 
-  -- the address of the slot's word, as it is computed
-  pub slot_sum : sum32 w x ≡ w + x
-  slot_sum = omega (arith, low)
+    -- the address of the slot's word, as it is computed
+    pub slot_sum : sum32 w x ≡ w + x
+    slot_sum = omega (arith, low)
 
-  pub slot_word_address : address (w + x) (pos 6) ≡ it.spot.address + 8 + 4 * j
-  slot_word_address = address_above (w + x) 6 (it.spot.address + 8 + 4 * j) (omega (arith, it.word)) (omega (arith, it.word, low))
+    pub slot_word_address : address (w + x) (pos 6) ≡ it.spot.address + 8 + 4 * j
+    slot_word_address = address_above (w + x) 6 (it.spot.address + 8 + 4 * j) (omega (arith, it.word)) (omega (arith, it.word, low))
 
-  -- what the slot has
-  pub data SlotHolds : Type 0 where
-    no_value : slice_get values j ≡ Some None → word_at y.arena (it.spot.address + 8 + 4 * j) ≡ Some unbound_word → SlotHolds
-    a_value :
-        (u : Value) (word : ℕ) → slice_get values j ≡ Some (Some u) → word_of places u ≡ Some word → word_at y.arena (it.spot.address + 8 + 4 * j) ≡ Some word
-        → SlotHolds
+    -- what the slot has
+    pub data SlotHolds : Type 0 where
+      no_value : slice_get values j ≡ Some None → word_at y.arena (it.spot.address + 8 + 4 * j) ≡ Some unbound_word → SlotHolds
+      a_value :
+          (u : Value) (word : ℕ) → slice_get values j ≡ Some (Some u) → word_of places u ≡ Some word → word_at y.arena (it.spot.address + 8 + 4 * j) ≡ Some word
+          → SlotHolds
 
-  pub slot_holds : SlotHolds
-  slot_holds = by (slice_index_or values j None) (slice_get-get_or values j None inside) (it.stands.values_there j inside)
-    where
-      by : (o : Option Value) → slice_get values j ≡ Some o → SlotAt places y.arena (it.spot.address + 8 + 4 * j) o → SlotHolds
-      by None got at = no_value got at
-      by (Some u) got at = a_value u at.word got at.of_value at.stands
+    pub slot_holds : SlotHolds
+    slot_holds = by (slice_index_or values j None) (slice_get-get_or values j None inside) (it.stands.values_there j inside)
+      where
+        by : (o : Option Value) → slice_get values j ≡ Some o → SlotAt places y.arena (it.spot.address + 8 + 4 * j) o → SlotHolds
+        by None got at = no_value got at
+        by (Some u) got at = a_value u at.word got at.of_value at.stands
 
 -- the lines behind the test of a place
 abbrev taking : List MidStep
@@ -228,42 +228,42 @@ module _
     (w x c : ℕ) (v : Value) (values : List (Option Value)) (mark : Value) (j : ℕ)
     (it : ObjectFound names program places z y r v w (instance c values mark)) (inside : j < length values) (place : x ≡ 4 * j)
     (procedures : List MidProcedure) (below : Task → State → Outcome) (n budget k : ℕ)
-    where
-  taken :
-      SlotHolds names program places z y r w x c v values mark j it inside place → k + 250 ≤ budget
-      → Run names program places z y procedures below n budget (slot_value (slice_get values j) z)
-      (code_of (steps.load 5 5 (pos 6) ∷ steps.constant 6 unbound_word
-      ∷ steps.either (steps.comparing Different 5 6) [] (steps.signal (pos (class_address program_error_class))) ∷ return_word 5 ∷ []))
-      (summed w x (length values)) k
-  taken (no_value got at) cost =
-      rw got
-      (goes_on names program places z y procedures below (load_falls refl (slot_word_address names program places z y r w x c v values mark j it inside place) at)
-      (goes_on names program places z y procedures below constant_falls
-      (second_answers names program places z y procedures below refl refl refl
-      (signal_run names program places z y r procedures below n budget _ program_error_class z _ refl of_program (alike_self z) (omega (arith, cost))))))
-  taken (a_value u word got is at) cost =
-      rw got
-      (goes_on names program places z y procedures below (load_falls refl (slot_word_address names program places z y r w x c v values mark j it inside place) at)
-      (goes_on names program places z y procedures below constant_falls
-      (test_passes names program places z y procedures below refl refl (ap not (no_value_unbound names program places z y r u word is))
-      (returns_value names program places z y procedures below r refl is (alike_self z) (omega (arith, cost))))))
+  where
+    taken :
+        SlotHolds names program places z y r w x c v values mark j it inside place → k + 250 ≤ budget
+        → Run names program places z y procedures below n budget (slot_value (slice_get values j) z)
+        (code_of (steps.load 5 5 (pos 6) ∷ steps.constant 6 unbound_word
+        ∷ steps.either (steps.comparing Different 5 6) [] (steps.signal (pos (class_address program_error_class))) ∷ return_word 5 ∷ []))
+        (summed w x (length values)) k
+    taken (no_value got at) cost =
+        rw got
+        (goes_on names program places z y procedures below (load_falls refl (slot_word_address names program places z y r w x c v values mark j it inside place) at)
+        (goes_on names program places z y procedures below constant_falls
+        (second_answers names program places z y procedures below refl refl refl
+        (signal_run names program places z y r procedures below n budget _ program_error_class z _ refl of_program (alike_self z) (omega (arith, cost))))))
+    taken (a_value u word got is at) cost =
+        rw got
+        (goes_on names program places z y procedures below (load_falls refl (slot_word_address names program places z y r w x c v values mark j it inside place) at)
+        (goes_on names program places z y procedures below constant_falls
+        (test_passes names program places z y procedures below refl refl (ap not (no_value_unbound names program places z y r u word is))
+        (returns_value names program places z y procedures below r refl is (alike_self z) (omega (arith, cost))))))
 
-  told :
-      SlotHolds names program places z y r w x c v values mark j it inside place → k + 250 ≤ budget
-      → Run names program places z y procedures below n budget (says (has_value (slice_get values j)) z)
-      (code_of (steps.load 4 5 (pos 6) ∷ steps.constant 6 unbound_word ∷ saying (steps.comparing Different 4 6))) (summed w x (length values)) k
-  told (no_value got at) cost =
-      rw got
-      (goes_on names program places z y procedures below (load_falls refl (slot_word_address names program places z y r w x c v values mark j it inside place) at)
-      (goes_on names program places z y procedures below constant_falls
-      (says_run names program places z y r procedures below n budget _ unbound_word unbound_word false (steps.comparing Different 4 6) z _ refl
-      (λ e. omega arith) (λ e. omega arith) refl refl refl (alike_self z) (omega (arith, cost)))))
-  told (a_value u word got is at) cost =
-      rw got
-      (goes_on names program places z y procedures below (load_falls refl (slot_word_address names program places z y r w x c v values mark j it inside place) at)
-      (goes_on names program places z y procedures below constant_falls
-      (says_run names program places z y r procedures below n budget _ word unbound_word true (steps.comparing Different 4 6) z _ refl
-      (λ e. omega arith) (λ e. omega arith) refl refl (ap not (no_value_unbound names program places z y r u word is)) (alike_self z) (omega (arith, cost)))))
+    told :
+        SlotHolds names program places z y r w x c v values mark j it inside place → k + 250 ≤ budget
+        → Run names program places z y procedures below n budget (says (has_value (slice_get values j)) z)
+        (code_of (steps.load 4 5 (pos 6) ∷ steps.constant 6 unbound_word ∷ saying (steps.comparing Different 4 6))) (summed w x (length values)) k
+    told (no_value got at) cost =
+        rw got
+        (goes_on names program places z y procedures below (load_falls refl (slot_word_address names program places z y r w x c v values mark j it inside place) at)
+        (goes_on names program places z y procedures below constant_falls
+        (says_run names program places z y r procedures below n budget _ unbound_word unbound_word false (steps.comparing Different 4 6) z _ refl
+        (λ e. omega arith) (λ e. omega arith) refl refl refl (alike_self z) (omega (arith, cost)))))
+    told (a_value u word got is at) cost =
+        rw got
+        (goes_on names program places z y procedures below (load_falls refl (slot_word_address names program places z y r w x c v values mark j it inside place) at)
+        (goes_on names program places z y procedures below constant_falls
+        (says_run names program places z y r procedures below n budget _ word unbound_word true (steps.comparing Different 4 6) z _ refl
+        (λ e. omega arith) (λ e. omega arith) refl refl (ap not (no_value_unbound names program places z y r u word is)) (alike_self z) (omega (arith, cost)))))
 
 pub slot_ref_does : IsPrimitive SlotRef (procedure_of SlotRef)
 slot_ref_does = does_two SlotRef refl (λ v u w x names program places z y procedures below n r are units.
