@@ -30,7 +30,6 @@ use Rattle.isl_arena.proofs.Keeping.{same_word}
 use Rattle.isl_arena.proofs.WordFacts.{truth_bit}
 use Rattle.isl_arena.proofs.Running.{RunsTo, none_left, parts_then, and_then, and_ends, costing, constant_falls, compute_known, load_falls, request_wanting, address_above}
 use Rattle.isl_arena.proofs.Arguments.{ObjectFound, object_found, word_told}
-use Rattle.isl_arena.proofs.Telling.{nil_told}
 use Rattle.isl_arena.proofs.Making.{Room, is_left, is_wanting, room_for, answers_made, answers_wanting}
 use Rattle.isl_arena.proofs.Doing.{alike_self, Run, goes_on, test_passes, second_answers, paid}
 use Rattle.isl_arena.proofs.Conditions.{program_error as of_program, signal_run}
@@ -38,22 +37,15 @@ use Rattle.isl_arena.proofs.Needing.{class_needed}
 use Rattle.isl_arena.proofs.Filling.{replicated}
 use Rattle.isl_arena.proofs.Arrays.{does_one}
 use Rattle.isl_arena.proofs.ClassesThere.{ClassesThere}
-use Rattle.isl_arena.proofs.SlotRows.{ClassesAreThere, class_low}
-use Rattle.isl_arena.proofs.Allotting.{allotted, allotted_facts, allotted_heap, allotted_blocks, allotted_word, allotted_mark, asking_code, beginning_code, filling_code, allocating_code, mark_address, beginning_falls, filling_ends}
+use Rattle.isl_arena.proofs.SlotRows.{ClassesAreThere, class_low, truth_told}
+use Rattle.isl_arena.proofs.Allotting.{allotted, allotted_facts, allotted_heap, allotted_blocks, allotted_word, allotted_mark}
+use Rattle.isl_arena.proofs.Allotting.{asking_code, beginning_code, filling_code, allocating_code, mark_address, beginning_falls, filling_ends}
 
 module _ (names : List (List ℕ)) (program : ProgramRows) (places : Places) (z : meaning.State) (y : State) (r : Represents names program places z y) where
-  -- t or nil, by its word
-  pub truth_told : (b : Bool) (word : ℕ) → word_of places (truth b) ≡ Some word → not (word == nil_word) ≡ b
-  truth_told b word e = ap not (nil_told names program places z y r (truth b) word e) ∙ turned b
-    where
-      turned : (b : Bool) → not (same (truth b) nil) ≡ b
-      turned true = refl
-      turned false = refl
-
   -- the bit of a condition
   bit_told : (b : Bool) (word : ℕ) → word_of places (truth b) ≡ Some word → one_if_less 0 (difference32 word nil_word) ≡ (if b then 1 else 0)
   bit_told b word e =
-      let tells : nat_lt 0 (difference32 word nil_word) ≡ b = truth_bit word (word_told names program places z y r (truth b) word e) ∙ truth_told b word e in
+      let tells : nat_lt 0 (difference32 word nil_word) ≡ b = truth_bit word (word_told names program places z y r (truth b) word e) ∙ truth_told names program places z y r b word e in
       rw tells refl
 
   module _ (classes : ClassesThere names program z) (v : Value) (w c : ℕ) (word : word_of places v ≡ Some w) (it : ObjectFound names program places z y r v w (class_object c)) where

@@ -166,6 +166,14 @@ value_class_below z nil e = omega arith
 value_class_below z (object i) e = class_below (slice_get z.store i) e
 
 module _ (names : List (List ℕ)) (program : ProgramRows) (places : Places) (z : meaning.State) (y : State) (r : Represents names program places z y) where
+  -- t or nil, by its word
+  pub truth_told : (b : Bool) (word : ℕ) → word_of places (truth b) ≡ Some word → not (word == nil_word) ≡ b
+  truth_told b word e = ap not (nil_told names program places z y r (truth b) word e) ∙ turned b
+    where
+      turned : (b : Bool) → not (same (truth b) nil) ≡ b
+      turned true = refl
+      turned false = refl
+
   -- the class of an instance that is stored
   instance_class : (v : Value) (i : ℕ × List (Option Value) × Value) → as_instance (fetch z v) ≡ Some i → class_of z v ≡ i.0
   instance_class (object k) i e = by (slice_get z.store k) e
@@ -246,11 +254,7 @@ module _
         condition = of_class.stands.condition
 
         test_told : (b : Bool) → is_below program c serious_condition_class ≡ b → not (condition.word == nil_word) ≡ b
-        test_told b e = ap not (nil_told names program places z y r _ condition.word condition.of_value ∙ ap (λ b. same (truth b) nil) e) ∙ turned b
-          where
-            turned : (b : Bool) → not (same (truth b) nil) ≡ b
-            turned true = refl
-            turned false = refl
+        test_told b e = truth_told names program places z y r (is_below program c serious_condition_class) condition.word condition.of_value ∙ e
 
         tested :
             (answer : Answer)

@@ -26,7 +26,8 @@ use Rattle.isl_arena.specs.FixedWords.{nil_text}
 use Rattle.isl_arena.specs.Represents.{Represents}
 use Rattle.isl_arena.specs.Steps as steps
 use Rattle.isl_arena.specs.Steps.{steps_of}
-use Rattle.isl_arena.proofs.Running.{StepsTo, turning, none_left, and_then, and_ends, constant_falls, compute_known, load_falls, return_ends, choose_first_ends, choose_second_falls, address_here, repeat_falls, repeat_ends, repeat_turn}
+use Rattle.isl_arena.proofs.Running.{StepsTo, turning, none_left, and_then, and_ends, constant_falls, compute_known}
+use Rattle.isl_arena.proofs.Running.{load_falls, return_ends, choose_first_ends, choose_second_falls, address_here, repeat_falls, repeat_ends, repeat_turn}
 use Rattle.isl_arena.proofs.Arguments.{symbol_there}
 use Rattle.isl_arena.proofs.Sameness.{same_value_same_word}
 use Rattle.isl_arena.proofs.Doing.{paid}

@@ -108,7 +108,10 @@ module _ (names : List (List ℕ)) (program : ProgramRows) (places : Places) (z 
   no_value_unbound nil w e = let is : 3 ≡ w = cc e in rw (← is) refl
   no_value_unbound (object i) w e = let low = object_low names program places z y r i w e in grind (arith, nat_tests)
 
-module _ (names : List (List ℕ)) (program : ProgramRows) (places : Places) (z : meaning.State) (y : State) (r : Represents names program places z y) (procedures : List MidProcedure) (below : Task → State → Outcome) where
+module _
+    (names : List (List ℕ)) (program : ProgramRows) (places : Places) (z : meaning.State) (y : State) (r : Represents names program places z y)
+    (procedures : List MidProcedure) (below : Task → State → Outcome)
+  where
   -- an instance and a place of its slots, with which the code behind goes on, or a condition: it costs 170 to find them
   pub slot_needed :
       (n budget k of at w x : ℕ) (v place : Value) (next : ℕ × List (Option Value) × Value → ℕ → Answer) (rest : List MidStep) (rs : Registers)
@@ -175,10 +178,6 @@ slot_count_does = does_one SlotCount refl (λ v w names program places z y proce
     (goes_on names program places z y procedures below constant_falls
     (goes_on names program places z y procedures below (compute_known refl refl (four_times_count (length values) (omega (arith, low))))
     (returns_value names program places z y procedures below r refl (length_word_is places (length values) (omega (arith, low))) (alike_self z) (omega arith))))))))
-
--- the word of a slot, eight behind the address of the instance and six behind its word
-slot_address : (w x address j : ℕ) → w ≡ address + 2 → x ≡ 4 * j → w + x < 2 ^ 31 → sum32 w x ≡ w + x
-slot_address w x address j e f h = omega arith
 
 module _
     (names : List (List ℕ)) (program : ProgramRows) (places : Places) (z : meaning.State) (y : State) (r : Represents names program places z y)
