@@ -28,6 +28,7 @@ pub mod Arrays
 pub mod Slots
 pub mod SlotSetting
 pub mod ClassesThere
+pub mod ClassesAtStart
 pub mod SlotRows
 pub mod SlotSearch
 pub mod SlotPlaces
