@@ -4,7 +4,7 @@ use Rattle.std.specs.Prelude.{◌==◌, not, nat_lt, slice_get, slice_index_or, 
 use Rattle.std.proofs.lemmas.List.{get_or-replicate, length-replicate}
 use Rattle.isl_meaning.specs.declared.program.ProgramRows.{ProgramRows}
 use Rattle.isl_meaning.specs.declared.primitive.Primitive.TheVariants.{Allocate}
-use Rattle.isl_meaning.specs.Values.{Value, nil, object, truth, same}
+use Rattle.isl_meaning.specs.Values.{Value, nil, object, truth}
 use Rattle.isl_meaning.specs.Objects.{Object, instance, class_object, serious_condition_class, program_error_class}
 use Rattle.isl_meaning.specs.State as meaning
 use Rattle.isl_meaning.specs.Classes.{fetch, slots, is_below}

@@ -1,6 +1,6 @@
 -- Before the first form the class objects are there: the value of each class is its class object, and no other object is.
 use Rattle.std.proofs.Common.{◌≡◌, ℕ, zero, suc, ◌+◌, ◌-◌, ◌<◌, ◌≤◌, Bool, true, false, List, [], ◌∷◌, ◌++◌, length, map, Option, Some, None, refl, sym, ap, subst, ◌∙◌, arith}
-use Rattle.std.specs.Prelude.{◌==◌, nat_lt, slice_get, flat_map, if◌then◌else◌}
+use Rattle.std.specs.Prelude.{nat_lt, slice_get, flat_map, if◌then◌else◌}
 use Rattle.std.specs.List.{range_with_len}
 use Rattle.std.proofs.lemmas.Bool.Decides.{nat_tests}
 use Rattle.std.proofs.lemmas.List.{append_assoc}
@@ -15,9 +15,9 @@ use Rattle.isl_meaning.specs.declared.program.LiteralRow.{LiteralRow}
 use Rattle.isl_meaning.specs.declared.program.LiteralRow.TheVariants as row
 use Rattle.isl_meaning.specs.Lookup.{text, numbered}
 use Rattle.isl_meaning.specs.Literals.{Laid, lay, lay_content, lay_items, lay_list, lay_tail}
-use Rattle.isl_meaning.specs.Layout.{Key, class, input, output, function_of, literal, initargs, initform, part, same_key, Keyed, Thing, single, keyed, laid_out, layout, things}
+use Rattle.isl_meaning.specs.Layout.{Key, class, input, output, function_of, literal, same_key, Keyed, Thing, single, keyed, laid_out, layout, things}
 use Rattle.isl_meaning.specs.Layout.{class_things, function_object, function_things, literal_objects, literal_things, initargs_list, initform_objects, slot_things, objects_at_start, under_key, class_value}
-use Rattle.isl_meaning.specs.Values.{Value, integer, character, symbol, nil, object}
+use Rattle.isl_meaning.specs.Values.{Value, object}
 use Rattle.isl_meaning.specs.Objects.{Object, instance, class_object, input_stream, output_stream, built_in_classes}
 use Rattle.isl_meaning.specs.State.{first_state}
 use Rattle.isl_meaning.specs.Classes.{fetch}
