@@ -135,9 +135,10 @@ class_entries :
     → Entries (laid_out (class_things (range_with_len a m) ++ ts) n) n
 class_entries zero a n ts at e = let same : n + 0 ≡ n = omega arith in rw same at e
 class_entries (suc m) a n ts at e =
-    let same : n + suc m ≡ n + 1 + m = omega arith in
-    (a_class a refl refl (moved 0 (omega arith) n a (omega arith) (omega arith)),
-    class_entries m (a + 1) (n + 1) ts (λ i h. moved (suc i) (omega arith) (n + 1 + i) (a + 1 + i) (omega arith) (omega arith)) (rw same at e))
+    let same : n + suc m ≡ n + 1 + m = omega arith in (
+      a_class a refl refl (moved 0 (omega arith) n a (omega arith) (omega arith)),
+      class_entries m (a + 1) (n + 1) ts (λ i h. moved (suc i) (omega arith) (n + 1 + i) (a + 1 + i) (omega arith) (omega arith)) (rw same at e),
+    )
   where
     moved : (i : ℕ) → i < suc m → (to c : ℕ) → to ≡ n + i → a + i ≡ c → to ≡ place c
     moved i h to c first second = first ∙ at i h ∙ ap place second
@@ -158,9 +159,10 @@ initform_ordinary (Some p) = (record { no_class = λ c e. cc e; no_instance = λ
 initform_ordinary None = tt
 
 slot_plainly : (names : List (List ℕ)) (c : ℕ) (s : SlotRow × ℕ) → Each Plainly (slot_things names c s)
-slot_plainly names c s =
-    (record { no_class = λ d e. cc e; objects = λ n. content_laid names (initargs_list s.0) n },
-    (record { no_class = λ d e. cc e; objects = λ n. initform_ordinary s.0.initform }, tt))
+slot_plainly names c s = (
+  record { no_class = λ d e. cc e; objects = λ n. content_laid names (initargs_list s.0) n },
+  (record { no_class = λ d e. cc e; objects = λ n. initform_ordinary s.0.initform }, tt),
+)
 
 module _ (names : List (List ℕ)) (program : ProgramRows) where
   abbrev first_classes : List Thing
@@ -209,12 +211,15 @@ module _ (names : List (List ℕ)) (program : ProgramRows) where
   all_entries : Entries (layout names program) 0
   all_entries =
       subst (λ ts. Entries (laid_out ts 0) 0) (sym in_order)
-      (class_entries built_in_classes 0 0 (streams ++ (other_classes ++ behind_classes)) (λ i h. omega (arith, low_place (0 + i) (omega arith)))
-      (another (λ c e. cc e) (record { no_class = λ c e. cc e; no_instance = λ c vs m e. cc e }),
-      (another (λ c e. cc e) (record { no_class = λ c e. cc e; no_instance = λ c vs m e. cc e }),
-      class_entries (length program.classes - built_in_classes) built_in_classes 36 behind_classes
-      (λ i h. omega (arith, high_place (built_in_classes + i) (omega arith)))
-      (plain_entries behind_classes behind_plainly _))))
+      (class_entries built_in_classes 0 0 (streams ++ (other_classes ++ behind_classes)) (λ i h. omega (arith, low_place (0 + i) (omega arith))) (
+        another (λ c e. cc e) (record { no_class = λ c e. cc e; no_instance = λ c vs m e. cc e }),
+        (
+          another (λ c e. cc e) (record { no_class = λ c e. cc e; no_instance = λ c vs m e. cc e }),
+          class_entries (length program.classes - built_in_classes) built_in_classes 36 behind_classes
+              (λ i h. omega (arith, high_place (built_in_classes + i) (omega arith)))
+              (plain_entries behind_classes behind_plainly _),
+        ),
+      ))
 
 -- ---- a class is found
 

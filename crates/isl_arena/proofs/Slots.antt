@@ -112,54 +112,54 @@ module _
     (names : List (List ℕ)) (program : ProgramRows) (places : Places) (z : meaning.State) (y : State) (r : Represents names program places z y)
     (procedures : List MidProcedure) (below : Task → State → Outcome)
   where
-  -- an instance and a place of its slots, with which the code behind goes on, or a condition: it costs 170 to find them
-  pub slot_needed :
-      (n budget k of at w x : ℕ) (v place : Value) (next : ℕ × List (Option Value) × Value → ℕ → Answer) (rest : List MidStep) (rs : Registers)
-      → of < 3 → at < 3 → length rs ≡ 8 → register of rs ≡ Some w → register at rs ≡ Some x → word_of places v ≡ Some w → word_of places place ≡ Some x
-      → k + 300 + 250 * z.units ≤ budget + 250 * (z.units + 3)
-      → ((c : ℕ) (values : List (Option Value)) (mark : Value) (j : ℕ) → ObjectFound names program places z y r v w (instance c values mark)
-      → j < length values → x ≡ 4 * j
-      → Run names program places z y procedures below n budget (next (c, values, mark) j) (code_of rest) (slot_registers w x (length values) rs) (slot_paid k))
-      → Run names program places z y procedures below n budget (a_slot v place z next) (code_of (need_slot of at rest)) rs k
-  slot_needed n budget k of at w x v place next rest rs of_low at_low size of_held at_held of_word at_word cost more =
-      instance_needed names program places z y r procedures below n of w standard_object_class v rs of_low size of_held of_word (omega arith) budget k
-      (λ i. an_integer place z (λ m. an_index m (length i.1) z (λ j. next i j)))
-      (steps.need_tag at 0 (pos (class_address integer_class)) ++ counting of indexing) (omega (arith, cost))
-      (λ c values mark found.
-      let it = object_found names program places z y r v w (instance c values mark) of_word found in
-      let scratched = instance_scratched w (instance_header (length values)) rs size in
-      integer_needed names program places z y r procedures below n budget _ at x place (λ m. an_index m (length values) z (λ j. next (c, values, mark) j))
-      (counting of indexing) (instance_registers w (instance_header (length values)) rs) at_low scratched.size (scratched.others at (omega arith) ∙ at_held) at_word
-      (omega (arith, cost)) (λ m is range word. counted c values mark m it range word))
-    where
-      indexing : List MidStep
-      indexing = steps.either (steps.comparing LessUnsigned at 7) [] (steps.signal (pos (class_address program_error_class))) ∷ rest
+    -- an instance and a place of its slots, with which the code behind goes on, or a condition: it costs 170 to find them
+    pub slot_needed :
+        (n budget k of at w x : ℕ) (v place : Value) (next : ℕ × List (Option Value) × Value → ℕ → Answer) (rest : List MidStep) (rs : Registers)
+        → of < 3 → at < 3 → length rs ≡ 8 → register of rs ≡ Some w → register at rs ≡ Some x → word_of places v ≡ Some w → word_of places place ≡ Some x
+        → k + 300 + 250 * z.units ≤ budget + 250 * (z.units + 3)
+        → ((c : ℕ) (values : List (Option Value)) (mark : Value) (j : ℕ) → ObjectFound names program places z y r v w (instance c values mark)
+        → j < length values → x ≡ 4 * j
+        → Run names program places z y procedures below n budget (next (c, values, mark) j) (code_of rest) (slot_registers w x (length values) rs) (slot_paid k))
+        → Run names program places z y procedures below n budget (a_slot v place z next) (code_of (need_slot of at rest)) rs k
+    slot_needed n budget k of at w x v place next rest rs of_low at_low size of_held at_held of_word at_word cost more =
+        instance_needed names program places z y r procedures below n of w standard_object_class v rs of_low size of_held of_word (omega arith) budget k
+        (λ i. an_integer place z (λ m. an_index m (length i.1) z (λ j. next i j)))
+        (steps.need_tag at 0 (pos (class_address integer_class)) ++ counting of indexing) (omega (arith, cost))
+        (λ c values mark found.
+        let it = object_found names program places z y r v w (instance c values mark) of_word found in
+        let scratched = instance_scratched w (instance_header (length values)) rs size in
+        integer_needed names program places z y r procedures below n budget _ at x place (λ m. an_index m (length values) z (λ j. next (c, values, mark) j))
+        (counting of indexing) (instance_registers w (instance_header (length values)) rs) at_low scratched.size (scratched.others at (omega arith) ∙ at_held) at_word
+        (omega (arith, cost)) (λ m is range word. counted c values mark m it range word))
+      where
+        indexing : List MidStep
+        indexing = steps.either (steps.comparing LessUnsigned at 7) [] (steps.signal (pos (class_address program_error_class))) ∷ rest
 
-      counted :
-          (c : ℕ) (values : List (Option Value)) (mark : Value) (m : ℤ) → ObjectFound names program places z y r v w (instance c values mark)
-          → in_range m ≡ true → x ≡ integer_word m
-          → Run names program places z y procedures below n budget (an_index m (length values) z (λ j. next (c, values, mark) j)) (code_of (counting of indexing))
-          (place_registers w x (length values) rs) (place_paid k)
-      counted c values mark m it range word =
-          let low = instance_low names program places z y r v w c values mark it in
-          let count : ℕ = length values in
-          let place_there : Scratched rs (place_registers w x count rs) = place_scratched w x count rs size in
-          let first : Scratched rs (slice_set (place_registers w x count rs) 7 (Some (instance_header count))) = scratched_seven _ _ _ place_there in
-          let second : Scratched rs (slice_set (slice_set (slice_set (place_registers w x count rs) 7 (Some (instance_header count))) 6 (Some 4)) 7 (Some count)) =
-          scratched_seven _ _ _ (scratched_six _ _ _ first) in
-          let last : Scratched rs (slot_registers w x count rs) = slot_scratched w x count rs size in
-          goes_on names program places z y procedures below
-          (load_falls (place_there.others of (omega arith) ∙ of_held) (address_below w 1 it.spot.address it.word (omega (arith, low))) it.stands.header)
-          (goes_on names program places z y procedures below constant_falls
-          (goes_on names program places z y procedures below
-          (compute_known (seven_behind_six _ _ _ place_there.size) (six_here _ _ first.size) (header_without_kind count))
-          (goes_on names program places z y procedures below constant_falls
-          (goes_on names program places z y procedures below
-          (compute_known (seven_behind_six _ _ _ (scratched_six _ _ _ first).size) (six_here _ _ second.size) (four_times_count count (omega (arith, low))))
-          (index_needed names program places z y r procedures below n budget (place_paid k + 8 + 6 + 10 + 6 + 10) at count m (λ j. next (c, values, mark) j) rest
-          (slot_registers w x count rs) last.size (last.others at (omega arith) ∙ at_held ∙ ap (λ u. Some u) word)
-          (register_here _ 7 (4 * count) (omega (arith, (scratched_six _ _ (Some 2) second).size))) range (omega (arith, low)) (omega (arith, cost))
-          (λ j inside at_place. more c values mark j it inside (word ∙ at_place)))))))
+        counted :
+            (c : ℕ) (values : List (Option Value)) (mark : Value) (m : ℤ) → ObjectFound names program places z y r v w (instance c values mark)
+            → in_range m ≡ true → x ≡ integer_word m
+            → Run names program places z y procedures below n budget (an_index m (length values) z (λ j. next (c, values, mark) j)) (code_of (counting of indexing))
+            (place_registers w x (length values) rs) (place_paid k)
+        counted c values mark m it range word =
+            let low = instance_low names program places z y r v w c values mark it in
+            let count : ℕ = length values in
+            let place_there : Scratched rs (place_registers w x count rs) = place_scratched w x count rs size in
+            let first : Scratched rs (slice_set (place_registers w x count rs) 7 (Some (instance_header count))) = scratched_seven _ _ _ place_there in
+            let second : Scratched rs (slice_set (slice_set (slice_set (place_registers w x count rs) 7 (Some (instance_header count))) 6 (Some 4)) 7 (Some count)) =
+            scratched_seven _ _ _ (scratched_six _ _ _ first) in
+            let last : Scratched rs (slot_registers w x count rs) = slot_scratched w x count rs size in
+            goes_on names program places z y procedures below
+            (load_falls (place_there.others of (omega arith) ∙ of_held) (address_below w 1 it.spot.address it.word (omega (arith, low))) it.stands.header)
+            (goes_on names program places z y procedures below constant_falls
+            (goes_on names program places z y procedures below
+            (compute_known (seven_behind_six _ _ _ place_there.size) (six_here _ _ first.size) (header_without_kind count))
+            (goes_on names program places z y procedures below constant_falls
+            (goes_on names program places z y procedures below
+            (compute_known (seven_behind_six _ _ _ (scratched_six _ _ _ first).size) (six_here _ _ second.size) (four_times_count count (omega (arith, low))))
+            (index_needed names program places z y r procedures below n budget (place_paid k + 8 + 6 + 10 + 6 + 10) at count m (λ j. next (c, values, mark) j) rest
+            (slot_registers w x count rs) last.size (last.others at (omega arith) ∙ at_held ∙ ap (λ u. Some u) word)
+            (register_here _ 7 (4 * count) (omega (arith, (scratched_six _ _ (Some 2) second).size))) range (omega (arith, low)) (omega (arith, cost))
+            (λ j inside at_place. more c values mark j it inside (word ∙ at_place)))))))
 
 -- ---- slots one by one
 
