@@ -104,20 +104,31 @@ does_three which three code names program procedures below n places z y vs ws r 
 
 -- ---- lengths and indices
 
+-- the lines that an integer is an index, whose limit is in register 7
+abbrev pub index_test : (of : ℕ) → List MidStep → List MidStep
+index_test of rest = steps.either (steps.comparing LessUnsigned of 7) [] (steps.signal (pos (class_address program_error_class))) ∷ rest
+
+-- the lines that the integer in register 0 is a length
+abbrev pub length_test : List MidStep → List MidStep
+length_test rest = steps.constant 6 0 ∷ steps.either (steps.comparing AtLeast 0 6) [] (steps.domain_error 0 (pos (class_address integer_class))) ∷ rest
+
 -- the word of a length
 pub length_word_is : (places : Places) (count : ℕ) → count < 2 ^ 29 → word_of places (integer (pos count)) ≡ Some (4 * count)
 length_word_is places count h =
     let range : in_range (pos count) ≡ true = in_range_is (pos count) (omega arith) (omega arith) in
     rw range (ap (λ w. Some w) (integer_word_of_pos count (omega arith)))
 
-module _ (names : List (List ℕ)) (program : ProgramRows) (places : Places) (z : meaning.State) (y : State) (r : Represents names program places z y) (procedures : List MidProcedure) (below : Task → State → Outcome) where
+module _
+    (names : List (List ℕ)) (program : ProgramRows) (places : Places) (z : meaning.State) (y : State) (r : Represents names program places z y)
+    (procedures : List MidProcedure) (below : Task → State → Outcome)
+    where
   -- An integer is an index of so many, whose word is in register 7, or the answer is a program error. It costs 14 to find it.
   pub index_needed :
       (n budget k of count : ℕ) (i : ℤ) (next : ℕ → Answer) (rest : List MidStep) (rs : Registers) → length rs ≡ 8 → register of rs ≡ Some (integer_word i)
       → register 7 rs ≡ Some (4 * count) → in_range i ≡ true → count < 2 ^ 29 → k + 142 + 250 * z.units ≤ budget + 250 * (z.units + 3)
       → ((j : ℕ) → j < count → integer_word i ≡ 4 * j → Run names program places z y procedures below n budget (next j) (code_of rest) rs (k + 12 + 2))
       → Run names program places z y procedures below n budget (an_index i count z next)
-      (code_of (steps.either (steps.comparing LessUnsigned of 7) [] (steps.signal (pos (class_address program_error_class))) ∷ rest)) rs k
+      (code_of (index_test of rest)) rs k
   index_needed n budget k of count i next rest rs size held limit range small cost more = by (index_of i count) refl
     where
       tested : (o : Option ℕ) → index_of i count ≡ o → compares LessUnsigned (integer_word i) (4 * count) ≡ is_some o
@@ -126,7 +137,7 @@ module _ (names : List (List ℕ)) (program : ProgramRows) (places : Places) (z 
       by :
           (o : Option ℕ) → index_of i count ≡ o
           → Run names program places z y procedures below n budget (needs (index_of i count) (program_error z) next)
-          (code_of (steps.either (steps.comparing LessUnsigned of 7) [] (steps.signal (pos (class_address program_error_class))) ∷ rest)) rs k
+          (code_of (index_test of rest)) rs k
       by None e =
           rw e
           (second_answers names program places z y procedures below held limit (tested None e)
@@ -180,7 +191,7 @@ module _ (names : List (List ℕ)) (program : ProgramRows) (places : Places) (z 
       → ((count : ℕ) → length_of i ≡ Some count → count < 2 ^ 29 → a ≡ 4 * count
       → Run names program places z y procedures below n budget (next count) (code_of rest) (slice_set rs 6 (Some 0)) (k + 6 + 12 + 2))
       → Run names program places z y procedures below n budget (needs (length_of i) (domain_error v integer_class z) next)
-      (code_of (steps.constant 6 0 ∷ steps.either (steps.comparing AtLeast 0 6) [] (steps.domain_error 0 (pos (class_address integer_class))) ∷ rest)) rs k
+      (code_of (length_test rest)) rs k
   length_needed n budget k a i v next rest rs size held word range same cost more = by (length_of i) refl
     where
       scratched : Scratched rs (slice_set rs 6 (Some 0))
@@ -192,7 +203,7 @@ module _ (names : List (List ℕ)) (program : ProgramRows) (places : Places) (z 
       by :
           (o : Option ℕ) → length_of i ≡ o
           → Run names program places z y procedures below n budget (needs (length_of i) (domain_error v integer_class z) next)
-          (code_of (steps.constant 6 0 ∷ steps.either (steps.comparing AtLeast 0 6) [] (steps.domain_error 0 (pos (class_address integer_class))) ∷ rest)) rs k
+          (code_of (length_test rest)) rs k
       by None e =
           rw e
           (goes_on names program places z y procedures below constant_falls

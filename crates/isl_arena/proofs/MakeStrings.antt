@@ -1,6 +1,6 @@
 -- A string that is made has the same character at each place, as the meaning says.
-use Rattle.std.proofs.Common.{◌≡◌, ℕ, zero, suc, ◌+◌, ◌-◌, ◌*◌, ◌/◌, ◌%◌, ◌^◌, ◌<◌, ◌≤◌, ℤ, pos, List, [], ◌∷◌, ◌++◌, length, replicate, Option, Some, ⊎_elim, refl, sym, ap, ◌∙◌, arith}
-use Rattle.std.specs.Prelude.{◌==◌, slice_get, ◌≢◌}
+use Rattle.std.proofs.Common.{◌≡◌, ℕ, suc, ◌+◌, ◌*◌, ◌^◌, ◌<◌, ◌≤◌, ℤ, pos, List, [], ◌∷◌, ◌++◌, length, replicate, Option, Some, ⊎_elim, refl, sym, ap, ◌∙◌, arith}
+use Rattle.std.specs.Prelude.{◌≢◌}
 use Rattle.std.proofs.lemmas.Bool.Decides.{nat_tests}
 use Rattle.std.proofs.lemmas.Bool.{cases_eq}
 use Rattle.std.proofs.lemmas.List.{length-replicate}
@@ -12,17 +12,15 @@ use Rattle.isl_meaning.specs.State as meaning
 use Rattle.isl_meaning.specs.Primitives.{domain_error, needs, a_character, length_of, makes_string, primitive}
 use Rattle.isl_mid.specs.declared.program.MidProcedure.{MidProcedure}
 use Rattle.isl_mid.specs.declared.operation.Arithmetic.TheVariants as which
-use Rattle.isl_mid.specs.declared.operation.Comparison.TheVariants.{AtLeast}
 use Rattle.isl_mid.specs.declared.operation.Operation.TheVariants.{Move, Request}
-use Rattle.isl_mid.specs.Words.{sum32, shift_left, shift_right}
+use Rattle.isl_mid.specs.Words.{sum32, shift_left}
 use Rattle.isl_mid.specs.Arena.{Arena, left, word_at, with_word, with_heap}
 use Rattle.isl_mid.specs.MidCode.{MidStep, perform, return_word, code_of}
 use Rattle.isl_mid.specs.State.{State, Outcome, falls, returns, no_room, ends, first_registers}
 use Rattle.isl_mid.specs.Meaning.{Task, Context}
 use Rattle.isl_arena.specs.Tags.{object_tag, string_header, character_word}
-use Rattle.isl_arena.specs.Places.{Spot, Places, with_object, word_of}
+use Rattle.isl_arena.specs.Places.{Places}
 use Rattle.isl_arena.specs.Standing.{ArenaStands}
-use Rattle.isl_arena.specs.FixedWords.{class_address}
 use Rattle.isl_arena.specs.Layouts.{byte_words, packed, TextAt}
 use Rattle.isl_arena.specs.Represents.{Represents}
 use Rattle.isl_arena.specs.Answers.{IsPrimitive, units_after}
@@ -38,7 +36,7 @@ use Rattle.isl_arena.proofs.Making.{Room, is_left, is_wanting, room_for, answers
 use Rattle.isl_arena.proofs.Doing.{alike_self, Run, paid}
 use Rattle.isl_arena.proofs.Checking.{integer_needed, character_needed}
 use Rattle.isl_arena.proofs.Filling.{fill, six_after, fill_falls, replicated}
-use Rattle.isl_arena.proofs.Arrays.{does_two, length_needed}
+use Rattle.isl_arena.proofs.Arrays.{does_two, length_test, length_needed}
 
 -- ---- the arena
 
@@ -246,7 +244,10 @@ ending_ends y k count c stands room =
     (and_then (compute_known refl refl pointer)
     (and_ends tt (return_ends refl))))))))))))) (omega arith)
 
-module _ (names : List (List ℕ)) (program : ProgramRows) (places : Places) (z : meaning.State) (y : State) (r : Represents names program places z y) (procedures : List MidProcedure) (below : Task → State → Outcome) where
+module _
+    (names : List (List ℕ)) (program : ProgramRows) (places : Places) (z : meaning.State) (y : State) (r : Represents names program places z y)
+    (procedures : List MidProcedure) (below : Task → State → Outcome)
+    where
   -- the string is made, where its words are left
   string_run :
       (n budget k count c : ℕ) (r2 r3 r4 r5 r6 r7 : Option ℕ) → count < 2 ^ 29 → c < 256 → byte_words count ≤ n
@@ -294,10 +295,6 @@ units_of_string :
     → units_after names program (primitive names program MakeString (v ∷ w ∷ []) z)
     ≡ z.units + (2 + byte_words (length (replicate count c))) + length (replicate count c)
 units_of_string names program v w i count c z v_is w_is length_is = rw (v_is, w_is, length_is) refl
-
--- the lines that the second argument is a character, and the first one a length
-abbrev length_test : List MidStep → List MidStep
-length_test rest = steps.constant 6 0 ∷ steps.either (steps.comparing AtLeast 0 6) [] (steps.domain_error 0 (pos (class_address integer_class))) ∷ rest
 
 pub make_string_does : IsPrimitive MakeString (procedure_of MakeString)
 make_string_does = does_two MakeString refl (λ v w a b names program places z y procedures below n r are units.

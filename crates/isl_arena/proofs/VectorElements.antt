@@ -8,12 +8,11 @@ use Rattle.std.proofs.Math.ListN.{length-set}
 use Rattle.isl_meaning.specs.declared.program.ProgramRows.{ProgramRows}
 use Rattle.isl_meaning.specs.declared.primitive.Primitive.TheVariants.{VectorLength, VectorRef, SetVectorRef}
 use Rattle.isl_meaning.specs.Values.{Value, integer, nil}
-use Rattle.isl_meaning.specs.Objects.{vector, integer_class, program_error_class}
+use Rattle.isl_meaning.specs.Objects.{vector, integer_class}
 use Rattle.isl_meaning.specs.State as meaning
 use Rattle.isl_meaning.specs.Primitives.{result, an_integer, an_index, change}
 use Rattle.isl_mid.specs.declared.program.MidProcedure.{MidProcedure}
 use Rattle.isl_mid.specs.declared.operation.Arithmetic.TheVariants as which
-use Rattle.isl_mid.specs.declared.operation.Comparison.TheVariants.{LessUnsigned}
 use Rattle.isl_mid.specs.Words.{sum32}
 use Rattle.isl_mid.specs.Arena.{Arena, word_at, with_word}
 use Rattle.isl_mid.specs.MidCode.{MidStep, return_word}
@@ -34,7 +33,7 @@ use Rattle.isl_arena.proofs.Arguments.{ObjectFound, object_found}
 use Rattle.isl_arena.proofs.Doing.{alike_self, goes_on, returns_value}
 use Rattle.isl_arena.proofs.Checking.{integer_needed}
 use Rattle.isl_arena.proofs.Needing.{vector_needed}
-use Rattle.isl_arena.proofs.Arrays.{does_one, does_two, does_three, length_word_is, index_needed, stores_changed}
+use Rattle.isl_arena.proofs.Arrays.{does_one, does_two, does_three, length_word_is, index_test, index_needed, stores_changed}
 
 -- a vector in whose spot one element was set
 pub vector_set :
@@ -72,7 +71,10 @@ vector_set places a s vs i w v arena stands low word t =
           stands = elsewhere (s.address + 8 + 4 * j) (λ e. other (omega arith)) ∙ at.stands;
         }
 
-module _ (names : List (List ℕ)) (program : ProgramRows) (places : Places) (z : meaning.State) (y : State) (r : Represents names program places z y) (procedures : List MidProcedure) (below : Task → State → Outcome) where
+module _
+    (names : List (List ℕ)) (program : ProgramRows) (places : Places) (z : meaning.State) (y : State) (r : Represents names program places z y)
+    (procedures : List MidProcedure) (below : Task → State → Outcome)
+    where
   -- a vector stands in the heap or beside the code, so its word and its length are not large
   vector_low : (v : Value) (w : ℕ) (vs : List Value) → ObjectFound names program places z y r v w (vector vs) → w + 4 * length vs + 8 < 2 ^ 27
   vector_low v w vs it =
@@ -92,9 +94,6 @@ vector_length_does = does_one VectorLength refl (λ v a names program places z y
     (returns_value names program places z y procedures below r refl (length_word_is places (length vs) (omega (arith, low))) (alike_self z) (omega arith))))
 
 -- the code behind the tests of the vector and the index
-abbrev index_test : (of : ℕ) → List MidStep → List MidStep
-index_test of rest = steps.either (steps.comparing LessUnsigned of 7) [] (steps.signal (pos (class_address program_error_class))) ∷ rest
-
 abbrev taking : List MidStep
 taking = steps.compute 5 which.Add 0 1 ∷ steps.load 5 5 (pos 6) ∷ return_word 5 ∷ []
 
