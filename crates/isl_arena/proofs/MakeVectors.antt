@@ -26,7 +26,8 @@ use Rattle.isl_arena.specs.Codes.{procedure_of}
 use Rattle.isl_arena.specs.Steps as steps
 use Rattle.isl_arena.proofs.Keeping.{same_word}
 use Rattle.isl_arena.proofs.Memory.{heap_below, stands_with_heap}
-use Rattle.isl_arena.proofs.Running.{RunsTo, turning, none_left, parts_then, and_then, and_ends, costing, constant_falls, compute_known, move_falls, store_in_heap, request_falls, request_wanting, return_ends, address_here, address_above}
+use Rattle.isl_arena.proofs.Running.{RunsTo, turning, none_left, parts_then, and_then, and_ends, costing, constant_falls, compute_known, move_falls, store_in_heap, request_falls}
+use Rattle.isl_arena.proofs.Running.{request_wanting, return_ends, address_here, address_above}
 use Rattle.isl_arena.proofs.Making.{Room, is_left, is_wanting, room_for, begun, begun_facts, begun_heap, begun_blocks, begun_word, answers_made, answers_wanting}
 use Rattle.isl_arena.proofs.Doing.{alike_self, Run, paid}
 use Rattle.isl_arena.proofs.Checking.{integer_needed}
@@ -47,9 +48,11 @@ beginning_code =
 abbrev filling_code : List MidStep
 filling_code = fill ∷ steps.compute_by 3 which.Add 3 2 ++ return_word 3 ∷ []
 
+-- all of it
 abbrev vector_code : List MidStep
 vector_code = asking_code ++ (beginning_code ++ filling_code)
 
+-- what each part comes to
 asking_falls :
     {c : Context} {r1 r2 r3 r4 r5 r6 r7 : Option ℕ} {x : State} (count : ℕ) → count < 2 ^ 29
     → RunsTo c (code_of asking_code) (Some (4 * count) ∷ r1 ∷ r2 ∷ r3 ∷ r4 ∷ r5 ∷ r6 ∷ r7 ∷ []) x

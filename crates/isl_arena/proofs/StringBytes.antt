@@ -28,7 +28,8 @@ use Rattle.isl_arena.specs.Codes.{procedure_of}
 use Rattle.isl_arena.specs.Steps as steps
 use Rattle.isl_arena.specs.Steps.{steps_of}
 use Rattle.isl_arena.proofs.WordFacts.{character_code}
-use Rattle.isl_arena.proofs.ArithmeticBytes.{byte_below, changed_bytes, byte_offset, byte_shift, byte_in, word_changed, byte_in_is, character_in_is, word_changed_is, other_packed, byte_offset_is, byte_shift_is, word_of_byte_there}
+use Rattle.isl_arena.proofs.ArithmeticBytes.{byte_below, changed_bytes, byte_offset, byte_shift, byte_in, word_changed, byte_in_is, character_in_is, word_changed_is, other_packed}
+use Rattle.isl_arena.proofs.ArithmeticBytes.{byte_offset_is, byte_shift_is, word_of_byte_there}
 use Rattle.isl_arena.proofs.Running.{RunsTo, and_then, none_left, costing, constant_falls, compute_falls, load_falls, compute_known, address_above}
 use Rattle.isl_arena.proofs.Memory.{word_elsewhere, stored_in_spot}
 use Rattle.isl_arena.proofs.Growing.{spot_below}
@@ -98,7 +99,7 @@ string_length_does = does_one StringLength refl (λ v a names program places z y
 abbrev word_before : (index text : ℕ) → List MidStep → List MidStep
 word_before index text rest = steps.compute_by 5 which.ShiftRight index 4 ++ steps.compute_by 5 which.ShiftLeft 5 2 ++ steps.compute 5 which.Add 5 text ∷ rest
 
--- the character is taken out of the word
+-- the character is taken out of the word, and returned
 abbrev character_taking : List MidStep
 character_taking =
     steps.load 5 5 (pos 6) ∷ steps.compute_by 4 which.ShiftLeft 1 28 ++ steps.compute_by 4 which.ShiftRight 4 27 ++ steps.compute 5 which.ShiftRight 5 4
@@ -111,9 +112,11 @@ word_changing =
     ∷ steps.compute_by 7 which.ShiftLeft 7 24 ++ steps.compute_by 7 which.ShiftRight 7 24 ++ steps.compute 7 which.ShiftLeft 7 3 ∷ steps.compute 4 which.Subtract 4 7
     ∷ steps.compute_by 7 which.ShiftRight 0 8 ++ steps.compute 7 which.ShiftLeft 7 3 ∷ steps.compute 4 which.Add 4 7 ∷ []
 
+-- the word is stored with the character in it, which is returned
 abbrev character_setting : List MidStep
 character_setting = steps.load 4 5 (pos 6) ∷ word_changing ++ (steps.store 4 5 (pos 6) ∷ return_word 0 ∷ [])
 
+-- what the word is then
 changing_falls :
     {context : Context} {r1 r3 r5 r6 r7 : Option ℕ} {k : ℕ} (y : State) (a c word old new : ℕ) → byte_in word (byte_shift c) ≡ old → shift_right a 8 ≡ new
     → RunsTo context (code_of word_changing) (Some a ∷ r1 ∷ Some c ∷ r3 ∷ Some word ∷ r5 ∷ r6 ∷ r7 ∷ []) (paid y k)
@@ -141,69 +144,69 @@ changing_falls y a c word old new old_is new_is =
 module _
     (names : List (List ℕ)) (program : ProgramRows) (places : Places) (z : meaning.State) (y : State) (r : Represents names program places z y)
     (procedures : List MidProcedure) (below : Task → State → Outcome)
-    where
-  -- a character is returned
-  character_run :
-      (n budget k a b i : ℕ) (v : Value) (bytes : List ℕ) (r2 r3 r4 r5 r6 r7 : Option ℕ) → ObjectFound names program places z y r v a (string bytes)
-      → i < length bytes → b ≡ 4 * i → k + 154 ≤ budget
-      → Run names program places z y procedures below n budget (result (character (slice_index_or bytes i 0)) z) (code_of (word_before 1 0 character_taking))
-      (Some a ∷ Some b ∷ r2 ∷ r3 ∷ r4 ∷ r5 ∷ r6 ∷ r7 ∷ []) k
-  character_run n budget k a b i v bytes r2 r3 r4 r5 r6 r7 it inside index cost =
-      let low = string_low names program places z y r v a bytes it in
-      let offset : byte_offset b ≡ 4 * (i / 4) = ap byte_offset index ∙ byte_offset_is i (omega (arith, low, inside)) in
-      let shift : byte_shift b % 32 ≡ 8 * (i % 4) = ap (λ x. byte_shift x % 32) index ∙ byte_shift_is i in
-      let sum : sum32 (4 * (i / 4)) a ≡ it.spot.address + 2 + 4 * (i / 4) = omega (arith, it.word, low, inside) in
-      goes_on names program places z y procedures below constant_falls
-      (goes_on names program places z y procedures below (compute_falls refl refl)
-      (goes_on names program places z y procedures below constant_falls
-      (goes_on names program places z y procedures below (compute_known refl refl offset)
-      (goes_on names program places z y procedures below (compute_known refl refl sum)
-      (goes_on names program places z y procedures below
-      (load_falls refl (address_above (it.spot.address + 2 + 4 * (i / 4)) 6 (it.spot.address + 8 + 4 * (i / 4)) (omega arith) (omega (arith, it.word, low, inside)))
-      (it.stands.words (i / 4) (word_of_byte_there (length bytes) i inside)))
-      (goes_on names program places z y procedures below constant_falls
-      (goes_on names program places z y procedures below (compute_falls refl refl)
-      (goes_on names program places z y procedures below constant_falls
-      (goes_on names program places z y procedures below (compute_falls refl refl)
-      (goes_on names program places z y procedures below (compute_falls refl refl)
-      (goes_on names program places z y procedures below constant_falls
-      (goes_on names program places z y procedures below (compute_falls refl refl)
-      (goes_on names program places z y procedures below constant_falls
-      (goes_on names program places z y procedures below (compute_falls refl refl)
-      (goes_on names program places z y procedures below constant_falls
-      (goes_on names program places z y procedures below (compute_known refl refl (character_in_is bytes i (byte_shift b) it.stands.bytes shift))
-      (returns_value names program places z y procedures below r refl (character_there places (byte_at bytes i) (byte_below bytes i it.stands.bytes)) (alike_self z)
-      (omega (arith, cost)))))))))))))))))))
+  where
+    -- a character is returned
+    character_run :
+        (n budget k a b i : ℕ) (v : Value) (bytes : List ℕ) (r2 r3 r4 r5 r6 r7 : Option ℕ) → ObjectFound names program places z y r v a (string bytes)
+        → i < length bytes → b ≡ 4 * i → k + 154 ≤ budget
+        → Run names program places z y procedures below n budget (result (character (slice_index_or bytes i 0)) z) (code_of (word_before 1 0 character_taking))
+        (Some a ∷ Some b ∷ r2 ∷ r3 ∷ r4 ∷ r5 ∷ r6 ∷ r7 ∷ []) k
+    character_run n budget k a b i v bytes r2 r3 r4 r5 r6 r7 it inside index cost =
+        let low = string_low names program places z y r v a bytes it in
+        let offset : byte_offset b ≡ 4 * (i / 4) = ap byte_offset index ∙ byte_offset_is i (omega (arith, low, inside)) in
+        let shift : byte_shift b % 32 ≡ 8 * (i % 4) = ap (λ x. byte_shift x % 32) index ∙ byte_shift_is i in
+        let sum : sum32 (4 * (i / 4)) a ≡ it.spot.address + 2 + 4 * (i / 4) = omega (arith, it.word, low, inside) in
+        goes_on names program places z y procedures below constant_falls
+        (goes_on names program places z y procedures below (compute_falls refl refl)
+        (goes_on names program places z y procedures below constant_falls
+        (goes_on names program places z y procedures below (compute_known refl refl offset)
+        (goes_on names program places z y procedures below (compute_known refl refl sum)
+        (goes_on names program places z y procedures below
+        (load_falls refl (address_above (it.spot.address + 2 + 4 * (i / 4)) 6 (it.spot.address + 8 + 4 * (i / 4)) (omega arith) (omega (arith, it.word, low, inside)))
+        (it.stands.words (i / 4) (word_of_byte_there (length bytes) i inside)))
+        (goes_on names program places z y procedures below constant_falls
+        (goes_on names program places z y procedures below (compute_falls refl refl)
+        (goes_on names program places z y procedures below constant_falls
+        (goes_on names program places z y procedures below (compute_falls refl refl)
+        (goes_on names program places z y procedures below (compute_falls refl refl)
+        (goes_on names program places z y procedures below constant_falls
+        (goes_on names program places z y procedures below (compute_falls refl refl)
+        (goes_on names program places z y procedures below constant_falls
+        (goes_on names program places z y procedures below (compute_falls refl refl)
+        (goes_on names program places z y procedures below constant_falls
+        (goes_on names program places z y procedures below (compute_known refl refl (character_in_is bytes i (byte_shift b) it.stands.bytes shift))
+        (returns_value names program places z y procedures below r refl (character_there places (byte_at bytes i) (byte_below bytes i it.stands.bytes)) (alike_self z)
+        (omega (arith, cost)))))))))))))))))))
 
-  -- a character is set, and returned
-  setting_run :
-      (n budget k a b c i x : ℕ) (v w : Value) (bytes : List ℕ) (r3 r4 r5 r6 r7 : Option ℕ) → ObjectFound names program places z y r w b (string bytes)
-      → i < length bytes → c ≡ 4 * i → x < 256 → a ≡ character_word x → word_of places v ≡ Some a → k + 202 ≤ budget
-      → Run names program places z y procedures below n budget (result v (change w (string (slice_set bytes i x)) z)) (code_of (word_before 2 1 character_setting))
-      (Some a ∷ Some b ∷ Some c ∷ r3 ∷ r4 ∷ r5 ∷ r6 ∷ r7 ∷ []) k
-  setting_run n budget k a b c i x v w bytes r3 r4 r5 r6 r7 it inside index small a_is word cost =
-      let low = string_low names program places z y r w b bytes it in
-      let there : i / 4 < byte_words (length bytes) = word_of_byte_there (length bytes) i inside in
-      let offset : byte_offset c ≡ 4 * (i / 4) = ap byte_offset index ∙ byte_offset_is i (omega (arith, low, inside)) in
-      let shift : byte_shift c % 32 ≡ 8 * (i % 4) = ap (λ x. byte_shift x % 32) index ∙ byte_shift_is i in
-      let sum : sum32 (4 * (i / 4)) b ≡ it.spot.address + 2 + 4 * (i / 4) = omega (arith, it.word, low, inside) in
-      let code : shift_right a 8 ≡ x = ap (λ w. shift_right w 8) a_is ∙ character_code x in
-      goes_on names program places z y procedures below constant_falls
-      (goes_on names program places z y procedures below (compute_falls refl refl)
-      (goes_on names program places z y procedures below constant_falls
-      (goes_on names program places z y procedures below (compute_known refl refl offset)
-      (goes_on names program places z y procedures below (compute_known refl refl sum)
-      (goes_on names program places z y procedures below
-      (load_falls refl (address_above (it.spot.address + 2 + 4 * (i / 4)) 6 (it.spot.address + 8 + 4 * (i / 4)) (omega arith) (omega (arith, it.word, low, inside)))
-      (it.stands.words (i / 4) there))
-      (part_then names program places z y procedures below word_changing (steps.store 4 5 (pos 6) ∷ return_word 0 ∷ [])
-      (changing_falls y a c (packed bytes (4 * (i / 4))) (byte_at bytes i) x (byte_in_is bytes i (byte_shift c) it.stands.bytes shift) code)
-      (stores_changed names program places z y r procedures below n budget _ it.number 4 5 0 (it.spot.address + 2 + 4 * (i / 4))
-      (it.spot.address + 4 * (2 + i / 4)) (packed (slice_set bytes i x) (4 * (i / 4))) a (pos 6) it.spot (string bytes) (string (slice_set bytes i x)) v w _
-      (ap (λ w. Some w) (word_changed_is bytes i x (byte_shift c) it.stands.bytes inside small shift)) refl
-      (address_above (it.spot.address + 2 + 4 * (i / 4)) 6 (it.spot.address + 4 * (2 + i / 4)) (omega arith) (omega (arith, it.word, low, inside)))
-      refl word (omega (arith, it.spot_stands.aligned)) (omega arith) (omega (arith, it.stands.size.words, there)) it.stored (λ p e. cc e) it.found it.value
-      (string_set y.arena it.spot bytes i x r.arena it.spot_stands inside small it.stands) (omega (arith, cost)))))))))
+    -- a character is set, and returned
+    setting_run :
+        (n budget k a b c i x : ℕ) (v w : Value) (bytes : List ℕ) (r3 r4 r5 r6 r7 : Option ℕ) → ObjectFound names program places z y r w b (string bytes)
+        → i < length bytes → c ≡ 4 * i → x < 256 → a ≡ character_word x → word_of places v ≡ Some a → k + 202 ≤ budget
+        → Run names program places z y procedures below n budget (result v (change w (string (slice_set bytes i x)) z)) (code_of (word_before 2 1 character_setting))
+        (Some a ∷ Some b ∷ Some c ∷ r3 ∷ r4 ∷ r5 ∷ r6 ∷ r7 ∷ []) k
+    setting_run n budget k a b c i x v w bytes r3 r4 r5 r6 r7 it inside index small a_is word cost =
+        let low = string_low names program places z y r w b bytes it in
+        let there : i / 4 < byte_words (length bytes) = word_of_byte_there (length bytes) i inside in
+        let offset : byte_offset c ≡ 4 * (i / 4) = ap byte_offset index ∙ byte_offset_is i (omega (arith, low, inside)) in
+        let shift : byte_shift c % 32 ≡ 8 * (i % 4) = ap (λ x. byte_shift x % 32) index ∙ byte_shift_is i in
+        let sum : sum32 (4 * (i / 4)) b ≡ it.spot.address + 2 + 4 * (i / 4) = omega (arith, it.word, low, inside) in
+        let code : shift_right a 8 ≡ x = ap (λ w. shift_right w 8) a_is ∙ character_code x in
+        goes_on names program places z y procedures below constant_falls
+        (goes_on names program places z y procedures below (compute_falls refl refl)
+        (goes_on names program places z y procedures below constant_falls
+        (goes_on names program places z y procedures below (compute_known refl refl offset)
+        (goes_on names program places z y procedures below (compute_known refl refl sum)
+        (goes_on names program places z y procedures below
+        (load_falls refl (address_above (it.spot.address + 2 + 4 * (i / 4)) 6 (it.spot.address + 8 + 4 * (i / 4)) (omega arith) (omega (arith, it.word, low, inside)))
+        (it.stands.words (i / 4) there))
+        (part_then names program places z y procedures below word_changing (steps.store 4 5 (pos 6) ∷ return_word 0 ∷ [])
+        (changing_falls y a c (packed bytes (4 * (i / 4))) (byte_at bytes i) x (byte_in_is bytes i (byte_shift c) it.stands.bytes shift) code)
+        (stores_changed names program places z y r procedures below n budget _ it.number 4 5 0 (it.spot.address + 2 + 4 * (i / 4))
+        (it.spot.address + 4 * (2 + i / 4)) (packed (slice_set bytes i x) (4 * (i / 4))) a (pos 6) it.spot (string bytes) (string (slice_set bytes i x)) v w _
+        (ap (λ w. Some w) (word_changed_is bytes i x (byte_shift c) it.stands.bytes inside small shift)) refl
+        (address_above (it.spot.address + 2 + 4 * (i / 4)) 6 (it.spot.address + 4 * (2 + i / 4)) (omega arith) (omega (arith, it.word, low, inside)))
+        refl word (omega (arith, it.spot_stands.aligned)) (omega arith) (omega (arith, it.stands.size.words, there)) it.stored (λ p e. cc e) it.found it.value
+        (string_set y.arena it.spot bytes i x r.arena it.spot_stands inside small it.stands) (omega (arith, cost)))))))))
 
 pub char_at_does : IsPrimitive CharAt (procedure_of CharAt)
 char_at_does = does_two CharAt refl (λ v w a b names program places z y procedures below n r are units.
