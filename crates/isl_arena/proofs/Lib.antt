@@ -21,3 +21,5 @@ pub mod Leaving
 pub mod Entering
 pub mod Checking
 pub mod Needing
+pub mod Saying
+pub mod Integers
