@@ -23,3 +23,5 @@ pub mod Checking
 pub mod Needing
 pub mod Saying
 pub mod Integers
+pub mod ByArity
+pub mod Predicates
