@@ -98,3 +98,80 @@ pub is_character_does : IsPrimitive IsCharacter (procedure_of IsCharacter)
 is_character_does = does_one IsCharacter refl (λ names program places z y procedures below n v w r word.
     shifted_says names program places z y r procedures below n (y.cost + 130 + 244) y.cost w 24 (15 * 2 ^ 24) (is_some (as_character v))
     (low_byte_tested w 15 ∙ character_byte_says v w (character_told names program places z y r v w word)) (omega arith))
+
+-- ---- by the header
+
+-- the lines that say whether a value has one of so many headers, from that one on
+abbrev header_is : (header count : ℕ) → List MidStep
+header_is header count =
+    steps.compute_by 7 which.ShiftLeft 0 30 ++ steps.constant 6 (2 ^ 31) ∷ steps.constant 5 nil_word ∷ steps.return_if (steps.comparing comparison.Different 7 6) 5
+    ∷ steps.load 7 0 (negsuc 1) ∷ steps.compute_by 7 which.Subtract 7 header
+    ++ steps.constant 6 count ∷ steps.return_if (steps.comparing comparison.AtLeastUnsigned 7 6) 5
+    ∷ steps.constant 5 0 ∷ steps.load 5 5 (pos true_address) ∷ return_word 5 ∷ []
+
+module _ (names : List (List ℕ)) (program : ProgramRows) (places : Places) (z : meaning.State) (y : State) (r : Represents names program places z y) (procedures : List MidProcedure) (below : Task → State → Outcome) where
+  module _ (n budget k w : ℕ) (v : Value) (word : word_of places v ≡ Some w) (second third fourth fifth sixth seventh eighth : Option ℕ) where
+    -- the registers where the argument is in the first one
+    abbrev argument_first : Registers
+    argument_first = Some w ∷ second ∷ third ∷ fourth ∷ fifth ∷ sixth ∷ seventh ∷ eighth ∷ []
+
+    header_says :
+        (header count : ℕ) (is_kind : ℕ → Bool) (holds : Bool) → ((h : ℕ) → h < 2 ^ 32 → nat_lt (difference32 h header) count ≡ is_kind h)
+        → ByHeader y.arena w is_kind holds → k + 140 ≤ budget
+        → Run names program places z y procedures below n budget (says holds z) (code_of (header_is header count)) argument_first k
+    header_says header count is_kind holds tested told cost =
+        goes_on names program places z y procedures below constant_falls
+        (goes_on names program places z y procedures below (compute_falls refl refl)
+        (goes_on names program places z y procedures below constant_falls
+        (goes_on names program places z y procedures below constant_falls
+        (by told))))
+      where
+        tag_put : Registers
+        tag_put = Some w ∷ second ∷ third ∷ fourth ∷ fifth ∷ Some nil_word ∷ Some (2 ^ 31) ∷ Some (shift_left w 30) ∷ []
+
+        rest : List MidStep
+        rest =
+            steps.load 7 0 (negsuc 1) ∷ steps.compute_by 7 which.Subtract 7 header
+            ++ steps.constant 6 count ∷ steps.return_if (steps.comparing comparison.AtLeastUnsigned 7 6) 5
+            ∷ steps.constant 5 0 ∷ steps.load 5 5 (pos true_address) ∷ return_word 5 ∷ []
+
+        behind_header : (h : ℕ) → Registers
+        behind_header h = Some w ∷ second ∷ third ∷ fourth ∷ fifth ∷ Some nil_word ∷ Some count ∷ Some (difference32 h header) ∷ []
+
+        ending : List MidStep
+        ending =
+            steps.return_if (steps.comparing comparison.AtLeastUnsigned 7 6) 5
+            ∷ steps.constant 5 0 ∷ steps.load 5 5 (pos true_address) ∷ return_word 5 ∷ []
+
+        -- the header was loaded and is tested
+        loads :
+            (h : ℕ) → (w % 4 == object_tag) ≡ true → word_at y.arena (w - 2) ≡ Some h
+            → Run names program places z y procedures below n budget (says holds z) (code_of ending) (behind_header h) (k + 6 + 10 + 6 + 6 + 12 + 2 + 8 + 6 + 10 + 6)
+            → Run names program places z y procedures below n budget (says holds z) (code_of (steps.return_if (steps.comparing comparison.Different 7 6) 5 ∷ rest)) tag_put (k + 6 + 10 + 6 + 6)
+        loads h tag at more =
+            let tag_is : w % 4 ≡ 2 = grind (arith, nat_tests) in
+            test_fails names program places z y procedures below refl refl (ap not (tag_tested w 2 ∙ tag))
+            (goes_on names program places z y procedures below
+            (load_falls refl (address_below w 1 (w - 2) (omega arith) (word_told names program places z y r v w word)) at)
+            (goes_on names program places z y procedures below constant_falls
+            (goes_on names program places z y procedures below (compute_falls refl refl)
+            (goes_on names program places z y procedures below constant_falls more))))
+
+        by :
+            ByHeader y.arena w is_kind holds
+            → Run names program places z y procedures below n budget (says holds z) (code_of (steps.return_if (steps.comparing comparison.Different 7 6) 5 ∷ rest)) tag_put (k + 6 + 10 + 6 + 6)
+        by (of_kind h is tag at kind) =
+            loads h tag at
+            (test_fails names program places z y procedures below refl refl
+            (ap not (tested h (header_bounded names program places z y r procedures below v w h word tag at) ∙ kind))
+            (goes_on names program places z y procedures below constant_falls
+            (goes_on names program places z y procedures below (load_falls refl (address_up 0 true_address (omega arith)) r.fixed.true_value.stands)
+            (rw is (returns_value names program places z y procedures below r refl r.fixed.true_value.of_value (alike_self z) (omega (arith, cost)))))))
+        by (of_other_kind h is tag at kind) =
+            loads h tag at
+            (first_answers names program places z y procedures below refl refl
+            (ap not (tested h (header_bounded names program places z y r procedures below v w h word tag at) ∙ kind))
+            (rw is (returns_value names program places z y procedures below r refl refl (alike_self z) (omega (arith, cost)))))
+        by (of_other_tag is tag) =
+            first_answers names program places z y procedures below refl refl (ap not (tag_tested w 2 ∙ tag))
+            (rw is (returns_value names program places z y procedures below r refl refl (alike_self z) (omega (arith, cost))))
