@@ -9,7 +9,7 @@ use Rattle.isl_meaning.specs.Values.{Value, nil, same}
 use Rattle.isl_meaning.specs.Objects.{Object}
 use Rattle.isl_meaning.specs.State as meaning
 use Rattle.isl_meaning.specs.Classes.{fetch}
-use Rattle.isl_meaning.specs.Primitives.{says, as_integer, as_character, as_cons, as_string, as_vector, as_symbol, Spelt, is_function, is_generic}
+use Rattle.isl_meaning.specs.Primitives.{says, as_integer, as_character, as_cons, as_string, as_vector, Spelt, as_symbol, is_function, is_generic}
 use Rattle.isl_mid.specs.declared.program.MidProcedure.{MidProcedure}
 use Rattle.isl_mid.specs.declared.operation.Arithmetic.TheVariants as which
 use Rattle.isl_mid.specs.declared.operation.Comparison.TheVariants as comparison
@@ -29,9 +29,10 @@ use Rattle.isl_arena.proofs.WordFacts.{tag_tested, low_byte_tested, header_teste
 use Rattle.isl_arena.proofs.Running.{constant_falls, compute_falls, load_falls, address_up, address_below}
 use Rattle.isl_arena.proofs.Arguments.{word_told}
 use Rattle.isl_arena.proofs.Telling.{IntegerTold, integer_found, no_integer, CharacterTold, character_found, no_character, ConsTold, cons_found, no_cons}
-use Rattle.isl_arena.proofs.Telling.{ByHeader, of_kind, of_other_kind, of_other_tag, FoundByHeader, found_kind, found_other_kind, found_other_tag}
+use Rattle.isl_arena.proofs.HeaderKinds.{IsKindOf, string_kind, vector_kind, function_kind, generic_kind}
+use Rattle.isl_arena.proofs.Telling.{ByHeader, of_kind, of_other_kind, of_other_tag, header_decides}
 use Rattle.isl_arena.proofs.Telling.{SymbolTold, nil_found, name_found, serial_found, no_symbol_header, no_symbol_tag}
-use Rattle.isl_arena.proofs.Telling.{integer_told, character_told, cons_told, string_told, vector_told, function_told, generic_told, symbol_told, nil_told}
+use Rattle.isl_arena.proofs.Telling.{integer_told, character_told, cons_told, symbol_told, nil_told}
 use Rattle.isl_arena.proofs.Sameness.{same_value_same_word}
 use Rattle.isl_arena.proofs.Doing.{alike_self, Run, goes_on, returns_value, test_fails, first_answers}
 use Rattle.isl_arena.proofs.Checking.{header_bounded}
@@ -60,7 +61,10 @@ is_null_does = does_one IsNull refl (λ names program places z y procedures belo
 abbrev shifted_is : (by bits : ℕ) → List MidStep
 shifted_is by bits = steps.compute_by 7 which.ShiftLeft 0 by ++ steps.constant 6 bits ∷ saying (steps.comparing comparison.Equal 7 6)
 
-module _ (names : List (List ℕ)) (program : ProgramRows) (places : Places) (z : meaning.State) (y : State) (r : Represents names program places z y) (procedures : List MidProcedure) (below : Task → State → Outcome) where
+module _
+    (names : List (List ℕ)) (program : ProgramRows) (places : Places) (z : meaning.State) (y : State) (r : Represents names program places z y)
+    (procedures : List MidProcedure) (below : Task → State → Outcome)
+    where
   shifted_says :
       (n budget k w by bits : ℕ) (holds : Bool) → (shift_left w by == bits) ≡ holds → k + 70 ≤ budget
       → Run names program places z y procedures below n budget (says holds z) (code_of (shifted_is by bits)) (first_registers 8 (w ∷ [])) k
@@ -109,7 +113,10 @@ header_is header count =
     ++ steps.constant 6 count ∷ steps.return_if (steps.comparing comparison.AtLeastUnsigned 7 6) 5
     ∷ steps.constant 5 0 ∷ steps.load 5 5 (pos true_address) ∷ return_word 5 ∷ []
 
-module _ (names : List (List ℕ)) (program : ProgramRows) (places : Places) (z : meaning.State) (y : State) (r : Represents names program places z y) (procedures : List MidProcedure) (below : Task → State → Outcome) where
+module _
+    (names : List (List ℕ)) (program : ProgramRows) (places : Places) (z : meaning.State) (y : State) (r : Represents names program places z y)
+    (procedures : List MidProcedure) (below : Task → State → Outcome)
+    where
   module _ (n budget k w : ℕ) (v : Value) (word : word_of places v ≡ Some w) (second third fourth fifth sixth seventh eighth : Option ℕ) where
     -- the registers where the argument is in the first one
     abbrev argument_first : Registers
@@ -175,3 +182,84 @@ module _ (names : List (List ℕ)) (program : ProgramRows) (places : Places) (z 
         by (of_other_tag is tag) =
             first_answers names program places z y procedures below refl refl (ap not (tag_tested w 2 ∙ tag))
             (rw is (returns_value names program places z y procedures below r refl refl (alike_self z) (omega (arith, cost))))
+
+  -- what says by its header of which kind the object of its argument is
+  kind_says :
+      (n w : ℕ) (v : Value) (header count : ℕ) (p : Option Object → Bool) (is_kind : ℕ → Bool) → IsKindOf p is_kind
+      → ((h : ℕ) → h < 2 ^ 32 → nat_lt (difference32 h header) count ≡ is_kind h) → word_of places v ≡ Some w
+      → Run names program places z y procedures below n (y.cost + 130 + 244) (says (p (fetch z v)) z) (code_of (header_is header count)) (first_registers 8 (w ∷ [])) y.cost
+  kind_says n w v header count p is_kind kind tested word =
+      header_says n (y.cost + 130 + 244) y.cost w v word None None None None None None None header count is_kind (p (fetch z v)) tested
+      (header_decides names program places z y r p is_kind kind v w word) (omega arith)
+
+pub is_string_does : IsPrimitive IsString (procedure_of IsString)
+is_string_does = does_one IsString refl (λ names program places z y procedures below n v w r.
+    kind_says names program places z y r procedures below n w v string_header 1 (λ o. is_some (as_string o)) (λ h. h == string_header) string_kind
+    (λ h low. header_tested h string_header low (omega arith)))
+
+pub is_vector_does : IsPrimitive IsVector (procedure_of IsVector)
+is_vector_does = does_one IsVector refl (λ names program places z y procedures below n v w r.
+    kind_says names program places z y r procedures below n w v vector_header 1 (λ o. is_some (as_vector o)) (λ h. h == vector_header) vector_kind
+    (λ h low. header_tested h vector_header low (omega arith)))
+
+pub is_function_does : IsPrimitive IsFunction (procedure_of IsFunction)
+is_function_does = does_one IsFunction refl (λ names program places z y procedures below n v w r.
+    kind_says names program places z y r procedures below n w v function_header 2 is_function (λ h. h == function_header || h == generic_header) function_kind
+    (λ h low. two_headers_tested h function_header low (omega arith)))
+
+pub is_generic_does : IsPrimitive IsGeneric (procedure_of IsGeneric)
+is_generic_does = does_one IsGeneric refl (λ names program places z y procedures below n v w r.
+    kind_says names program places z y r procedures below n w v generic_header 1 is_generic (λ h. h == generic_header) generic_kind
+    (λ h low. header_tested h generic_header low (omega arith)))
+
+-- ---- symbols
+
+abbrev is_symbol_header : ℕ → Bool
+is_symbol_header h = h == symbol_header || h == fresh_header
+
+neither : (a b : Bool) → a ≡ false → b ≡ false → (a || b) ≡ false
+neither a b f g = cc
+
+module _
+    (names : List (List ℕ)) (program : ProgramRows) (places : Places) (z : meaning.State) (y : State) (r : Represents names program places z y)
+    (procedures : List MidProcedure) (below : Task → State → Outcome)
+    where
+  -- nil was told apart, and the header tells the rest
+  behind_nil :
+      (n w : ℕ) (v : Value) (holds : Bool) → word_of places v ≡ Some w → (w == nil_word) ≡ false → ByHeader y.arena w is_symbol_header holds
+      → Run names program places z y procedures below n (y.cost + 130 + 244) (says holds z)
+      (code_of (steps.constant 6 nil_word ∷ steps.constant 5 0 ∷ steps.load 5 5 (pos true_address) ∷ steps.return_if (steps.comparing comparison.Equal 0 6) 5 ∷ header_is symbol_header 2))
+      (first_registers 8 (w ∷ [])) y.cost
+  behind_nil n w v holds word not_nil told =
+      goes_on names program places z y procedures below constant_falls
+      (goes_on names program places z y procedures below constant_falls
+      (goes_on names program places z y procedures below (load_falls refl (address_up 0 true_address (omega arith)) r.fixed.true_value.stands)
+      (test_fails names program places z y procedures below refl refl not_nil
+      (header_says names program places z y r procedures below n (y.cost + 130 + 244) (y.cost + 6 + 6 + 8 + 12 + 2) w v word
+      None None None None (Some r.fixed.true_value.word) (Some nil_word) None symbol_header 2 is_symbol_header holds
+      (λ h low. two_headers_tested h symbol_header low (omega arith)) told (omega arith)))))
+
+  symbol_says :
+      (n w : ℕ) (v : Value) → word_of places v ≡ Some w → SymbolTold y.arena v (as_symbol z v) w
+      → Run names program places z y procedures below n (y.cost + 130 + 244) (says (is_some (as_symbol z v)) z)
+      (code_of (steps.constant 6 nil_word ∷ steps.constant 5 0 ∷ steps.load 5 5 (pos true_address) ∷ steps.return_if (steps.comparing comparison.Equal 0 6) 5 ∷ header_is symbol_header 2))
+      (first_registers 8 (w ∷ [])) y.cost
+  symbol_says n w v word (nil_found is tested) =
+      rw is
+      (goes_on names program places z y procedures below constant_falls
+      (goes_on names program places z y procedures below constant_falls
+      (goes_on names program places z y procedures below (load_falls refl (address_up 0 true_address (omega arith)) r.fixed.true_value.stands)
+      (first_answers names program places z y procedures below refl refl tested
+      (returns_value names program places z y procedures below r refl r.fixed.true_value.of_value (alike_self z) (omega arith))))))
+  symbol_says n w v word (name_found name is not_nil tag at) =
+      behind_nil n w v (is_some (as_symbol z v)) word not_nil (of_kind symbol_header (rw is refl) tag at refl)
+  symbol_says n w v word (serial_found serial is not_nil tag at behind) =
+      behind_nil n w v (is_some (as_symbol z v)) word not_nil (of_kind fresh_header (rw is refl) tag at refl)
+  symbol_says n w v word (no_symbol_header h none not_nil tag at first second) =
+      behind_nil n w v (is_some (as_symbol z v)) word not_nil (of_other_kind h (rw none refl) tag at (neither (h == symbol_header) (h == fresh_header) first second))
+  symbol_says n w v word (no_symbol_tag none not_nil tag) =
+      behind_nil n w v (is_some (as_symbol z v)) word not_nil (of_other_tag (rw none refl) tag)
+
+pub is_symbol_does : IsPrimitive IsSymbol (procedure_of IsSymbol)
+is_symbol_does = does_one IsSymbol refl (λ names program places z y procedures below n v w r word.
+    symbol_says names program places z y r procedures below n w v word (symbol_told names program places z y r v w word))
