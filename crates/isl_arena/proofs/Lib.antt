@@ -16,6 +16,8 @@ pub mod HeaderKinds
 pub mod Telling
 pub mod Sameness
 pub mod Doing
+pub mod BuiltInFacts
+pub mod Making
 pub mod Conditions
 pub mod Leaving
 pub mod Entering
@@ -25,3 +27,5 @@ pub mod Saying
 pub mod Integers
 pub mod ByArity
 pub mod Predicates
+pub mod Arrays
+pub mod VectorElements
