@@ -29,3 +29,4 @@ pub mod ByArity
 pub mod Predicates
 pub mod Arrays
 pub mod VectorElements
+pub mod Conses
