@@ -2,6 +2,7 @@
 use Rattle.std.proofs.Common.{◌≡◌, ℕ, suc, ◌+◌, ◌-◌, ◌*◌, ◌%◌, ◌^◌, ◌<◌, ◌≤◌, ℤ, pos, Bool, true, false, List, [], ◌∷◌, ◌++◌, length, Option, Some, None, refl, sym, ap, ◌∙◌, arith}
 use Rattle.std.specs.Prelude.{negsuc, ◌==◌, slice_get, slice_set}
 use Rattle.std.proofs.lemmas.Bool.Decides.{nat_tests}
+use Rattle.std.proofs.Math.ListN.{length-set}
 use Rattle.isl_meaning.specs.declared.program.ProgramRows.{ProgramRows}
 use Rattle.isl_meaning.specs.declared.primitive.Primitive.{Primitive}
 use Rattle.isl_meaning.specs.declared.primitive.Primitive.TheVariants.{Cons, Car, Cdr, SetCar, SetCdr}
@@ -15,22 +16,26 @@ use Rattle.isl_mid.specs.declared.operation.Arithmetic.TheVariants as which
 use Rattle.isl_mid.specs.Words.{address}
 use Rattle.isl_mid.specs.Arena.{Arena, word_at, with_word}
 use Rattle.isl_mid.specs.MidCode.{MidStep, return_word, code_of}
-use Rattle.isl_mid.specs.State.{Registers, State, Outcome, register, first_registers}
+use Rattle.isl_mid.specs.State.{Registers, State, Outcome, returns, ends, register, first_registers}
 use Rattle.isl_mid.specs.Meaning.{Task}
 use Rattle.isl_arena.specs.Tags.{cons_tag}
 use Rattle.isl_arena.specs.Places.{Spot, end_of, Places, of_object, spot_of, word_of}
 use Rattle.isl_arena.specs.Standing.{ArenaStands, SpotStands, ValueAt}
 use Rattle.isl_arena.specs.FixedWords.{class_address}
-use Rattle.isl_arena.specs.Layouts.{ConsAt}
+use Rattle.isl_arena.specs.Layouts.{ConsAt, ObjectAt}
 use Rattle.isl_arena.specs.Represents.{Represents}
 use Rattle.isl_arena.specs.Answers.{IsPrimitive}
 use Rattle.isl_arena.specs.Codes.{procedure_of}
 use Rattle.isl_arena.specs.Steps as steps
-use Rattle.isl_arena.proofs.Running.{load_falls, address_above, address_below}
-use Rattle.isl_arena.proofs.Growing.{spot_below}
+use Rattle.isl_arena.proofs.Running.{load_falls, store_in_spot, and_then, and_ends, return_ends, address_above, address_below}
+use Rattle.isl_arena.proofs.Memory.{stored_in_spot, others_in_spot}
+use Rattle.isl_arena.proofs.Growing.{Changes, changes_part, spot_below}
+use Rattle.isl_arena.proofs.FixedChanges.{one_word}
+use Rattle.isl_arena.proofs.Making.{changes_stored}
 use Rattle.isl_arena.proofs.Arguments.{ObjectFound, object_found, word_told}
 use Rattle.isl_arena.proofs.Doing.{alike_self, Run, goes_on, returns_value}
 use Rattle.isl_arena.proofs.Checking.{tag_registers, cons_needed}
+use Rattle.isl_arena.proofs.Arrays.{returns_changed}
 use Rattle.isl_arena.proofs.ByArity.{does_one}
 use Rattle.isl_arena.proofs.Integers.{does_two}
 
@@ -52,6 +57,11 @@ words_behind second_part = 1
 abbrev part_of : Part → Value × Value → Value
 part_of first_part c = c.0
 part_of second_part c = c.1
+
+-- the cons with another value for a part
+abbrev with_part : Part → Value → Value × Value → Object
+with_part first_part v c = cons v c.1
+with_part second_part v c = cons c.0 v
 
 -- the line that the argument has to be a cons
 abbrev need_cons : (of : ℕ) → List MidStep → List MidStep
@@ -97,3 +107,94 @@ car_does = does_one Car refl (λ names program places z y procedures below n v w
 pub cdr_does : IsPrimitive Cdr (procedure_of Cdr)
 cdr_does = does_one Cdr refl (λ names program places z y procedures below n v w r.
     takes_part names program places z y r procedures below n w v second_part)
+
+-- ---- a part is set
+
+-- a cons in whose spot the word of a part was stored
+cons_set :
+    (places : Places) (a : Arena) (s : Spot) (car cdr v : Value) (w : ℕ) (part : Part) → ArenaStands a → SpotStands a s → word_of places v ≡ Some w
+    → ConsAt places a s car cdr → (names : List (List ℕ)) (program : ProgramRows)
+    → ObjectAt names program places (with_word (s.address + 4 * words_behind part) w a) s (with_part part v (car, cdr))
+cons_set places a s car cdr v w first_part arena stands word t names program = record {
+  size = t.size;
+  car = record {
+    word = w;
+    of_value = word;
+    stands = ap (word_at (with_word (s.address + 4 * 0) w a)) (omega arith) ∙ stored_in_spot 0 w arena stands (omega (arith, t.size.words));
+  };
+  cdr = record { word = t.cdr.word; of_value = t.cdr.of_value; stands = others_in_spot 0 1 w stands refl ∙ t.cdr.stands };
+}
+cons_set places a s car cdr v w second_part arena stands word t names program = record {
+  size = t.size;
+  car = record {
+    word = t.car.word;
+    of_value = t.car.of_value;
+    stands =
+        ap (word_at (with_word (s.address + 4 * 1) w a)) (omega arith) ∙ others_in_spot 1 0 w stands refl
+        ∙ ap (word_at a) (omega arith) ∙ t.car.stands;
+  };
+  cdr = record { word = w; of_value = word; stands = stored_in_spot 1 w arena stands (omega (arith, t.size.words)) };
+}
+
+part_below : (part : Part) → words_behind part < 2
+part_below first_part = omega arith
+part_below second_part = omega arith
+
+module _
+    (names : List (List ℕ)) (program : ProgramRows) (places : Places) (z : meaning.State) (y : State) (r : Represents names program places z y)
+    (procedures : List MidProcedure) (below : Task → State → Outcome)
+    where
+  -- the argument was found to be a cons, the first word is stored in its part, and returned
+  stores_part :
+      (n budget k a w : ℕ) (v u car cdr : Value) (part : Part) (rs : Registers) → word_of places v ≡ Some a → word_of places u ≡ Some w
+      → fetch z u ≡ Some (cons car cdr) → register 0 rs ≡ Some a → register 1 rs ≡ Some w → k + 22 ≤ budget
+      → Run names program places z y procedures below n budget (result v (change u (with_part part v (car, cdr)) z))
+      (code_of (steps.store 0 1 (offset_of part) ∷ return_word 0 ∷ [])) rs k
+  stores_part n budget k a w v u car cdr part rs first second found held held_cons cost =
+      rw it.value
+      (record {
+        outcome = ends (returns a) rs (record y { arena = later; cost = k + 8 + 14 });
+        runs =
+            and_then
+            (store_in_spot it.spot_stands held held_cons (part_address names program places z y r procedures below part u w car cdr it)
+            (omega (arith, it.spot_stands.aligned)) (omega arith) (omega (arith, low, it.stands.size.words)))
+            (and_ends tt (return_ends held));
+        answers =
+            returns_changed names program places z y r procedures below budget (k + 8 + 14) it.number a it.spot (cons car cdr) (with_part part v (car, cdr)) v later rs
+            it.stored (λ p e. absurd (cc e)) it.found
+            (changes_part it.spot (one_word at) y.arena later (omega arith) (omega (arith, low, it.stands.size.words))
+            (changes_stored at a r.arena (omega (arith, it.spot_stands.aligned))))
+            (cons_set places y.arena it.spot car cdr v a part r.arena it.spot_stands first it.stands names program) first
+            (length-set y.arena.memory _ (Some a)) refl refl (omega (arith, cost));
+      })
+    where
+      it : ObjectFound names program places z y r u w (cons car cdr)
+      it = object_found names program places z y r u w (cons car cdr) second found
+
+      low : words_behind part < 2
+      low = part_below part
+
+      at : ℕ
+      at = it.spot.address + 4 * words_behind part
+
+      later : Arena
+      later = with_word at a y.arena
+
+  sets_part :
+      (n a w : ℕ) (v u : Value) (part : Part) → word_of places v ≡ Some a → word_of places u ≡ Some w
+      → Run names program places z y procedures below n (y.cost + 130 + 244 * 2) (a_cons u z (λ c. result v (change u (with_part part v c) z)))
+      (code_of (need_cons 1 (steps.store 0 1 (offset_of part) ∷ return_word 0 ∷ []))) (first_registers 8 (a ∷ w ∷ [])) y.cost
+  sets_part n a w v u part first second =
+      cons_needed names program places z y r procedures below n (y.cost + 130 + 244 * 2) y.cost 1 w u (λ c. result v (change u (with_part part v c) z))
+      (steps.store 0 1 (offset_of part) ∷ return_word 0 ∷ []) (first_registers 8 (a ∷ w ∷ [])) (omega arith) refl refl second (omega arith)
+      (λ car cdr found.
+      stores_part n (y.cost + 130 + 244 * 2) (y.cost + 6 + 10 + 6 + 12 + 2) a w v u car cdr part (tag_registers w (2 ^ 30) (first_registers 8 (a ∷ w ∷ [])))
+      first second found refl refl (omega arith))
+
+pub set_car_does : IsPrimitive SetCar (procedure_of SetCar)
+set_car_does = does_two SetCar refl (λ names program places z y procedures below n v u a w r.
+    sets_part names program places z y r procedures below n a w v u first_part)
+
+pub set_cdr_does : IsPrimitive SetCdr (procedure_of SetCdr)
+set_cdr_does = does_two SetCdr refl (λ names program places z y procedures below n v u a w r.
+    sets_part names program places z y r procedures below n a w v u second_part)
