@@ -13,13 +13,14 @@ use Rattle.isl_meaning.specs.Classes.{fetch}
 use Rattle.isl_meaning.specs.Primitives.{Answer, result, makes, a_cons, change}
 use Rattle.isl_mid.specs.declared.program.MidProcedure.{MidProcedure}
 use Rattle.isl_mid.specs.declared.operation.Arithmetic.TheVariants as which
-use Rattle.isl_mid.specs.Words.{address}
-use Rattle.isl_mid.specs.Arena.{Arena, word_at, with_word}
-use Rattle.isl_mid.specs.MidCode.{MidStep, return_word, code_of}
-use Rattle.isl_mid.specs.State.{Registers, State, Outcome, returns, ends, register, first_registers}
+use Rattle.isl_mid.specs.declared.operation.Operation.TheVariants as operation
+use Rattle.isl_mid.specs.Words.{sum32, address}
+use Rattle.isl_mid.specs.Arena.{Arena, left, word_at, with_word}
+use Rattle.isl_mid.specs.MidCode.{MidStep, perform, return_word, code_of}
+use Rattle.isl_mid.specs.State.{Registers, State, Outcome, returns, no_room, ends, register, first_registers}
 use Rattle.isl_mid.specs.Meaning.{Task}
 use Rattle.isl_arena.specs.Tags.{cons_tag}
-use Rattle.isl_arena.specs.Places.{Spot, end_of, Places, of_object, spot_of, word_of}
+use Rattle.isl_arena.specs.Places.{Spot, end_of, Places, of_object, spot_of, with_object, word_of}
 use Rattle.isl_arena.specs.Standing.{ArenaStands, SpotStands, ValueAt}
 use Rattle.isl_arena.specs.FixedWords.{class_address}
 use Rattle.isl_arena.specs.Layouts.{ConsAt, ObjectAt}
@@ -27,13 +28,14 @@ use Rattle.isl_arena.specs.Represents.{Represents}
 use Rattle.isl_arena.specs.Answers.{IsPrimitive}
 use Rattle.isl_arena.specs.Codes.{procedure_of}
 use Rattle.isl_arena.specs.Steps as steps
-use Rattle.isl_arena.proofs.Running.{load_falls, store_in_spot, and_then, and_ends, return_ends, address_above, address_below}
-use Rattle.isl_arena.proofs.Memory.{stored_in_spot, others_in_spot}
+use Rattle.isl_arena.proofs.Running.{constant_falls, compute_known, load_falls, store_in_heap, store_in_spot, request_falls, request_wanting, and_then, and_ends, return_ends, address_here, address_up, address_above, address_below}
+use Rattle.isl_arena.proofs.Memory.{heap_below, stored_in_spot, others_in_spot}
+use Rattle.isl_arena.proofs.Keeping.{same_word}
 use Rattle.isl_arena.proofs.Growing.{Changes, changes_part, spot_below}
 use Rattle.isl_arena.proofs.FixedChanges.{one_word}
-use Rattle.isl_arena.proofs.Making.{changes_stored}
+use Rattle.isl_arena.proofs.Making.{Room, is_left, is_wanting, room_for, begun, begun_facts, begun_word, changes_stored, answers_wanting, answers_made}
 use Rattle.isl_arena.proofs.Arguments.{ObjectFound, object_found, word_told}
-use Rattle.isl_arena.proofs.Doing.{alike_self, Run, goes_on, returns_value}
+use Rattle.isl_arena.proofs.Doing.{alike_self, Answers, paid, Run, goes_on, returns_value}
 use Rattle.isl_arena.proofs.Checking.{tag_registers, cons_needed}
 use Rattle.isl_arena.proofs.Arrays.{returns_changed}
 use Rattle.isl_arena.proofs.ByArity.{does_one}
@@ -198,3 +200,72 @@ set_car_does = does_two SetCar refl (λ names program places z y procedures belo
 pub set_cdr_does : IsPrimitive SetCdr (procedure_of SetCdr)
 set_cdr_does = does_two SetCdr refl (λ names program places z y procedures below n v u a w r.
     sets_part names program places z y r procedures below n a w v u second_part)
+
+-- ---- a cons is made
+
+abbrev making : List MidStep
+making =
+    steps.constant 3 2 ∷ perform (operation.Request 3 3) ∷ steps.store 0 3 (pos 0) ∷ steps.store 1 3 (pos 4)
+    ∷ steps.compute_by 3 which.Add 3 cons_tag ++ return_word 3 ∷ []
+
+module _
+    (names : List (List ℕ)) (program : ProgramRows) (places : Places) (z : meaning.State) (y : State) (r : Represents names program places z y)
+    (procedures : List MidProcedure) (below : Task → State → Outcome)
+    where
+  module _ (n a b : ℕ) (v u : Value) (first : word_of places v ≡ Some a) (second : word_of places u ≡ Some b) where
+    -- the registers, with that word in the fourth one
+    abbrev fourth : ℕ → Registers
+    fourth w = slice_set (first_registers 8 (a ∷ b ∷ [])) 3 (Some w)
+
+    abbrev spot_of_cons : Spot
+    spot_of_cons = record { address = y.arena.heap_to; words = 2; tag = cons_tag }
+
+    -- both words were stored behind the end of the heap
+    abbrev arena_with_cons : Arena
+    arena_with_cons = begun 2 (a ∷ b ∷ []) y.arena
+
+    cons_stands : 2 ≤ left y.arena → ConsAt (with_object spot_of_cons places) arena_with_cons spot_of_cons v u
+    cons_stands room = record {
+      size = record { words = refl; tag = refl };
+      car = record {
+        word = a;
+        of_value = same_word spot_of_cons places v a first;
+        stands = ap (word_at arena_with_cons) (omega arith) ∙ begun_word 2 (a ∷ b ∷ []) 0 a r.arena room (omega arith) refl;
+      };
+      cdr = record {
+        word = b;
+        of_value = same_word spot_of_cons places u b second;
+        stands = begun_word 2 (a ∷ b ∷ []) 1 b r.arena room (omega arith) refl;
+      };
+    }
+
+    makes_cons :
+        Room 2 y.arena → Run names program places z y procedures below n (y.cost + 130 + 244 * 2) (makes 2 0 (cons v u) z) (code_of making) (first_registers 8 (a ∷ b ∷ [])) y.cost
+    makes_cons (is_wanting lacking) = record {
+      outcome = ends (no_room 2 (left y.arena)) (fourth 2) (paid y (y.cost + 6 + 20));
+      runs = and_then constant_falls (and_ends tt (request_wanting refl lacking));
+      answers = answers_wanting names program places z y r 2 (fourth 2) (y.cost + 6 + 20) lacking refl (omega arith);
+    }
+    makes_cons (is_left room) =
+        let low = heap_below r.arena in
+        record {
+          outcome = ends (returns (y.arena.heap_to + 1)) _ (record y { arena = arena_with_cons; cost = y.cost + 6 + 20 + 8 + 8 + 6 + 10 + 14 });
+          runs =
+              and_then constant_falls
+              (and_then (request_falls refl room)
+              (and_then (store_in_heap refl refl (address_here y.arena.heap_to (omega (arith, low))) r.arena.aligned r.arena.heap (omega arith))
+              (and_then (store_in_heap refl refl (address_up y.arena.heap_to 4 (omega (arith, low))) (omega (arith, r.arena.aligned)) (omega (arith, r.arena.heap)) (omega arith))
+              (and_then constant_falls
+              (and_then (compute_known refl refl (pointer y.arena.heap_to low))
+              (and_ends tt (return_ends refl)))))));
+          answers =
+              answers_made names program places z y r 2 0 (cons v u) z (record y { arena = arena_with_cons; cost = y.cost + 6 + 20 + 8 + 8 + 6 + 10 + 14 }) _
+              (alike_self z) (begun_facts 2 (a ∷ b ∷ []) r.arena room) refl refl refl refl (omega arith) (cons_stands room) (omega arith);
+        }
+      where
+        pointer : (h : ℕ) → h ≤ 2 ^ 26 → sum32 h 1 ≡ h + 1
+        pointer h low = omega arith
+
+pub cons_does : IsPrimitive Cons (procedure_of Cons)
+cons_does = does_two Cons refl (λ names program places z y procedures below n v u a b r first second.
+    makes_cons names program places z y r procedures below n a b v u first second (room_for 2 y.arena))
