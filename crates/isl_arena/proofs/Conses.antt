@@ -38,8 +38,7 @@ use Rattle.isl_arena.proofs.Arguments.{ObjectFound, object_found, word_told}
 use Rattle.isl_arena.proofs.Doing.{alike_self, Answers, paid, Run, goes_on, returns_value}
 use Rattle.isl_arena.proofs.Checking.{tag_registers, cons_needed}
 use Rattle.isl_arena.proofs.Arrays.{returns_changed}
-use Rattle.isl_arena.proofs.ByArity.{does_one}
-use Rattle.isl_arena.proofs.Integers.{does_two}
+use Rattle.isl_arena.proofs.Taking.{does_one, does_two}
 
 -- ---- the parts of a cons
 

@@ -24,9 +24,11 @@ pub mod Entering
 pub mod Checking
 pub mod Needing
 pub mod Saying
+pub mod Taking
 pub mod Integers
-pub mod ByArity
 pub mod Predicates
 pub mod Arrays
 pub mod VectorElements
 pub mod Conses
+pub mod Division
+pub mod CharacterCodes

@@ -37,8 +37,7 @@ use Rattle.isl_arena.proofs.Sameness.{same_value_same_word}
 use Rattle.isl_arena.proofs.Doing.{alike_self, Run, goes_on, returns_value, test_fails, first_answers}
 use Rattle.isl_arena.proofs.Checking.{header_bounded}
 use Rattle.isl_arena.proofs.Saying.{saying, says_run}
-use Rattle.isl_arena.proofs.ByArity.{does_one}
-use Rattle.isl_arena.proofs.Integers.{does_two}
+use Rattle.isl_arena.proofs.Taking.{does_one, does_two}
 
 -- ---- words compared
 
