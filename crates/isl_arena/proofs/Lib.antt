@@ -32,3 +32,4 @@ pub mod VectorElements
 pub mod Conses
 pub mod Division
 pub mod CharacterCodes
+pub mod Streams
