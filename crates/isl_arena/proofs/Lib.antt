@@ -33,3 +33,4 @@ pub mod Conses
 pub mod Division
 pub mod CharacterCodes
 pub mod Streams
+pub mod Printing

@@ -137,10 +137,9 @@ peeked : (a : Arena) (left bytes : List ℕ) → InputIs a left bytes → Peeked
 peeked a left bytes (untouched e) = none_peeked e refl
 peeked a left bytes (looked_at byte e) = one_peeked byte e refl
 
-module _
-    (names : List (List ℕ)) (program : ProgramRows) (places : Places) (z : meaning.State) (y : State) (r : Represents names program places z y)
-    (procedures : List MidProcedure) (below : Task → State → Outcome)
-    where
+-- ---- a fixed word is stored
+
+module _ (names : List (List ℕ)) (program : ProgramRows) (places : Places) (z : meaning.State) (y : State) (r : Represents names program places z y) where
   -- a value is returned where a word was stored at a fixed address, which is for words that change
   pub returns_stored :
       (budget address word w : ℕ) (v : Value) (z' : meaning.State) (y' : State) (rs : Registers) → address % 4 ≡ 0 → address ≤ 160
@@ -175,8 +174,12 @@ module _
       word_here y.arena address word (fixed_lent names program places z y r address aligned low)
       (in_spot_there {s = fixed_spot} address r.arena (fixed_stands names program places z y r) (omega arith))
 
-  -- ---- a byte is got
+-- ---- a byte is got
 
+module _
+    (names : List (List ℕ)) (program : ProgramRows) (places : Places) (z : meaning.State) (y : State) (r : Represents names program places z y)
+    (procedures : List MidProcedure) (below : Task → State → Outcome)
+    where
   abbrev getting : List MidStep
   getting =
       steps.constant 5 0 ∷ steps.load 5 5 (pos peeked_address) ∷ steps.constant 4 nil_word ∷ steps.constant 6 0 ∷ steps.store 4 6 (pos peeked_address)
@@ -193,7 +196,7 @@ module _
       → Represents names program places (record z { input = left }) (record y { arena = none_left_behind; input = left; cost = k })
   represents_got left k bytes =
       represents_read names program places z y r left (record y { arena = none_left_behind; input = left; cost = k }) (changes_stored peeked_address nil_word r.arena refl)
-      (untouched (stored_fixed peeked_address nil_word refl (omega arith))) bytes refl
+      (untouched (stored_fixed names program places z y r peeked_address nil_word refl (omega arith))) bytes refl
 
   gets_byte :
       (n : ℕ) (left : List ℕ) → AreBytes left → Peeked y.arena y.input left
@@ -211,7 +214,7 @@ module _
             (and_then (store_falls refl refl (address_up 0 peeked_address (omega arith)) (fixed_lent names program places z y r peeked_address refl (omega arith)))
             (and_ends tt (choose_first_ends tt refl refl (ap not (integer_not_nil (pos byte))) (and_ends tt (return_ends refl))))))));
         answers =
-            returns_stored (y.cost + 130 + 244 * 0) peeked_address nil_word (integer_word (pos byte)) (integer (pos byte)) (record z { input = y.input })
+            returns_stored names program places z y r (y.cost + 130 + 244 * 0) peeked_address nil_word (integer_word (pos byte)) (integer (pos byte)) (record z { input = y.input })
             (record y { arena = none_left_behind; cost = y.cost + 6 + 8 + 6 + 6 + 8 + 12 + 14 }) _ refl (omega arith) refl
             (byte_value places byte (bytes 0 (omega arith))) (represents_got y.input _ (other_are_bytes (byte ∷ y.input) bytes)) (omega arith);
       })
@@ -233,7 +236,7 @@ module _
             (and_then (compute_known refl refl (got_shifted y.input bytes))
             (and_ends tt (return_ends refl))))))))));
         answers =
-            returns_stored (y.cost + 130 + 244 * 0) peeked_address nil_word (word_got y.input) (first_byte y.input) (record z { input = other_bytes y.input })
+            returns_stored names program places z y r (y.cost + 130 + 244 * 0) peeked_address nil_word (word_got y.input) (first_byte y.input) (record z { input = other_bytes y.input })
             (record y { arena = none_left_behind; input = other_bytes y.input; cost = y.cost + 6 + 8 + 6 + 6 + 8 + 12 + 2 + 8 + 6 + 10 + 14 }) _ refl (omega arith) refl
             (value_got places y.input bytes) (represents_got (other_bytes y.input) _ (other_are_bytes y.input bytes)) (omega arith);
       })
@@ -299,11 +302,11 @@ module _
             (and_then (store_falls refl refl (address_up 0 peeked_address (omega arith)) (fixed_lent names program places z y r peeked_address refl (omega arith)))
             (and_ends tt (return_ends refl))))))))))));
         answers =
-            returns_stored names program places z y r procedures below (y.cost + 130 + 244 * 0) peeked_address (integer_word (pos byte)) (integer_word (pos byte))
+            returns_stored names program places z y r (y.cost + 130 + 244 * 0) peeked_address (integer_word (pos byte)) (integer_word (pos byte))
             (integer (pos byte)) z (after bytes byte) _ refl (omega arith) refl (byte_value places byte low)
             (represents_same names program places (record z { input = byte ∷ bytes }) z (after bytes byte) refl refl refl is
             (represents_read names program places z y r (byte ∷ bytes) (after bytes byte) (changes_stored peeked_address (integer_word (pos byte)) r.arena refl)
-            (looked_at byte (stored_fixed names program places z y r procedures below peeked_address (integer_word (pos byte)) refl (omega arith))) are refl))
+            (looked_at byte (stored_fixed names program places z y r peeked_address (integer_word (pos byte)) refl (omega arith))) are refl))
             (omega arith);
       }
     where
