@@ -87,3 +87,105 @@ module _
     where
       same : (c : ℕ) → c ≤ 255 → c % 256 ≡ c
       same c h = omega arith
+
+-- ---- the code
+
+-- the byte is put, and whether the output is then at the start of a line is stored
+abbrev putting : List MidStep
+putting =
+    steps.compute_by 5 which.ShiftRight 1 8 ++ perform (operation.Put 5) ∷ steps.compute_by 7 which.Subtract 5 10
+    ++ steps.compute_by 7 which.LessUnsigned 7 1 ++ steps.constant 4 0 ∷ steps.load 4 4 (pos true_address)
+    ∷ steps.compute_by 4 which.Subtract 4 nil_word ++ steps.compute 4 which.Multiply 4 7 ∷ steps.compute_by 4 which.Add 4 nil_word
+    ++ steps.constant 6 0 ∷ steps.store 4 6 (pos line_address) ∷ steps.constant 4 nil_word ∷ return_word 4 ∷ []
+
+-- where the stream is the standard output
+abbrev putting_on_output : List MidStep
+putting_on_output =
+    steps.load 7 0 (negsuc 1) ∷ steps.constant 6 output_header
+    ∷ steps.either (steps.comparing comparison.Equal 7 6) [] (steps.domain_error 0 (pos (class_address stream_class))) ∷ putting
+
+module _
+    (names : List (List ℕ)) (program : ProgramRows) (places : Places) (z : meaning.State) (y : State) (r : Represents names program places z y)
+    (procedures : List MidProcedure) (below : Task → State → Outcome)
+    where
+  -- the registers with both arguments
+  abbrev both : (w x : ℕ) → (seventh eighth : Option ℕ) → Registers
+  both w x seventh eighth = Some w ∷ Some x ∷ None ∷ None ∷ None ∷ None ∷ seventh ∷ eighth ∷ []
+
+  puts_byte :
+      (n budget k w c : ℕ) (seventh eighth : Option ℕ) → c ≤ 255 → k + 160 ≤ budget
+      → Run names program places z y procedures below n budget (result nil (record z { printed = z.printed ++ c ∷ [] }))
+      (code_of putting) (both w (character_word c) seventh eighth) k
+  puts_byte n budget k w c seventh eighth small cost = record {
+    outcome = ends (returns nil_word) _ (put_state names program places z y r c (k + 6 + 10 + 8 + 6 + 10 + 6 + 10 + 6 + 8 + 6 + 10 + 10 + 6 + 10 + 6 + 8 + 6 + 14));
+    runs =
+        and_then constant_falls
+        (and_then (compute_known refl refl (character_code c))
+        (and_then (put_falls refl)
+        (and_then constant_falls
+        (and_then (compute_falls refl refl)
+        (and_then constant_falls
+        (and_then (compute_known refl refl (newline_bit c small))
+        (and_then constant_falls
+        (and_then (load_falls refl (address_up 0 true_address (omega arith)) r.fixed.true_value.stands)
+        (and_then constant_falls
+        (and_then (compute_falls refl refl)
+        (and_then (compute_falls refl refl)
+        (and_then constant_falls
+        (and_then (compute_known refl refl (word_or_nil r.fixed.true_value.word (c == 10) (true_low names program places z y r)))
+        (and_then constant_falls
+        (and_then (store_falls refl refl (address_up 0 line_address (omega arith)) (fixed_lent names program places z y r line_address refl (omega arith)))
+        (and_then constant_falls
+        (and_ends tt (return_ends refl))))))))))))))))));
+    answers =
+        returns_stored names program places z y r budget line_address (truth_word names program places z y r (c == 10)) nil_word nil
+        (record z { printed = z.printed ++ c ∷ [] })
+        (put_state names program places z y r c (k + 6 + 10 + 8 + 6 + 10 + 6 + 10 + 6 + 8 + 6 + 10 + 10 + 6 + 10 + 6 + 8 + 6 + 14)) _ refl (omega arith) refl refl
+        (represents_put names program places z y r c _ small) (omega (arith, cost));
+  }
+
+  puts_on :
+      (n budget k w c : ℕ) (v : Value) (is_output : Bool) (seventh eighth : Option ℕ) → word_of places v ≡ Some w → fetch z v ≡ Some (stream_of is_output)
+      → word_at y.arena (w - 2) ≡ Some (header_of (stream_of is_output)) → c ≤ 255 → k + 200 ≤ budget
+      → Run names program places z y procedures below n budget
+      (if is_output then result nil (record z { printed = z.printed ++ c ∷ [] }) else domain_error v stream_class z)
+      (code_of putting_on_output) (both w (character_word c) seventh eighth) k
+  puts_on n budget k w c v true seventh eighth word found at small cost =
+      let it = object_found names program places z y r v w (stream_of true) word found in
+      goes_on names program places z y procedures below
+      (load_falls refl (address_below w 1 (w - 2) (omega (arith, it.word)) (word_told names program places z y r v w word)) at)
+      (goes_on names program places z y procedures below constant_falls
+      (test_passes names program places z y procedures below refl refl refl
+      (puts_byte n budget (k + 8 + 6 + 12 + 2) w c (Some output_header) (Some output_header) small (omega (arith, cost)))))
+  puts_on n budget k w c v false seventh eighth word found at small cost =
+      let it = object_found names program places z y r v w (stream_of false) word found in
+      goes_on names program places z y procedures below
+      (load_falls refl (address_below w 1 (w - 2) (omega (arith, it.word)) (word_told names program places z y r v w word)) at)
+      (goes_on names program places z y procedures below constant_falls
+      (second_answers names program places z y procedures below refl refl refl
+      (domain_error_run names program places z y r procedures below n budget (k + 8 + 6 + 12) 0 w stream_class v z
+      (both w (character_word c) (Some output_header) (Some input_header)) (omega arith) refl refl word (omega arith) (alike_self z) (omega (arith, cost)))))
+
+  puts_char :
+      (n w x : ℕ) (v u : Value) → word_of places v ≡ Some w → word_of places u ≡ Some x
+      → Run names program places z y procedures below n (y.cost + 130 + 244 * 2)
+      (needs (as_stream (fetch z v)) (domain_error v stream_class z) (λ is_output. a_character u z (λ c.
+      if is_output then result nil (record z { printed = z.printed ++ c ∷ [] }) else domain_error v stream_class z)))
+      (code_of (steps.need_header 0 input_header 2 (pos (class_address stream_class)) ++ (steps_of (line.NeedCharacter 1) ++ putting_on_output)))
+      (first_registers 8 (w ∷ x ∷ [])) y.cost
+  puts_char n w x v u first second =
+      stream_needed names program places z y r procedures below n (y.cost + 130 + 244 * 2) y.cost 0 w v
+      (λ is_output. a_character u z (λ c.
+      if is_output then result nil (record z { printed = z.printed ++ c ∷ [] }) else domain_error v stream_class z))
+      (steps_of (line.NeedCharacter 1) ++ putting_on_output) (first_registers 8 (w ∷ x ∷ [])) (omega arith) refl refl first (omega arith)
+      (λ is_output found at.
+      character_needed names program places z y r procedures below n (y.cost + 130 + 244 * 2) (y.cost + 6 + 10 + 6 + 12 + 2 + 8 + 6 + 10 + 6 + 12 + 2) 1 x u
+      (λ c. if is_output then result nil (record z { printed = z.printed ++ c ∷ [] }) else domain_error v stream_class z) putting_on_output
+      (header_registers w (header_of (stream_of is_output)) input_header 2 (first_registers 8 (w ∷ x ∷ []))) (omega arith) refl refl second (omega arith)
+      (λ c is small word.
+      rw word
+      (puts_on n (y.cost + 130 + 244 * 2) (y.cost + 6 + 10 + 6 + 12 + 2 + 8 + 6 + 10 + 6 + 12 + 2 + 6 + 10 + 6 + 12 + 2) w c v is_output _ _ first found at small (omega arith))))
+
+pub put_char_does : IsPrimitive PutChar (procedure_of PutChar)
+put_char_does = does_two PutChar refl (λ names program places z y procedures below n v u w x r first second.
+    puts_char names program places z y r procedures below n w x v u first second)
