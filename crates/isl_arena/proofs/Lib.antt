@@ -26,5 +26,11 @@ pub mod Needing
 pub mod Saying
 pub mod Taking
 pub mod Integers
+pub mod Predicates
+pub mod Arrays
+pub mod VectorElements
+pub mod Conses
 pub mod Division
 pub mod CharacterCodes
+pub mod Streams
+pub mod Printing
