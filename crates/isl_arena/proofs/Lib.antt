@@ -21,3 +21,7 @@ pub mod Leaving
 pub mod Entering
 pub mod Checking
 pub mod Needing
+pub mod Saying
+pub mod Integers
+pub mod ByArity
+pub mod Predicates
