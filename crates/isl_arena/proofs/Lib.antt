@@ -16,6 +16,8 @@ pub mod HeaderKinds
 pub mod Telling
 pub mod Sameness
 pub mod Doing
+pub mod BuiltInFacts
+pub mod Making
 pub mod Conditions
 pub mod Leaving
 pub mod Entering
