@@ -1,5 +1,5 @@
 -- What a represented program says of its classes that are built in: their rows, which of them are conditions, and how many words their instances have.
-use Rattle.std.proofs.Common.{◌≡◌, ℕ, zero, suc, ◌+◌, ◌<◌, Bool, true, false, List, [], ◌∷◌, length, Option, Some, None, refl, sym, ap, ◌∙◌, arith}
+use Rattle.std.proofs.Common.{◌≡◌, ℕ, zero, suc, ◌+◌, ◌<◌, Bool, true, false, List, [], ◌∷◌, length, Some, refl, sym, ap, ◌∙◌, arith}
 use Rattle.std.specs.Prelude.{◌==◌, ◌&&◌, not, nat_le, slice_get, slice_index_or, if◌then◌else◌}
 use Rattle.std.specs.List.{list_all}
 use Rattle.std.specs.Str.{bytes_eq}
@@ -12,7 +12,7 @@ use Rattle.isl_meaning.specs.declared.program.ClassRow.{ClassRow}
 use Rattle.isl_meaning.specs.BuiltIn.{built_in_precedence, built_in_slots}
 use Rattle.isl_meaning.specs.Facts.{is_plain_slot, is_row, begins_with_built_in}
 use Rattle.isl_meaning.specs.Lookup.{is_in}
-use Rattle.isl_meaning.specs.Objects.{built_in_classes, serious_condition_class, domain_error_class}
+use Rattle.isl_meaning.specs.Objects.{built_in_classes, serious_condition_class}
 use Rattle.isl_meaning.specs.Classes.{precedence_of, slots_of, precedence, slots, is_below}
 use Rattle.isl_meaning.specs.Primitives.{instance_words, is_abstract}
 

@@ -1,14 +1,14 @@
 -- The code that makes a condition and hands it over.
-use Rattle.std.proofs.Common.{◌≡◌, ℕ, zero, suc, ◌+◌, ◌-◌, ◌*◌, ◌%◌, ◌^◌, ◌<◌, ◌≤◌, Bool, true, false, List, [], ◌∷◌, ◌++◌, length, Option, Some, None, refl, sym, ap, ◌∙◌, arith}
-use Rattle.std.specs.Prelude.{ℤ, pos, slice_index_or}
+use Rattle.std.proofs.Common.{◌≡◌, ℕ, zero, suc, ◌+◌, ◌-◌, ◌*◌, ◌^◌, ◌<◌, ◌≤◌, true, List, [], ◌∷◌, ◌++◌, length, Option, Some, refl, sym, ◌∙◌, arith}
+use Rattle.std.specs.Prelude.{pos, slice_index_or}
 use Rattle.isl_meaning.specs.declared.program.ProgramRows.{ProgramRows}
 use Rattle.isl_meaning.specs.BuiltIn.{built_in_slots}
 use Rattle.isl_meaning.specs.Values.{Value}
 use Rattle.isl_meaning.specs.Objects.{built_in_classes, serious_condition_class, domain_error_class}
 use Rattle.isl_meaning.specs.State as meaning
-use Rattle.isl_meaning.specs.Classes.{slots, is_below}
+use Rattle.isl_meaning.specs.Classes.{slots}
 use Rattle.isl_meaning.specs.Layout.{class_value}
-use Rattle.isl_meaning.specs.Primitives.{Answer, domain_error, fails, instance_words}
+use Rattle.isl_meaning.specs.Primitives.{domain_error, fails, instance_words}
 use Rattle.isl_mid.specs.declared.operation.Operation.TheVariants.{Request}
 use Rattle.isl_mid.specs.declared.program.MidProcedure.{MidProcedure}
 use Rattle.isl_mid.specs.Arena.{Arena, left, is_lent, word_at, with_word}
@@ -17,17 +17,17 @@ use Rattle.isl_mid.specs.State.{Registers, State, Outcome, falls, returns, no_ro
 use Rattle.isl_mid.specs.Meaning.{Task, Context}
 use Rattle.isl_arena.specs.Tags.{nil_word, signal_word, instance_header}
 use Rattle.isl_arena.specs.Places.{Places, word_of, WordsOf}
-use Rattle.isl_arena.specs.Standing.{ValueAt}
 use Rattle.isl_arena.specs.FixedWords.{class_address, pending_address}
 use Rattle.isl_arena.specs.Represents.{Represents}
-use Rattle.isl_arena.specs.Answers.{Comes, done, Signalled}
+use Rattle.isl_arena.specs.Answers.{done, Signalled}
 use Rattle.isl_arena.specs.Steps as steps
 use Rattle.isl_arena.proofs.Memory.{Facts, heap_below, in_spot_lent, spot_still_stands}
-use Rattle.isl_arena.proofs.Running.{RunsTo, turning, and_then, and_ends, none_left, costing, parts_then, constant_falls, compute_known, load_falls, store_falls, store_in_heap, request_falls, request_wanting, return_ends, address_above, address_here}
+use Rattle.isl_arena.proofs.Running.{RunsTo, and_then, and_ends, none_left, costing, parts_then, constant_falls, compute_known, load_falls, store_falls, store_in_heap, request_falls}
+use Rattle.isl_arena.proofs.Running.{request_wanting, return_ends, address_above, address_here}
 use Rattle.isl_arena.proofs.Representing.{fixed_spot, fixed_stands}
 use Rattle.isl_arena.proofs.BuiltInFacts.{is_condition_class, slot_count_is, condition_words}
 use Rattle.isl_arena.proofs.Making.{Room, is_left, is_wanting, room_for, begun, begun_facts, begun_heap, begun_blocks, fixed_below, answers_wanting, condition_at, signalled_new}
-use Rattle.isl_arena.proofs.Doing.{Alike, Answers, Run, paid}
+use Rattle.isl_arena.proofs.Doing.{Alike, Run, paid}
 
 -- a class of conditions that is built in, has no slots, and is signalled by primitives
 pub data PlainCondition : ℕ → Type 0 where
@@ -114,7 +114,7 @@ module _ (names : List (List ℕ)) (program : ProgramRows) (places : Places) (z 
       let small = heap_below r.arena in
       let fixed = fixed_below names program places z y r in
       let loaded : word_at (begun words (header ∷ []) y.arena) class ≡ Some word =
-          (begun_facts words (header ∷ []) r.arena room).words class (omega arith) ∙ stands in
+      (begun_facts words (header ∷ []) r.arena room).words class (omega arith) ∙ stands in
       costing
       (and_then constant_falls
       (and_then (request_falls refl room)
@@ -147,7 +147,7 @@ module _ (names : List (List ℕ)) (program : ProgramRows) (places : Places) (z 
       let fixed = fixed_below names program places z y r in
       let heap : ℕ = y.arena.heap_to in
       let loaded : word_at (begun 5 (header ∷ named ∷ w ∷ []) y.arena) (class_address expected) ≡ Some word =
-          (begun_facts 5 (header ∷ named ∷ w ∷ []) r.arena room).words (class_address expected) (omega arith) ∙ stands in
+      (begun_facts 5 (header ∷ named ∷ w ∷ []) r.arena room).words (class_address expected) (omega arith) ∙ stands in
       let all : List ℕ = header ∷ named ∷ w ∷ word ∷ nil_word ∷ [] in
       costing
       (and_then (store_in_heap at refl (address_above heap 8 (heap + 4 + 4) (omega arith) (omega arith)) (omega (arith, r.arena.aligned)) (omega (arith, r.arena.heap)) (omega arith))
@@ -190,7 +190,7 @@ module _ (names : List (List ℕ)) (program : ProgramRows) (places : Places) (z 
       → Signalled names program places z y class vs z'
       (ends (returns signal_word) rs (record y {
         arena = with_word pending_address (y.arena.heap_to + 2)
-        (begun (3 + length vs) (instance_header (length vs) ∷ (r.fixed.classes class high).word ∷ (ws ++ nil_word ∷ [])) y.arena);
+            (begun (3 + length vs) (instance_header (length vs) ∷ (r.fixed.classes class high).word ∷ (ws ++ nil_word ∷ [])) y.arena);
         cost = k;
       }))
   signalled class vs ws z' rs k alike low high count are room =
@@ -201,7 +201,8 @@ module _ (names : List (List ℕ)) (program : ProgramRows) (places : Places) (z 
       (begun_facts (3 + length vs) stored r.arena room) (begun_heap (3 + length vs) stored y.arena) (begun_blocks (3 + length vs) stored y.arena) refl refl
       (condition_at names program places z y r class named.word vs ws (is_condition_class program r.built_in class low high) count named.of_value are room)
 
-module _ (names : List (List ℕ)) (program : ProgramRows) (places : Places) (z : meaning.State) (y : State) (r : Represents names program places z y) (procedures : List MidProcedure) (below : Task → State → Outcome) where
+module _ (names : List (List ℕ)) (program : ProgramRows) (places : Places) (z : meaning.State) (y : State) (r : Represents names program places z y)
+    (procedures : List MidProcedure) (below : Task → State → Outcome) where
   -- a domain error of the value whose word is in a register
   pub domain_error_run :
       (n budget k of w expected : ℕ) (v : Value) (z' : meaning.State) (rs : Registers) → of < 3 → length rs ≡ 8 → register of rs ≡ Some w → word_of places v ≡ Some w
@@ -238,7 +239,7 @@ module _ (names : List (List ℕ)) (program : ProgramRows) (places : Places) (z 
                 (first_three of r0 r1 r2 (r3 ∷ r4 ∷ r5 ∷ r6 ∷ r7 ∷ []) (Some heap ∷ Some named.word ∷ Some 0 ∷ r6 ∷ r7 ∷ []) low ∙ at) class wanted.stands room);
             answers = record {
               comes = done (signalled names program places z y r domain_error_class (v ∷ class_value names program expected ∷ []) (w ∷ wanted.word ∷ []) z' _ (k + 62 + 82) alike
-                (omega arith) high (sym (slot_count_is program r.built_in domain_error_class high)) (word, (wanted.of_value, tt)) room);
+                  (omega arith) high (sym (slot_count_is program r.built_in domain_error_class high)) (word, (wanted.of_value, tt)) room);
               cost = omega (arith, words, cost);
             };
           }
@@ -282,7 +283,7 @@ module _ (names : List (List ℕ)) (program : ProgramRows) (places : Places) (z 
                 (plain_ends names program places z y r (instance_header 0) named.word (k + 62) room);
             answers = record {
               comes = done (signalled names program places z y r class [] [] z' _ (k + 62 + 58) alike low high
-                (sym (slot_count_is program r.built_in class high ∙ plain_slots plain)) tt room);
+                  (sym (slot_count_is program r.built_in class high ∙ plain_slots plain)) tt room);
               cost = omega (arith, words, cost);
             };
           }

@@ -27,3 +27,5 @@ pub mod Saying
 pub mod Integers
 pub mod ByArity
 pub mod Predicates
+pub mod Arrays
+pub mod VectorElements

@@ -1,6 +1,6 @@
 -- A new object at the end of the heap, whose words were requested and stored one after another: what the arena is then, that it represents
 -- the state with the object, and how a run ends that returns it. And the store of a condition that is to be signalled.
-use Rattle.std.proofs.Common.{◌≡◌, ℕ, zero, suc, ◌+◌, ◌-◌, ◌*◌, ◌/◌, ◌%◌, ◌^◌, ◌<◌, ◌≤◌, Bool, true, false, List, [], ◌∷◌, ◌++◌, length, Option, Some, None, refl, sym, ap, subst, ◌∙◌, arith}
+use Rattle.std.proofs.Common.{◌≡◌, ℕ, zero, suc, ◌+◌, ◌-◌, ◌*◌, ◌/◌, ◌%◌, ◌<◌, ◌≤◌, Bool, true, false, List, [], ◌∷◌, ◌++◌, length, Some, None, refl, sym, ap, subst, ◌∙◌, arith}
 use Rattle.std.specs.Prelude.{◌==◌, nat_le, map, slice_get, slice_index_or}
 use Rattle.std.proofs.lemmas.Bool.Decides.{nat_tests}
 use Rattle.std.proofs.lemmas.List.{length-map}
@@ -8,23 +8,26 @@ use Rattle.std.proofs.Math.ListN.{length-append, length-set}
 use Rattle.isl_base.specs.Names.{slice_get-front, slice_get-behind}
 use Rattle.isl_meaning.specs.declared.program.ProgramRows.{ProgramRows}
 use Rattle.isl_meaning.specs.Values.{Value, nil, object}
-use Rattle.isl_meaning.specs.Objects.{Object, instance, serious_condition_class}
+use Rattle.isl_meaning.specs.Objects.{Object, cons, string, vector, instance, function, closure, generic_function, class_object, input_stream, output_stream, fresh_symbol}
+use Rattle.isl_meaning.specs.Objects.{serious_condition_class}
 use Rattle.isl_meaning.specs.State as meaning
 use Rattle.isl_meaning.specs.Classes.{slots, is_below}
 use Rattle.isl_meaning.specs.Layout.{class_value}
-use Rattle.isl_meaning.specs.Primitives.{Answer, instance_words}
+use Rattle.isl_meaning.specs.Primitives.{Answer, makes, instance_words}
 use Rattle.isl_mid.specs.Arena.{Arena, left, is_lent, word_at, with_word, with_heap}
 use Rattle.isl_mid.specs.State.{Registers, State, Outcome, returns, no_room, ends}
-use Rattle.isl_arena.specs.Tags.{nil_word, instance_header, object_tag, signal_word}
-use Rattle.isl_arena.specs.Places.{Spot, end_of, pointer_to, Places, of_object, of_other, spot_of, with_object, pointer_in, word_of, WordsOf}
-use Rattle.isl_arena.specs.Standing.{ArenaStands, SpotStands, ValueAt, SlotAt}
-use Rattle.isl_arena.specs.FixedWords.{class_address, pending_address}
+use Rattle.isl_arena.specs.Tags.{nil_word, instance_header, object_tag, signal_word, tag_of}
+use Rattle.isl_arena.specs.Places.{Spot, Places, with_object, pointer_in, word_of, WordsOf}
+use Rattle.isl_arena.specs.Standing.{ArenaStands, SlotAt}
+use Rattle.isl_arena.specs.FixedWords.{pending_address}
 use Rattle.isl_arena.specs.Layouts.{ObjectAt, InstanceAt}
 use Rattle.isl_arena.specs.Represents.{Represents}
-use Rattle.isl_arena.specs.Answers.{Enlarged, Returned, Pending, Signalled, RoomWanting, no_words, words_asked, units_after, new_spot}
-use Rattle.isl_arena.proofs.Memory.{Facts, heap_below, in_spot_lent, in_spot_there, word_here, word_elsewhere, stands_with_word, stands_with_heap, facts_with_heap, with_words, facts_with_words, words_stand}
+use Rattle.isl_arena.specs.Answers.{Enlarged, Returned, Pending, Signalled, RoomWanting, done, no_words, words_asked, units_after}
+use Rattle.isl_arena.proofs.Memory.{Facts, in_spot_lent, in_spot_there, word_here, word_elsewhere, stands_with_word, stands_with_heap, facts_with_heap, with_words, facts_with_words}
+use Rattle.isl_arena.proofs.Memory.{words_stand}
 use Rattle.isl_arena.proofs.Keeping.{same_word, words_extended, words_of_condition, words_at_least, extends_one}
-use Rattle.isl_arena.proofs.Representing.{Grows, grows_same, Changes, spot_below, spot_grown, fixed_spot, fixed_stands, represents_same, represents_grown, represents_made, represents_fixed, new_spot_found, kept_both, kept_same, kept_made, kept_grown, kept_fixed}
+use Rattle.isl_arena.proofs.Representing.{Grows, grows_same, Changes, spot_below, fixed_spot, fixed_stands, represents_same, represents_grown, represents_made, new_spot_found, kept_both}
+use Rattle.isl_arena.proofs.Representing.{kept_same, kept_made, kept_grown, kept_fixed}
 use Rattle.isl_arena.proofs.FixedChanges.{one_word, represents_pending, word_of_fixed}
 use Rattle.isl_arena.proofs.Doing.{Alike, Answers, paid}
 
@@ -140,6 +143,21 @@ slot_stands places a address (v ∷ vs) [] i h low stand = absurd h
 slot_stands places a address (v ∷ vs) (w ∷ ws) zero h low stand = record { word = w; of_value = h.0; stands = stand w refl }
 slot_stands places a address (v ∷ vs) (w ∷ ws) (suc i) h low stand = slot_stands places a address vs ws i h.1 (omega arith) stand
 
+-- ---- tags
+
+pub tag_small : (o : Object) → tag_of o < 4
+tag_small (cons car cdr) = omega arith
+tag_small (string bytes) = omega arith
+tag_small (vector vs) = omega arith
+tag_small (instance c vs mark) = omega arith
+tag_small (function p) = omega arith
+tag_small (closure required rest body env) = omega arith
+tag_small (generic_function g) = omega arith
+tag_small (class_object c) = omega arith
+tag_small input_stream = omega arith
+tag_small output_stream = omega arith
+tag_small (fresh_symbol s) = omega arith
+
 -- ---- a represented state
 
 module _ (names : List (List ℕ)) (program : ProgramRows) (places : Places) (z : meaning.State) (y : State) (r : Represents names program places z y) where
@@ -179,95 +197,108 @@ module _ (names : List (List ℕ)) (program : ProgramRows) (places : Places) (z 
   module _
       (words tag : ℕ) (o : Object) (y' : State) (g : Facts y.arena y'.arena) (to : y'.arena.heap_to ≡ y.arena.heap_to + 4 * words)
       (blocks : y'.arena.blocks ≡ y.arena.blocks) (printed : y'.printed ≡ y.printed) (input : y'.input ≡ y.input) (some : 1 ≤ words) (small : tag < 4)
-      where
-    -- the spot of the object, and the places with it
-    abbrev pub spot_made : Spot
-    spot_made = record { address = y.arena.heap_to; words = words; tag = tag }
+    where
+      -- the spot of the object, and the places with it
+      abbrev pub spot_made : Spot
+      spot_made = record { address = y.arena.heap_to; words = words; tag = tag }
 
-    abbrev pub places_made : Places
-    places_made = with_object spot_made places
+      abbrev pub places_made : Places
+      places_made = with_object spot_made places
 
-    module _ (z' : meaning.State) (alike : Alike z z') (made : ObjectAt names program places_made y'.arena spot_made o) where
-      -- it is represented
-      pub represents_new : Represents names program places_made (meaning.stored o z') y'
-      represents_new =
-          represents_made names program places z' y (represents_same names program places z z' y alike.store alike.symbols alike.printed alike.input r) y' (grows_by g) printed input
-          spot_made o refl (omega (arith, to)) some small made
+      module _ (z' : meaning.State) (alike : Alike z z') (made : ObjectAt names program places_made y'.arena spot_made o) where
+        -- it is represented
+        pub represents_new : Represents names program places_made (meaning.stored o z') y'
+        represents_new =
+            represents_made names program places z' y (represents_same names program places z z' y alike.store alike.symbols alike.printed alike.input r) y' (grows_by g) printed input
+            spot_made o refl (omega (arith, to)) some small made
 
-      -- and it is the value of its pointer
-      pub pointer_made : word_of places_made (object (length z'.store)) ≡ Some (y.arena.heap_to + tag)
-      pointer_made =
-          let number : length z'.store ≡ length places.objects = ap (λ os. length os) alike.store ∙ sym r.count in
-          ap (λ i. word_of places_made (object i)) number ∙ ap pointer_in (new_spot_found spot_made places)
+        -- and it is the value of its pointer
+        pub pointer_made : word_of places_made (object (length z'.store)) ≡ Some (y.arena.heap_to + tag)
+        pointer_made =
+            let number : length z'.store ≡ length places.objects = ap (λ os. length os) alike.store ∙ sym r.count in
+            ap (λ i. word_of places_made (object i)) number ∙ ap pointer_in (new_spot_found spot_made places)
 
-      -- a run that returns its pointer comes to it
-      pub returned_new : (rs : Registers) → Returned names program places z y places_made (object (length z'.store)) (meaning.stored o z') words (ends (returns (y.arena.heap_to + tag)) rs y')
-      returned_new rs = record {
-        word = y.arena.heap_to + tag;
-        end = refl;
-        of_value = pointer_made;
-        represents = represents_new;
-        arena = enlarged_by words g to;
-        blocks = blocks;
-        kept = kept_grown names program places z y r y'.arena (grows_by g);
-      }
+        -- a run that returns its pointer comes to it
+        pub returned_new : (rs : Registers) → Returned names program places z y places_made (object (length z'.store)) (meaning.stored o z') words (ends (returns (y.arena.heap_to + tag)) rs y')
+        returned_new rs = record {
+          word = y.arena.heap_to + tag;
+          end = refl;
+          of_value = pointer_made;
+          represents = represents_new;
+          arena = enlarged_by words g to;
+          blocks = blocks;
+          kept = kept_grown names program places z y r y'.arena (grows_by g);
+        }
+
+  -- so such a run answers
+  pub answers_made :
+      {budget : ℕ} (size besides : ℕ) (o : Object) (z' : meaning.State) (y' : State) (rs : Registers) → Alike z z' → Facts y.arena y'.arena
+      → y'.arena.heap_to ≡ y.arena.heap_to + 4 * size → y'.arena.blocks ≡ y.arena.blocks → y'.printed ≡ y.printed → y'.input ≡ y.input → 1 ≤ size
+      → ObjectAt names program (with_object (record { address = y.arena.heap_to; words = size; tag = tag_of o }) places) y'.arena
+      (record { address = y.arena.heap_to; words = size; tag = tag_of o }) o
+      → y'.cost + 250 * z.units ≤ budget + 250 * (z'.units + size + besides)
+      → Answers names program places z y budget (makes size besides o z') (ends (returns (y.arena.heap_to + tag_of o)) rs y')
+  answers_made size besides o z' y' rs alike g to blocks printed input some made cost = record {
+    comes = done (returned_new size (tag_of o) o y' g to blocks printed input some (tag_small o) z' alike made rs);
+    cost = cost;
+  }
 
   -- a condition, whose header, class, slots and mark were stored
   module _
       (class word : ℕ) (vs : List Value) (ws : List ℕ) (condition : is_below program class serious_condition_class ≡ true)
       (count : length vs ≡ length (slots program class)) (of_class : word_of places (class_value names program class) ≡ Some word)
       (are : WordsOf places vs ws) (room : 3 + length vs ≤ left y.arena)
-      where
-    -- its words, its spot, and the places with it
-    abbrev pub condition_words : List ℕ
-    condition_words = instance_header (length vs) ∷ word ∷ (ws ++ nil_word ∷ [])
+    where
+      -- its words, its spot, and the places with it
+      abbrev pub stored_words : List ℕ
+      stored_words = instance_header (length vs) ∷ word ∷ (ws ++ nil_word ∷ [])
 
-    abbrev pub condition_spot : Spot
-    condition_spot = record { address = y.arena.heap_to; words = 3 + length vs; tag = object_tag }
+      abbrev pub condition_spot : Spot
+      condition_spot = record { address = y.arena.heap_to; words = 3 + length vs; tag = object_tag }
 
-    abbrev pub condition_places : Places
-    condition_places = with_object condition_spot places
+      abbrev pub condition_places : Places
+      condition_places = with_object condition_spot places
 
-    abbrev pub condition_arena : Arena
-    condition_arena = begun (3 + length vs) condition_words y.arena
+      abbrev pub condition_arena : Arena
+      condition_arena = begun (3 + length vs) stored_words y.arena
 
-    all_words : length condition_words ≤ 3 + length vs
-    all_words = omega (arith, length-append ws (nil_word ∷ []), as_many_words places vs ws are)
+      all_words : length stored_words ≤ 3 + length vs
+      all_words = omega (arith, length-append ws (nil_word ∷ []), as_many_words places vs ws are)
 
-    there : (i w : ℕ) → slice_get condition_words i ≡ Some w → word_at condition_arena (y.arena.heap_to + 4 * i) ≡ Some w
-    there i w found = begun_word (3 + length vs) condition_words i w r.arena room all_words found
+      there : (i w : ℕ) → slice_get stored_words i ≡ Some w → word_at condition_arena (y.arena.heap_to + 4 * i) ≡ Some w
+      there i w found = begun_word (3 + length vs) stored_words i w r.arena room all_words found
 
-    moved : (x i w : ℕ) → x ≡ y.arena.heap_to + 4 * i → slice_get condition_words i ≡ Some w → word_at condition_arena x ≡ Some w
-    moved x i w same found = ap (word_at condition_arena) same ∙ there i w found
+      moved : (x i w : ℕ) → x ≡ y.arena.heap_to + 4 * i → slice_get stored_words i ≡ Some w → word_at condition_arena x ≡ Some w
+      moved x i w same found = ap (word_at condition_arena) same ∙ there i w found
 
-    as_many : length (map (λ v. Some v) vs) ≡ length vs
-    as_many = length-map vs (λ v. Some v)
+      as_many : length (map (λ v. Some v) vs) ≡ length vs
+      as_many = length-map vs (λ v. Some v)
 
-    pub condition_at : InstanceAt names program condition_places condition_arena condition_spot class (map (λ v. Some v) vs) nil
-    condition_at = record {
-      size = record {
-        words = ap (λ n. 3 + n) (sym as_many) ∙ sym (words_of_condition program class (length (map (λ v. Some v) vs)) condition);
-        tag = refl;
-      };
-      count = as_many ∙ count;
-      header = moved y.arena.heap_to 0 (instance_header (length vs)) (omega arith) refl ∙ ap (λ n. Some (instance_header n)) (sym as_many);
-      class = record {
-        word = word;
-        of_value = same_word condition_spot places (class_value names program class) word of_class;
-        stands = moved (y.arena.heap_to + 4) 1 word (omega arith) refl;
-      };
-      values_there = λ i h.
-          slot_stands condition_places condition_arena (y.arena.heap_to + 8 + 4 * i) vs ws i
-          (words_extended places condition_places (extends_one condition_spot places) vs ws are) (omega (arith, as_many))
-          (λ w found. moved (y.arena.heap_to + 8 + 4 * i) (suc (suc i)) w (omega arith) (slice_get-front ws (nil_word ∷ []) i w found));
-      mark = λ e. record {
-        word = nil_word;
-        of_value = refl;
-        stands =
-            moved (y.arena.heap_to + 8 + 4 * length (map (λ v. Some v) vs)) (suc (suc (length ws))) nil_word
-            (omega (arith, as_many, as_many_words places vs ws are)) (slice_get-behind ws nil_word);
-      };
-    }
+      pub condition_at : InstanceAt names program condition_places condition_arena condition_spot class (map (λ v. Some v) vs) nil
+      condition_at = record {
+        size = record {
+          words = ap (λ n. 3 + n) (sym as_many) ∙ sym (words_of_condition program class (length (map (λ v. Some v) vs)) condition);
+          tag = refl;
+        };
+        count = as_many ∙ count;
+        header = moved y.arena.heap_to 0 (instance_header (length vs)) (omega arith) refl ∙ ap (λ n. Some (instance_header n)) (sym as_many);
+        class = record {
+          word = word;
+          of_value = same_word condition_spot places (class_value names program class) word of_class;
+          stands = moved (y.arena.heap_to + 4) 1 word (omega arith) refl;
+        };
+        values_there = λ i h.
+            slot_stands condition_places condition_arena (y.arena.heap_to + 8 + 4 * i) vs ws i
+            (words_extended places condition_places (extends_one condition_spot places) vs ws are) (omega (arith, as_many))
+            (λ w found. moved (y.arena.heap_to + 8 + 4 * i) (suc (suc i)) w (omega arith) (slice_get-front ws (nil_word ∷ []) i w found));
+        mark = λ e. record {
+          word = nil_word;
+          of_value = refl;
+          stands =
+              moved (y.arena.heap_to + 8 + 4 * length (map (λ v. Some v) vs)) (suc (suc (length ws))) nil_word
+              (omega (arith, as_many, as_many_words places vs ws are)) (slice_get-behind ws nil_word);
+        };
+      }
 
   -- where a new condition stands, and its pointer was stored at the fixed address, it is to be signalled
   pub signalled_new :
