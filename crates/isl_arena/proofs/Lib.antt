@@ -29,3 +29,5 @@ pub mod ByArity
 pub mod Predicates
 pub mod Arrays
 pub mod VectorElements
+pub mod ClassesThere
+pub mod ClassWords

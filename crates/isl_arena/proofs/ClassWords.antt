@@ -1,0 +1,195 @@
+-- The line that finds the word of the class of a value, beside the meaning's class of it; and the primitive that gives a value's class.
+use Rattle.std.proofs.Common.{◌≡◌, ℕ, ◌+◌, ◌-◌, ◌*◌, ◌%◌, ◌^◌, ◌<◌, ◌≤◌, ℤ, pos, Bool, true, false, List, [], ◌∷◌, ◌++◌, length, Option, Some, None, refl, sym, ap, ◌∙◌, arith}
+use Rattle.std.specs.Prelude.{negsuc, ◌==◌, nat_lt, nat_le, slice_get, slice_set}
+use Rattle.std.proofs.lemmas.Bool.Decides.{nat_tests}
+use Rattle.isl_meaning.specs.declared.program.ProgramRows.{ProgramRows}
+use Rattle.isl_meaning.specs.State as meaning
+use Rattle.isl_meaning.specs.Layout.{class_value}
+use Rattle.isl_mid.specs.declared.program.MidProcedure.{MidProcedure}
+use Rattle.isl_mid.specs.declared.operation.Arithmetic.TheVariants as which
+use Rattle.isl_mid.specs.declared.operation.Comparison.TheVariants.{Equal, LessUnsigned}
+use Rattle.isl_mid.specs.declared.operation.Test.{Test}
+use Rattle.isl_mid.specs.Words.{compares, shift_left}
+use Rattle.isl_mid.specs.MidCode.{MidStep, choose, MidCode, no_step, step_and, code_of}
+use Rattle.isl_mid.specs.State.{Registers, State, Outcome, falls, ends, charged, register}
+use Rattle.isl_mid.specs.Meaning.{Task}
+use Rattle.isl_arena.specs.Tags.{class_header, string_header, vector_header, function_header, generic_header, input_header, output_header, symbol_header, fresh_header}
+use Rattle.isl_arena.specs.Places.{Places, word_of}
+use Rattle.isl_arena.specs.FixedWords.{class_address}
+use Rattle.isl_arena.specs.Represents.{Represents}
+use Rattle.isl_arena.specs.Steps as steps
+use Rattle.isl_arena.specs.Steps.{class_by_header, class_of_object, class_word}
+use Rattle.isl_arena.proofs.Running.{RunsTo, StepsTo, turning, none_left, and_then, constant_falls, compute_falls, load_falls, choose_first_falls, choose_second_falls, address_up}
+use Rattle.isl_arena.proofs.Doing.{paid}
+use Rattle.isl_arena.proofs.Checking.{register_here, register_beside, same_size}
+
+-- a header of an object that is no class and no instance, or of a symbol, with the number of the class
+pub data KindHeader : (header class : ℕ) → Type 0 where
+  of_string : KindHeader 1 4
+  of_vector : KindHeader 2 3
+  of_function : KindHeader 4 6
+  of_generic : KindHeader 5 7
+  of_input : KindHeader 7 14
+  of_output : KindHeader 8 14
+  of_symbol : KindHeader 9 10
+  of_fresh : KindHeader 10 10
+
+-- The word of a value is in one of the first registers, and that of its class is to come into another one.
+module _
+    (names : List (List ℕ)) (program : ProgramRows) (places : Places) (z : meaning.State) (y : State) (r : Represents names program places z y)
+    (procedures : List MidProcedure) (below : Task → State → Outcome) (n to of w : ℕ) (start : Registers)
+    (low : to < 3) (of_low : of < 3) (held : register of start ≡ Some w)
+    where
+  -- Registers on the way: those of the arguments are as they were, 0 is in register 5, and that word is in register 7.
+  pub record OnTheWay (seventh : ℕ) (rs : Registers) : Type 0 where
+    pub size : length rs ≡ 8
+    pub others : (i : ℕ) → i < 3 → register i rs ≡ register i start
+    pub zero_there : register 5 rs ≡ Some 0
+    pub seven : register 7 rs ≡ Some seventh
+
+  -- Code falls out with the word of a class in the register, for at most so much; the other arguments are as they were.
+  pub record Finds (class : ℕ) (code : MidCode) (rs : Registers) (k bound : ℕ) : Type 0 where
+    pub registers : Registers
+    pub cost : ℕ
+    pub word : ℕ
+    pub runs : RunsTo (turning procedures below n) code rs (paid y k) (ends falls registers (paid y cost))
+    pub of_class : word_of places (class_value names program class) ≡ Some word
+    pub there : register to registers ≡ Some word
+    pub size : length registers ≡ 8
+    pub others : (i : ℕ) → i < 3 → (to ≡ i → ⊥) → register i registers ≡ register i start
+    pub within : cost ≤ k + bound
+
+  finds_within : {class k bound more : ℕ} {code : MidCode} {rs : Registers} → Finds class code rs k bound → bound ≤ more → Finds class code rs k more
+  finds_within f h = record {
+    registers = f.registers;
+    cost = f.cost;
+    word = f.word;
+    runs = f.runs;
+    of_class = f.of_class;
+    there = f.there;
+    size = f.size;
+    others = f.others;
+    within = omega (arith, f.within, h);
+  }
+
+  -- behind a step that falls out
+  finds_after :
+      {class k k' bound : ℕ} {s : MidStep} {code : MidCode} {rs rs' : Registers}
+      → StepsTo (turning procedures below n) s rs (paid y k) (ends falls rs' (paid y (k + k'))) → Finds class code rs' (k + k') bound
+      → Finds class (step_and s code) rs k (k' + bound)
+  finds_after g f = record {
+    registers = f.registers;
+    cost = f.cost;
+    word = f.word;
+    runs = and_then g f.runs;
+    of_class = f.of_class;
+    there = f.there;
+    size = f.size;
+    others = f.others;
+    within = omega (arith, f.within);
+  }
+
+  -- in a branch
+  finds_first :
+      {class k bound a b : ℕ} {t : Test} {first second : MidCode} {rs : Registers} → register t.first rs ≡ Some a → register t.second rs ≡ Some b
+      → compares t.comparison a b ≡ true → Finds class first rs (k + 12) bound → Finds class (step_and (choose t first second) no_step) rs k (14 + bound)
+  finds_first e g h f = record {
+    registers = f.registers;
+    cost = f.cost + 2;
+    word = f.word;
+    runs = and_then (choose_first_falls e g h f.runs) none_left;
+    of_class = f.of_class;
+    there = f.there;
+    size = f.size;
+    others = f.others;
+    within = omega (arith, f.within);
+  }
+
+  finds_second :
+      {class k bound a b : ℕ} {t : Test} {first second : MidCode} {rs : Registers} → register t.first rs ≡ Some a → register t.second rs ≡ Some b
+      → compares t.comparison a b ≡ false → Finds class second rs (k + 12) bound → Finds class (step_and (choose t first second) no_step) rs k (14 + bound)
+  finds_second e g h f = record {
+    registers = f.registers;
+    cost = f.cost + 2;
+    word = f.word;
+    runs = and_then (choose_second_falls e g h f.runs) none_left;
+    of_class = f.of_class;
+    there = f.there;
+    size = f.size;
+    others = f.others;
+    within = omega (arith, f.within);
+  }
+
+  -- a word is put into register 4, 6 or 7
+  six : {v : ℕ} {rs : Registers} (x : ℕ) → OnTheWay v rs → OnTheWay v (slice_set rs 6 (Some x))
+  six {rs = rs} x o = record {
+    size = same_size rs 6 (Some x) o.size;
+    others = λ i h. register_beside rs 6 i (Some x) (omega arith) ∙ o.others i h;
+    zero_there = register_beside rs 6 5 (Some x) (omega arith) ∙ o.zero_there;
+    seven = register_beside rs 6 7 (Some x) (omega arith) ∙ o.seven;
+  }
+
+  four : {v : ℕ} {rs : Registers} (x : ℕ) → OnTheWay v rs → OnTheWay v (slice_set rs 4 (Some x))
+  four {rs = rs} x o = record {
+    size = same_size rs 4 (Some x) o.size;
+    others = λ i h. register_beside rs 4 i (Some x) (omega arith) ∙ o.others i h;
+    zero_there = register_beside rs 4 5 (Some x) (omega arith) ∙ o.zero_there;
+    seven = register_beside rs 4 7 (Some x) (omega arith) ∙ o.seven;
+  }
+
+  seven_put : {v : ℕ} {rs : Registers} (x : ℕ) → OnTheWay v rs → OnTheWay x (slice_set rs 7 (Some x))
+  seven_put {rs = rs} x o = record {
+    size = same_size rs 7 (Some x) o.size;
+    others = λ i h. register_beside rs 7 i (Some x) (omega arith) ∙ o.others i h;
+    zero_there = register_beside rs 7 5 (Some x) (omega arith) ∙ o.zero_there;
+    seven = register_here rs 7 x (omega (arith, o.size));
+  }
+
+  six_there : {v : ℕ} {rs : Registers} (x : ℕ) → OnTheWay v rs → register 6 (slice_set rs 6 (Some x)) ≡ Some x
+  six_there {rs = rs} x o = register_here rs 6 x (omega (arith, o.size))
+
+  -- the word of the class comes into the register
+  put_there :
+      {class v k k' x : ℕ} {s : MidStep} {rs : Registers} → OnTheWay v rs → word_of places (class_value names program class) ≡ Some x
+      → StepsTo (turning procedures below n) s rs (paid y k) (ends falls (slice_set rs to (Some x)) (paid y (k + k')))
+      → Finds class (step_and s no_step) rs k k'
+  put_there {k = k} {k' = k'} {x = x} {rs = rs} o e g = record {
+    registers = slice_set rs to (Some x);
+    cost = k + k';
+    word = x;
+    runs = and_then g none_left;
+    of_class = e;
+    there = register_here rs to x (omega (arith, o.size, low));
+    size = same_size rs to (Some x) o.size;
+    others = λ i h other. register_beside rs to i (Some x) other ∙ o.others i h;
+    within = omega arith;
+  }
+
+  -- the word of a class that is built in
+  finds_fixed : {v k : ℕ} {rs : Registers} (class : ℕ) → OnTheWay v rs → class < 34 → Finds class (code_of (steps.fixed_class to (pos (class_address class)))) rs k 8
+  finds_fixed class o h =
+      let at = r.fixed.classes class h in
+      put_there o at.of_value (load_falls o.zero_there (address_up 0 (class_address class) (omega arith)) at.stands)
+
+  -- the word in register 7 is that one, or another one
+  finds_where :
+      {v k : ℕ} {rs : Registers} (word class : ℕ) (otherwise : List MidStep) → OnTheWay v rs → class < 34 → (v == word) ≡ true
+      → Finds class (code_of (steps.class_where to 7 word (pos (class_address class)) otherwise)) rs k 28
+  finds_where word class otherwise o h e = finds_after constant_falls (finds_first (six word o).seven (six_there word o) e (finds_fixed class (six word o) h))
+
+  finds_otherwise :
+      {v k bound class : ℕ} {rs : Registers} (word other : ℕ) (otherwise : List MidStep) → OnTheWay v rs → (v == word) ≡ false
+      → Finds class (code_of otherwise) (slice_set rs 6 (Some word)) (k + 6 + 12) bound
+      → Finds class (code_of (steps.class_where to 7 word (pos (class_address other)) otherwise)) rs k (20 + bound)
+  finds_otherwise word other otherwise o e f = finds_after constant_falls (finds_second (six word o).seven (six_there word o) e f)
+
+  -- the word in register 7 is below another, or not
+  finds_below :
+      {v k : ℕ} {rs : Registers} (word class other : ℕ) → OnTheWay v rs → class < 34 → nat_lt v word ≡ true
+      → Finds class (code_of (steps.class_below to word (pos (class_address class)) (pos (class_address other)))) rs k 28
+  finds_below word class other o h e = finds_after constant_falls (finds_first (six word o).seven (six_there word o) e (finds_fixed class (six word o) h))
+
+  finds_above :
+      {v k : ℕ} {rs : Registers} (word class other : ℕ) → OnTheWay v rs → class < 34 → nat_lt v word ≡ false
+      → Finds class (code_of (steps.class_below to word (pos (class_address other)) (pos (class_address class)))) rs k 28
+  finds_above word class other o h e = finds_after constant_falls (finds_second (six word o).seven (six_there word o) e (finds_fixed class (six word o) h))
