@@ -3,6 +3,8 @@ use Rattle.std.proofs.Common.{◌≡◌, ℕ, ◌+◌, ◌-◌, ◌*◌, ◌%◌
 use Rattle.std.specs.Prelude.{negsuc, ◌==◌, nat_lt, nat_le, slice_get, slice_set}
 use Rattle.std.proofs.lemmas.Bool.Decides.{nat_tests}
 use Rattle.isl_meaning.specs.declared.program.ProgramRows.{ProgramRows}
+use Rattle.isl_meaning.specs.Objects.{Object, cons, string, vector, instance, function, closure, generic_function, class_object, input_stream, output_stream, fresh_symbol}
+use Rattle.isl_meaning.specs.Objects.{vector_class, string_class, character_class, function_class, generic_function_class, cons_class, symbol_class, null_class, integer_class, stream_class, built_in_class_class, standard_class_class}
 use Rattle.isl_meaning.specs.State as meaning
 use Rattle.isl_meaning.specs.Layout.{class_value}
 use Rattle.isl_mid.specs.declared.program.MidProcedure.{MidProcedure}
@@ -19,7 +21,7 @@ use Rattle.isl_arena.specs.FixedWords.{class_address}
 use Rattle.isl_arena.specs.Represents.{Represents}
 use Rattle.isl_arena.specs.Steps as steps
 use Rattle.isl_arena.specs.Steps.{class_by_header, class_of_object, class_word}
-use Rattle.isl_arena.proofs.Running.{RunsTo, StepsTo, turning, none_left, and_then, constant_falls, compute_falls, load_falls, choose_first_falls, choose_second_falls, address_up}
+use Rattle.isl_arena.proofs.Running.{RunsTo, StepsTo, turning, none_left, and_then, constant_falls, compute_falls, load_falls, choose_first_falls, choose_second_falls, address_above}
 use Rattle.isl_arena.proofs.Doing.{paid}
 use Rattle.isl_arena.proofs.Checking.{register_here, register_beside, same_size}
 
@@ -74,10 +76,10 @@ module _
 
   -- behind a step that falls out
   finds_after :
-      {class k k' bound : ℕ} {s : MidStep} {code : MidCode} {rs rs' : Registers}
+      {class k bound : ℕ} {s : MidStep} {code : MidCode} {rs rs' : Registers} (k' : ℕ)
       → StepsTo (turning procedures below n) s rs (paid y k) (ends falls rs' (paid y (k + k'))) → Finds class code rs' (k + k') bound
       → Finds class (step_and s code) rs k (k' + bound)
-  finds_after g f = record {
+  finds_after k' g f = record {
     registers = f.registers;
     cost = f.cost;
     word = f.word;
@@ -150,10 +152,10 @@ module _
 
   -- the word of the class comes into the register
   put_there :
-      {class v k k' x : ℕ} {s : MidStep} {rs : Registers} → OnTheWay v rs → word_of places (class_value names program class) ≡ Some x
+      {class v k x : ℕ} {s : MidStep} {rs : Registers} (k' : ℕ) → OnTheWay v rs → word_of places (class_value names program class) ≡ Some x
       → StepsTo (turning procedures below n) s rs (paid y k) (ends falls (slice_set rs to (Some x)) (paid y (k + k')))
       → Finds class (step_and s no_step) rs k k'
-  put_there {k = k} {k' = k'} {x = x} {rs = rs} o e g = record {
+  put_there {k = k} {x = x} {rs = rs} k' o e g = record {
     registers = slice_set rs to (Some x);
     cost = k + k';
     word = x;
@@ -169,27 +171,81 @@ module _
   finds_fixed : {v k : ℕ} {rs : Registers} (class : ℕ) → OnTheWay v rs → class < 34 → Finds class (code_of (steps.fixed_class to (pos (class_address class)))) rs k 8
   finds_fixed class o h =
       let at = r.fixed.classes class h in
-      put_there o at.of_value (load_falls o.zero_there (address_up 0 (class_address class) (omega arith)) at.stands)
+      put_there 8 o at.of_value (load_falls o.zero_there (address_above 0 (class_address class) (class_address class) (omega arith) (omega arith)) at.stands)
 
-  -- the word in register 7 is that one, or another one
+  -- the word in a register is that one, or another one
   finds_where :
-      {v k : ℕ} {rs : Registers} (word class : ℕ) (otherwise : List MidStep) → OnTheWay v rs → class < 34 → (v == word) ≡ true
-      → Finds class (code_of (steps.class_where to 7 word (pos (class_address class)) otherwise)) rs k 28
-  finds_where word class otherwise o h e = finds_after constant_falls (finds_first (six word o).seven (six_there word o) e (finds_fixed class (six word o) h))
+      {v u k : ℕ} {rs : Registers} (from word class : ℕ) (otherwise : List MidStep) → OnTheWay v rs → register from (slice_set rs 6 (Some word)) ≡ Some u → class < 34
+      → (u == word) ≡ true → Finds class (code_of (steps.class_where to from word (pos (class_address class)) otherwise)) rs k 28
+  finds_where from word class otherwise o at h e = finds_after 6 constant_falls (finds_first at (six_there word o) e (finds_fixed class (six word o) h))
 
   finds_otherwise :
-      {v k bound class : ℕ} {rs : Registers} (word other : ℕ) (otherwise : List MidStep) → OnTheWay v rs → (v == word) ≡ false
+      {v u k bound class : ℕ} {rs : Registers} (from word other : ℕ) (otherwise : List MidStep) → OnTheWay v rs
+      → register from (slice_set rs 6 (Some word)) ≡ Some u → (u == word) ≡ false
       → Finds class (code_of otherwise) (slice_set rs 6 (Some word)) (k + 6 + 12) bound
-      → Finds class (code_of (steps.class_where to 7 word (pos (class_address other)) otherwise)) rs k (20 + bound)
-  finds_otherwise word other otherwise o e f = finds_after constant_falls (finds_second (six word o).seven (six_there word o) e f)
+      → Finds class (code_of (steps.class_where to from word (pos (class_address other)) otherwise)) rs k (20 + bound)
+  finds_otherwise from word other otherwise o at e f = finds_within (finds_after 6 constant_falls (finds_second at (six_there word o) e f)) (omega arith)
 
   -- the word in register 7 is below another, or not
   finds_below :
       {v k : ℕ} {rs : Registers} (word class other : ℕ) → OnTheWay v rs → class < 34 → nat_lt v word ≡ true
       → Finds class (code_of (steps.class_below to word (pos (class_address class)) (pos (class_address other)))) rs k 28
-  finds_below word class other o h e = finds_after constant_falls (finds_first (six word o).seven (six_there word o) e (finds_fixed class (six word o) h))
+  finds_below word class other o h e = finds_after 6 constant_falls (finds_first (six word o).seven (six_there word o) e (finds_fixed class (six word o) h))
 
   finds_above :
       {v k : ℕ} {rs : Registers} (word class other : ℕ) → OnTheWay v rs → class < 34 → nat_lt v word ≡ false
       → Finds class (code_of (steps.class_below to word (pos (class_address other)) (pos (class_address class)))) rs k 28
-  finds_above word class other o h e = finds_after constant_falls (finds_second (six word o).seven (six_there word o) e (finds_fixed class (six word o) h))
+  finds_above word class other o h e = finds_after 6 constant_falls (finds_second (six word o).seven (six_there word o) e (finds_fixed class (six word o) h))
+
+  -- ---- by the header
+
+  -- what the code looks for behind each header
+  abbrev behind_generic : List MidStep
+  behind_generic = steps.class_below to symbol_header (pos (class_address stream_class)) (pos (class_address symbol_class))
+
+  abbrev behind_function : List MidStep
+  behind_function = steps.class_where to 7 generic_header (pos (class_address generic_function_class)) behind_generic
+
+  abbrev behind_vector : List MidStep
+  behind_vector = steps.class_where to 7 function_header (pos (class_address function_class)) behind_function
+
+  abbrev behind_string : List MidStep
+  behind_string = steps.class_where to 7 vector_header (pos (class_address vector_class)) behind_vector
+
+  finds_behind_function : {h class k : ℕ} {rs : Registers} → KindHeader h class → 5 ≤ h → OnTheWay h rs → Finds class (code_of behind_function) rs k 48
+  finds_behind_function of_generic high o = finds_within (finds_where 7 generic_header generic_function_class behind_generic o (six _ o).seven (omega arith) refl) (omega arith)
+  finds_behind_function of_input high o =
+      finds_otherwise 7 generic_header generic_function_class behind_generic o (six _ o).seven refl (finds_below symbol_header stream_class symbol_class (six _ o) (omega arith) refl)
+  finds_behind_function of_output high o =
+      finds_otherwise 7 generic_header generic_function_class behind_generic o (six _ o).seven refl (finds_below symbol_header stream_class symbol_class (six _ o) (omega arith) refl)
+  finds_behind_function of_symbol high o =
+      finds_otherwise 7 generic_header generic_function_class behind_generic o (six _ o).seven refl (finds_above symbol_header symbol_class stream_class (six _ o) (omega arith) refl)
+  finds_behind_function of_fresh high o =
+      finds_otherwise 7 generic_header generic_function_class behind_generic o (six _ o).seven refl (finds_above symbol_header symbol_class stream_class (six _ o) (omega arith) refl)
+  finds_behind_function of_string high o = absurd (omega (arith, high))
+  finds_behind_function of_vector high o = absurd (omega (arith, high))
+  finds_behind_function of_function high o = absurd (omega (arith, high))
+
+  finds_higher :
+      {h class k : ℕ} {rs : Registers} → KindHeader h class → 5 ≤ h → (h == string_header) ≡ false → (h == vector_header) ≡ false → (h == function_header) ≡ false
+      → OnTheWay h rs → Finds class (code_of (steps.class_where to 7 string_header (pos (class_address string_class)) behind_string)) rs k 108
+  finds_higher kind high no_string no_vector no_function o =
+      finds_otherwise 7 string_header string_class behind_string o (six _ o).seven no_string
+      (finds_otherwise 7 vector_header vector_class behind_vector (six _ o) (six _ (six _ o)).seven no_vector
+      (finds_otherwise 7 function_header function_class behind_function (six _ (six _ o)) (six _ (six _ (six _ o))).seven no_function
+      (finds_behind_function kind high (six _ (six _ (six _ o))))))
+
+  finds_kind : {h class k : ℕ} {rs : Registers} → KindHeader h class → OnTheWay h rs → Finds class (code_of (steps.class_where to 7 string_header (pos (class_address string_class)) behind_string)) rs k 108
+  finds_kind of_string o = finds_within (finds_where 7 string_header string_class behind_string o (six _ o).seven (omega arith) refl) (omega arith)
+  finds_kind of_vector o =
+      finds_within (finds_otherwise 7 string_header string_class behind_string o (six _ o).seven refl
+      (finds_where 7 vector_header vector_class behind_vector (six _ o) (six _ (six _ o)).seven (omega arith) refl)) (omega arith)
+  finds_kind of_function o =
+      finds_within (finds_otherwise 7 string_header string_class behind_string o (six _ o).seven refl
+      (finds_otherwise 7 vector_header vector_class behind_vector (six _ o) (six _ (six _ o)).seven refl
+      (finds_where 7 function_header function_class behind_function (six _ (six _ o)) (six _ (six _ (six _ o))).seven (omega arith) refl))) (omega arith)
+  finds_kind of_generic o = finds_higher of_generic (omega arith) refl refl refl o
+  finds_kind of_input o = finds_higher of_input (omega arith) refl refl refl o
+  finds_kind of_output o = finds_higher of_output (omega arith) refl refl refl o
+  finds_kind of_symbol o = finds_higher of_symbol (omega arith) refl refl refl o
+  finds_kind of_fresh o = finds_higher of_fresh (omega arith) refl refl refl o
