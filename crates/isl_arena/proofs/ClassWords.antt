@@ -1,6 +1,6 @@
 -- The line that finds the word of the class of a value, beside the meaning's class of it; and the primitive that gives a value's class.
 use Rattle.std.proofs.Common.{◌≡◌, ℕ, ◌+◌, ◌-◌, ◌*◌, ◌%◌, ◌^◌, ◌<◌, ◌≤◌, ℤ, pos, Bool, true, false, List, [], ◌∷◌, ◌++◌, length, Option, Some, None, refl, sym, ap, ◌∙◌, arith}
-use Rattle.std.specs.Prelude.{negsuc, ◌==◌, nat_lt, nat_le, slice_get, slice_set}
+use Rattle.std.specs.Prelude.{negsuc, ◌==◌, nat_lt, nat_le, slice_get, slice_set, if◌then◌else◌}
 use Rattle.std.proofs.lemmas.Bool.Decides.{nat_tests}
 use Rattle.isl_meaning.specs.declared.program.ProgramRows.{ProgramRows}
 use Rattle.isl_meaning.specs.Objects.{Object, cons, string, vector, instance, function, closure, generic_function, class_object, input_stream, output_stream, fresh_symbol}
@@ -11,17 +11,21 @@ use Rattle.isl_mid.specs.declared.program.MidProcedure.{MidProcedure}
 use Rattle.isl_mid.specs.declared.operation.Arithmetic.TheVariants as which
 use Rattle.isl_mid.specs.declared.operation.Comparison.TheVariants.{Equal, LessUnsigned}
 use Rattle.isl_mid.specs.declared.operation.Test.{Test}
+use Rattle.isl_mid.specs.Arena.{word_at}
 use Rattle.isl_mid.specs.Words.{compares, shift_left}
 use Rattle.isl_mid.specs.MidCode.{MidStep, choose, MidCode, no_step, step_and, code_of}
 use Rattle.isl_mid.specs.State.{Registers, State, Outcome, falls, ends, charged, register}
 use Rattle.isl_mid.specs.Meaning.{Task}
-use Rattle.isl_arena.specs.Tags.{class_header, string_header, vector_header, function_header, generic_header, input_header, output_header, symbol_header, fresh_header}
+use Rattle.isl_arena.specs.Tags.{nil_word, class_header, string_header, vector_header, function_header, generic_header, input_header, output_header, symbol_header, fresh_header}
 use Rattle.isl_arena.specs.Places.{Places, word_of}
 use Rattle.isl_arena.specs.FixedWords.{class_address}
 use Rattle.isl_arena.specs.Represents.{Represents}
 use Rattle.isl_arena.specs.Steps as steps
 use Rattle.isl_arena.specs.Steps.{class_by_header, class_of_object, class_word}
-use Rattle.isl_arena.proofs.Running.{RunsTo, StepsTo, turning, none_left, and_then, constant_falls, compute_falls, load_falls, choose_first_falls, choose_second_falls, address_above}
+use Rattle.isl_meaning.specs.Values.{Value, integer, character, symbol, nil, object}
+use Rattle.isl_arena.proofs.WordFacts.{tag_tested, low_four_bits_tested}
+use Rattle.isl_arena.proofs.Arguments.{value_tag, tag_told}
+use Rattle.isl_arena.proofs.Running.{RunsTo, StepsTo, turning, none_left, and_then, constant_falls, compute_falls, load_falls, choose_first_falls, choose_second_falls, address_up, address_above, address_below}
 use Rattle.isl_arena.proofs.Doing.{paid}
 use Rattle.isl_arena.proofs.Checking.{register_here, register_beside, same_size}
 
@@ -249,3 +253,152 @@ module _
   finds_kind of_output o = finds_higher of_output (omega arith) refl refl refl o
   finds_kind of_symbol o = finds_higher of_symbol (omega arith) refl refl refl o
   finds_kind of_fresh o = finds_higher of_fresh (omega arith) refl refl refl o
+
+  -- of an object that is no class and no instance, or of a symbol
+  finds_by_header : {h class k : ℕ} {rs : Registers} → KindHeader h class → (h == class_header) ≡ false → OnTheWay h rs → Finds class (code_of (class_by_header to of)) rs k 128
+  unfolding class_by_header
+  finds_by_header kind no_class o = finds_within (finds_after 6 constant_falls (finds_second (six _ o).seven (six_there _ o) no_class (finds_kind kind (six _ o)))) (omega arith)
+
+  -- of a class, by its number
+  finds_of_class :
+      {k : ℕ} {rs : Registers} (c : ℕ) → w + 2 < 2 ^ 32 → word_at y.arena (w + 2) ≡ Some (4 * c) → OnTheWay class_header rs
+      → Finds (if nat_le c 16 then built_in_class_class else standard_class_class) (code_of (class_by_header to of)) rs k 128
+  unfolding class_by_header
+  finds_of_class {k = k} {rs = rs} c bounded at o =
+      finds_within (finds_after 6 constant_falls (finds_first (six _ o).seven (six_there _ o) refl
+      (finds_after 8 (load_falls ((six _ o).others of of_low ∙ held) (address_up w 2 bounded) at) (by (nat_le c 16) refl (seven_put (4 * c) (six _ o)))))) (omega arith)
+    where
+      tested : nat_lt (4 * c) (4 * 17) ≡ nat_le c 16
+      tested = grind (arith, nat_tests)
+
+      by :
+          {k : ℕ} {rs : Registers} (b : Bool) → nat_le c 16 ≡ b → OnTheWay (4 * c) rs
+          → Finds (if nat_le c 16 then built_in_class_class else standard_class_class)
+          (code_of (steps.class_below to (4 * 17) (pos (class_address built_in_class_class)) (pos (class_address standard_class_class)))) rs k 28
+      by true e p = rw e (finds_below (4 * 17) built_in_class_class standard_class_class p (omega arith) (tested ∙ e))
+      by false e p = rw e (finds_above (4 * 17) standard_class_class built_in_class_class p (omega arith) (tested ∙ e))
+
+  -- the registers where the lowest bits of a header are tested
+  abbrev tested_header : ℕ → Registers → Registers
+  tested_header h rs =
+      slice_set (slice_set (slice_set (slice_set rs 7 (Some h)) 6 (Some 28)) 4 (Some (shift_left h 28))) 6 (Some (3 * 2 ^ 28))
+
+  module _ (h : ℕ) (rs : Registers) {v : ℕ} (o : OnTheWay v rs) where
+    loaded : OnTheWay h (slice_set (slice_set rs 7 (Some h)) 6 (Some 28))
+    loaded = six 28 (seven_put h o)
+
+    tested_way : OnTheWay h (tested_header h rs)
+    tested_way = six (3 * 2 ^ 28) (four (shift_left h 28) loaded)
+
+    four_there : register 4 (tested_header h rs) ≡ Some (shift_left h 28)
+    four_there =
+        register_beside (slice_set (slice_set (slice_set rs 7 (Some h)) 6 (Some 28)) 4 (Some (shift_left h 28))) 6 4 (Some (3 * 2 ^ 28)) (omega arith)
+        ∙ register_here (slice_set (slice_set rs 7 (Some h)) 6 (Some 28)) 4 (shift_left h 28) (omega (arith, loaded.size))
+
+  -- of what has a header: of an instance its class, which stands behind its header
+  finds_of_instance :
+      {v k x class h : ℕ} {rs : Registers} → OnTheWay v rs → 2 ≤ w → w + 2 < 2 ^ 32 → word_at y.arena (w - 2) ≡ Some h → (h % 16 == 3) ≡ true
+      → word_at y.arena (w + 2) ≡ Some x → word_of places (class_value names program class) ≡ Some x
+      → Finds class (code_of (class_of_object to of)) rs k 172
+  unfolding class_of_object
+  finds_of_instance {h = h} {rs = rs} o high bounded at_header kind at of_class =
+      finds_within
+      (finds_after 8 (load_falls (o.others of of_low ∙ held) (address_below w 1 (w - 2) (omega arith) (omega arith)) at_header)
+      (finds_after 6 constant_falls
+      (finds_after 10 (compute_falls (loaded h rs o).seven (six_there 28 (seven_put h o)))
+      (finds_after 6 constant_falls
+      (finds_first (four_there h rs o) (six_there (3 * 2 ^ 28) (four (shift_left h 28) (loaded h rs o))) (low_four_bits_tested h 3 ∙ kind)
+      (put_there 8 (tested_way h rs o) of_class (load_falls ((tested_way h rs o).others of of_low ∙ held) (address_up w 2 bounded) at)))))))
+      (omega arith)
+
+  finds_of_other :
+      {v k class h : ℕ} {rs : Registers} → OnTheWay v rs → 2 ≤ w → w + 2 < 2 ^ 32 → word_at y.arena (w - 2) ≡ Some h → (h % 16 == 3) ≡ false
+      → ((k : ℕ) (rs : Registers) → OnTheWay h rs → Finds class (code_of (class_by_header to of)) rs k 128)
+      → Finds class (code_of (class_of_object to of)) rs k 172
+  unfolding class_of_object
+  finds_of_other {h = h} {rs = rs} o high bounded at_header kind f =
+      finds_within
+      (finds_after 8 (load_falls (o.others of of_low ∙ held) (address_below w 1 (w - 2) (omega arith) (omega arith)) at_header)
+      (finds_after 6 constant_falls
+      (finds_after 10 (compute_falls (loaded h rs o).seven (six_there 28 (seven_put h o)))
+      (finds_after 6 constant_falls
+      (finds_second (four_there h rs o) (six_there (3 * 2 ^ 28) (four (shift_left h 28) (loaded h rs o))) (low_four_bits_tested h 3 ∙ kind)
+      (f _ _ (tested_way h rs o)))))))
+      (omega arith)
+
+  -- ---- by the tag
+
+  -- the code behind that of integers, behind that of conses, and behind that of objects
+  abbrev behind_objects : List MidStep
+  behind_objects = steps.class_where to of nil_word (pos (class_address null_class)) (steps.fixed_class to (pos (class_address character_class)))
+
+  abbrev behind_conses : List MidStep
+  behind_conses = steps.constant 6 (2 ^ 31) ∷ steps.either (steps.comparing Equal 7 6) (class_of_object to of) behind_objects ∷ []
+
+  abbrev behind_integers : List MidStep
+  behind_integers = steps.class_where to 7 (2 ^ 30) (pos (class_address cons_class)) behind_conses
+
+  abbrev by_tag : List MidStep
+  by_tag = steps.class_where to 7 0 (pos (class_address integer_class)) behind_integers
+
+  -- the tag is put into register 7
+  finds_by_tag :
+      {class k bound : ℕ} → length start ≡ 8
+      → ((k : ℕ) (rs : Registers) → OnTheWay (shift_left w 30) rs → Finds class (code_of by_tag) rs k bound)
+      → Finds class (code_of (class_word to of)) start k (22 + bound)
+  unfolding class_word
+  finds_by_tag {k = k} size f =
+      finds_within
+      (finds_after 6 constant_falls
+      (finds_after 6 constant_falls
+      (finds_after 10 (compute_falls (others of of_low ∙ held) (register_here (slice_set start 5 (Some 0)) 6 30 (omega (arith, zeroed)))) (f _ _ way)))) (omega arith)
+    where
+      zeroed : length (slice_set start 5 (Some 0)) ≡ 8
+      zeroed = same_size start 5 (Some 0) size
+
+      put : length (slice_set (slice_set start 5 (Some 0)) 6 (Some 30)) ≡ 8
+      put = same_size (slice_set start 5 (Some 0)) 6 (Some 30) zeroed
+
+      others : (i : ℕ) → i < 3 → register i (slice_set (slice_set start 5 (Some 0)) 6 (Some 30)) ≡ register i start
+      others i h = register_beside (slice_set start 5 (Some 0)) 6 i (Some 30) (omega arith) ∙ register_beside start 5 i (Some 0) (omega arith)
+
+      way : OnTheWay (shift_left w 30) (slice_set (slice_set (slice_set start 5 (Some 0)) 6 (Some 30)) 7 (Some (shift_left w 30)))
+      way = record {
+        size = same_size (slice_set (slice_set start 5 (Some 0)) 6 (Some 30)) 7 (Some (shift_left w 30)) put;
+        others = λ i h. register_beside (slice_set (slice_set start 5 (Some 0)) 6 (Some 30)) 7 i (Some (shift_left w 30)) (omega arith) ∙ others i h;
+        zero_there =
+            register_beside (slice_set (slice_set start 5 (Some 0)) 6 (Some 30)) 7 5 (Some (shift_left w 30)) (omega arith)
+            ∙ register_beside (slice_set start 5 (Some 0)) 6 5 (Some 30) (omega arith) ∙ register_here start 5 0 (omega (arith, size));
+        seven = register_here (slice_set (slice_set start 5 (Some 0)) 6 (Some 30)) 7 (shift_left w 30) (omega (arith, put));
+      }
+
+  -- what a tag says to the tests
+  tag_says : (v : Value) (tag : ℕ) → word_of places v ≡ Some w → (shift_left w 30 == 2 ^ 30 * tag) ≡ (value_tag z v == tag)
+  tag_says v tag e = tag_tested w tag ∙ ap (λ t. t == tag) (tag_told names program places z y r v w e)
+
+  module _ (v : Value) (e : word_of places v ≡ Some w) {rs : Registers} (o : OnTheWay (shift_left w 30) rs) where
+    finds_integer : {k : ℕ} → value_tag z v ≡ 0 → Finds integer_class (code_of by_tag) rs k 232
+    finds_integer tag = finds_within (finds_where 7 0 integer_class behind_integers o (six _ o).seven (omega arith) (tag_says v 0 e ∙ ap (λ t. t == 0) tag)) (omega arith)
+
+    finds_cons : {k : ℕ} → value_tag z v ≡ 1 → Finds cons_class (code_of by_tag) rs k 232
+    finds_cons tag =
+        finds_within (finds_otherwise 7 0 integer_class behind_integers o (six _ o).seven (tag_says v 0 e ∙ ap (λ t. t == 0) tag)
+        (finds_where 7 (2 ^ 30) cons_class behind_conses (six _ o) (six _ (six _ o)).seven (omega arith) (tag_says v 1 e ∙ ap (λ t. t == 1) tag))) (omega arith)
+
+    finds_object :
+        {k class : ℕ} → value_tag z v ≡ 2
+        → ((u k : ℕ) (rs : Registers) → OnTheWay u rs → Finds class (code_of (class_of_object to of)) rs k 172) → Finds class (code_of by_tag) rs k 232
+    finds_object tag f =
+        finds_within (finds_otherwise 7 0 integer_class behind_integers o (six _ o).seven (tag_says v 0 e ∙ ap (λ t. t == 0) tag)
+        (finds_otherwise 7 (2 ^ 30) cons_class behind_conses (six _ o) (six _ (six _ o)).seven (tag_says v 1 e ∙ ap (λ t. t == 1) tag)
+        (finds_after 6 constant_falls (finds_first (six _ (six _ (six _ o))).seven (six_there _ (six _ (six _ o))) (tag_says v 2 e ∙ ap (λ t. t == 2) tag)
+        (f _ _ _ (six _ (six _ (six _ o)))))))) (omega arith)
+
+    finds_other :
+        {k class : ℕ} → value_tag z v ≡ 3
+        → ((u k : ℕ) (rs : Registers) → OnTheWay u rs → Finds class (code_of behind_objects) rs k 30) → Finds class (code_of by_tag) rs k 232
+    finds_other tag f =
+        finds_within (finds_otherwise 7 0 integer_class behind_integers o (six _ o).seven (tag_says v 0 e ∙ ap (λ t. t == 0) tag)
+        (finds_otherwise 7 (2 ^ 30) cons_class behind_conses (six _ o) (six _ (six _ o)).seven (tag_says v 1 e ∙ ap (λ t. t == 1) tag)
+        (finds_after 6 constant_falls (finds_second (six _ (six _ (six _ o))).seven (six_there _ (six _ (six _ o))) (tag_says v 2 e ∙ ap (λ t. t == 2) tag)
+        (f _ _ _ (six _ (six _ (six _ o)))))))) (omega arith)
