@@ -17,14 +17,22 @@ use Rattle.isl_mid.specs.MidCode.{MidStep, choose, MidCode, no_step, step_and, c
 use Rattle.isl_mid.specs.State.{Registers, State, Outcome, falls, ends, charged, register}
 use Rattle.isl_mid.specs.Meaning.{Task}
 use Rattle.isl_arena.specs.Tags.{nil_word, class_header, string_header, vector_header, function_header, generic_header, input_header, output_header, symbol_header, fresh_header}
-use Rattle.isl_arena.specs.Places.{Places, word_of}
+use Rattle.isl_meaning.specs.Values.{named, unnamed}
+use Rattle.isl_meaning.specs.Classes.{class_of}
+use Rattle.isl_meaning.specs.Classes.{class_of_object as class_of_stored}
+use Rattle.isl_arena.specs.Tags.{tag_of}
+use Rattle.isl_arena.specs.Places.{Spot, Places, word_of}
+use Rattle.isl_arena.specs.Standing.{SpotStands}
+use Rattle.isl_arena.specs.Layouts.{ObjectAt}
+use Rattle.isl_arena.proofs.Keeping.{header_of}
+use Rattle.isl_arena.proofs.Growing.{spot_below}
 use Rattle.isl_arena.specs.FixedWords.{class_address}
 use Rattle.isl_arena.specs.Represents.{Represents}
 use Rattle.isl_arena.specs.Steps as steps
 use Rattle.isl_arena.specs.Steps.{class_by_header, class_of_object, class_word}
 use Rattle.isl_meaning.specs.Values.{Value, integer, character, symbol, nil, object}
 use Rattle.isl_arena.proofs.WordFacts.{tag_tested, low_four_bits_tested}
-use Rattle.isl_arena.proofs.Arguments.{value_tag, tag_told}
+use Rattle.isl_arena.proofs.Arguments.{character_word_is, tag_in, header_in, value_tag, value_header, tag_told, header_told, word_told, object_there, object_found}
 use Rattle.isl_arena.proofs.Running.{RunsTo, StepsTo, turning, none_left, and_then, constant_falls, compute_falls, load_falls, choose_first_falls, choose_second_falls, address_up, address_above, address_below}
 use Rattle.isl_arena.proofs.Doing.{paid}
 use Rattle.isl_arena.proofs.Checking.{register_here, register_beside, same_size}
@@ -312,7 +320,7 @@ module _
       (omega arith)
 
   finds_of_other :
-      {v k class h : ℕ} {rs : Registers} → OnTheWay v rs → 2 ≤ w → w + 2 < 2 ^ 32 → word_at y.arena (w - 2) ≡ Some h → (h % 16 == 3) ≡ false
+      {v k class h : ℕ} {rs : Registers} → OnTheWay v rs → 2 ≤ w → w < 2 ^ 32 → word_at y.arena (w - 2) ≡ Some h → (h % 16 == 3) ≡ false
       → ((k : ℕ) (rs : Registers) → OnTheWay h rs → Finds class (code_of (class_by_header to of)) rs k 128)
       → Finds class (code_of (class_of_object to of)) rs k 172
   unfolding class_of_object
@@ -402,3 +410,99 @@ module _
         (finds_otherwise 7 (2 ^ 30) cons_class behind_conses (six _ o) (six _ (six _ o)).seven (tag_says v 1 e ∙ ap (λ t. t == 1) tag)
         (finds_after 6 constant_falls (finds_second (six _ (six _ (six _ o))).seven (six_there _ (six _ (six _ o))) (tag_says v 2 e ∙ ap (λ t. t == 2) tag)
         (f _ _ _ (six _ (six _ (six _ o)))))))) (omega arith)
+
+  -- ---- by the value
+
+  -- what has the tag of objects has a word of at least 2
+  tag_high : (v : Value) → word_of places v ≡ Some w → value_tag z v ≡ 2 → 2 ≤ w
+  tag_high v e tag = omega (arith, tag_told names program places z y r v w e, tag)
+
+  -- another object than an instance and a class, or a symbol
+  finds_by_kind :
+      {h class k : ℕ} {rs : Registers} (v : Value) → word_of places v ≡ Some w → value_tag z v ≡ 2 → value_header z v ≡ h → KindHeader h class
+      → (h % 16 == 3) ≡ false → (h == class_header) ≡ false → OnTheWay (shift_left w 30) rs → Finds class (code_of by_tag) rs k 232
+  finds_by_kind v e tag header kind no_instance no_class o =
+      finds_object v e o tag (λ u k rs p.
+      finds_of_other p (tag_high v e tag) (word_told names program places z y r v w e)
+      (header_told names program places z y r v w e tag ∙ ap (λ h. Some h) header) no_instance (λ k rs q. finds_by_header kind no_class q))
+
+  module _ (i : ℕ) (e : word_of places (object i) ≡ Some w) {rs : Registers} (o : OnTheWay (shift_left w 30) rs) where
+    -- the words behind the header of an object that has one
+    second_bounded : (s : Spot) → SpotStands y.arena s → w ≡ s.address + 2 → w + 2 < 2 ^ 32
+    second_bounded s stands at = omega (arith, at, stands.some, spot_below y.arena s r.arena stands, r.arena.room, r.arena.size)
+
+    second_of : (s : Spot) (x : ℕ) → w ≡ s.address + 2 → word_at y.arena (s.address + 4) ≡ Some x → word_at y.arena (w + 2) ≡ Some x
+    second_of s x at f = let same : w + 2 ≡ s.address + 4 = omega (arith, at) in rw same f
+
+    finds_kind_object :
+        {h class k : ℕ} (one : Object) → slice_get z.store i ≡ Some one → tag_of one ≡ 2 → header_of one ≡ h → KindHeader h class
+        → (h % 16 == 3) ≡ false → (h == class_header) ≡ false → Finds class (code_of by_tag) rs k 232
+    finds_kind_object one stored tag header kind no_instance no_class =
+        finds_by_kind (object i) e (ap tag_in stored ∙ tag) (ap header_in stored ∙ header) kind no_instance no_class o
+
+    finds_instance :
+        {k : ℕ} (c : ℕ) (values : List (Option Value)) (mark : Value) → slice_get z.store i ≡ Some (instance c values mark)
+        → Finds c (code_of by_tag) rs k 232
+    finds_instance c values mark stored =
+        let it = object_found names program places z y r (object i) w (instance c values mark) e stored in
+        let tag : value_tag z (object i) ≡ 2 = ap tag_in stored in
+        let header = header_told names program places z y r (object i) w e tag ∙ ap (λ x. Some (header_in x)) stored in
+        finds_object (object i) e o tag (λ u k rs p.
+        finds_of_instance p (tag_high (object i) e tag) (second_bounded it.spot it.spot_stands it.word) header (is_instance (length values))
+        (second_of it.spot it.stands.class.word it.word it.stands.class.stands) it.stands.class.of_value)
+      where
+        is_instance : (n : ℕ) → ((16 * n + 3) % 16 == 3) ≡ true
+        is_instance n = grind (arith, nat_tests)
+
+    finds_class_object :
+        {k : ℕ} (c : ℕ) → slice_get z.store i ≡ Some (class_object c)
+        → Finds (if nat_le c 16 then built_in_class_class else standard_class_class) (code_of by_tag) rs k 232
+    finds_class_object c stored =
+        let it = object_found names program places z y r (object i) w (class_object c) e stored in
+        let tag : value_tag z (object i) ≡ 2 = ap tag_in stored in
+        let header = header_told names program places z y r (object i) w e tag ∙ ap (λ x. Some (header_in x)) stored in
+        finds_object (object i) e o tag (λ u k rs p.
+        finds_of_other p (tag_high (object i) e tag) (word_told names program places z y r (object i) w e) header refl
+        (λ k rs q. finds_of_class c (second_bounded it.spot it.spot_stands it.word) (second_of it.spot (4 * c) it.word it.stands.number) q))
+
+  -- by what the object is
+  finds_stored :
+      {k : ℕ} {rs : Registers} (i : ℕ) → word_of places (object i) ≡ Some w → OnTheWay (shift_left w 30) rs → (one : Object) → slice_get z.store i ≡ Some one
+      → (spot : Spot) → ObjectAt names program places y.arena spot one → Finds (class_of_stored (Some one)) (code_of by_tag) rs k 232
+  finds_stored i e o (cons car cdr) stored spot at = finds_cons (object i) e o (ap tag_in stored)
+  finds_stored i e o (string bytes) stored spot at = finds_kind_object i e o _ stored refl refl of_string refl refl
+  finds_stored i e o (vector vs) stored spot at = finds_kind_object i e o _ stored refl refl of_vector refl refl
+  finds_stored i e o (instance c values mark) stored spot at = finds_instance i e o c values mark stored
+  finds_stored i e o (function p) stored spot at = finds_kind_object i e o _ stored refl refl of_function refl refl
+  finds_stored i e o (closure required rest body env) stored spot at = absurd at
+  finds_stored i e o (generic_function g) stored spot at = finds_kind_object i e o _ stored refl refl of_generic refl refl
+  finds_stored i e o (class_object c) stored spot at = finds_class_object i e o c stored
+  finds_stored i e o input_stream stored spot at = finds_kind_object i e o _ stored refl refl of_input refl refl
+  finds_stored i e o output_stream stored spot at = finds_kind_object i e o _ stored refl refl of_output refl refl
+  finds_stored i e o (fresh_symbol serial) stored spot at = finds_kind_object i e o _ stored refl refl of_fresh refl refl
+
+  character_not_nil : (c w : ℕ) → w ≡ 256 * c + 15 → (w == nil_word) ≡ false
+  character_not_nil c w h = grind (arith, nat_tests)
+
+  finds_value : {k : ℕ} {rs : Registers} (v : Value) → word_of places v ≡ Some w → OnTheWay (shift_left w 30) rs → Finds (class_of z v) (code_of by_tag) rs k 232
+  finds_value (integer n) e o = finds_integer (integer n) e o refl
+  finds_value (character c) e o =
+      let tag = tag_told names program places z y r (character c) w e in
+      let at = character_word_is places c w e in
+      finds_other (character c) e o refl (λ u k rs p.
+      finds_within (finds_otherwise of nil_word null_class (steps.fixed_class to (pos (class_address character_class))) p ((six _ p).others of of_low ∙ held)
+      (character_not_nil c w at.1) (finds_fixed character_class (six _ p) (omega arith))) (omega arith))
+  finds_value (symbol (named name)) e o = finds_by_kind (symbol (named name)) e refl refl of_symbol refl refl o
+  finds_value (symbol (unnamed expansion serial)) e o = finds_by_kind (symbol (unnamed expansion serial)) e refl refl of_fresh refl refl o
+  finds_value nil e o =
+      let at : nil_word ≡ w = cc e in
+      finds_other nil e o refl (λ u k rs p.
+      finds_within (finds_where of nil_word null_class (steps.fixed_class to (pos (class_address character_class))) p ((six _ p).others of of_low ∙ held)
+      (omega arith) (rw (← at) refl)) (omega arith))
+  finds_value (object i) e o =
+      let there = object_there names program places z y r i w e in
+      rw there.stored (finds_stored i e o there.one there.stored there.spot there.stands)
+
+  -- the line finds the word of the class of the value
+  pub class_found : {k : ℕ} (v : Value) → word_of places v ≡ Some w → length start ≡ 8 → Finds (class_of z v) (code_of (class_word to of)) start k 254
+  class_found v e size = finds_by_tag size (λ k rs o. finds_value v e o)
