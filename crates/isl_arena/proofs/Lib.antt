@@ -30,4 +30,5 @@ pub mod Predicates
 pub mod Arrays
 pub mod VectorElements
 pub mod ClassesThere
+pub mod ClassHeaders
 pub mod ClassWords
