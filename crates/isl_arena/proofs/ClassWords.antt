@@ -3,14 +3,15 @@ use Rattle.std.proofs.Common.{◌≡◌, ℕ, ◌+◌, ◌*◌, ◌%◌, ◌^◌
 use Rattle.std.specs.Prelude.{◌==◌, nat_le, slice_get, slice_set, if◌then◌else◌}
 use Rattle.std.proofs.lemmas.Bool.Decides.{nat_tests}
 use Rattle.isl_meaning.specs.declared.program.ProgramRows.{ProgramRows}
+use Rattle.isl_meaning.specs.declared.primitive.Primitive.TheVariants.{ClassOf}
 use Rattle.isl_meaning.specs.Objects.{Object, cons, string, vector, instance, function, closure, generic_function, class_object, input_stream, output_stream, fresh_symbol}
 use Rattle.isl_meaning.specs.Objects.{character_class, cons_class, null_class, integer_class, built_in_class_class, standard_class_class}
 use Rattle.isl_meaning.specs.State as meaning
 use Rattle.isl_mid.specs.declared.operation.Comparison.TheVariants.{Equal}
 use Rattle.isl_mid.specs.Arena.{word_at}
 use Rattle.isl_mid.specs.Words.{shift_left}
-use Rattle.isl_mid.specs.MidCode.{MidStep, code_of}
-use Rattle.isl_mid.specs.State.{Registers, State, register}
+use Rattle.isl_mid.specs.MidCode.{return_word, MidStep, code_of}
+use Rattle.isl_mid.specs.State.{first_registers, Registers, State, register}
 use Rattle.isl_arena.specs.Tags.{nil_word, class_header}
 use Rattle.isl_meaning.specs.Values.{named, unnamed}
 use Rattle.isl_meaning.specs.Classes.{class_of}
@@ -22,12 +23,16 @@ use Rattle.isl_arena.specs.Layouts.{ObjectAt}
 use Rattle.isl_arena.proofs.Keeping.{header_of}
 use Rattle.isl_arena.proofs.Growing.{spot_below}
 use Rattle.isl_arena.specs.FixedWords.{class_address}
+use Rattle.isl_arena.specs.Answers.{IsPrimitive}
+use Rattle.isl_arena.specs.Codes.{procedure_of}
 use Rattle.isl_arena.specs.Steps as steps
 use Rattle.isl_arena.specs.Steps.{class_of_object, class_word}
 use Rattle.isl_meaning.specs.Values.{Value, integer, character, symbol, nil, object}
 use Rattle.isl_arena.proofs.WordFacts.{tag_tested}
 use Rattle.isl_arena.proofs.Arguments.{character_word_is, tag_in, header_in, value_tag, value_header, tag_told, header_told, word_told, object_there, object_found}
 use Rattle.isl_arena.proofs.Running.{constant_falls, compute_falls}
+use Rattle.isl_arena.proofs.Doing.{alike_self, part_then, returns_value}
+use Rattle.isl_arena.proofs.ByArity.{does_one}
 use Rattle.isl_arena.proofs.ClassHeaders.{KindHeader, of_string, of_vector, of_function, of_generic, of_input, of_output, of_symbol, of_fresh, Seeking, OnTheWay, Finds, finds_within, finds_after, finds_first, finds_second, six}
 use Rattle.isl_arena.proofs.ClassHeaders.{six_there, finds_fixed, finds_where, finds_otherwise, finds_by_header, finds_of_class, finds_of_instance, finds_of_other}
 use Rattle.isl_arena.proofs.Checking.{register_here, register_beside, same_size}
@@ -207,3 +212,24 @@ module _
   -- the line finds the word of the class of the value
   pub class_found : {k : ℕ} (v : Value) → word_of places v ≡ Some here.word → length here.start ≡ 8 → Finds here (class_of z v) (code_of (class_word here.to here.of)) here.start k 254
   class_found v e size = finds_by_tag size (λ k rs o. finds_value v e o)
+
+-- ---- the primitive that gives the class of a value
+
+pub class_of_does : IsPrimitive ClassOf (procedure_of ClassOf)
+class_of_does = does_one ClassOf refl (λ names program places z y procedures below n v w r word.
+    let here : Seeking names program places z y = record {
+      represents = r;
+      procedures = procedures;
+      below = below;
+      turns = n;
+      to = 2;
+      to_low = omega arith;
+      of = 0;
+      of_low = omega arith;
+      word = w;
+      start = first_registers 8 (w ∷ []);
+      held = refl;
+    } in
+    let f = class_found here {k = y.cost} v word refl in
+    part_then names program places z y procedures below (class_word 2 0) (return_word 2 ∷ []) f.runs
+    (returns_value names program places z y procedures below r f.there f.of_class (alike_self z) (omega (arith, f.within))))
