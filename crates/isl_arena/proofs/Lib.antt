@@ -32,3 +32,4 @@ pub mod VectorElements
 pub mod ClassesThere
 pub mod ClassHeaders
 pub mod ClassWords
+pub mod ClassSearch
