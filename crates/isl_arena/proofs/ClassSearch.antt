@@ -6,6 +6,9 @@ use Rattle.std.proofs.lemmas.Bool.Decides.{nat_tests}
 use Rattle.isl_meaning.specs.declared.program.ProgramRows.{ProgramRows}
 use Rattle.isl_meaning.specs.Values.{Value, t}
 use Rattle.isl_meaning.specs.Lookup.{is_in, passed}
+use Rattle.isl_meaning.specs.Objects.{class_object}
+use Rattle.isl_meaning.specs.Classes.{fetch, class_of, precedence, is_below}
+use Rattle.isl_meaning.specs.Primitives.{result, says, primitive}
 use Rattle.isl_meaning.specs.State as meaning
 use Rattle.isl_mid.specs.declared.program.MidProcedure.{MidProcedure}
 use Rattle.isl_mid.specs.declared.operation.Arithmetic.TheVariants as which
@@ -13,15 +16,20 @@ use Rattle.isl_mid.specs.declared.operation.Comparison.TheVariants.{Equal, LessU
 use Rattle.isl_mid.specs.declared.operation.Counted.TheVariants.{Turn}
 use Rattle.isl_mid.specs.Arena.{word_at}
 use Rattle.isl_mid.specs.Words.{sum32}
-use Rattle.isl_mid.specs.MidCode.{MidStep, repeat, return_word, no_step, code_of}
+use Rattle.isl_mid.specs.MidCode.{MidStep, return_word, MidCode, step_and, code_of}
 use Rattle.isl_mid.specs.State.{Registers, State, Outcome, falls, returns, ends, register}
 use Rattle.isl_mid.specs.Meaning.{Task}
-use Rattle.isl_arena.specs.Places.{Places}
+use Rattle.isl_arena.specs.Tags.{nil_word}
+use Rattle.isl_arena.specs.Places.{Places, word_of}
 use Rattle.isl_arena.specs.FixedWords.{true_address}
 use Rattle.isl_arena.specs.Represents.{Represents}
+use Rattle.isl_arena.specs.Answers.{done}
 use Rattle.isl_arena.specs.Steps as steps
-use Rattle.isl_arena.proofs.Running.{StepsTo, turning, none_left, and_then, and_ends, constant_falls, compute_known, load_falls, return_ends, choose_first_ends, choose_second_falls, repeat_falls, repeat_turn, repeat_ends, address_here, address_up}
-use Rattle.isl_arena.proofs.Doing.{paid}
+use Rattle.isl_arena.proofs.Running.{StepsTo, turning, none_left, and_then, and_ends, constant_falls, compute_known, load_falls, return_ends, choose_first_ends, choose_second_falls, repeat_falls, repeat_turn, repeat_ends, address_here, address_up, address_above}
+use Rattle.isl_arena.proofs.Growing.{spot_below, grows_same}
+use Rattle.isl_arena.proofs.Representing.{kept_grown, represents_grown, represents_same}
+use Rattle.isl_arena.proofs.Arguments.{ObjectFound, object_found}
+use Rattle.isl_arena.proofs.Doing.{Alike, alike_self, alike_charged, paid, Run, goes_on, returns_value}
 use Rattle.isl_arena.proofs.Checking.{register_here, register_beside, same_size}
 
 -- what the loop does in a turn
@@ -164,3 +172,152 @@ module _
   search_from n (c ∷ cs) rs k at turns f words =
       searched_first c cs rs k at f words n turns (λ m h.
       search_from m cs (after_turn at c rs) (k + 12 + 8 + 12 + 2 + 6 + 10 + 2) (at + 4) h (next_in_front at (length cs) c rs f) (later_words c cs rs k at f words))
+
+-- the lines that ask whether the class in a register is below the one in register 1
+abbrev pub asking : (of : ℕ) → List MidStep
+asking of =
+    steps.load 4 1 (pos 2) ∷ steps.load 3 of (pos 18) ∷ steps.compute_by 5 which.Add of 26
+    ++ steps.compute 3 which.Add 3 5 ∷ search ∷ steps.constant 5 nil_word ∷ return_word 5 ∷ []
+
+module _
+    (names : List (List ℕ)) (program : ProgramRows) (places : Places) (z : meaning.State) (y : State) (r : Represents names program places z y)
+    (procedures : List MidProcedure) (below : Task → State → Outcome)
+    where
+  -- a step returns with the word of a value, where things stand as they stood
+  step_returns :
+      {n budget k k' w : ℕ} {v : Value} {z' : meaning.State} {s : MidStep} {code : MidCode} {rs rs' : Registers}
+      → StepsTo (turning procedures below n) s rs (paid y k) (ends (returns w) rs' (paid y k')) → word_of places v ≡ Some w → Alike z z'
+      → k' + 250 * z.units ≤ budget + 250 * z'.units → Run names program places z y procedures below n budget (result v z') (step_and s code) rs k
+  step_returns {k' = k'} {w = w} {z' = z'} {rs' = rs'} g e alike cost = record {
+    outcome = ends (returns w) rs' (paid y k');
+    runs = and_ends tt g;
+    answers = record {
+      comes = done (record {
+        word = w;
+        end = refl;
+        of_value = e;
+        represents =
+            represents_same names program places z z' (paid y k') alike.store alike.symbols alike.printed alike.input
+            (represents_grown names program places z y r (paid y k') (grows_same y.arena r.arena) refl refl);
+        arena = record { size = refl; laid_from = refl; laid_to = refl; heap_from = refl; heap_to = omega arith };
+        blocks = refl;
+        kept = kept_grown names program places z y r y.arena (grows_same y.arena r.arena);
+      });
+      cost = cost;
+    };
+  }
+
+  -- The loop, and nil behind it, where a class is sought among others.
+  sought_run :
+      (n budget k at d : ℕ) (cs : List ℕ) (rs : Registers) → passed (λ c. d == c) cs ≤ n → InFront names program places z y r procedures below d at (length cs) rs
+      → WordsFrom names program places z y r procedures below d at cs → k + 32 ≤ budget
+      → Run names program places z y procedures below n budget (says (is_in d cs) (meaning.charged (passed (λ c. d == c) cs) z))
+      (code_of (search ∷ steps.constant 5 nil_word ∷ return_word 5 ∷ [])) rs k
+  sought_run n budget k at d cs rs turns f words cost = by (search_from names program places z y r procedures below d n cs rs k at turns f words)
+    where
+      by :
+          Searched names program places z y r procedures below d n cs rs k
+          → Run names program places z y procedures below n budget (says (is_in d cs) (meaning.charged (passed (λ c. d == c) cs) z))
+          (code_of (search ∷ steps.constant 5 nil_word ∷ return_word 5 ∷ [])) rs k
+      by (found_there rs' k' there steps within) =
+          rw there (step_returns steps r.fixed.true_value.of_value (alike_charged z (passed (λ c. d == c) cs)) (omega (arith, within, cost)))
+      by (not_there rs' k' there steps size within) =
+          rw there
+          (goes_on names program places z y procedures below steps
+          (goes_on names program places z y procedures below constant_falls
+          (returns_value names program places z y procedures below r (register_here rs' 5 nil_word (omega (arith, size))) refl
+          (alike_charged z (passed (λ c. d == c) cs)) (omega (arith, within, cost)))))
+
+  -- a class is below another
+  module _
+      (n budget k of w x c d : ℕ) (v u : Value) (rs : Registers) (low : of < 3) (size : length rs ≡ 8) (held : register of rs ≡ Some w)
+      (word : word_of places v ≡ Some w) (found : fetch z v ≡ Some (class_object c)) (other_held : register 1 rs ≡ Some x)
+      (other_word : word_of places u ≡ Some x) (other_found : fetch z u ≡ Some (class_object d))
+      (turns : passed (λ e. d == e) (precedence program c) ≤ n) (cost : k + 74 ≤ budget)
+      where
+    one : ObjectFound names program places z y r v w (class_object c)
+    one = object_found names program places z y r v w (class_object c) word found
+
+    other : ObjectFound names program places z y r u x (class_object d)
+    other = object_found names program places z y r u x (class_object d) other_word other_found
+
+    abbrev list : ℕ
+    list = one.spot.address + 28
+
+    abbrev count : ℕ
+    count = length (precedence program c)
+
+    bounded : list + 4 * count < 2 ^ 32
+    bounded = omega (arith, one.stands.size.words, spot_below y.arena one.spot r.arena one.spot_stands, r.arena.room, r.arena.size)
+
+    other_bounded : other.spot.address + 4 < 2 ^ 32
+    other_bounded = omega (arith, other.stands.size.words, spot_below y.arena other.spot r.arena other.spot_stands, r.arena.room, r.arena.size)
+
+    abbrev asked : Registers
+    asked = slice_set rs 4 (Some (4 * d))
+
+    abbrev counted : Registers
+    counted = slice_set asked 3 (Some (4 * count))
+
+    abbrev offset_put : Registers
+    offset_put = slice_set counted 6 (Some 26)
+
+    abbrev begun : Registers
+    begun = slice_set offset_put 5 (Some list)
+
+    abbrev in_front : Registers
+    in_front = slice_set begun 3 (Some (list + 4 * count))
+
+    asked_size : length asked ≡ 8
+    asked_size = same_size rs 4 (Some (4 * d)) size
+
+    counted_size : length counted ≡ 8
+    counted_size = same_size asked 3 (Some (4 * count)) asked_size
+
+    offset_size : length offset_put ≡ 8
+    offset_size = same_size counted 6 (Some 26) counted_size
+
+    begun_size : length begun ≡ 8
+    begun_size = same_size offset_put 5 (Some list) offset_size
+
+    -- the class is in its register as before
+    held_asked : register of asked ≡ Some w
+    held_asked = register_beside rs 4 of (Some (4 * d)) (omega arith) ∙ held
+
+    held_offset : register of offset_put ≡ Some w
+    held_offset = register_beside counted 6 of (Some 26) (omega arith) ∙ register_beside asked 3 of (Some (4 * count)) (omega arith) ∙ held_asked
+
+    -- and the number of its classes
+    count_there : register 3 begun ≡ Some (4 * count)
+    count_there =
+        register_beside offset_put 5 3 (Some list) (omega arith) ∙ register_beside counted 6 3 (Some 26) (omega arith)
+        ∙ register_here asked 3 (4 * count) (omega (arith, asked_size))
+
+    ready : InFront names program places z y r procedures below d list count in_front
+    ready = record {
+      size = same_size begun 3 (Some (list + 4 * count)) begun_size;
+      next = register_beside begun 3 5 (Some (list + 4 * count)) (omega arith) ∙ register_here offset_put 5 list (omega (arith, offset_size));
+      end = register_here begun 3 (list + 4 * count) (omega (arith, begun_size));
+      sought =
+          register_beside begun 3 4 (Some (list + 4 * count)) (omega arith) ∙ register_beside offset_put 5 4 (Some list) (omega arith)
+          ∙ register_beside counted 6 4 (Some 26) (omega arith) ∙ register_beside asked 3 4 (Some (4 * count)) (omega arith)
+          ∙ register_here rs 4 (4 * d) (omega (arith, size));
+      bounded = bounded;
+    }
+
+    asking_run :
+        Run names program places z y procedures below n budget (says (is_below program c d) (meaning.charged (passed (λ e. d == e) (precedence program c)) z))
+        (code_of (asking of)) rs k
+    asking_run =
+        let begin : sum32 w 26 ≡ list = omega (arith, one.word, bounded) in
+        let end : sum32 (4 * count) list ≡ list + 4 * count = omega (arith, bounded) in
+        goes_on names program places z y procedures below
+        (load_falls other_held (address_above x 2 (other.spot.address + 4) (omega (arith, other.word)) other_bounded) other.stands.number)
+        (goes_on names program places z y procedures below
+        (load_falls held_asked (address_above w 18 (one.spot.address + 20) (omega (arith, one.word)) (omega (arith, bounded))) one.stands.above)
+        (goes_on names program places z y procedures below constant_falls
+        (goes_on names program places z y procedures below
+        (compute_known held_offset (register_here counted 6 26 (omega (arith, counted_size))) begin)
+        (goes_on names program places z y procedures below
+        (compute_known count_there (register_here offset_put 5 list (omega (arith, offset_size))) end)
+        (sought_run n budget (k + 8 + 8 + 6 + 10 + 10) list d (precedence program c) in_front turns ready one.stands.classes (omega (arith, cost)))))))
