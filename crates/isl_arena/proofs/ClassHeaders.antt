@@ -13,27 +13,28 @@ use Rattle.isl_mid.specs.Words.{compares, shift_left}
 use Rattle.isl_mid.specs.MidCode.{MidStep, choose, MidCode, no_step, step_and, code_of}
 use Rattle.isl_mid.specs.State.{Registers, State, Outcome, falls, ends, register}
 use Rattle.isl_mid.specs.Meaning.{Task}
-use Rattle.isl_arena.specs.Tags.{class_header, string_header, vector_header, function_header, generic_header, symbol_header}
+use Rattle.isl_arena.specs.Tags.{class_header, string_header, vector_header, function_header, generic_header, input_header, output_header, symbol_header, fresh_header}
 use Rattle.isl_arena.specs.Places.{Places, word_of}
 use Rattle.isl_arena.specs.FixedWords.{class_address}
 use Rattle.isl_arena.specs.Represents.{Represents}
 use Rattle.isl_arena.specs.Steps as steps
 use Rattle.isl_arena.specs.Steps.{class_by_header, class_of_object}
 use Rattle.isl_arena.proofs.WordFacts.{low_four_bits_tested}
-use Rattle.isl_arena.proofs.Running.{RunsTo, StepsTo, turning, none_left, and_then, constant_falls, compute_falls, load_falls, choose_first_falls, choose_second_falls, address_up, address_above, address_below}
+use Rattle.isl_arena.proofs.Running.{RunsTo, StepsTo, turning, none_left, and_then, constant_falls, compute_falls, load_falls, choose_first_falls, choose_second_falls, address_up}
+use Rattle.isl_arena.proofs.Running.{address_above, address_below}
 use Rattle.isl_arena.proofs.Doing.{paid}
 use Rattle.isl_arena.proofs.Checking.{register_here, register_beside, same_size}
 
 -- a header of an object that is no class and no instance, or of a symbol, with the number of the class
 pub data KindHeader : (header class : ℕ) → Type 0 where
-  of_string : KindHeader 1 4
-  of_vector : KindHeader 2 3
-  of_function : KindHeader 4 6
-  of_generic : KindHeader 5 7
-  of_input : KindHeader 7 14
-  of_output : KindHeader 8 14
-  of_symbol : KindHeader 9 10
-  of_fresh : KindHeader 10 10
+  of_string : KindHeader string_header string_class
+  of_vector : KindHeader vector_header vector_class
+  of_function : KindHeader function_header function_class
+  of_generic : KindHeader generic_header generic_function_class
+  of_input : KindHeader input_header stream_class
+  of_output : KindHeader output_header stream_class
+  of_symbol : KindHeader symbol_header symbol_class
+  of_fresh : KindHeader fresh_header symbol_class
 
 -- Where the class of a value is sought: a represented state, how a run goes on, the registers at its beginning, of which one of the first has
 -- the word of the value, and the one where the word of the class is to come.
@@ -50,9 +51,7 @@ pub record Seeking (names : List (List ℕ)) (program : ProgramRows) (places : P
   pub start : Registers
   pub held : register of start ≡ Some word
 
-module _
-    {names : List (List ℕ)} {program : ProgramRows} {places : Places} {z : meaning.State} {y : State} (here : Seeking names program places z y)
-    where
+module _ {names : List (List ℕ)} {program : ProgramRows} {places : Places} {z : meaning.State} {y : State} (here : Seeking names program places z y) where
   -- Registers on the way: those of the arguments are as they were, 0 is in register 5, and that word is in register 7.
   pub record OnTheWay (seventh : ℕ) (rs : Registers) : Type 0 where
     pub size : length rs ≡ 8
@@ -246,7 +245,9 @@ module _
       (finds_otherwise 7 function_header function_class behind_function (six _ (six _ o)) (six _ (six _ (six _ o))).seven no_function
       (finds_behind_function kind high (six _ (six _ (six _ o))))))
 
-  finds_kind : {h class k : ℕ} {rs : Registers} → KindHeader h class → OnTheWay h rs → Finds class (code_of (steps.class_where here.to 7 string_header (pos (class_address string_class)) behind_string)) rs k 108
+  finds_kind :
+      {h class k : ℕ} {rs : Registers} → KindHeader h class → OnTheWay h rs
+      → Finds class (code_of (steps.class_where here.to 7 string_header (pos (class_address string_class)) behind_string)) rs k 108
   finds_kind of_string o = finds_within (finds_where 7 string_header string_class behind_string o (six _ o).seven (omega arith) refl) (omega arith)
   finds_kind of_vector o =
       finds_within (finds_otherwise 7 string_header string_class behind_string o (six _ o).seven refl
@@ -262,7 +263,9 @@ module _
   finds_kind of_fresh o = finds_higher of_fresh (omega arith) refl refl refl o
 
   -- of an object that is no class and no instance, or of a symbol
-  pub finds_by_header : {h class k : ℕ} {rs : Registers} → KindHeader h class → (h == class_header) ≡ false → OnTheWay h rs → Finds class (code_of (class_by_header here.to here.of)) rs k 128
+  pub finds_by_header :
+      {h class k : ℕ} {rs : Registers} → KindHeader h class → (h == class_header) ≡ false → OnTheWay h rs
+      → Finds class (code_of (class_by_header here.to here.of)) rs k 128
   unfolding class_by_header
   finds_by_header kind no_class o = finds_within (finds_after 6 constant_falls (finds_second (six _ o).seven (six_there _ o) no_class (finds_kind kind (six _ o)))) (omega arith)
 
@@ -273,7 +276,8 @@ module _
   unfolding class_by_header
   finds_of_class {k = k} {rs = rs} c bounded at o =
       finds_within (finds_after 6 constant_falls (finds_first (six _ o).seven (six_there _ o) refl
-      (finds_after 8 (load_falls ((six _ o).others here.of here.of_low ∙ here.held) (address_up here.word 2 bounded) at) (by (nat_le c 16) refl (seven_put (4 * c) (six _ o)))))) (omega arith)
+      (finds_after 8 (load_falls ((six _ o).others here.of here.of_low ∙ here.held) (address_up here.word 2 bounded) at)
+      (by (nat_le c 16) refl (seven_put (4 * c) (six _ o)))))) (omega arith)
     where
       tested : nat_lt (4 * c) (4 * 17) ≡ nat_le c 16
       tested = grind (arith, nat_tests)

@@ -4,42 +4,38 @@ use Rattle.std.specs.Prelude.{◌==◌, nat_le, slice_get, slice_set, if◌then�
 use Rattle.std.proofs.lemmas.Bool.Decides.{nat_tests}
 use Rattle.isl_meaning.specs.declared.program.ProgramRows.{ProgramRows}
 use Rattle.isl_meaning.specs.declared.primitive.Primitive.TheVariants.{ClassOf}
-use Rattle.isl_meaning.specs.Objects.{Object, cons, string, vector, instance, function, closure, generic_function, class_object, input_stream, output_stream, fresh_symbol}
-use Rattle.isl_meaning.specs.Objects.{character_class, cons_class, null_class, integer_class, built_in_class_class, standard_class_class}
+use Rattle.isl_meaning.specs.Objects.{Object, cons, string, vector, instance, function, closure, generic_function, class_object, input_stream, output_stream, fresh_symbol, character_class}
+use Rattle.isl_meaning.specs.Objects.{cons_class, null_class, integer_class, built_in_class_class, standard_class_class}
 use Rattle.isl_meaning.specs.State as meaning
+use Rattle.isl_meaning.specs.Values.{named, unnamed, Value, integer, character, symbol, nil, object}
+use Rattle.isl_meaning.specs.Classes.{class_of, class_of_object as class_of_stored}
 use Rattle.isl_mid.specs.declared.operation.Comparison.TheVariants.{Equal}
 use Rattle.isl_mid.specs.Arena.{word_at}
 use Rattle.isl_mid.specs.Words.{shift_left}
 use Rattle.isl_mid.specs.MidCode.{return_word, MidStep, code_of}
 use Rattle.isl_mid.specs.State.{first_registers, Registers, State, register}
-use Rattle.isl_arena.specs.Tags.{nil_word, class_header}
-use Rattle.isl_meaning.specs.Values.{named, unnamed}
-use Rattle.isl_meaning.specs.Classes.{class_of}
-use Rattle.isl_meaning.specs.Classes.{class_of_object as class_of_stored}
-use Rattle.isl_arena.specs.Tags.{tag_of}
+use Rattle.isl_arena.specs.Tags.{nil_word, class_header, tag_of}
 use Rattle.isl_arena.specs.Places.{Spot, Places, word_of}
 use Rattle.isl_arena.specs.Standing.{SpotStands}
 use Rattle.isl_arena.specs.Layouts.{ObjectAt}
-use Rattle.isl_arena.proofs.Keeping.{header_of}
-use Rattle.isl_arena.proofs.Growing.{spot_below}
 use Rattle.isl_arena.specs.FixedWords.{class_address}
 use Rattle.isl_arena.specs.Answers.{IsPrimitive}
 use Rattle.isl_arena.specs.Codes.{procedure_of}
 use Rattle.isl_arena.specs.Steps as steps
 use Rattle.isl_arena.specs.Steps.{class_of_object, class_word}
-use Rattle.isl_meaning.specs.Values.{Value, integer, character, symbol, nil, object}
+use Rattle.isl_arena.proofs.Keeping.{header_of}
+use Rattle.isl_arena.proofs.Growing.{spot_below}
 use Rattle.isl_arena.proofs.WordFacts.{tag_tested}
 use Rattle.isl_arena.proofs.Arguments.{character_word_is, tag_in, header_in, value_tag, value_header, tag_told, header_told, word_told, object_there, object_found}
 use Rattle.isl_arena.proofs.Running.{constant_falls, compute_falls}
 use Rattle.isl_arena.proofs.Doing.{alike_self, part_then, returns_value}
 use Rattle.isl_arena.proofs.ByArity.{does_one}
-use Rattle.isl_arena.proofs.ClassHeaders.{KindHeader, of_string, of_vector, of_function, of_generic, of_input, of_output, of_symbol, of_fresh, Seeking, OnTheWay, Finds, finds_within, finds_after, finds_first, finds_second, six}
-use Rattle.isl_arena.proofs.ClassHeaders.{six_there, finds_fixed, finds_where, finds_otherwise, finds_by_header, finds_of_class, finds_of_instance, finds_of_other}
+use Rattle.isl_arena.proofs.ClassHeaders.{KindHeader, of_string, of_vector, of_function, of_generic, of_input, of_output, of_symbol, of_fresh, Seeking, OnTheWay, Finds, finds_within}
+use Rattle.isl_arena.proofs.ClassHeaders.{finds_after, finds_first, finds_second, six, six_there, finds_fixed, finds_where, finds_otherwise, finds_by_header, finds_of_class}
+use Rattle.isl_arena.proofs.ClassHeaders.{finds_of_instance, finds_of_other}
 use Rattle.isl_arena.proofs.Checking.{register_here, register_beside, same_size}
 
-module _
-    {names : List (List ℕ)} {program : ProgramRows} {places : Places} {z : meaning.State} {y : State} (here : Seeking names program places z y)
-    where
+module _ {names : List (List ℕ)} {program : ProgramRows} {places : Places} {z : meaning.State} {y : State} (here : Seeking names program places z y) where
   -- ---- by the tag
 
   -- the code behind that of integers, behind that of conses, and behind that of objects
@@ -196,8 +192,8 @@ module _
       let tag = tag_told names program places z y here.represents (character c) here.word e in
       let at = character_word_is places c here.word e in
       finds_other (character c) e o refl (λ u k rs p.
-      finds_within here (finds_otherwise here here.of nil_word null_class (steps.fixed_class here.to (pos (class_address character_class))) p ((six here _ p).others here.of here.of_low ∙ here.held)
-      (character_not_nil c here.word at.1) (finds_fixed here character_class (six here _ p) (omega arith))) (omega arith))
+      finds_within here (finds_otherwise here here.of nil_word null_class (steps.fixed_class here.to (pos (class_address character_class))) p
+      ((six here _ p).others here.of here.of_low ∙ here.held) (character_not_nil c here.word at.1) (finds_fixed here character_class (six here _ p) (omega arith))) (omega arith))
   finds_value (symbol (named name)) e o = finds_by_kind (symbol (named name)) e refl refl of_symbol refl refl o
   finds_value (symbol (unnamed expansion serial)) e o = finds_by_kind (symbol (unnamed expansion serial)) e refl refl of_fresh refl refl o
   finds_value nil e o =

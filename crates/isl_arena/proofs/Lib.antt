@@ -33,3 +33,4 @@ pub mod ClassesThere
 pub mod ClassHeaders
 pub mod ClassWords
 pub mod ClassSearch
+pub mod Subclasses
