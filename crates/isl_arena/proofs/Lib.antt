@@ -30,6 +30,7 @@ pub mod Predicates
 pub mod Arrays
 pub mod VectorElements
 pub mod ClassesThere
+pub mod ClassesKept
 pub mod ClassHeaders
 pub mod ClassWords
 pub mod ClassSearch
