@@ -13,27 +13,29 @@ use Rattle.isl_meaning.specs.Lookup.{passed}
 use Rattle.isl_meaning.specs.Classes.{class_of, class_of_object, fetch, precedence, is_below}
 use Rattle.isl_meaning.specs.Layout.{class_value}
 use Rattle.isl_meaning.specs.Primitives.{result, says, a_class, class_name, primitive}
-use Rattle.isl_mid.specs.MidCode.{return_word}
-use Rattle.isl_mid.specs.State.{State, first_registers}
+use Rattle.isl_mid.specs.declared.program.MidProcedure.{MidProcedure}
+use Rattle.isl_mid.specs.MidCode.{return_word, code_of}
+use Rattle.isl_mid.specs.State.{State, Outcome, first_registers}
+use Rattle.isl_mid.specs.Meaning.{Task}
 use Rattle.isl_arena.specs.Tags.{class_header}
-use Rattle.isl_arena.specs.Places.{Places}
+use Rattle.isl_arena.specs.Places.{Places, word_of}
 use Rattle.isl_arena.specs.FixedWords.{class_address}
 use Rattle.isl_arena.specs.Represents.{Represents}
 use Rattle.isl_arena.specs.Answers.{units_after, IsPrimitive}
-use Rattle.isl_arena.specs.Codes.{procedure_of}
+use Rattle.isl_arena.specs.Codes.{code_of_primitive, procedure_of}
 use Rattle.isl_arena.specs.Steps as steps
 use Rattle.isl_arena.specs.Steps.{class_word}
 use Rattle.isl_arena.proofs.Running.{load_falls, address_above}
 use Rattle.isl_arena.proofs.Growing.{spot_below}
 use Rattle.isl_arena.proofs.BuiltInFacts.{built_in_row}
 use Rattle.isl_arena.proofs.Arguments.{object_found}
-use Rattle.isl_arena.proofs.Doing.{alike_self, goes_on, returns_value, part_then}
+use Rattle.isl_arena.proofs.Doing.{alike_self, Run, goes_on, returns_value, part_then}
 use Rattle.isl_arena.proofs.Checking.{header_registers}
 use Rattle.isl_arena.proofs.Needing.{class_needed}
 use Rattle.isl_arena.proofs.ByArity.{does_one}
 use Rattle.isl_arena.proofs.Arrays.{does_two}
 use Rattle.isl_arena.proofs.ClassesThere.{ClassesThere}
-use Rattle.isl_arena.proofs.ClassHeaders.{Seeking}
+use Rattle.isl_arena.proofs.ClassHeaders.{Seeking, Finds}
 use Rattle.isl_arena.proofs.ClassWords.{class_found}
 use Rattle.isl_arena.proofs.ClassSearch.{asking, asking_run}
 
@@ -109,14 +111,25 @@ class_known names program z built_in there v = by v
     by nil = known null_class (omega arith)
     by (object i) = of_stored i (slice_get z.store i) refl
 
-pub is_instance_does :
-    ((names : List (List ℕ)) (program : ProgramRows) (places : Places) (z : meaning.State) (y : State) → Represents names program places z y
-    → ClassesThere names program z) → IsPrimitive IsInstance (procedure_of IsInstance)
-is_instance_does classes = does_two IsInstance refl (λ v u w x names program places z y procedures below n r are units.
+-- In a state where the class objects are there, the code of the primitive comes to its answer.
+pub is_instance_run :
+    (names : List (List ℕ)) (program : ProgramRows) (places : Places) (z : meaning.State) (y : State) (procedures : List MidProcedure)
+    (below : Task → State → Outcome) (n w x : ℕ) (v u : Value)
+    → Represents names program places z y → ClassesThere names program z → word_of places v ≡ Some w → word_of places u ≡ Some x
+    → units_after names program (primitive names program IsInstance (v ∷ u ∷ []) z) ≤ z.units + n
+    → Run names program places z y procedures below n (y.cost + 130 + 244 * 2) (primitive names program IsInstance (v ∷ u ∷ []) z)
+    (code_of (code_of_primitive IsInstance)) (first_registers 8 (w ∷ x ∷ [])) y.cost
+is_instance_run names program places z y procedures below n w x v u r there word other_word units =
     class_needed names program places z y r procedures below n (y.cost + 130 + 244 * 2) y.cost 1 x u
     (λ d. says (is_below program (class_of z v) d) (meaning.charged (passed (λ e. d == e) (precedence program (class_of z v))) z)) (class_word 2 0 ++ asking 2)
-    (first_registers 8 (w ∷ x ∷ [])) (omega arith) refl refl are.1.0 (omega arith) (λ d other.
-    let here : Seeking names program places z y = record {
+    (first_registers 8 (w ∷ x ∷ [])) (omega arith) refl refl other_word (omega arith) (λ d other.
+    part_then names program places z y procedures below (class_word 2 0) (asking 2) class.runs
+    (asking_run names program places z y r procedures below n (y.cost + 130 + 244 * 2) class.cost 2 class.word x (class_of z v) d (class_value names program (class_of z v)) u
+    class.registers (omega arith) class.size class.there class.of_class (there.objects (class_of z v) (class_known names program z r.built_in there v))
+    (class.others 1 (omega arith) (λ e. omega (arith, e))) other_word other (instance_turns names program z v u d n other units) (omega (arith, class.within))))
+  where
+    here : Seeking names program places z y
+    here = record {
       represents = r;
       procedures = procedures;
       below = below;
@@ -128,10 +141,14 @@ is_instance_does classes = does_two IsInstance refl (λ v u w x names program pl
       word = w;
       start = header_registers x class_header class_header 1 (first_registers 8 (w ∷ x ∷ []));
       held = refl;
-    } in
-    let f = class_found here {k = class_tested y.cost} v are.0 refl in
-    let there = classes names program places z y r in
-    part_then names program places z y procedures below (class_word 2 0) (asking 2) f.runs
-    (asking_run names program places z y r procedures below n (y.cost + 130 + 244 * 2) f.cost 2 f.word x (class_of z v) d (class_value names program (class_of z v)) u
-    f.registers (omega arith) f.size f.there f.of_class (there.objects (class_of z v) (class_known names program z r.built_in there v))
-    (f.others 1 (omega arith) (λ e. omega (arith, e))) are.1.0 other (instance_turns names program z v u d n other units) (omega (arith, f.within)))))
+    }
+
+    class : Finds here (class_of z v) (code_of (class_word 2 0)) here.start (class_tested y.cost) 254
+    class = class_found here v word refl
+
+-- so it does what it has to where the class objects are there in each represented state
+pub is_instance_does :
+    ((names : List (List ℕ)) (program : ProgramRows) (places : Places) (z : meaning.State) (y : State) → Represents names program places z y
+    → ClassesThere names program z) → IsPrimitive IsInstance (procedure_of IsInstance)
+is_instance_does classes = does_two IsInstance refl (λ v u w x names program places z y procedures below n r are units.
+    is_instance_run names program places z y procedures below n w x v u r (classes names program places z y r) are.0 are.1.0 units)
