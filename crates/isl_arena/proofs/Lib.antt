@@ -40,3 +40,10 @@ pub mod Division
 pub mod CharacterCodes
 pub mod Streams
 pub mod Printing
+pub mod ByArity
+pub mod ClassesThere
+pub mod ClassesKept
+pub mod ClassHeaders
+pub mod ClassWords
+pub mod ClassSearch
+pub mod Subclasses
