@@ -29,7 +29,7 @@ use Rattle.isl_arena.proofs.WordFacts.{tag_tested}
 use Rattle.isl_arena.proofs.Arguments.{character_word_is, tag_in, header_in, value_tag, value_header, tag_told, header_told, word_told, object_there, object_found}
 use Rattle.isl_arena.proofs.Running.{constant_falls, compute_falls}
 use Rattle.isl_arena.proofs.Doing.{alike_self, part_then, returns_value}
-use Rattle.isl_arena.proofs.ByArity.{does_one}
+use Rattle.isl_arena.proofs.Taking.{does_one}
 use Rattle.isl_arena.proofs.ClassHeaders.{KindHeader, of_string, of_vector, of_function, of_generic, of_input, of_output, of_symbol, of_fresh, Seeking, OnTheWay, Finds, finds_within}
 use Rattle.isl_arena.proofs.ClassHeaders.{finds_after, finds_first, finds_second, six, six_there, finds_fixed, finds_where, finds_otherwise, finds_by_header, finds_of_class}
 use Rattle.isl_arena.proofs.ClassHeaders.{finds_of_instance, finds_of_other}

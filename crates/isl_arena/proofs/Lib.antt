@@ -40,7 +40,6 @@ pub mod Division
 pub mod CharacterCodes
 pub mod Streams
 pub mod Printing
-pub mod ByArity
 pub mod ClassesThere
 pub mod ClassesKept
 pub mod ClassHeaders

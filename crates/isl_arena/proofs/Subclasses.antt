@@ -32,7 +32,7 @@ use Rattle.isl_arena.proofs.Arguments.{object_found}
 use Rattle.isl_arena.proofs.Doing.{alike_self, Run, goes_on, returns_value, part_then}
 use Rattle.isl_arena.proofs.Checking.{header_registers}
 use Rattle.isl_arena.proofs.Needing.{class_needed}
-use Rattle.isl_arena.proofs.ByArity.{does_one}
+use Rattle.isl_arena.proofs.Taking.{does_one}
 use Rattle.isl_arena.proofs.Arrays.{does_two}
 use Rattle.isl_arena.proofs.ClassesThere.{ClassesThere}
 use Rattle.isl_arena.proofs.ClassHeaders.{Seeking, Finds}
