@@ -113,7 +113,7 @@ module _ (names : List (List ℕ)) (program : ProgramRows) (places : Places) (z 
         (s.others of (omega arith) ∙ held) word class (alike_self z) cost
 
     -- the registers where the tag is tested
-    tag_scratched : (bits : ℕ) → Scratched rs (tag_registers w bits rs)
+    pub tag_scratched : (bits : ℕ) → Scratched rs (tag_registers w bits rs)
     tag_scratched bits = scratched_six _ _ _ (scratched_seven _ _ _ (scratched_six _ _ _ (not_scratched rs size)))
 
     -- the tag is that one
@@ -144,7 +144,7 @@ module _ (names : List (List ℕ)) (program : ProgramRows) (places : Places) (z 
         (errs budget (k + 6 + 10 + 6 + 12) (tag_registers w bits rs) (tag_scratched bits) (omega (arith, cost))))))
 
     -- the header of what has the tag of objects is loaded
-    header_loaded :
+    pub header_loaded :
         (h k : ℕ) → (w % 4 == 2) ≡ true → word_at y.arena (w - 2) ≡ Some h
         → StepsTo (turning procedures below n) (steps.load 7 of (negsuc 1)) (tag_registers w (2 ^ 31) rs) (paid y k)
         (ends falls (slice_set (tag_registers w (2 ^ 31) rs) 7 (Some h)) (paid y (k + 8)))

@@ -28,8 +28,7 @@ use Rattle.isl_arena.proofs.Memory.{words_stand}
 use Rattle.isl_arena.proofs.Keeping.{same_word, words_extended, words_of_condition, words_at_least, extends_one}
 use Rattle.isl_arena.proofs.Growing.{Grows, grows_same, Changes, spot_below}
 use Rattle.isl_arena.proofs.Owners.{new_spot_found}
-use Rattle.isl_arena.proofs.Representing.{fixed_spot, fixed_stands, represents_same, represents_grown, represents_made, kept_both}
-use Rattle.isl_arena.proofs.Representing.{kept_same, kept_made, kept_grown, kept_fixed}
+use Rattle.isl_arena.proofs.Representing.{fixed_spot, fixed_stands, represents_same, represents_grown, represents_made, kept_both, kept_same, kept_made, kept_grown, kept_fixed}
 use Rattle.isl_arena.proofs.FixedChanges.{one_word, represents_pending, word_of_fixed}
 use Rattle.isl_arena.proofs.Doing.{Alike, Answers, paid}
 

@@ -12,19 +12,22 @@ use Rattle.isl_mid.specs.declared.program.MidProcedure.{MidProcedure}
 use Rattle.isl_mid.specs.Arena.{word_at}
 use Rattle.isl_mid.specs.Words.{shift_left, difference32}
 use Rattle.isl_mid.specs.MidCode.{MidStep, code_of}
-use Rattle.isl_mid.specs.State.{Registers, State, Outcome, register}
+use Rattle.isl_mid.specs.State.{Registers, State, Outcome, falls, ends, register}
 use Rattle.isl_mid.specs.Meaning.{Task}
-use Rattle.isl_arena.specs.Tags.{string_header, vector_header, class_header, input_header, output_header}
+use Rattle.isl_arena.specs.Tags.{instance_header, string_header, vector_header, class_header, input_header, output_header}
 use Rattle.isl_arena.specs.Places.{Places, word_of}
 use Rattle.isl_arena.specs.FixedWords.{class_address}
 use Rattle.isl_arena.specs.Represents.{Represents}
 use Rattle.isl_arena.specs.Steps as steps
+use Rattle.isl_arena.specs.Steps.{steps_of}
+use Rattle.isl_arena.specs.declared.line.Line.TheVariants as line
 use Rattle.isl_arena.proofs.Keeping.{header_of}
-use Rattle.isl_arena.proofs.WordFacts.{header_tested, two_headers_tested}
-use Rattle.isl_arena.proofs.HeaderKinds.{stream_of}
-use Rattle.isl_arena.proofs.Telling.{FoundByHeader, found_kind, found_other_kind, found_other_tag, string_told, vector_told, class_told, stream_told}
-use Rattle.isl_arena.proofs.Doing.{Run, part_then, part_answers}
-use Rattle.isl_arena.proofs.Checking.{header_registers, header_passes, header_errs, header_errs_by_tag, header_bounded}
+use Rattle.isl_arena.proofs.WordFacts.{tag_tested, low_four_bits_tested, header_tested, two_headers_tested}
+use Rattle.isl_arena.proofs.HeaderKinds.{instance_of, stream_of}
+use Rattle.isl_arena.proofs.Telling.{FoundByHeader, found_kind, found_other_kind, found_other_tag, string_told, vector_told, class_told, instance_told, stream_told}
+use Rattle.isl_arena.proofs.Doing.{Run, goes_on, second_answers, part_then, part_answers, paid}
+use Rattle.isl_arena.proofs.Checking.{tag_registers, header_registers, instance_registers, Scratched, scratched_six, scratched_seven, six_here, seven_behind_six, errs, tag_scratched, tag_passes, tag_errs, header_loaded, header_passes, header_errs, header_errs_by_tag, header_bounded}
+use Rattle.isl_arena.proofs.Running.{RunsTo, turning, none_left, and_then, parts_then, constant_falls, compute_falls, choose_first_falls}
 
 module _
     (names : List (List ℕ)) (program : ProgramRows) (places : Places) (z : meaning.State) (y : State) (r : Represents names program places z y)
@@ -107,3 +110,75 @@ module _
       kind_needed as_stream stream_of (λ h. h == input_header || h == output_header) input_header 2 stream_class
       (λ h g. two_headers_tested h input_header g (omega arith)) (omega arith)
       n budget k of w v next rest rs low size held word (stream_told names program places z y r v w word) cost more
+
+  -- An instance, of which the lowest four bits of the header tell: or it is a domain error of that class.
+  module _
+      (n of w expected : ℕ) (v : Value) (rs : Registers) (low : of < 3) (size : length rs ≡ 8) (held : register of rs ≡ Some w)
+      (word : word_of places v ≡ Some w) (class : expected < 34)
+      where
+    abbrev need_instance : List MidStep
+    need_instance = steps_of (line.NeedInstance of (pos (class_address expected)))
+
+    -- what the test of the bits does, behind that of the tag
+    module _ (h k : ℕ) (tag : (w % 4 == 2) ≡ true) (at : word_at y.arena (w - 2) ≡ Some h) where
+      loaded : Scratched rs (slice_set (tag_registers w (2 ^ 31) rs) 7 (Some h))
+      loaded = scratched_seven _ _ _ (tag_scratched names program places z y r procedures below n of w expected v rs low size held word class (2 ^ 31))
+
+      put : Scratched rs (slice_set (slice_set (tag_registers w (2 ^ 31) rs) 7 (Some h)) 6 (Some 28))
+      put = scratched_six _ _ _ loaded
+
+      shifted : Scratched rs (slice_set (slice_set (slice_set (tag_registers w (2 ^ 31) rs) 7 (Some h)) 6 (Some 28)) 7 (Some (shift_left h 28)))
+      shifted = scratched_seven _ _ _ put
+
+      pub instance_passes :
+          (h % 16 == 3) ≡ true
+          → RunsTo (turning procedures below n) (code_of need_instance) rs (paid y k)
+          (ends falls (instance_registers w h rs) (paid y (k + 6 + 10 + 6 + 12 + 2 + 8 + 6 + 10 + 6 + 12 + 2)))
+      instance_passes e =
+          parts_then (steps.need_tag of (2 ^ 31) (pos (class_address expected))) (steps.need_instance_of of (pos (class_address expected)))
+          (tag_passes names program places z y r procedures below n of w expected v rs low size held word class (2 ^ 31) k (tag_tested w 2 ∙ tag))
+          (and_then (header_loaded names program places z y r procedures below n of w expected v rs low size held word class h (k + 6 + 10 + 6 + 12 + 2) tag at)
+          (and_then constant_falls
+          (and_then (compute_falls (seven_behind_six (tag_registers w (2 ^ 31) rs) h 28 (tag_scratched names program places z y r procedures below n of w expected v rs low size held word class (2 ^ 31)).size) (six_here _ 28 loaded.size))
+          (and_then constant_falls
+          (and_then (choose_first_falls (seven_behind_six _ (shift_left h 28) (3 * 2 ^ 28) put.size) (six_here _ (3 * 2 ^ 28) shifted.size) (low_four_bits_tested h 3 ∙ e) none_left) none_left)))))
+
+      pub instance_errs :
+          (budget : ℕ) → (h % 16 == 3) ≡ false → k + 250 + 250 * z.units ≤ budget + 250 * (z.units + 5)
+          → Run names program places z y procedures below n budget (domain_error v expected z) (code_of need_instance) rs k
+      instance_errs budget e cost =
+          part_then names program places z y procedures below (steps.need_tag of (2 ^ 31) (pos (class_address expected))) (steps.need_instance_of of (pos (class_address expected)))
+          (tag_passes names program places z y r procedures below n of w expected v rs low size held word class (2 ^ 31) k (tag_tested w 2 ∙ tag))
+          (goes_on names program places z y procedures below
+          (header_loaded names program places z y r procedures below n of w expected v rs low size held word class h (k + 6 + 10 + 6 + 12 + 2) tag at)
+          (goes_on names program places z y procedures below constant_falls
+          (goes_on names program places z y procedures below
+          (compute_falls (seven_behind_six (tag_registers w (2 ^ 31) rs) h 28 (tag_scratched names program places z y r procedures below n of w expected v rs low size held word class (2 ^ 31)).size) (six_here _ 28 loaded.size))
+          (goes_on names program places z y procedures below constant_falls
+          (second_answers names program places z y procedures below (seven_behind_six _ (shift_left h 28) (3 * 2 ^ 28) put.size) (six_here _ (3 * 2 ^ 28) shifted.size)
+          (low_four_bits_tested h 3 ∙ e)
+          (errs names program places z y r procedures below n of w expected v rs low size held word class budget _ (instance_registers w h rs) (scratched_six _ _ _ shifted)
+          (omega (arith, cost))))))))
+
+    pub instance_needed :
+        (budget k : ℕ) (next : ℕ × List (Option Value) × Value → Answer) (rest : List MidStep) → k + 250 + 250 * z.units ≤ budget + 250 * (z.units + 5)
+        → ((c : ℕ) (values : List (Option Value)) (mark : Value) → fetch z v ≡ Some (instance c values mark)
+        → Run names program places z y procedures below n budget (next (c, values, mark)) (code_of rest) (instance_registers w (instance_header (length values)) rs)
+        (k + 6 + 10 + 6 + 12 + 2 + 8 + 6 + 10 + 6 + 12 + 2))
+        → Run names program places z y procedures below n budget (needs (as_instance (fetch z v)) (domain_error v expected z) next) (code_of (need_instance ++ rest)) rs k
+    instance_needed budget k next rest cost more = by (instance_told names program places z y r v w word)
+      where
+        by :
+            FoundByHeader as_instance instance_of (λ h. h % 16 == 3) y.arena (fetch z v) w
+            → Run names program places z y procedures below n budget (needs (as_instance (fetch z v)) (domain_error v expected z) next) (code_of (need_instance ++ rest)) rs k
+        by (found_kind i same found tag at kind) =
+            rw found
+            (part_then names program places z y procedures below need_instance rest (instance_passes (instance_header (length i.1)) k tag at kind)
+            (more i.0 i.1 i.2 same))
+        by (found_other_kind h none tag at kind) =
+            rw none (part_answers names program places z y procedures below need_instance rest (instance_errs h k tag at budget kind cost))
+        by (found_other_tag none tag) =
+            rw none
+            (part_answers names program places z y procedures below need_instance rest
+            (part_answers names program places z y procedures below (steps.need_tag of (2 ^ 31) (pos (class_address expected))) (steps.need_instance_of of (pos (class_address expected)))
+            (tag_errs names program places z y r procedures below n of w expected v rs low size held word class (2 ^ 31) budget k (tag_tested w 2 ∙ tag) (omega (arith, cost)))))

@@ -75,6 +75,12 @@ need_header_of of header count class =
     load 7 of (negsuc 1) ∷ compute_by 7 which.Subtract 7 header
     ++ constant 6 count ∷ either (comparing LessUnsigned 7 6) [] (domain_error of class) ∷ []
 
+-- the lowest four bits of its header are those of an instance
+abbrev pub need_instance_of : (of : ℕ) → (class : ℤ) → List MidStep
+need_instance_of of class =
+    load 7 of (negsuc 1) ∷ compute_by 7 which.ShiftLeft 7 28
+    ++ constant 6 (instance_header 0 * 2 ^ 28) ∷ either (comparing Equal 7 6) [] (domain_error of class) ∷ []
+
 unfoldable pub need_header : (of header count : ℕ) → (class : ℤ) → List MidStep
 need_header of header count class = need_tag of (2 ^ 31) class ++ need_header_of of header count class
 
@@ -145,9 +151,7 @@ steps_of (line.NeedCharacter of) =
     compute_by 7 which.ShiftLeft of 24 ++ constant 6 (15 * 2 ^ 24)
     ∷ either (comparing Equal 7 6) [] (domain_error of (at character_class)) ∷ []
 steps_of (line.NeedHeader of header count class) = need_header of header count class
-steps_of (line.NeedInstance of class) =
-    need_tag of (2 ^ 31) class ++ load 7 of (negsuc 1) ∷ compute_by 7 which.ShiftLeft 7 28
-    ++ constant 6 (instance_header 0 * 2 ^ 28) ∷ either (comparing Equal 7 6) [] (domain_error of class) ∷ []
+steps_of (line.NeedInstance of class) = need_tag of (2 ^ 31) class ++ need_instance_of of class
 steps_of (line.NeedSymbol of) =
     constant 6 nil_word ∷ either (comparing Equal of 6) [] (need_header of symbol_header 2 (at symbol_class)) ∷ []
 steps_of (line.NeedTest test of class) = either test [] (domain_error of class) ∷ []
