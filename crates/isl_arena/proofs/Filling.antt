@@ -1,16 +1,15 @@
 -- The loop that stores the same word again and again: with a turn for each word, it falls out where all were stored.
-use Rattle.std.proofs.Common.{◌≡◌, ℕ, zero, suc, ◌+◌, ◌*◌, ◌%◌, ◌^◌, ◌<◌, ◌≤◌, true, false, List, [], ◌∷◌, ◌++◌, replicate, Option, Some, refl, ap, ◌∙◌, arith}
+use Rattle.std.proofs.Common.{◌≡◌, ℕ, zero, suc, ◌+◌, ◌*◌, ◌%◌, ◌^◌, ◌<◌, ◌≤◌, true, false, List, [], ◌∷◌, replicate, Option, Some, refl, ap, ◌∙◌, arith}
 use Rattle.std.specs.Prelude.{pos, nat_lt, slice_get}
 use Rattle.std.proofs.lemmas.Bool.Decides.{nat_tests}
 use Rattle.isl_mid.specs.declared.operation.Arithmetic.TheVariants as which
 use Rattle.isl_mid.specs.declared.program.MidProcedure.{MidProcedure}
-use Rattle.isl_mid.specs.MidCode.{MidStep, code_of}
-use Rattle.isl_mid.specs.State.{Registers, State, Outcome, falls, ends, charged}
+use Rattle.isl_mid.specs.MidCode.{MidStep}
+use Rattle.isl_mid.specs.State.{Registers, State, Outcome, falls, ends}
 use Rattle.isl_mid.specs.Meaning.{Task, Context}
-use Rattle.isl_mid.specs.Arena.{with_word}
 use Rattle.isl_arena.specs.Steps as steps
 use Rattle.isl_arena.proofs.Memory.{with_words}
-use Rattle.isl_arena.proofs.Running.{RunsTo, StepsTo, turning, none_left, and_then, costing, constant_falls, compute_known, store_in_heap, address_above, repeat_falls, repeat_turn}
+use Rattle.isl_arena.proofs.Running.{StepsTo, turning, none_left, and_then, constant_falls, compute_known, store_in_heap, address_above, repeat_falls, repeat_turn}
 
 -- each item of a list with the same item many times
 pub replicated : (n i w : ℕ) → i < n → slice_get (replicate n w) i ≡ Some w

@@ -53,6 +53,7 @@ module _ (names : List (List ℕ)) (program : ProgramRows) (places : Places) (z 
   serial_lent : is_lent symbol_arena serial_address ≡ true
   serial_lent = in_spot_lent {s = fixed_spot} serial_address (spot_still_stands grown (fixed_stands names program places z y r)) refl (omega arith) (omega arith)
 
+  -- the code comes to the pointer to the symbol, with these words stored
   gensym_ends :
       {c : Context} (k : ℕ)
       → RunsTo c (code_of (code_of_primitive Gensym)) (first_registers 8 []) (paid y k)
@@ -152,6 +153,7 @@ module _
     (names : List (List ℕ)) (program : ProgramRows) (places : Places) (z : meaning.State) (y : State) (r : Represents names program places z y)
     (procedures : List MidProcedure) (below : Task → State → Outcome)
   where
+    -- it is made, or its words are not left
     gensym_run :
         (n : ℕ) → Run names program places z y procedures below n (y.cost + 130 + 244 * 0) (primitive names program Gensym [] z) (code_of (code_of_primitive Gensym))
         (first_registers 8 []) y.cost

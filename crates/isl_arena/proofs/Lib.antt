@@ -33,6 +33,10 @@ pub mod SlotRows
 pub mod SlotSearch
 pub mod SlotPlaces
 pub mod VectorElements
+pub mod StringBytes
+pub mod Filling
+pub mod MakeVectors
+pub mod MakeStrings
 pub mod SymbolSerials
 pub mod FreshSymbols
 pub mod CopyingWords
@@ -41,6 +45,8 @@ pub mod SymbolNames
 pub mod Saying
 pub mod Taking
 pub mod Integers
+pub mod Predicates
+pub mod Conses
 pub mod Division
 pub mod CharacterCodes
 pub mod StringBytes
@@ -49,3 +55,11 @@ pub mod MakeVectors
 pub mod Allotting
 pub mod Allocating
 pub mod MakeStrings
+pub mod Streams
+pub mod Printing
+pub mod ClassesThere
+pub mod ClassesKept
+pub mod ClassHeaders
+pub mod ClassWords
+pub mod ClassSearch
+pub mod Subclasses

@@ -1,6 +1,6 @@
 -- A string that is made has the same character at each place, as the meaning says.
-use Rattle.std.proofs.Common.{◌≡◌, ℕ, zero, suc, ◌+◌, ◌-◌, ◌*◌, ◌/◌, ◌%◌, ◌^◌, ◌<◌, ◌≤◌, ℤ, pos, List, [], ◌∷◌, ◌++◌, length, replicate, Option, Some, ⊎_elim, refl, sym, ap, ◌∙◌, arith}
-use Rattle.std.specs.Prelude.{◌==◌, slice_get, ◌≢◌}
+use Rattle.std.proofs.Common.{◌≡◌, ℕ, suc, ◌+◌, ◌*◌, ◌^◌, ◌<◌, ◌≤◌, ℤ, pos, List, [], ◌∷◌, ◌++◌, length, replicate, Option, Some, ⊎_elim, refl, sym, ap, ◌∙◌, arith}
+use Rattle.std.specs.Prelude.{◌≢◌}
 use Rattle.std.proofs.lemmas.Bool.Decides.{nat_tests}
 use Rattle.std.proofs.lemmas.Bool.{cases_eq}
 use Rattle.std.proofs.lemmas.List.{length-replicate}
@@ -12,17 +12,15 @@ use Rattle.isl_meaning.specs.State as meaning
 use Rattle.isl_meaning.specs.Primitives.{domain_error, needs, a_character, length_of, makes_string, primitive}
 use Rattle.isl_mid.specs.declared.program.MidProcedure.{MidProcedure}
 use Rattle.isl_mid.specs.declared.operation.Arithmetic.TheVariants as which
-use Rattle.isl_mid.specs.declared.operation.Comparison.TheVariants.{AtLeast}
 use Rattle.isl_mid.specs.declared.operation.Operation.TheVariants.{Move, Request}
-use Rattle.isl_mid.specs.Words.{sum32, shift_left, shift_right}
+use Rattle.isl_mid.specs.Words.{sum32, shift_left}
 use Rattle.isl_mid.specs.Arena.{Arena, left, word_at, with_word, with_heap}
 use Rattle.isl_mid.specs.MidCode.{MidStep, perform, return_word, code_of}
 use Rattle.isl_mid.specs.State.{State, Outcome, falls, returns, no_room, ends, first_registers}
 use Rattle.isl_mid.specs.Meaning.{Task, Context}
 use Rattle.isl_arena.specs.Tags.{object_tag, string_header, character_word}
-use Rattle.isl_arena.specs.Places.{Spot, Places, with_object, word_of}
+use Rattle.isl_arena.specs.Places.{Places}
 use Rattle.isl_arena.specs.Standing.{ArenaStands}
-use Rattle.isl_arena.specs.FixedWords.{class_address}
 use Rattle.isl_arena.specs.Layouts.{byte_words, packed, TextAt}
 use Rattle.isl_arena.specs.Represents.{Represents}
 use Rattle.isl_arena.specs.Answers.{IsPrimitive, units_after}
@@ -33,12 +31,13 @@ use Rattle.isl_arena.specs.declared.line.Line.TheVariants as line
 use Rattle.isl_arena.proofs.WordFacts.{character_code}
 use Rattle.isl_arena.proofs.ArithmeticBytes.{replicated_bytes, byte_words_is, full_word, last_word, packed_in_front, packed_last}
 use Rattle.isl_arena.proofs.Memory.{Facts, heap_below, stands_with_heap, facts_with_heap, facts_stored, facts_with_words, stored_in_heap, word_elsewhere, with_words, words_in_front, words_stand}
-use Rattle.isl_arena.proofs.Running.{RunsTo, StepsTo, turning, none_left, parts_then, and_then, and_ends, costing, constant_falls, compute_falls, compute_known, move_falls, store_in_heap, request_falls, request_wanting, return_ends, address_here, address_above}
+use Rattle.isl_arena.proofs.Running.{RunsTo, StepsTo, turning, none_left, parts_then, and_then, and_ends, costing, constant_falls, compute_falls, compute_known, move_falls, store_in_heap}
+use Rattle.isl_arena.proofs.Running.{request_falls, request_wanting, return_ends, address_here, address_above}
 use Rattle.isl_arena.proofs.Making.{Room, is_left, is_wanting, room_for, answers_made, answers_wanting}
 use Rattle.isl_arena.proofs.Doing.{alike_self, Run, paid}
 use Rattle.isl_arena.proofs.Checking.{integer_needed, character_needed}
 use Rattle.isl_arena.proofs.Filling.{fill, six_after, fill_falls, replicated}
-use Rattle.isl_arena.proofs.Arrays.{does_two, length_needed}
+use Rattle.isl_arena.proofs.Arrays.{does_two, length_test, length_needed}
 
 -- ---- the arena
 
@@ -153,9 +152,11 @@ ending_code =
     steps.compute_by 7 which.ShiftLeft 0 28 ++ steps.compute_by 7 which.ShiftRight 7 27 ++ steps.constant 6 32 ∷ steps.compute 7 which.Subtract 6 7
     ∷ steps.compute 7 which.ShiftRight 4 7 ∷ steps.store 7 5 (pos 4) ∷ steps.store 0 3 (pos 4) ∷ steps.compute_by 3 which.Add 3 2 ++ return_word 3 ∷ []
 
+-- all of it
 abbrev string_code : List MidStep
 string_code = asking_code ++ (beginning_code ++ (fill ∷ ending_code))
 
+-- what each part comes to
 asking_falls :
     {c : Context} {r1 r2 r3 r4 r5 r6 r7 : Option ℕ} {x : State} (count : ℕ) → count < 2 ^ 29
     → RunsTo c (code_of asking_code) (Some (4 * count) ∷ r1 ∷ r2 ∷ r3 ∷ r4 ∷ r5 ∷ r6 ∷ r7 ∷ []) x
@@ -246,46 +247,49 @@ ending_ends y k count c stands room =
     (and_then (compute_known refl refl pointer)
     (and_ends tt (return_ends refl))))))))))))) (omega arith)
 
-module _ (names : List (List ℕ)) (program : ProgramRows) (places : Places) (z : meaning.State) (y : State) (r : Represents names program places z y) (procedures : List MidProcedure) (below : Task → State → Outcome) where
-  -- the string is made, where its words are left
-  string_run :
-      (n budget k count c : ℕ) (r2 r3 r4 r5 r6 r7 : Option ℕ) → count < 2 ^ 29 → c < 256 → byte_words count ≤ n
-      → k + 262 + 38 * byte_words count ≤ budget + 250 * (2 + byte_words count + count)
-      → Run names program places z y procedures below n budget (makes_string (replicate count c) z) (code_of string_code)
-      (Some (4 * count) ∷ Some (character_word c) ∷ r2 ∷ r3 ∷ r4 ∷ r5 ∷ r6 ∷ r7 ∷ []) k
-  string_run n budget k count c r2 r3 r4 r5 r6 r7 low small turns cost = by (room_for (2 + byte_words count) y.arena)
-    where
-      many : length (replicate count c) ≡ count
-      many = length-replicate count c
+module _
+    (names : List (List ℕ)) (program : ProgramRows) (places : Places) (z : meaning.State) (y : State) (r : Represents names program places z y)
+    (procedures : List MidProcedure) (below : Task → State → Outcome)
+  where
+    -- the string is made, where its words are left
+    string_run :
+        (n budget k count c : ℕ) (r2 r3 r4 r5 r6 r7 : Option ℕ) → count < 2 ^ 29 → c < 256 → byte_words count ≤ n
+        → k + 262 + 38 * byte_words count ≤ budget + 250 * (2 + byte_words count + count)
+        → Run names program places z y procedures below n budget (makes_string (replicate count c) z) (code_of string_code)
+        (Some (4 * count) ∷ Some (character_word c) ∷ r2 ∷ r3 ∷ r4 ∷ r5 ∷ r6 ∷ r7 ∷ []) k
+    string_run n budget k count c r2 r3 r4 r5 r6 r7 low small turns cost = by (room_for (2 + byte_words count) y.arena)
+      where
+        many : length (replicate count c) ≡ count
+        many = length-replicate count c
 
-      by :
-          Room (2 + byte_words count) y.arena
-          → Run names program places z y procedures below n budget (makes_string (replicate count c) z) (code_of string_code)
-          (Some (4 * count) ∷ Some (character_word c) ∷ r2 ∷ r3 ∷ r4 ∷ r5 ∷ r6 ∷ r7 ∷ []) k
-      by (is_wanting lacking) = record {
-        outcome =
-            ends (no_room (2 + byte_words count) (left y.arena))
-            (Some (4 * count) ∷ Some (character_word c) ∷ r2 ∷ r3 ∷ Some (2 + byte_words count) ∷ Some (byte_words count) ∷ Some 2 ∷ r7 ∷ []) (paid y (k + 48 + 20));
-        runs = parts_then asking_code (beginning_code ++ (fill ∷ ending_code)) (asking_falls count low) (and_ends tt (request_wanting refl lacking));
-        answers = answers_wanting names program places z y r (2 + byte_words count) _ (k + 48 + 20) lacking (omega (arith, many)) (omega (arith, many, cost));
-      }
-      by (is_left room) =
-          let paid_then : ℕ = k + 48 + 98 + (12 + 38 * byte_words count) in
-          let now : State = record y { arena = made_string count c y.arena; cost = paid_then + 104 } in
-          record {
-            outcome =
-                ends (returns (y.arena.heap_to + 2))
-                (Some (4 * count) ∷ Some (character_word c) ∷ r2 ∷ Some (y.arena.heap_to + 2) ∷ Some (full_word c) ∷ Some (y.arena.heap_to + 4 * byte_words count)
-                ∷ Some 2 ∷ Some (last_word (full_word c) (4 * count)) ∷ []) now;
-            runs =
-                parts_then asking_code (beginning_code ++ (fill ∷ ending_code)) (asking_falls count low)
-                (parts_then beginning_code (fill ∷ ending_code) (beginning_falls y (k + 48) count c r.arena room)
-                (and_then (filling_falls procedures below n y (k + 48 + 98) count c r.arena room turns) (ending_ends y paid_then count c r.arena room)));
-            answers =
-                answers_made names program places z y r (2 + byte_words (length (replicate count c))) (length (replicate count c)) (string (replicate count c)) z now _
-                (alike_self z) (made_string_facts y.arena count c r.arena room small) (filled_heap count c y.arena ∙ omega (arith, many))
-                (filled_blocks count c y.arena) refl refl (omega arith) (string_stands y.arena count c r.arena room small) (omega (arith, many, cost));
-          }
+        by :
+            Room (2 + byte_words count) y.arena
+            → Run names program places z y procedures below n budget (makes_string (replicate count c) z) (code_of string_code)
+            (Some (4 * count) ∷ Some (character_word c) ∷ r2 ∷ r3 ∷ r4 ∷ r5 ∷ r6 ∷ r7 ∷ []) k
+        by (is_wanting lacking) = record {
+          outcome =
+              ends (no_room (2 + byte_words count) (left y.arena))
+              (Some (4 * count) ∷ Some (character_word c) ∷ r2 ∷ r3 ∷ Some (2 + byte_words count) ∷ Some (byte_words count) ∷ Some 2 ∷ r7 ∷ []) (paid y (k + 48 + 20));
+          runs = parts_then asking_code (beginning_code ++ (fill ∷ ending_code)) (asking_falls count low) (and_ends tt (request_wanting refl lacking));
+          answers = answers_wanting names program places z y r (2 + byte_words count) _ (k + 48 + 20) lacking (omega (arith, many)) (omega (arith, many, cost));
+        }
+        by (is_left room) =
+            let paid_then : ℕ = k + 48 + 98 + (12 + 38 * byte_words count) in
+            let now : State = record y { arena = made_string count c y.arena; cost = paid_then + 104 } in
+            record {
+              outcome =
+                  ends (returns (y.arena.heap_to + 2))
+                  (Some (4 * count) ∷ Some (character_word c) ∷ r2 ∷ Some (y.arena.heap_to + 2) ∷ Some (full_word c) ∷ Some (y.arena.heap_to + 4 * byte_words count)
+                  ∷ Some 2 ∷ Some (last_word (full_word c) (4 * count)) ∷ []) now;
+              runs =
+                  parts_then asking_code (beginning_code ++ (fill ∷ ending_code)) (asking_falls count low)
+                  (parts_then beginning_code (fill ∷ ending_code) (beginning_falls y (k + 48) count c r.arena room)
+                  (and_then (filling_falls procedures below n y (k + 48 + 98) count c r.arena room turns) (ending_ends y paid_then count c r.arena room)));
+              answers =
+                  answers_made names program places z y r (2 + byte_words (length (replicate count c))) (length (replicate count c)) (string (replicate count c)) z now _
+                  (alike_self z) (made_string_facts y.arena count c r.arena room small) (filled_heap count c y.arena ∙ omega (arith, many))
+                  (filled_blocks count c y.arena) refl refl (omega arith) (string_stands y.arena count c r.arena room small) (omega (arith, many, cost));
+            }
 
 -- the units behind the answer, where the arguments are a length and a character
 units_of_string :
@@ -294,10 +298,6 @@ units_of_string :
     → units_after names program (primitive names program MakeString (v ∷ w ∷ []) z)
     ≡ z.units + (2 + byte_words (length (replicate count c))) + length (replicate count c)
 units_of_string names program v w i count c z v_is w_is length_is = rw (v_is, w_is, length_is) refl
-
--- the lines that the second argument is a character, and the first one a length
-abbrev length_test : List MidStep → List MidStep
-length_test rest = steps.constant 6 0 ∷ steps.either (steps.comparing AtLeast 0 6) [] (steps.domain_error 0 (pos (class_address integer_class))) ∷ rest
 
 pub make_string_does : IsPrimitive MakeString (procedure_of MakeString)
 make_string_does = does_two MakeString refl (λ v w a b names program places z y procedures below n r are units.

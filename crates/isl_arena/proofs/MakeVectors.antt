@@ -1,6 +1,6 @@
 -- A vector that is made has the same element at each place, as the meaning says.
-use Rattle.std.proofs.Common.{◌≡◌, ℕ, zero, suc, ◌+◌, ◌-◌, ◌*◌, ◌/◌, ◌%◌, ◌^◌, ◌<◌, ◌≤◌, ℤ, pos, List, [], ◌∷◌, ◌++◌, length, replicate, Option, Some, refl, sym, ap, ◌∙◌, arith}
-use Rattle.std.specs.Prelude.{slice_get, slice_index_or}
+use Rattle.std.proofs.Common.{◌≡◌, ℕ, suc, ◌+◌, ◌*◌, ◌^◌, ◌<◌, ◌≤◌, ℤ, pos, List, [], ◌∷◌, ◌++◌, length, replicate, Option, Some, refl, sym, ap, ◌∙◌, arith}
+use Rattle.std.specs.Prelude.{slice_get}
 use Rattle.std.proofs.lemmas.List.{get_or-replicate, length-replicate}
 use Rattle.isl_meaning.specs.declared.program.ProgramRows.{ProgramRows}
 use Rattle.isl_meaning.specs.declared.primitive.Primitive.TheVariants.{MakeVector}
@@ -10,7 +10,6 @@ use Rattle.isl_meaning.specs.State as meaning
 use Rattle.isl_meaning.specs.Primitives.{domain_error, needs, length_of, makes_vector, primitive}
 use Rattle.isl_mid.specs.declared.program.MidProcedure.{MidProcedure}
 use Rattle.isl_mid.specs.declared.operation.Arithmetic.TheVariants as which
-use Rattle.isl_mid.specs.declared.operation.Comparison.TheVariants.{AtLeast}
 use Rattle.isl_mid.specs.declared.operation.Operation.TheVariants.{Move, Request}
 use Rattle.isl_mid.specs.Words.{sum32, shift_right}
 use Rattle.isl_mid.specs.Arena.{left, word_at}
@@ -20,7 +19,6 @@ use Rattle.isl_mid.specs.Meaning.{Task, Context}
 use Rattle.isl_arena.specs.Tags.{object_tag, vector_header}
 use Rattle.isl_arena.specs.Places.{Spot, Places, with_object, word_of}
 use Rattle.isl_arena.specs.Standing.{ArenaStands}
-use Rattle.isl_arena.specs.FixedWords.{class_address}
 use Rattle.isl_arena.specs.Layouts.{VectorAt}
 use Rattle.isl_arena.specs.Represents.{Represents}
 use Rattle.isl_arena.specs.Answers.{IsPrimitive, units_after}
@@ -28,12 +26,13 @@ use Rattle.isl_arena.specs.Codes.{procedure_of}
 use Rattle.isl_arena.specs.Steps as steps
 use Rattle.isl_arena.proofs.Keeping.{same_word}
 use Rattle.isl_arena.proofs.Memory.{heap_below, stands_with_heap}
-use Rattle.isl_arena.proofs.Running.{RunsTo, turning, none_left, parts_then, and_then, and_ends, costing, constant_falls, compute_known, move_falls, store_in_heap, request_falls, request_wanting, return_ends, address_here, address_above}
+use Rattle.isl_arena.proofs.Running.{RunsTo, turning, none_left, parts_then, and_then, and_ends, costing, constant_falls, compute_known, move_falls, store_in_heap, request_falls}
+use Rattle.isl_arena.proofs.Running.{request_wanting, return_ends, address_here, address_above}
 use Rattle.isl_arena.proofs.Making.{Room, is_left, is_wanting, room_for, begun, begun_facts, begun_heap, begun_blocks, begun_word, answers_made, answers_wanting}
 use Rattle.isl_arena.proofs.Doing.{alike_self, Run, paid}
 use Rattle.isl_arena.proofs.Checking.{integer_needed}
 use Rattle.isl_arena.proofs.Filling.{fill, fill_falls, replicated}
-use Rattle.isl_arena.proofs.Arrays.{does_two, length_needed}
+use Rattle.isl_arena.proofs.Arrays.{does_two, length_test, length_needed}
 
 -- the code behind the tests of the length, with four times the length in register 0 and the element in register 1: how many words are wanted
 abbrev asking_code : List MidStep
@@ -49,9 +48,11 @@ beginning_code =
 abbrev filling_code : List MidStep
 filling_code = fill ∷ steps.compute_by 3 which.Add 3 2 ++ return_word 3 ∷ []
 
+-- all of it
 abbrev vector_code : List MidStep
 vector_code = asking_code ++ (beginning_code ++ filling_code)
 
+-- what each part comes to
 asking_falls :
     {c : Context} {r1 r2 r3 r4 r5 r6 r7 : Option ℕ} {x : State} (count : ℕ) → count < 2 ^ 29
     → RunsTo c (code_of asking_code) (Some (4 * count) ∷ r1 ∷ r2 ∷ r3 ∷ r4 ∷ r5 ∷ r6 ∷ r7 ∷ []) x
@@ -181,7 +182,7 @@ pub make_vector_does : IsPrimitive MakeVector (procedure_of MakeVector)
 make_vector_does = does_two MakeVector refl (λ v w a b names program places z y procedures below n r are units.
     integer_needed names program places z y r procedures below n (y.cost + 130 + 244 * 2) y.cost 0 a v
     (λ i. needs (length_of i) (domain_error v integer_class z) (λ count. makes_vector (replicate count w) z))
-    (steps.constant 6 0 ∷ steps.either (steps.comparing AtLeast 0 6) [] (steps.domain_error 0 (pos (class_address integer_class))) ∷ vector_code)
+    (length_test vector_code)
     (first_registers 8 (a ∷ b ∷ [])) (omega arith) refl refl are.0 (omega arith)
     (λ i i_is range i_word.
     length_needed names program places z y r procedures below n (y.cost + 130 + 244 * 2) _ a i v (λ count. makes_vector (replicate count w) z) vector_code _ refl refl

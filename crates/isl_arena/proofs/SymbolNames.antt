@@ -1,7 +1,6 @@
 -- The name of a symbol is copied into a new string, as the meaning says.
-use Rattle.std.proofs.Common.{◌≡◌, ℕ, zero, suc, ◌+◌, ◌-◌, ◌*◌, ◌%◌, ◌^◌, ◌<◌, ◌≤◌, pos, true, List, [], ◌∷◌, ◌++◌, length, Option, Some, None, refl, sym, ap, ◌∙◌, arith}
-use Rattle.std.specs.Prelude.{negsuc, ◌==◌, slice_get}
-use Rattle.std.proofs.lemmas.Bool.Decides.{nat_tests}
+use Rattle.std.proofs.Common.{◌≡◌, ℕ, ◌+◌, ◌*◌, ◌^◌, ◌<◌, ◌≤◌, pos, List, [], ◌∷◌, ◌++◌, length, Option, Some, None, refl, sym, ◌∙◌, arith}
+use Rattle.std.specs.Prelude.{negsuc, slice_get}
 use Rattle.std.proofs.lemmas.Option.{slice_get_within}
 use Rattle.isl_meaning.specs.declared.program.ProgramRows.{ProgramRows}
 use Rattle.isl_meaning.specs.declared.primitive.Primitive.TheVariants.{SymbolName}
@@ -14,15 +13,14 @@ use Rattle.isl_mid.specs.declared.operation.Arithmetic.TheVariants as which
 use Rattle.isl_mid.specs.declared.operation.Comparison.TheVariants.{Equal}
 use Rattle.isl_mid.specs.declared.operation.Operation.TheVariants.{Move, Request}
 use Rattle.isl_mid.specs.Arena.{Arena, left, word_at}
-use Rattle.isl_mid.specs.Words.{sum32, shift_left, shift_right, address}
+use Rattle.isl_mid.specs.Words.{sum32, shift_left, shift_right}
 use Rattle.isl_mid.specs.MidCode.{MidStep, perform, return_word, code_of}
 use Rattle.isl_mid.specs.State.{State, Outcome, returns, no_room, ends, first_registers}
 use Rattle.isl_mid.specs.Meaning.{Task, Context}
 use Rattle.isl_arena.specs.Tags.{object_tag, nil_word, string_header, symbol_header, fresh_header}
 use Rattle.isl_arena.specs.Places.{Spot, end_of, Places, word_of}
-use Rattle.isl_arena.specs.Standing.{ArenaStands}
 use Rattle.isl_arena.specs.FixedWords.{nil_text, nil_name_address, no_name_address}
-use Rattle.isl_arena.specs.Layouts.{AreBytes, byte_words, packed, TextAt}
+use Rattle.isl_arena.specs.Layouts.{byte_words, TextAt}
 use Rattle.isl_arena.specs.Represents.{Represents}
 use Rattle.isl_arena.specs.Answers.{units_after, IsPrimitive}
 use Rattle.isl_arena.specs.Codes.{procedure_of}
@@ -31,7 +29,7 @@ use Rattle.isl_arena.proofs.Memory.{heap_below, spot_below}
 use Rattle.isl_arena.proofs.Arguments.{word_told, symbol_there}
 use Rattle.isl_arena.proofs.Running.{RunsTo, turning, none_left, and_then, and_ends, costing, move_falls, constant_falls, compute_known, load_falls, store_in_heap, request_falls, request_wanting}
 use Rattle.isl_arena.proofs.Running.{return_ends, choose_first_falls, address_above, address_below, address_here}
-use Rattle.isl_arena.proofs.Making.{Room, is_left, is_wanting, room_for, begun, begun_facts, begun_heap, begun_blocks, begun_word, fixed_below, answers_wanting, answers_made}
+use Rattle.isl_arena.proofs.Making.{Room, is_left, is_wanting, room_for, begun, begun_facts, begun_heap, begun_blocks, fixed_below, answers_wanting, answers_made}
 use Rattle.isl_arena.proofs.Doing.{alike_self, Run, goes_on, test_fails, paid}
 use Rattle.isl_arena.proofs.Arrays.{does_one}
 use Rattle.isl_arena.proofs.NeedingSymbols.{SymbolFound, is_nil, is_named, is_fresh, header_address, last_two, symbol_needed}
@@ -122,6 +120,7 @@ module _
             (begun_facts (2 + count) (string_header ∷ 4 * length bytes ∷ []) r.arena room).words (s.address + 8 + 4 * i) (omega (arith, text.size.words))
             ∙ text.words i low ∙ sym (text_word_there bytes i low) ∙ found
 
+        -- so they are copied behind the header and the count
         copied : Copies procedures below n (text_words bytes) (heap + 4 + 4) r0 (Some (4 * length bytes)) None (Some heap) (Some p) (Some (heap + 4 * count)) (Some 2) (Some heap) loop_state
         copied =
             copies procedures below (text_words bytes) n p heap (heap + 4 * count) (s.address + 8) (heap + 4 + 4) r0 (Some (4 * length bytes)) None (Some heap) (Some 2) loop_state
@@ -157,6 +156,7 @@ module _
             (and_then (compute_known refl refl (omega arith))
             (and_ends tt (return_ends refl)))))))))))))))))))) (omega (arith, copied.cost, as_many))
 
+      -- the string is made, or its words are not left
       copy_run :
           (budget k : ℕ) (r0 r7 : Option ℕ) → count ≤ n → k ≤ budget
           → Run names program places z y procedures below n budget (makes_string bytes z) (code_of copy_lines) (r0 ∷ None ∷ None ∷ None ∷ Some p ∷ None ∷ Some fresh_header ∷ r7 ∷ []) k

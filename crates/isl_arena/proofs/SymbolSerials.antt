@@ -1,7 +1,6 @@
 -- The serial of a symbol does what the meaning says of it.
-use Rattle.std.proofs.Common.{◌≡◌, ℕ, ◌+◌, ◌-◌, ◌%◌, ◌^◌, ◌<◌, ◌≤◌, pos, true, List, [], ◌∷◌, Option, Some, None, refl, arith}
-use Rattle.std.specs.Prelude.{negsuc, ◌==◌}
-use Rattle.std.proofs.lemmas.Bool.Decides.{nat_tests}
+use Rattle.std.proofs.Common.{◌≡◌, ℕ, ◌+◌, ◌%◌, ◌^◌, ◌<◌, ◌≤◌, pos, List, [], ◌∷◌, Option, Some, None, refl, arith}
+use Rattle.std.specs.Prelude.{negsuc}
 use Rattle.isl_meaning.specs.declared.program.ProgramRows.{ProgramRows}
 use Rattle.isl_meaning.specs.declared.primitive.Primitive.TheVariants.{SymbolSerial}
 use Rattle.isl_meaning.specs.Values.{Value, integer, nil}
@@ -9,7 +8,6 @@ use Rattle.isl_meaning.specs.State as meaning
 use Rattle.isl_meaning.specs.Primitives.{result, Spelt, by_name, by_serial}
 use Rattle.isl_mid.specs.declared.program.MidProcedure.{MidProcedure}
 use Rattle.isl_mid.specs.declared.operation.Comparison.TheVariants.{Equal, Different}
-use Rattle.isl_mid.specs.Words.{address}
 use Rattle.isl_mid.specs.MidCode.{MidStep, return_word, code_of}
 use Rattle.isl_mid.specs.State.{State, Outcome, first_registers}
 use Rattle.isl_mid.specs.Meaning.{Task}
@@ -20,7 +18,7 @@ use Rattle.isl_arena.specs.Answers.{IsPrimitive}
 use Rattle.isl_arena.specs.Codes.{procedure_of}
 use Rattle.isl_arena.specs.Steps as steps
 use Rattle.isl_arena.proofs.Arguments.{word_told}
-use Rattle.isl_arena.proofs.Running.{constant_falls, load_falls, address_below, address_up}
+use Rattle.isl_arena.proofs.Running.{constant_falls, load_falls, address_up}
 use Rattle.isl_arena.proofs.Doing.{alike_self, Run, goes_on, returns_value, test_fails, first_answers}
 use Rattle.isl_arena.proofs.Arrays.{does_one, length_word_is}
 use Rattle.isl_arena.proofs.NeedingSymbols.{SymbolFound, is_nil, is_named, is_fresh, header_address, last_two, symbol_needed}

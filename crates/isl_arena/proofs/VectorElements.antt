@@ -8,17 +8,14 @@ use Rattle.std.proofs.Math.ListN.{length-set}
 use Rattle.isl_meaning.specs.declared.program.ProgramRows.{ProgramRows}
 use Rattle.isl_meaning.specs.declared.primitive.Primitive.TheVariants.{VectorLength, VectorRef, SetVectorRef}
 use Rattle.isl_meaning.specs.Values.{Value, integer, nil}
-use Rattle.isl_meaning.specs.Objects.{vector, integer_class, program_error_class}
+use Rattle.isl_meaning.specs.Objects.{vector, integer_class}
 use Rattle.isl_meaning.specs.State as meaning
 use Rattle.isl_meaning.specs.Primitives.{result, an_integer, an_index, change}
-use Rattle.isl_mid.specs.declared.program.MidProcedure.{MidProcedure}
 use Rattle.isl_mid.specs.declared.operation.Arithmetic.TheVariants as which
-use Rattle.isl_mid.specs.declared.operation.Comparison.TheVariants.{LessUnsigned}
 use Rattle.isl_mid.specs.Words.{sum32}
 use Rattle.isl_mid.specs.Arena.{Arena, word_at, with_word}
 use Rattle.isl_mid.specs.MidCode.{MidStep, return_word}
-use Rattle.isl_mid.specs.State.{State, Outcome, first_registers}
-use Rattle.isl_mid.specs.Meaning.{Task}
+use Rattle.isl_mid.specs.State.{State, first_registers}
 use Rattle.isl_arena.specs.Places.{Spot, Places, word_of}
 use Rattle.isl_arena.specs.Standing.{ArenaStands, SpotStands, ValueAt}
 use Rattle.isl_arena.specs.FixedWords.{class_address}
@@ -34,7 +31,7 @@ use Rattle.isl_arena.proofs.Arguments.{ObjectFound, object_found}
 use Rattle.isl_arena.proofs.Doing.{alike_self, goes_on, returns_value}
 use Rattle.isl_arena.proofs.Checking.{integer_needed}
 use Rattle.isl_arena.proofs.Needing.{vector_needed}
-use Rattle.isl_arena.proofs.Arrays.{does_one, does_two, does_three, length_word_is, index_needed, stores_changed}
+use Rattle.isl_arena.proofs.Arrays.{does_one, does_two, does_three, length_word_is, index_test, index_needed, stores_changed}
 
 -- a vector in whose spot one element was set
 pub vector_set :
@@ -72,13 +69,12 @@ vector_set places a s vs i w v arena stands low word t =
           stands = elsewhere (s.address + 8 + 4 * j) (λ e. other (omega arith)) ∙ at.stands;
         }
 
-module _ (names : List (List ℕ)) (program : ProgramRows) (places : Places) (z : meaning.State) (y : State) (r : Represents names program places z y) (procedures : List MidProcedure) (below : Task → State → Outcome) where
+module _ (names : List (List ℕ)) (program : ProgramRows) (places : Places) (z : meaning.State) (y : State) (r : Represents names program places z y) where
   -- a vector stands in the heap or beside the code, so its word and its length are not large
   vector_low : (v : Value) (w : ℕ) (vs : List Value) → ObjectFound names program places z y r v w (vector vs) → w + 4 * length vs + 8 < 2 ^ 27
   vector_low v w vs it =
       let high = spot_below y.arena it.spot r.arena it.spot_stands in
       omega (arith, it.word, it.stands.size.words, high, r.arena.room, r.arena.size)
-
 
 pub vector_length_does : IsPrimitive VectorLength (procedure_of VectorLength)
 vector_length_does = does_one VectorLength refl (λ v a names program places z y procedures below n r are units.
@@ -86,15 +82,12 @@ vector_length_does = does_one VectorLength refl (λ v a names program places z y
     (steps.load 5 0 (pos 2) ∷ return_word 5 ∷ []) (first_registers 8 (a ∷ [])) (omega arith) refl refl are.0 (omega arith)
     (λ vs found.
     let it = object_found names program places z y r v a (vector vs) are.0 found in
-    let low = vector_low names program places z y r procedures below v a vs it in
+    let low = vector_low names program places z y r v a vs it in
     goes_on names program places z y procedures below
     (load_falls refl (address_above a 2 (it.spot.address + 4) (omega (arith, it.word)) (omega (arith, it.word, low))) it.stands.count)
     (returns_value names program places z y procedures below r refl (length_word_is places (length vs) (omega (arith, low))) (alike_self z) (omega arith))))
 
--- the code behind the tests of the vector and the index
-abbrev index_test : (of : ℕ) → List MidStep → List MidStep
-index_test of rest = steps.either (steps.comparing LessUnsigned of 7) [] (steps.signal (pos (class_address program_error_class))) ∷ rest
-
+-- behind the tests of the vector and the index: the element is returned
 abbrev taking : List MidStep
 taking = steps.compute 5 which.Add 0 1 ∷ steps.load 5 5 (pos 6) ∷ return_word 5 ∷ []
 
@@ -106,7 +99,7 @@ vector_ref_does = does_two VectorRef refl (λ v w a b names program places z y p
     (first_registers 8 (a ∷ b ∷ [])) (omega arith) refl refl are.0 (omega arith)
     (λ vs found.
     let it = object_found names program places z y r v a (vector vs) are.0 found in
-    let low = vector_low names program places z y r procedures below v a vs it in
+    let low = vector_low names program places z y r v a vs it in
     integer_needed names program places z y r procedures below n (y.cost + 130 + 244 * 2) _ 1 b w
     (λ m. an_index m (length vs) z (λ i. result (slice_index_or vs i nil) z)) (steps.load 7 0 (pos 2) ∷ index_test 1 taking)
     _ (omega arith) refl refl are.1.0 (omega arith)
@@ -123,6 +116,7 @@ vector_ref_does = does_two VectorRef refl (λ v w a b names program places z y p
     (load_falls refl (address_above (it.spot.address + 2 + 4 * i) 6 (it.spot.address + 8 + 4 * i) (omega arith) (omega (arith, it.word, low, inside))) at.stands)
     (returns_value names program places z y procedures below r refl at.of_value (alike_self z) (omega arith))))))))
 
+-- the element is stored, and returned
 abbrev setting : List MidStep
 setting = steps.compute 5 which.Add 1 2 ∷ steps.store 0 5 (pos 6) ∷ return_word 0 ∷ []
 
@@ -134,7 +128,7 @@ set_vector_ref_does = does_three SetVectorRef refl (λ v w u a b c names program
     (first_registers 8 (a ∷ b ∷ c ∷ [])) (omega arith) refl refl are.1.0 (omega arith)
     (λ vs found.
     let it = object_found names program places z y r w b (vector vs) are.1.0 found in
-    let low = vector_low names program places z y r procedures below w b vs it in
+    let low = vector_low names program places z y r w b vs it in
     integer_needed names program places z y r procedures below n (y.cost + 130 + 244 * 3) _ 2 c u
     (λ m. an_index m (length vs) z (λ i. result v (change w (vector (slice_set vs i v)) z))) (steps.load 7 1 (pos 2) ∷ index_test 2 setting)
     _ (omega arith) refl refl are.1.1.0 (omega arith)
