@@ -49,15 +49,10 @@ pub mod Predicates
 pub mod Conses
 pub mod Division
 pub mod CharacterCodes
-pub mod StringBytes
-pub mod Filling
-pub mod MakeVectors
 pub mod Allotting
 pub mod Allocating
-pub mod MakeStrings
 pub mod Streams
 pub mod Printing
-pub mod ClassesThere
 pub mod ClassesKept
 pub mod ClassHeaders
 pub mod ClassWords
