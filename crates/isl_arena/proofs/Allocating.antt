@@ -2,6 +2,8 @@
 use Rattle.std.proofs.Common.{◌≡◌, ℕ, suc, ◌+◌, ◌*◌, ◌<◌, ◌≤◌, pos, Bool, true, false, List, [], ◌∷◌, ◌++◌, length, replicate, Option, Some, None, refl, sym, ap, ◌∙◌, arith}
 use Rattle.std.specs.Prelude.{◌==◌, not, nat_lt, slice_get, slice_index_or, if◌then◌else◌}
 use Rattle.std.proofs.lemmas.List.{get_or-replicate, length-replicate}
+use Rattle.std.proofs.lemmas.Option.{slice_get_within}
+use Rattle.isl_meaning.specs.declared.program.ClassRow.{ClassRow}
 use Rattle.isl_meaning.specs.declared.program.ProgramRows.{ProgramRows}
 use Rattle.isl_meaning.specs.declared.primitive.Primitive.TheVariants.{Allocate}
 use Rattle.isl_meaning.specs.Values.{Value, nil, object, truth}
@@ -36,8 +38,8 @@ use Rattle.isl_arena.proofs.Conditions.{program_error as of_program, signal_run}
 use Rattle.isl_arena.proofs.Needing.{class_needed}
 use Rattle.isl_arena.proofs.Filling.{replicated}
 use Rattle.isl_arena.proofs.Arrays.{does_one}
-use Rattle.isl_arena.proofs.ClassesThere.{ClassesThere}
-use Rattle.isl_arena.proofs.SlotRows.{ClassesAreThere, class_low, truth_told}
+use Rattle.isl_arena.specs.ClassesThere.{ClassesThere}
+use Rattle.isl_arena.proofs.SlotRows.{class_low, truth_told}
 use Rattle.isl_arena.proofs.Allotting.{allotted, allotted_facts, allotted_heap, allotted_blocks, allotted_word, allotted_mark}
 use Rattle.isl_arena.proofs.Allotting.{asking_code, beginning_code, filling_code, allocating_code, mark_address, beginning_falls, filling_ends}
 
@@ -146,10 +148,10 @@ module _ (names : List (List ℕ)) (program : ProgramRows) (places : Places) (z 
     -- it is made, where its words are left
     allocating_run :
         (procedures : List MidProcedure) (below : Task → State → Outcome) (n budget k : ℕ) (r1 r2 r3 r4 r5 r6 r7 : Option ℕ) → count ≤ n
-        → k + 272 + 38 * count ≤ budget + 250 * (2 + count)
+        → k + 272 + 38 * count ≤ budget + 250 * (2 + count) → c < length program.classes
         → Run names program places z y procedures below n budget (makes (instance_words program c count) 0 made z) (code_of allocating_code)
         (Some w ∷ r1 ∷ r2 ∷ r3 ∷ r4 ∷ r5 ∷ r6 ∷ r7 ∷ []) k
-    allocating_run procedures below n budget k r1 r2 r3 r4 r5 r6 r7 turns cost = by (room_for (2 + count + bit) y.arena)
+    allocating_run procedures below n budget k r1 r2 r3 r4 r5 r6 r7 turns cost known = by (room_for (2 + count + bit) y.arena)
       where
         by :
             Room (2 + count + bit) y.arena
@@ -182,8 +184,16 @@ module _ (names : List (List ℕ)) (program : ProgramRows) (places : Places) (z 
                   (allotted_facts y.arena (2 + count + bit) mark all r.arena room few (omega (arith, r.arena.aligned)) (omega arith))
                   (allotted_heap y.arena (2 + count + bit) mark all r.arena room few (omega (arith, r.arena.aligned)) (omega arith))
                   (allotted_blocks y.arena (2 + count + bit) mark all r.arena room few (omega (arith, r.arena.aligned)) (omega arith))
-                  refl refl (omega arith) (instance_stands room) (omega (arith, cost));
+                  refl refl (omega arith) (instance_stands room) known (omega (arith, cost));
             }
+
+-- a class of which instances can be made is of the program
+made_known : (program : ProgramRows) (c : ℕ) → can_be_made program c ≡ true → c < length program.classes
+made_known program c e = by (slice_get program.classes c) refl
+  where
+    by : (row : Option ClassRow) → slice_get program.classes c ≡ row → c < length program.classes
+    by (Some row) found = slice_get_within program.classes c row found
+    by None found = let none : can_be_made program c ≡ false = rw found refl in absurd (cc (none, e))
 
 -- the lines behind the test of the class
 abbrev making : List MidStep
@@ -232,17 +242,17 @@ module _
         by true e =
             rw e
             (test_passes names program places z y procedures below refl refl (tested ∙ e)
-            (allocating_run names program places z y r classes v w c word it procedures below n budget _ _ _ _ _ _ _ _ (turns e) (omega (arith, cost))))
+            (allocating_run names program places z y r classes v w c word it procedures below n budget _ _ _ _ _ _ _ _ (turns e) (omega (arith, cost)) (made_known program c e)))
         by false e =
             rw e
             (second_answers names program places z y procedures below refl refl (tested ∙ e)
             (signal_run names program places z y r procedures below n budget _ program_error_class z _ refl of_program (alike_self z) (omega (arith, cost))))
 
-pub allocate_does : ClassesAreThere → IsPrimitive Allocate (procedure_of Allocate)
-allocate_does there = does_one Allocate refl (λ v w names program places z y procedures below n r are units.
+pub allocate_does : IsPrimitive Allocate (procedure_of Allocate)
+allocate_does = does_one Allocate refl (λ v w names program places z y procedures below n r are units.
     class_needed names program places z y r procedures below n (y.cost + 130 + 244 * 1) y.cost 0 w v (λ c. allocation program c z) making (first_registers 8 (w ∷ []))
     (omega arith) refl refl are.0 (omega arith)
     (λ c found.
-    making_run names program places z y r (there names program places z y r) v w c are.0
+    making_run names program places z y r r.classes v w c are.0
     (object_found names program places z y r v w (class_object c) are.0 found) procedures below n _ _
     (λ can. units_of_instance names program v c n z found can units) (omega arith) _ _))

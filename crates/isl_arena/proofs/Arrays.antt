@@ -28,6 +28,7 @@ use Rattle.isl_arena.specs.Steps as steps
 use Rattle.isl_arena.proofs.WordFacts.{integer_word_of_pos, in_range_is, length_tested, length_word, index_is, index_word, index_tested}
 use Rattle.isl_arena.proofs.Running.{constant_falls, and_then, and_ends, store_in_spot, return_ends}
 use Rattle.isl_arena.proofs.Growing.{Changes, changes_part}
+use Rattle.isl_arena.proofs.ClassesKept.{IsMade}
 use Rattle.isl_arena.proofs.Representing.{represents_changed, kept_changed}
 use Rattle.isl_arena.proofs.FixedChanges.{one_word}
 use Rattle.isl_arena.proofs.Making.{changes_stored}
@@ -150,15 +151,15 @@ module _
     -- a value is returned where an object was changed in its spot
     pub returns_changed :
         (budget k i w : ℕ) (s : Spot) (before now : Object) (v : Value) (b : Arena) (rs : Registers) → slice_get z.store i ≡ Some before
-        → ((p : ℕ) → before ≡ function p → ⊥) → spot_of places (of_object i) ≡ Some s → Changes s y.arena b → ObjectAt names program places b s now
+        → IsMade program before → IsMade program now → ((p : ℕ) → before ≡ function p → ⊥) → spot_of places (of_object i) ≡ Some s → Changes s y.arena b → ObjectAt names program places b s now
         → word_of places v ≡ Some w → length b.memory ≡ length y.arena.memory → b.heap_to ≡ y.arena.heap_to → b.blocks ≡ y.arena.blocks → k ≤ budget
         → Answers names program places z y budget (result v (meaning.changed i now z)) (ends (returns w) rs (record y { arena = b; cost = k }))
-    returns_changed budget k i w s before now v b rs stored no_function at c made word size heap blocks cost = record {
+    returns_changed budget k i w s before now v b rs stored was is_made no_function at c made word size heap blocks cost = record {
       comes = done (record {
         word = w;
         end = refl;
         of_value = word;
-        represents = represents_changed names program places z y r i s now (record y { arena = b; cost = k }) at c made refl refl;
+        represents = represents_changed names program places z y r i s before now (record y { arena = b; cost = k }) stored was is_made at c made refl refl;
         arena = record { size = size; laid_from = c.laid_from; laid_to = c.laid_to; heap_from = c.heap_from; heap_to = omega (arith, heap) };
         blocks = blocks;
         kept = kept_changed names program places z y r i s at b c before stored no_function;
@@ -170,16 +171,16 @@ module _
     pub stores_changed :
         (n budget k i from base at b x stored_word w : ℕ) (offset : ℤ) (s : Spot) (before now : Object) (v of : Value) (rs : Registers)
         → register from rs ≡ Some stored_word → register base rs ≡ Some b → address b offset ≡ x → register at rs ≡ Some w → word_of places v ≡ Some w
-        → x % 4 ≡ 0 → s.address ≤ x → x < end_of s → slice_get z.store i ≡ Some before → ((p : ℕ) → before ≡ function p → ⊥)
-        → spot_of places (of_object i) ≡ Some s → of ≡ object i → ObjectAt names program places (with_word x stored_word y.arena) s now → k + 22 ≤ budget
+        → x % 4 ≡ 0 → s.address ≤ x → x < end_of s → slice_get z.store i ≡ Some before → IsMade program before → IsMade program now
+        → ((p : ℕ) → before ≡ function p → ⊥) → spot_of places (of_object i) ≡ Some s → of ≡ object i → ObjectAt names program places (with_word x stored_word y.arena) s now → k + 22 ≤ budget
         → Run names program places z y procedures below n budget (result v (change of now z)) (code_of (steps.store from base offset ∷ return_word at ∷ [])) rs k
-    stores_changed n budget k i from base at b x stored_word w offset s before now v of rs held based same returned word aligned low high there no_function spot value made cost =
+    stores_changed n budget k i from base at b x stored_word w offset s before now v of rs held based same returned word aligned low high there was is_made no_function spot value made cost =
         let stands = r.spots (of_object i) s spot in
         rw value (record {
           outcome = ends (returns w) rs (record y { arena = with_word x stored_word y.arena; cost = k + 8 + 14 });
           runs = and_then (store_in_spot stands held based same aligned low high) (and_ends tt (return_ends returned));
           answers =
-              returns_changed budget (k + 8 + 14) i w s before now v (with_word x stored_word y.arena) rs there no_function spot
+              returns_changed budget (k + 8 + 14) i w s before now v (with_word x stored_word y.arena) rs there was is_made no_function spot
               (changes_part s (one_word x) y.arena (with_word x stored_word y.arena) low (omega (arith, stands.aligned)) (changes_stored x stored_word r.arena aligned))
               made word (length-set y.arena.memory (x / 4) (Some stored_word)) refl refl (omega (arith, cost));
         })

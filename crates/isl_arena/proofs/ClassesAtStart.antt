@@ -23,7 +23,7 @@ use Rattle.isl_meaning.specs.Objects.{Object, instance, class_object, input_stre
 use Rattle.isl_meaning.specs.State.{first_state}
 use Rattle.isl_meaning.specs.Classes.{fetch}
 use Rattle.isl_meaning.specs.Subforms.{Each}
-use Rattle.isl_arena.proofs.ClassesThere.{ClassesThere}
+use Rattle.isl_arena.specs.ClassesThere.{ClassesThere}
 
 -- an object that is no class and no instance
 record Ordinary (o : Object) : Type 0 where

@@ -34,6 +34,7 @@ use Rattle.isl_arena.proofs.Growing.{changes_part, spot_below}
 use Rattle.isl_arena.proofs.FixedChanges.{one_word}
 use Rattle.isl_arena.proofs.Making.{Room, is_left, is_wanting, room_for, begun, begun_facts, begun_word, changes_stored, answers_wanting, answers_made}
 use Rattle.isl_arena.proofs.Arguments.{ObjectFound, object_found}
+use Rattle.isl_arena.proofs.ClassesKept.{IsMade}
 use Rattle.isl_arena.proofs.Doing.{alike_self, paid, Run, goes_on, returns_value}
 use Rattle.isl_arena.proofs.Checking.{tag_registers, cons_needed}
 use Rattle.isl_arena.proofs.Arrays.{returns_changed}
@@ -62,6 +63,10 @@ part_of second_part c = c.1
 abbrev with_part : Part → Value → Value × Value → Object
 with_part first_part v c = cons v c.1
 with_part second_part v c = cons c.0 v
+
+part_made : (program : ProgramRows) (part : Part) (v : Value) (c : Value × Value) → IsMade program (with_part part v c)
+part_made program first_part v c = tt
+part_made program second_part v c = tt
 
 -- the line that the argument has to be a cons
 abbrev need_cons : (of : ℕ) → List MidStep → List MidStep
@@ -161,7 +166,7 @@ module _
               (and_ends tt (return_ends held));
           answers =
               returns_changed names program places z y r procedures below budget (k + 8 + 14) it.number a it.spot (cons car cdr) (with_part part v (car, cdr)) v later rs
-              it.stored (λ p e. absurd (cc e)) it.found
+              it.stored tt (part_made program part v (car, cdr)) (λ p e. absurd (cc e)) it.found
               (changes_part it.spot (one_word at) y.arena later (omega arith) (omega (arith, low, it.stands.size.words))
               (changes_stored at a r.arena (omega (arith, it.spot_stands.aligned))))
               (cons_set places y.arena it.spot car cdr v a part r.arena it.spot_stands first it.stands names program) first
@@ -258,7 +263,7 @@ module _
                 (and_ends tt (return_ends refl)))))));
             answers =
                 answers_made names program places z y r 2 0 (cons v u) z (record y { arena = arena_with_cons; cost = y.cost + 6 + 20 + 8 + 8 + 6 + 10 + 14 }) _
-                (alike_self z) (begun_facts 2 (a ∷ b ∷ []) r.arena room) refl refl refl refl (omega arith) (cons_stands room) (omega arith);
+                (alike_self z) (begun_facts 2 (a ∷ b ∷ []) r.arena room) refl refl refl refl (omega arith) (cons_stands room) tt (omega arith);
           }
         where
           pointer : (h : ℕ) → h ≤ 2 ^ 26 → sum32 h 1 ≡ h + 1

@@ -90,7 +90,7 @@ module _ (names : List (List ℕ)) (program : ProgramRows) (places : Places) (z 
   gensym_done rs k = record {
     word = y.arena.heap_to + 2;
     end = refl;
-    of_value = pointer_made names program places z y r 2 object_tag one with_symbol grown to blocks refl refl (omega arith) (omega arith) z (alike_self z) made;
+    of_value = pointer_made names program places z y r 2 object_tag one with_symbol grown to blocks refl refl (omega arith) (omega arith) z (alike_self z) made tt;
     represents = represents_serial names program after (meaning.stored one z) with_symbol there (z.symbols + 1) last changes serial refl refl;
     arena = record {
       size = length-set symbol_arena.memory (serial_address / 4) (Some (next_word z)) ∙ grown.size;
@@ -139,7 +139,7 @@ module _ (names : List (List ℕ)) (program : ProgramRows) (places : Places) (z 
       }
 
       there : Represents names program after (meaning.stored one z) with_symbol
-      there = represents_new names program places z y r 2 object_tag one with_symbol grown to blocks refl refl (omega arith) (omega arith) z (alike_self z) made
+      there = represents_new names program places z y r 2 object_tag one with_symbol grown to blocks refl refl (omega arith) (omega arith) z (alike_self z) made tt
 
       changes : Changes (one_word serial_address) symbol_arena serial_arena
       changes = changes_stored serial_address (next_word z) grown.stands refl

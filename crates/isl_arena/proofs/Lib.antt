@@ -27,7 +27,6 @@ pub mod NeedingSymbols
 pub mod Arrays
 pub mod Slots
 pub mod SlotSetting
-pub mod ClassesThere
 pub mod ClassesAtStart
 pub mod SlotRows
 pub mod SlotSearch

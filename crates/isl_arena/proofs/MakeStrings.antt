@@ -288,7 +288,7 @@ module _
               answers =
                   answers_made names program places z y r (2 + byte_words (length (replicate count c))) (length (replicate count c)) (string (replicate count c)) z now _
                   (alike_self z) (made_string_facts y.arena count c r.arena room small) (filled_heap count c y.arena ∙ omega (arith, many))
-                  (filled_blocks count c y.arena) refl refl (omega arith) (string_stands y.arena count c r.arena room small) (omega (arith, many, cost));
+                  (filled_blocks count c y.arena) refl refl (omega arith) (string_stands y.arena count c r.arena room small) tt (omega (arith, many, cost));
             }
 
 -- the units behind the answer, where the arguments are a length and a character

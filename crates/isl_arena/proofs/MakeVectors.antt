@@ -169,7 +169,7 @@ module _ (names : List (List ℕ)) (program : ProgramRows) (places : Places) (z 
               answers =
                   answers_made names program places z y r (2 + length (replicate count v)) 0 (vector (replicate count v)) z now _ (alike_self z)
                   (begun_facts (2 + count) all r.arena room) (begun_heap (2 + count) all y.arena ∙ omega (arith, many)) (begun_blocks (2 + count) all y.arena) refl refl
-                  (omega arith) (vector_stands count b v word room) (omega (arith, many, cost));
+                  (omega arith) (vector_stands count b v word room) tt (omega (arith, many, cost));
             }
 
 -- the units behind the answer, where the first argument is a length

@@ -37,9 +37,9 @@ use Rattle.isl_arena.proofs.Checking.{instance_registers}
 use Rattle.isl_arena.proofs.Needing.{instance_needed}
 use Rattle.isl_arena.proofs.NeedingSymbols.{symbol_needed, last_two}
 use Rattle.isl_arena.proofs.Arrays.{does_two, length_word_is}
-use Rattle.isl_arena.proofs.ClassesThere.{ClassesThere}
+use Rattle.isl_arena.specs.ClassesThere.{ClassesThere}
 use Rattle.isl_arena.proofs.Slots.{instance_low}
-use Rattle.isl_arena.proofs.SlotRows.{ClassesAreThere, class_found, class_low}
+use Rattle.isl_arena.proofs.SlotRows.{class_found, class_low}
 use Rattle.isl_arena.proofs.SlotSearch.{search_slot, position_at_most, NameAt, Searched, found, missed, search, slot_told, sum_is}
 
 -- what the search is charged bounds its turns
@@ -158,8 +158,8 @@ module _
         (search procedures below y x (is_slot names s) (slots program c) n 0 _ rows_from (rows_from + 12 * count) (Some w) None (Some class_word) (Some 3)
         row_name refl (omega (arith, is_word, high)) (omega (arith, high)) turns)))))))))))
 
-pub slot_place_does : ClassesAreThere → IsPrimitive SlotPlace (procedure_of SlotPlace)
-slot_place_does there = does_two SlotPlace refl (λ v u w x names program places z y procedures below n r are units.
+pub slot_place_does : IsPrimitive SlotPlace (procedure_of SlotPlace)
+slot_place_does = does_two SlotPlace refl (λ v u w x names program places z y procedures below n r are units.
     instance_needed names program places z y r procedures below n 0 w standard_object_class v (first_registers 8 (w ∷ x ∷ [])) (omega arith) refl refl are.0 (omega arith)
     (y.cost + 130 + 244 * 2) y.cost (λ i. a_symbol u z (λ s. slot_place (slots program i.0) (is_slot names s) z)) (steps_of (line.NeedSymbol 1) ++ seeking sought) (omega arith)
     (λ c values mark held.
@@ -170,5 +170,5 @@ slot_place_does there = does_two SlotPlace refl (λ v u w x names program places
     let last = last_two scratched in
     let turns : position_or_len (is_slot names s) (slots program c) ≤ n = place_units names program (slots program c) (is_slot names s) z n (rw (held, spelt) at units) in
     rw last.same
-    (place_run names program places z y r (there names program places z y r) w x c v u values mark s it are.1.0 spelt procedures below n _ turns last.six last.seven k'
+    (place_run names program places z y r r.classes w x c v u values mark s it are.1.0 spelt procedures below n _ turns last.six last.seven k'
     (omega (arith, paid_then))))))

@@ -36,14 +36,9 @@ use Rattle.isl_arena.proofs.Conditions.{domain_error_run}
 use Rattle.isl_arena.proofs.Checking.{instance_registers}
 use Rattle.isl_arena.proofs.Needing.{instance_needed}
 use Rattle.isl_arena.proofs.Arrays.{does_one, does_two}
-use Rattle.isl_arena.proofs.ClassesThere.{ClassesThere}
+use Rattle.isl_arena.specs.ClassesThere.{ClassesThere}
 use Rattle.isl_arena.proofs.Slots.{counting, slot_registers, slot_needed, instance_low, header_without_kind, four_times_count}
 
--- in each state that is represented the classes are there
-abbrev pub ClassesAreThere : Type 0
-ClassesAreThere =
-    (names : List (List ℕ)) (program : ProgramRows) (places : Places) (z : meaning.State) (y : State)
-    → Represents names program places z y → ClassesThere names program z
 
 module _ (names : List (List ℕ)) (program : ProgramRows) (places : Places) (z : meaning.State) (y : State) (r : Represents names program places z y) (classes : ClassesThere names program z) where
   -- the class of an instance
@@ -115,23 +110,23 @@ module _
         (address_above (class_word + above + 12 * j) (26 + extra) (row_address + extra) (omega (arith, is_word)) (omega (arith, is_word, high, inner, small))) at.stands)
         (returns_value names program places z y procedures below r refl at.of_value (alike_self z) (omega (arith, cost)))))))))
 
-pub slot_initargs_does : ClassesAreThere → IsPrimitive SlotInitargs (procedure_of SlotInitargs)
-slot_initargs_does there = does_two SlotInitargs refl (λ v u w x names program places z y procedures below n r are units.
+pub slot_initargs_does : IsPrimitive SlotInitargs (procedure_of SlotInitargs)
+slot_initargs_does = does_two SlotInitargs refl (λ v u w x names program places z y procedures below n r are units.
     slot_needed names program places z y r procedures below n (y.cost + 130 + 244 * 2) y.cost 0 1 w x v u (λ i at. result (initargs_value names program i.0 at) z)
     (rows_of 30) (first_registers 8 (w ∷ x ∷ [])) (omega arith) (omega arith) refl refl refl are.0 are.1.0 (omega arith)
     (λ c values mark j it inside place.
-    row_run names program places z y r (there names program places z y r) w x c v values mark j it inside place 4 (initargs_value names program c j)
+    row_run names program places z y r r.classes w x c v values mark j it inside place 4 (initargs_value names program c j)
     procedures below n _ _ (omega arith)
-    (row_stands names program places z y r (there names program places z y r) w x c v values mark j it inside place).initargs (omega arith)))
+    (row_stands names program places z y r r.classes w x c v values mark j it inside place).initargs (omega arith)))
 
-pub slot_initform_does : ClassesAreThere → IsPrimitive SlotInitform (procedure_of SlotInitform)
-slot_initform_does there = does_two SlotInitform refl (λ v u w x names program places z y procedures below n r are units.
+pub slot_initform_does : IsPrimitive SlotInitform (procedure_of SlotInitform)
+slot_initform_does = does_two SlotInitform refl (λ v u w x names program places z y procedures below n r are units.
     slot_needed names program places z y r procedures below n (y.cost + 130 + 244 * 2) y.cost 0 1 w x v u (λ i at. result (initform_value names program i.0 at) z)
     (rows_of 34) (first_registers 8 (w ∷ x ∷ [])) (omega arith) (omega arith) refl refl refl are.0 are.1.0 (omega arith)
     (λ c values mark j it inside place.
-    row_run names program places z y r (there names program places z y r) w x c v values mark j it inside place 8 (initform_value names program c j)
+    row_run names program places z y r r.classes w x c v values mark j it inside place 8 (initform_value names program c j)
     procedures below n _ _ (omega arith)
-    (row_stands names program places z y r (there names program places z y r) w x c v values mark j it inside place).initform (omega arith)))
+    (row_stands names program places z y r r.classes w x c v values mark j it inside place).initform (omega arith)))
 
 -- ---- conditions
 
@@ -288,11 +283,11 @@ module _
             (domain_error_run names program places z y r procedures below n budget _ 0 w serious_condition_class v z _ (omega arith) refl refl word (omega arith)
             (alike_self z) (omega (arith, cost)))))
 
-pub continuable_does : ClassesAreThere → IsPrimitive Continuable (procedure_of Continuable)
-continuable_does there = does_one Continuable refl (λ v w names program places z y procedures below n r are units.
+pub continuable_does : IsPrimitive Continuable (procedure_of Continuable)
+continuable_does = does_one Continuable refl (λ v w names program places z y procedures below n r are units.
     rw (answer_by_instance names program places z y r v)
     (instance_needed names program places z y r procedures below n 0 w serious_condition_class v (first_registers 8 (w ∷ [])) (omega arith) refl refl are.0 (omega arith)
     (y.cost + 130 + 244 * 1) y.cost (marks program v z) (needing_condition ++ marking) (omega arith)
     (λ c values mark found.
     let it = object_found names program places z y r v w (instance c values mark) are.0 found in
-    marks_run names program places z y r (there names program places z y r) w c v values mark it are.0 procedures below n _ _ (omega arith))))
+    marks_run names program places z y r r.classes w c v values mark it are.0 procedures below n _ _ (omega arith))))

@@ -124,6 +124,7 @@ module _
         (slot_registers w x (length values) (first_registers 8 (word ∷ w ∷ x ∷ []))) k
     set_run procedures below n budget k cost =
         let low = instance_low names program places z y r v w c values mark it in
+        let known : c < length program.classes = r.classes.instances it.number c values mark it.stored in
         let registers : Registers = slice_set (slot_registers w x (length values) (first_registers 8 (word ∷ w ∷ x ∷ []))) 5 (Some (w + x)) in
         rw it.value (record {
           outcome = ends (returns word) registers (record y { arena = slot_stored; cost = k + 10 + 8 + 14 });
@@ -136,7 +137,7 @@ module _
               (and_ends tt (return_ends refl)));
           answers =
               returns_changed names program places z y r procedures below budget (k + 10 + 8 + 14) it.number word it.spot (instance c values mark) now u slot_stored registers
-              it.stored (λ p e. absurd (cc e)) it.found slot_changes
+              it.stored known known (λ p e. absurd (cc e)) it.found slot_changes
               (instance_set names program places y.arena it.spot c values mark j word u r.arena it.spot_stands inside of_value it.stands)
               of_value (length-set y.arena.memory ((it.spot.address + 4 * (2 + j)) / 4) (Some word)) refl refl (omega (arith, cost));
         })

@@ -205,7 +205,7 @@ module _
         (it.spot.address + 4 * (2 + i / 4)) (packed (slice_set bytes i x) (4 * (i / 4))) a (pos 6) it.spot (string bytes) (string (slice_set bytes i x)) v w _
         (ap (λ w. Some w) (word_changed_is bytes i x (byte_shift c) it.stands.bytes inside small shift)) refl
         (address_above (it.spot.address + 2 + 4 * (i / 4)) 6 (it.spot.address + 4 * (2 + i / 4)) (omega arith) (omega (arith, it.word, low, inside)))
-        refl word (omega (arith, it.spot_stands.aligned)) (omega arith) (omega (arith, it.stands.size.words, there)) it.stored (λ p e. cc e) it.found it.value
+        refl word (omega (arith, it.spot_stands.aligned)) (omega arith) (omega (arith, it.stands.size.words, there)) it.stored tt tt (λ p e. cc e) it.found it.value
         (string_set y.arena it.spot bytes i x r.arena it.spot_stands inside small it.stands) (omega (arith, cost)))))))))
 
 pub char_at_does : IsPrimitive CharAt (procedure_of CharAt)

@@ -34,7 +34,7 @@ use Rattle.isl_arena.proofs.Checking.{header_registers}
 use Rattle.isl_arena.proofs.Needing.{class_needed}
 use Rattle.isl_arena.proofs.Taking.{does_one}
 use Rattle.isl_arena.proofs.Arrays.{does_two}
-use Rattle.isl_arena.proofs.ClassesThere.{ClassesThere}
+use Rattle.isl_arena.specs.ClassesThere.{ClassesThere}
 use Rattle.isl_arena.proofs.ClassHeaders.{Seeking, Finds}
 use Rattle.isl_arena.proofs.ClassWords.{class_found}
 use Rattle.isl_arena.proofs.ClassSearch.{asking, asking_run}
@@ -146,9 +146,6 @@ is_instance_run names program places z y procedures below n w x v u r there word
     class : Finds here (class_of z v) (code_of (class_word 2 0)) here.start (class_tested y.cost) 254
     class = class_found here v word refl
 
--- so it does what it has to where the class objects are there in each represented state
-pub is_instance_does :
-    ((names : List (List ℕ)) (program : ProgramRows) (places : Places) (z : meaning.State) (y : State) → Represents names program places z y
-    → ClassesThere names program z) → IsPrimitive IsInstance (procedure_of IsInstance)
-is_instance_does classes = does_two IsInstance refl (λ v u w x names program places z y procedures below n r are units.
-    is_instance_run names program places z y procedures below n w x v u r (classes names program places z y r) are.0 are.1.0 units)
+pub is_instance_does : IsPrimitive IsInstance (procedure_of IsInstance)
+is_instance_does = does_two IsInstance refl (λ v u w x names program places z y procedures below n r are units.
+    is_instance_run names program places z y procedures below n w x v u r r.classes are.0 are.1.0 units)

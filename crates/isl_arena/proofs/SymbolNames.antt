@@ -178,7 +178,7 @@ module _
                 answers =
                     answers_made names program places z y r (2 + count) (length bytes) (string bytes) z (record y { arena = string_arena; cost = k + 172 + 62 * count }) _
                     (alike_self z) (begun_facts (2 + count) all r.arena room) (begun_heap (2 + count) all y.arena) (begun_blocks (2 + count) all y.arena) refl refl (omega arith)
-                    (string_begun bytes r.arena room text.bytes) (omega (arith, cost));
+                    (string_begun bytes r.arena room text.bytes) tt (omega (arith, cost));
               }
 
 -- ---- symbols

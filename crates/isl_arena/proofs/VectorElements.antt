@@ -143,5 +143,5 @@ set_vector_ref_does = does_three SetVectorRef refl (λ v w u a b c names program
     (stores_changed names program places z y r procedures below n (y.cost + 130 + 244 * 3) _ it.number 0 5 0 (it.spot.address + 2 + 4 * i)
     (it.spot.address + 4 * (2 + i)) a a (pos 6) it.spot (vector vs) (vector (slice_set vs i v)) v w _ refl refl
     (address_above (it.spot.address + 2 + 4 * i) 6 (it.spot.address + 4 * (2 + i)) (omega arith) (omega (arith, it.word, low, inside)))
-    refl are.0 (omega (arith, it.spot_stands.aligned)) (omega arith) (omega (arith, it.stands.size.words)) it.stored (λ p e. cc e) it.found it.value
+    refl are.0 (omega (arith, it.spot_stands.aligned)) (omega arith) (omega (arith, it.stands.size.words)) it.stored tt tt (λ p e. cc e) it.found it.value
     (vector_set places y.arena it.spot vs i a v r.arena it.spot_stands inside are.0 it.stands) (omega arith)))))))

@@ -3,6 +3,7 @@ pub mod Places
 pub mod Standing
 pub mod FixedWords
 pub mod Layouts
+pub mod ClassesThere
 pub mod Represents
 pub mod Answers
 pub mod Steps

@@ -9,6 +9,7 @@ use Rattle.isl_meaning.specs.State as meaning
 use Rattle.isl_mid.specs.State.{State}
 use Rattle.isl_arena.specs.Places.{Spot, Places, Owner, of_object, of_symbol, spot_of}
 use Rattle.isl_arena.specs.Standing.{ArenaStands, SpotStands, AllApart}
+use Rattle.isl_arena.specs.ClassesThere.{ClassesThere}
 use Rattle.isl_arena.specs.FixedWords.{nil_text, FixedStand}
 use Rattle.isl_arena.specs.Layouts.{AreBytes, ObjectAt, SymbolAt}
 
@@ -18,6 +19,7 @@ pub record Represents (names : List (List ℕ)) (program : ProgramRows) (places 
   pub spots : (p : Owner) (s : Spot) → spot_of places p ≡ Some s → SpotStands y.arena s
   pub apart : AllApart places
   pub count : length places.objects ≡ length z.store
+  pub classes : ClassesThere names program z
   pub objects :
       (i : ℕ) (o : Object) (s : Spot) → slice_get z.store i ≡ Some o → spot_of places (of_object i) ≡ Some s
       → ObjectAt names program places y.arena s o
