@@ -57,3 +57,4 @@ pub mod ClassHeaders
 pub mod ClassWords
 pub mod ClassSearch
 pub mod Subclasses
+pub mod EachPrimitive

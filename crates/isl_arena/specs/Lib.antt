@@ -7,4 +7,5 @@ pub mod ClassesThere
 pub mod Represents
 pub mod Answers
 pub mod Steps
+pub mod CodeCosts
 pub mod Codes
