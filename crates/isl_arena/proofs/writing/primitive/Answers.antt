@@ -1,8 +1,6 @@
 -- What was written is the primitive's procedure, of which all of it holds.
 use Rattle.std.proofs.Common.{◌≡◌, true, subst, sym}
 use Rattle.std.proofs.lemmas.Result.{IfOk-weaker}
-use Rattle.isl_meaning.specs.declared.primitive.Primitive.{Primitive}
-use Rattle.isl_mid.specs.declared.program.MidProcedure.{MidProcedure}
 use Rattle.isl_mid.specs.Checked.{is_checked}
 use Rattle.isl_arena.specs.Answers.{IsPrimitive}
 use Rattle.isl_arena.specs.CodeCosts.{cost_of, procedure_cost}
