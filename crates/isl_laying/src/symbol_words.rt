@@ -60,7 +60,7 @@ impl SymbolWords {
         ensures { result ≡ word_of_symbol symbol self.now }
     {
         match symbol {
-            Symbol::Named(name) => find_named(self.list.as_slice(), self.places.as_slice(), name),
+            Symbol::Named(name) => find_named(&self.list, &self.places, name),
             Symbol::Fresh { expansion, serial } => {
                 find_fresh(self.list.as_slice(), expansion, serial)
             }
@@ -103,7 +103,11 @@ impl SymbolWords {
 }
 
 // The symbol at the place that stands under the name's number, if it is this one.
-fn find_named(list: &[SymbolWord], places: &[usize], name: Name) -> Option<u32>
+fn find_named(
+    list: &ItemList<SymbolWord>,
+    places: &ItemList<usize>,
+    name: Name,
+) -> Option<u32>
     requires { IsIndexed list.now places.now }
     ensures { result ≡ word_of_symbol (Named name) list.now }
 {
@@ -113,9 +117,19 @@ fn find_named(list: &[SymbolWord], places: &[usize], name: Name) -> Option<u32>
     let Some(entry) = list.get(*place) else {
         return None;
     };
-    match entry.symbol {
-        Symbol::Named(other) if other.0 == name.0 => Some(entry.word),
-        Symbol::Named(_) | Symbol::Fresh { .. } => None,
+    if is_named(entry.symbol, name) {
+        Some(entry.word)
+    } else {
+        None
+    }
+}
+
+fn is_named(symbol: Symbol, name: Name) -> bool
+    ensures { result ≡ is_same_symbol (Named name) symbol }
+{
+    match symbol {
+        Symbol::Named(other) => name.0 == other.0,
+        Symbol::Fresh { .. } => false,
     }
 }
 
