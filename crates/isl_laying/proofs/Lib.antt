@@ -1,2 +1,5 @@
 pub mod Lists
 pub mod SymbolLists
+pub mod LaidWords
+pub mod Joining
+pub mod Made
