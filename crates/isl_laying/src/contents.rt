@@ -2,10 +2,10 @@
 
 ghost use Rattle.std.specs.Prelude.{◌≡◌, ◌+◌, ◌*◌, ◌%◌, ◌^◌, ◌<◌, ◌≤◌, ◌∷◌, [], ◌++◌, length, OnOk};
 ghost use Rattle.isl_arena.specs.Tags.{integer_word, character_word, vector_header, fresh_header};
-ghost use Rattle.isl_arena.specs.Layouts.{packed, byte_at};
+ghost use Rattle.isl_arena.specs.Layouts.{packed, byte_at, AreBytes};
 ghost use Rattle.isl_base.specs.DataMeasures.{SymbolBelow};
 ghost use Rattle.isl_laying.specs.Lists.{IsBeginning};
-ghost use Rattle.isl_laying.specs.Contents.{text_words, symbol_words};
+ghost use Rattle.isl_laying.specs.Contents.{text_words, symbol_words, HasBytes};
 
 use isl_arena::words::{FRESH, SYMBOL, VECTOR};
 use isl_base::{Names, NoMemory, Symbol, WordList};
@@ -28,6 +28,7 @@ pub fn push_text(words: &mut WordList, header: u32, bytes: &[u8]) -> Result<(), 
     requires { length bytes.now < 2 ^ 28 }
     ensures ok { OnOk result (words.new ≡ words.old ++ text_words header bytes.now) }
     ensures grown { IsBeginning words.old words.new }
+    ensures bytes { AreBytes bytes.now }
 {
     words.push(header)?;
     words.push(4 * bytes.len() as u32)?;
@@ -62,6 +63,7 @@ pub fn push_symbol(words: &mut WordList, names: &Names, symbol: Symbol) -> Resul
     requires { SymbolBelow (length names.now) symbol }
     ensures ok { OnOk result (words.new ≡ words.old ++ symbol_words names.now symbol) }
     ensures grown { IsBeginning words.old words.new }
+    ensures bytes { HasBytes names.now symbol }
 {
     match symbol {
         Symbol::Named(name) => {

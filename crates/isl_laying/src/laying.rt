@@ -6,6 +6,7 @@ ghost use Rattle.isl_base.specs.Data as data_specs;
 ghost use Rattle.isl_base.specs.DataMeasures.{SymbolBelow, size_of, sizes_of, size_of_tail};
 ghost use Rattle.isl_base.specs.DataParts.{AllOf, OfDotted};
 ghost use Rattle.isl_base.specs.GoodData.{Good};
+ghost use Rattle.isl_base.specs.Names.{IsTable};
 ghost use Rattle.isl_base.specs.model.DataView.{tail_of};
 ghost use Rattle.isl_meaning.specs.Literals as literals;
 ghost use Rattle.isl_arena.specs.Tags.{cons_tag};
@@ -80,6 +81,7 @@ fn lay_symbol(symbol: Symbol, names: &Names, words: &mut ArenaWords) -> Result<u
     ensures count { OnOk result (length words.new.words ≤ length words.old.words + 68) }
     ensures lays { IfOk result (λ w. Lays names.now (literals.lay_content names.now (data_specs.symbol symbol)) words.old words.new w) }
 {
+    let _ = names.len();
     match words.symbols.find(symbol) {
         Some(word) => Ok(word),
         None => lay_new_symbol(symbol, names, words),
@@ -87,6 +89,7 @@ fn lay_symbol(symbol: Symbol, names: &Names, words: &mut ArenaWords) -> Result<u
 }
 
 fn lay_new_symbol(symbol: Symbol, names: &Names, words: &mut ArenaWords) -> Result<u32, NoMemory>
+    requires table { IsTable names.now }
     requires named { SymbolBelow (length names.now) symbol }
     requires new { word_of_symbol symbol words.old.symbols ≡ None }
     requires room { HasRoom words.old 160 }
