@@ -1,14 +1,14 @@
 -- Data are laid one after another; a list is its items, its end and its conses.
-use Rattle.std.proofs.Common.{◌≡◌, ℕ, ◌+◌, ◌*◌, ◌≤◌, List, [], ◌∷◌, ◌++◌, length, take, drop, Some, refl, sym, ◌∙◌, ap, subst, append_assoc, append-nil, add-zero, length-append, arith}
+use Rattle.std.proofs.Common.{◌≡◌, ℕ, ◌+◌, ◌≤◌, List, [], ◌∷◌, ◌++◌, length, take, drop, Some, refl, sym, ◌∙◌, ap, subst, append_assoc, append-nil, add-zero, length-append, arith}
 use Rattle.std.specs.Prelude.{slice_get}
 use Rattle.std.proofs.lemmas.List.{drop_all, take_all}
-use Rattle.isl_base.specs.Data.{Item, Items, Tail, item, items_of, no_item, item_and, list}
+use Rattle.isl_base.specs.Data.{Item, Tail, items_of, no_item, list}
 use Rattle.isl_base.specs.DataMeasures.{size_of, sizes_of}
 use Rattle.isl_base.specs.model.DataRest.{take_at, items_at}
 use Rattle.isl_meaning.specs.declared.program.ProgramRows.{ProgramRows}
 use Rattle.isl_meaning.specs.Values.{Value, object}
 use Rattle.isl_meaning.specs.Objects.{Object, cons}
-use Rattle.isl_meaning.specs.Literals.{Laid, no_object, after_parts, lay, lay_content, lay_items, lay_list, lay_tail}
+use Rattle.isl_meaning.specs.Literals.{Laid, after_parts, lay, lay_content, lay_items, lay_list, lay_tail}
 use Rattle.isl_arena.specs.Places.{Places, word_of, WordsOf}
 use Rattle.isl_arena.proofs.Keeping.{words_extended}
 use Rattle.isl_laying.specs.declared.words.ArenaWords.{ArenaWords}

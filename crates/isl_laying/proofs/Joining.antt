@@ -1,15 +1,13 @@
 -- One owner more has a spot, behind all others.
-use Rattle.std.proofs.Common.{◌≡◌, ℕ, ◌+◌, ◌*◌, ◌<◌, ◌≤◌, Bool, true, false, List, [], ◌∷◌, ◌++◌, length, Option, Some, None, refl, sym, ◌∙◌, ap, length-append, arith}
+use Rattle.std.proofs.Common.{◌≡◌, ℕ, ◌+◌, ◌<◌, ◌≤◌, Bool, true, false, List, [], ◌∷◌, ◌++◌, length, Option, Some, None, refl, sym, ◌∙◌, ap, length-append, arith}
 use Rattle.std.specs.Prelude.{◌==◌, ◌&&◌, if◌then◌else◌, slice_get}
-use Rattle.std.specs.Str.{bytes_eq}
 use Rattle.std.proofs.lemmas.Slice.Eq.{bytes_eq-Decides}
 use Rattle.std.proofs.lemmas.Bool.Decides.{nat_tests}
 use Rattle.std.proofs.lemmas.Option.{slice_get_within}
-use Rattle.isl_base.specs.Names.{slice_get-behind}
 use Rattle.isl_meaning.specs.declared.program.ProgramRows.{ProgramRows}
 use Rattle.isl_meaning.specs.Values.{SymbolValue, named, unnamed, same_symbol, Value, integer, character, symbol, nil, object}
 use Rattle.isl_meaning.specs.Objects.{Object}
-use Rattle.isl_arena.specs.Places.{Spot, end_of, pointer_to, Places, Owner, of_object, of_symbol, of_other, same_owner, spot_in, spot_of_symbol, spot_of, with_object, pointer_in, word_of}
+use Rattle.isl_arena.specs.Places.{Spot, end_of, Places, Owner, of_object, of_symbol, of_other, same_owner, spot_in, spot_of_symbol, spot_of, with_object, pointer_in, word_of}
 use Rattle.isl_arena.specs.Standing.{of_laid, SpotStands, Apart, in_front, behind, AllApart, SameWords}
 use Rattle.isl_arena.specs.Layouts.{ObjectAt, SymbolAt}
 use Rattle.isl_arena.proofs.Keeping.{spot_in_tells, pointer_tells, Extends, symbol_kept, object_kept}
@@ -19,7 +17,7 @@ use Rattle.isl_laying.specs.declared.words.ArenaWords.{ArenaWords}
 use Rattle.isl_laying.specs.LaidArena.{end_address, arena_of}
 use Rattle.isl_laying.specs.LaidWell.{IsSymbolThere, AreSymbolsThere, LaidWell}
 use Rattle.isl_laying.specs.Laying.{Grown, Longer}
-use Rattle.isl_laying.proofs.Lists.{beginning_same, beginning_more, beginning_both, item_stays, no_shorter}
+use Rattle.isl_laying.proofs.Lists.{beginning_same, beginning_more, beginning_both, item_stays}
 use Rattle.isl_laying.proofs.LaidWords.{spot_among, spot_grown, words_grown}
 
 -- ---- places that only grow

@@ -5,3 +5,5 @@ pub mod Joining
 pub mod Made
 pub mod MadeSymbols
 pub mod Data
+pub mod Parts
+pub mod Atoms
