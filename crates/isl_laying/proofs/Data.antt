@@ -169,8 +169,8 @@ list_laid names ds t old mid next new ws e w items tail links = record { there =
         let all : length ((store ++ a.0) ++ b.objects) ≡ length store + length (a.0 ++ b.objects) =
         omega (arith, length-append (store ++ a.0) b.objects, length-append store a.0, length-append a.0 b.objects) in
         let linked = rw all at
-            (links.there names program last.places_after ((store ++ a.0) ++ b.objects) a.1 b.value last.stands
-            (words_extended it.places_after last.places_after (extends_longer it.places_after last.places_after last.longer) a.1 ws it.of_values) last.of_value) in
+        (links.there names program last.places_after ((store ++ a.0) ++ b.objects) a.1 b.value last.stands
+        (words_extended it.places_after last.places_after (extends_longer it.places_after last.places_after last.longer) a.1 ws it.of_values) last.of_value) in
         let c = conses a.1 b.value (length store + length (a.0 ++ b.objects)) in
         let together : LaidThere names program places store new (in_line (lay_items names (items_of ds)) (lay_tail names t) (length store)) w =
         record {

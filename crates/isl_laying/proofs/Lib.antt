@@ -7,3 +7,4 @@ pub mod MadeSymbols
 pub mod Data
 pub mod Parts
 pub mod Atoms
+pub mod Beginning

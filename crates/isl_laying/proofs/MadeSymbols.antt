@@ -146,7 +146,7 @@ new_symbol_laid names s before after w table below new bytes added = record { th
                 words = beginning_of before.words (symbol_words names s) after.words added.words;
                 symbols = beginning_of before.symbols (record { word = w; symbol = s } ∷ []) after.symbols added.symbols;
               })
-              (joins_symbol v spot places) refl high (symbol_some names s) (omega arith) v (record { word = w; symbol = s }) refl refl refl added.symbols
+              (joins_symbol v spot places) refl high (symbol_some names s) (omega arith) v (record { word = w; symbol = s }) refl refl refl added.symbols absent
               (record { named = below; symbol = refl; word = added.word }) (symbol_stands names s before after h.aligned added.first added.words bytes));
           of_value = ap pointer_in (new_symbol_found v spot places.symbols absent) ∙ ap (λ n. Some n) (sym added.word);
         }

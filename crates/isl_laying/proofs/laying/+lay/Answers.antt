@@ -34,18 +34,26 @@ lay_item-lay_string-requires t c =
 
 pub lay_item-lay_vector-requires : goal.lay_item-lay_vector-requires
 lay_item-lay_vector-requires t c =
-    let is = datum_is c.datum.inside.place c.datum.inside.kind (kind.Vector c.in-Vector.items) c.args.datum.now c.datum.view_is c.in-Vector.is in
-    (search rules,
-      (elements_good (length c.args.names.now) c.datum.inside.place c.args.datum.now c.requires.good c.in-Vector.items is,
-        omega (arith, c.requires.room, vector_size c.datum.inside.place c.args.datum.now c.in-Vector.items is)))
+    let is = datum_is c.datum.inside.place c.datum.inside.kind (kind.Vector c.in-Vector.items) c.args.datum.now c.datum.view_is c.in-Vector.is in (
+      search rules,
+      (
+        elements_good (length c.args.names.now) c.datum.inside.place c.args.datum.now c.requires.good c.in-Vector.items is,
+        omega (arith, c.requires.room, vector_size c.datum.inside.place c.args.datum.now c.in-Vector.items is),
+      ),
+    )
 
 pub lay_item-lay_list-requires : goal.lay_item-lay_list-requires
 lay_item-lay_list-requires t c =
-    let is = datum_is c.datum.inside.place c.datum.inside.kind (kind.List c.in-List.items c.in-List.tail) c.args.datum.now c.datum.view_is c.in-List.is in
-    (search rules,
-      (items_good (length c.args.names.now) c.datum.inside.place c.args.datum.now c.requires.good c.in-List.items (tail_of c.in-List.tail) is,
-        (tail_good (length c.args.names.now) c.datum.inside.place c.args.datum.now c.requires.good c.in-List.items (tail_of c.in-List.tail) is,
-          omega (arith, c.requires.room, list_size c.datum.inside.place c.args.datum.now c.in-List.items (tail_of c.in-List.tail) is))))
+    let is = datum_is c.datum.inside.place c.datum.inside.kind (kind.List c.in-List.items c.in-List.tail) c.args.datum.now c.datum.view_is c.in-List.is in (
+      search rules,
+      (
+        items_good (length c.args.names.now) c.datum.inside.place c.args.datum.now c.requires.good c.in-List.items (tail_of c.in-List.tail) is,
+        (
+          tail_good (length c.args.names.now) c.datum.inside.place c.args.datum.now c.requires.good c.in-List.items (tail_of c.in-List.tail) is,
+          omega (arith, c.requires.room, list_size c.datum.inside.place c.args.datum.now c.in-List.items (tail_of c.in-List.tail) is),
+        ),
+      ),
+    )
 
 pub lay_item-returns-in-Int-clause-count : goal.lay_item-returns-in-Int-clause-count
 lay_item-returns-in-Int-clause-count t c = omega (arith, some_size c.args.datum.now)
@@ -92,11 +100,19 @@ lay_item-returns-in-List-clause-count t c =
 
 pub lay_items-lay_item-requires : goal.lay_items-lay_item-requires
 lay_items-lay_item-requires t c =
-    let smaller = item_in_smaller c.args.items.now c.loop-at.at c.in-Some.item.now c.in-Some.ensures in
-    (search (rules, smaller),
-      (good_at (length c.args.names.now) c.args.items.now c.loop-at.at c.in-Some.item.now c.requires.good c.in-Some.ensures,
-        omega (arith, c.requires.room, c.loop-at.invariant.count, c.loop-at.invariant.grown.first,
-        sizes_at c.args.items.now c.loop-at.at c.in-Some.item.now c.in-Some.ensures)))
+    let smaller = item_in_smaller c.args.items.now c.loop-at.at c.in-Some.item.now c.in-Some.ensures in (
+      search (rules, smaller),
+      (
+        good_at (length c.args.names.now) c.args.items.now c.loop-at.at c.in-Some.item.now c.requires.good c.in-Some.ensures,
+        omega (
+          arith,
+          c.requires.room,
+          c.loop-at.invariant.count,
+          c.loop-at.invariant.grown.first,
+          sizes_at c.args.items.now c.loop-at.at c.in-Some.item.now c.in-Some.ensures,
+        ),
+      ),
+    )
 
 pub lay_items-loop-at-preserved : goal.lay_items-loop-at-preserved
 lay_items-loop-at-preserved t c = record {
@@ -119,10 +135,13 @@ lay_list-returns-clause-lays t c =
 
 pub lay_tail-lay_item-requires : goal.lay_tail-lay_item-requires
 lay_tail-lay_item-requires t c =
-    let is : tail_of c.args.tail.now ≡ datum.dotted c.deref.result.now = ap tail_of c.in-Some.is ∙ ap datum.dotted (sym c.deref.ensures) in
-    (search (rules, is),
-      (dotted_good (length c.args.names.now) (tail_of c.args.tail.now) c.deref.result.now is c.requires.good,
-        omega (arith, c.requires.room, dotted_size (tail_of c.args.tail.now) c.deref.result.now is)))
+    let is : tail_of c.args.tail.now ≡ datum.dotted c.deref.result.now = ap tail_of c.in-Some.is ∙ ap datum.dotted (sym c.deref.ensures) in (
+      search (rules, is),
+      (
+        dotted_good (length c.args.names.now) (tail_of c.args.tail.now) c.deref.result.now is c.requires.good,
+        omega (arith, c.requires.room, dotted_size (tail_of c.args.tail.now) c.deref.result.now is),
+      ),
+    )
 
 pub lay_tail-returns-in-Some-clause-count : goal.lay_tail-returns-in-Some-clause-count
 lay_tail-returns-in-Some-clause-count t c =

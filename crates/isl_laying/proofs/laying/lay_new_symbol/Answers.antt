@@ -6,8 +6,12 @@ use Rattle.isl_laying.proofs.laying.lay_new_symbol.Goals as goal
 
 pub returns-clause-count : goal.returns-clause-count
 returns-clause-count c =
-    omega (arith, symbol_count c.args.names.now c.args.symbol c.requires.table c.requires.named, ap (λ vs. length vs) c.in_ok-push_symbol.ensures.ok,
-    length-append c.args.words.now.words (symbol_words c.args.names.now c.args.symbol))
+    omega (
+      arith,
+      symbol_count c.args.names.now c.args.symbol c.requires.table c.requires.named,
+      ap (λ vs. length vs) c.in_ok-push_symbol.ensures.ok,
+      length-append c.args.words.now.words (symbol_words c.args.names.now c.args.symbol),
+    )
 
 pub returns-clause-lays : goal.returns-clause-lays
 returns-clause-lays c =

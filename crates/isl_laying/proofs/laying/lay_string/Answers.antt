@@ -11,8 +11,12 @@ push_text-requires c = omega (arith, c.requires.room, ap (λ vs. length vs) c.as
 
 pub returns-clause-count : goal.returns-clause-count
 returns-clause-count c =
-    omega (arith, ap (λ vs. length vs) (c.in_ok-push_text.ensures.ok ∙ ap (λ bytes. c.args.words.now.words ++ text_words string_header bytes) c.as_slice.ensures),
-    length-append c.args.words.now.words (text_words string_header c.args.bytes.now), text_count string_header c.args.bytes.now)
+    omega (
+      arith,
+      ap (λ vs. length vs) (c.in_ok-push_text.ensures.ok ∙ ap (λ bytes. c.args.words.now.words ++ text_words string_header bytes) c.as_slice.ensures),
+      length-append c.args.words.now.words (text_words string_header c.args.bytes.now),
+      text_count string_header c.args.bytes.now,
+    )
 
 pub returns-clause-lays : goal.returns-clause-lays
 returns-clause-lays c = λ names.
