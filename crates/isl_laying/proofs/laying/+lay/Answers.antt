@@ -15,7 +15,8 @@ use Rattle.isl_laying.specs.Laying.{Lays}
 use Rattle.isl_laying.proofs.LaidWords.{grown_both}
 use Rattle.isl_laying.proofs.Made.{vector_laid}
 use Rattle.isl_laying.proofs.Data.{item_more, sizes_at, list_laid}
-use Rattle.isl_laying.proofs.Parts.{datum_is, some_size, integer_in_range, symbol_below, elements_good, items_good, tail_good, string_size, vector_size, list_size, dotted_good, dotted_size, number_back}
+use Rattle.isl_laying.proofs.Parts.{datum_is, some_size, integer_in_range, symbol_below, elements_good, items_good}
+use Rattle.isl_laying.proofs.Parts.{tail_good, string_size, vector_size, list_size, dotted_good, dotted_size, number_back}
 use Rattle.isl_laying.proofs.Atoms.{integer_laid}
 use Rattle.isl_laying.proofs.laying.+lay.Goals as goal
 
