@@ -1,0 +1,5 @@
+pub mod Addresses
+pub mod Ground
+pub mod Kinds
+pub mod Rows
+pub mod Sums

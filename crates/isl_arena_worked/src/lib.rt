@@ -1,0 +1,6 @@
+// Worked rows: what primitives come to, run in the meaning of middle code.
+#![tactic(auto)]
+
+pub mod worked;
+
+pub use worked::worked_numbers;
