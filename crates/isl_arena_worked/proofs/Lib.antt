@@ -1,1 +1,5 @@
+pub mod Comparisons
+pub mod Conses
+pub mod Predicates
+pub mod Quotients
 pub mod Sums

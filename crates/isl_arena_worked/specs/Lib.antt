@@ -3,3 +3,7 @@ pub mod Ground
 pub mod Kinds
 pub mod Rows
 pub mod Sums
+pub mod Quotients
+pub mod Comparisons
+pub mod Predicates
+pub mod Conses

@@ -3,4 +3,4 @@
 
 pub mod worked;
 
-pub use worked::worked_numbers;
+pub use worked::{worked_conses, worked_numbers, worked_predicates};
