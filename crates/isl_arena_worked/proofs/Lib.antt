@@ -1,5 +1,9 @@
+pub mod Characters
 pub mod Comparisons
 pub mod Conses
 pub mod Predicates
 pub mod Quotients
+pub mod Strings
 pub mod Sums
+pub mod Symbols
+pub mod Vectors

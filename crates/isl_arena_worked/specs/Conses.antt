@@ -5,8 +5,7 @@ use Rattle.isl_meaning.specs.Objects.{cons_class}
 use Rattle.isl_arena.specs.Tags.{cons_tag, nil_word, character_word}
 use Rattle.isl_arena_worked.specs.Addresses.{cons_at, object_at, number, minus, symbol_x, pair, next_pair, abc, made}
 use Rattle.isl_arena_worked.specs.Kinds.{some_conses, others_than}
-use Rattle.isl_arena_worked.specs.Rows.{outcome, gives, stores, makes, Comes, Does, RefusesEach, FitsError, FitsObject}
-use Rattle.isl_arena_worked.specs.Ground.{with_room}
+use Rattle.isl_arena_worked.specs.Rows.{gives, stores, makes, Does, DoesThen, RefusesEach, FitsError, FitsObject}
 
 pub record ConsRows : Type 0 where
   -- (1 . nil), (abc . (1 x)), (-1 . a)
@@ -16,8 +15,8 @@ pub record ConsRows : Type 0 where
   -- two words
   pub fits : FitsObject Cons (number 1 ∷ nil_word ∷ []) cons_tag (number 1 ∷ nil_word ∷ [])
   -- and its parts are those that were given
-  pub car : Comes (outcome Cons (number 1 ∷ object_at abc ∷ []) (with_room 12)).state Car (cons_at made ∷ []) (gives (number 1))
-  pub cdr : Comes (outcome Cons (number 1 ∷ object_at abc ∷ []) (with_room 12)).state Cdr (cons_at made ∷ []) (gives (object_at abc))
+  pub car : DoesThen (makes cons_tag (object_at abc ∷ cons_at pair ∷ [])) Car (cons_at made ∷ []) (gives (object_at abc))
+  pub cdr : DoesThen (makes cons_tag (object_at abc ∷ cons_at pair ∷ [])) Cdr (cons_at made ∷ []) (gives (cons_at pair))
 
 -- of the list (1 x)
 pub record PartRows : Type 0 where
@@ -39,8 +38,8 @@ pub record SetPartRows : Type 0 where
   pub car_to_nil : Does SetCar (nil_word ∷ cons_at next_pair ∷ []) (stores nil_word next_pair (nil_word ∷ []))
   pub cdr_to_itself : Does SetCdr (cons_at pair ∷ cons_at pair ∷ []) (stores (cons_at pair) (pair + 4) (cons_at pair ∷ []))
   -- what was set is there
-  pub car_then : Comes (outcome SetCar (minus 1 ∷ cons_at pair ∷ []) (with_room 0)).state Car (cons_at pair ∷ []) (gives (minus 1))
-  pub cdr_then : Comes (outcome SetCdr (minus 1 ∷ cons_at pair ∷ []) (with_room 0)).state Cdr (cons_at pair ∷ []) (gives (minus 1))
+  pub car_then : DoesThen (stores (object_at abc) pair (object_at abc ∷ [])) Car (cons_at pair ∷ []) (gives (object_at abc))
+  pub cdr_then : DoesThen (stores (object_at abc) (pair + 4) (object_at abc ∷ [])) Cdr (cons_at pair ∷ []) (gives (object_at abc))
   -- the second argument has to be a cons, the first one may be any value
   pub car_refused : RefusesEach SetCar (λ w. nil_word ∷ w ∷ []) (others_than some_conses) cons_class
   pub cdr_refused : RefusesEach SetCdr (λ w. nil_word ∷ w ∷ []) (others_than some_conses) cons_class

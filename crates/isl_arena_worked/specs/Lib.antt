@@ -7,3 +7,7 @@ pub mod Quotients
 pub mod Comparisons
 pub mod Predicates
 pub mod Conses
+pub mod Characters
+pub mod Strings
+pub mod Vectors
+pub mod Symbols

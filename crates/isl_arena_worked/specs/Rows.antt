@@ -30,6 +30,10 @@ seen r = record { end = r.end; arena = r.state.arena; printed = r.state.printed;
 abbrev pub ended : End → State → Seen
 ended end z = record { end = end; arena = z.arena; printed = z.printed; input = z.input }
 
+-- the state where that is seen
+abbrev pub after : Seen → State → State
+after s z = record z { arena = s.arena; printed = s.printed; input = s.input }
+
 -- words are stored from an address on
 abbrev pub storing : ℕ → List ℕ → Arena → Arena
 storing address [] a = a
@@ -83,6 +87,10 @@ ample = 16
 
 abbrev pub Does : Primitive → List ℕ → (State → Seen) → Type 0
 Does = DoesIn ample
+
+-- so it does in the state that another row leaves
+abbrev pub DoesThen : (State → Seen) → Primitive → List ℕ → (State → Seen) → Type 0
+DoesThen earlier = Comes (after (earlier (with_room ample)) (with_room ample))
 
 -- with each of these arguments it comes to the same
 abbrev pub DoesAlike : Primitive → List (List ℕ) → (State → Seen) → Type 0

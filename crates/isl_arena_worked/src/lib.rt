@@ -3,4 +3,4 @@
 
 pub mod worked;
 
-pub use worked::{worked_conses, worked_numbers, worked_predicates};
+pub use worked::{worked_conses, worked_numbers, worked_predicates, worked_strings, worked_symbols, worked_vectors};
