@@ -1,6 +1,7 @@
 pub mod Addresses
 pub mod Ground
 pub mod Kinds
+pub mod GroundFacts
 pub mod Rows
 pub mod Sums
 pub mod Quotients
@@ -11,3 +12,6 @@ pub mod Characters
 pub mod Strings
 pub mod Vectors
 pub mod Symbols
+pub mod Classes
+pub mod Instances
+pub mod Streams

@@ -9,6 +9,10 @@ ghost use Rattle.isl_arena_worked.specs.Characters.{CharCodeRows, CodeCharRows};
 ghost use Rattle.isl_arena_worked.specs.Strings.{MakeStringRows, StringLengthRows, CharAtRows, SetCharAtRows};
 ghost use Rattle.isl_arena_worked.specs.Vectors.{MakeVectorRows, VectorLengthRows, VectorRefRows, SetVectorRefRows};
 ghost use Rattle.isl_arena_worked.specs.Symbols.{SymbolNameRows, SymbolSerialRows, GensymRows};
+ghost use Rattle.isl_arena_worked.specs.Classes.{ClassOfRows, ClassNameRows, IsSubclassRows, IsInstanceRows};
+ghost use Rattle.isl_arena_worked.specs.Instances.{AllocateRows, SlotCountRows, SlotPlaceRows, SlotRefRows, SlotSetRows, SlotBoundRows, SlotInitargsRows, SlotInitformRows, ContinuableRows};
+ghost use Rattle.isl_arena_worked.specs.Streams.{StreamRows, PutCharRows, IsFreshLineRows, GetByteRows, PeekByteRows};
+ghost use Rattle.isl_arena_worked.specs.GroundFacts.{GroundFacts};
 
 /// Arithmetic.
 pub fn worked_numbers()
@@ -56,4 +60,39 @@ pub fn worked_symbols()
     ensures symbol_name_rows { SymbolNameRows }
     ensures symbol_serial_rows { SymbolSerialRows }
     ensures gensym_rows { GensymRows }
+{}
+
+/// Classes.
+pub fn worked_classes()
+    ensures class_of_rows { ClassOfRows }
+    ensures class_name_rows { ClassNameRows }
+    ensures is_subclass_rows { IsSubclassRows }
+    ensures is_instance_rows { IsInstanceRows }
+{}
+
+/// Instances.
+pub fn worked_instances()
+    ensures allocate_rows { AllocateRows }
+    ensures slot_count_rows { SlotCountRows }
+    ensures slot_place_rows { SlotPlaceRows }
+    ensures slot_ref_rows { SlotRefRows }
+    ensures slot_set_rows { SlotSetRows }
+    ensures slot_bound_rows { SlotBoundRows }
+    ensures slot_initargs_rows { SlotInitargsRows }
+    ensures slot_initform_rows { SlotInitformRows }
+    ensures continuable_rows { ContinuableRows }
+{}
+
+/// Streams.
+pub fn worked_streams()
+    ensures stream_rows { StreamRows }
+    ensures put_char_rows { PutCharRows }
+    ensures is_fresh_line_rows { IsFreshLineRows }
+    ensures get_byte_rows { GetByteRows }
+    ensures peek_byte_rows { PeekByteRows }
+{}
+
+/// The arena in which all run.
+pub fn worked_ground()
+    ensures ground_facts { GroundFacts }
 {}
