@@ -1,3 +1,4 @@
+pub mod Bounds
 pub mod Characters
 pub mod Classes
 pub mod Comparisons

@@ -15,3 +15,4 @@ pub mod Symbols
 pub mod Classes
 pub mod Instances
 pub mod Streams
+pub mod Bounds

@@ -13,6 +13,7 @@ ghost use Rattle.isl_arena_worked.specs.Classes.{ClassOfRows, ClassNameRows, IsS
 ghost use Rattle.isl_arena_worked.specs.Instances.{AllocateRows, SlotCountRows, SlotPlaceRows, SlotRefRows, SlotSetRows, SlotBoundRows, SlotInitargsRows, SlotInitformRows, ContinuableRows};
 ghost use Rattle.isl_arena_worked.specs.Streams.{StreamRows, PutCharRows, IsFreshLineRows, GetByteRows, PeekByteRows};
 ghost use Rattle.isl_arena_worked.specs.GroundFacts.{GroundFacts};
+ghost use Rattle.isl_arena_worked.specs.Bounds.{BoundRows};
 
 /// Arithmetic.
 pub fn worked_numbers()
@@ -95,4 +96,9 @@ pub fn worked_streams()
 /// The arena in which all run.
 pub fn worked_ground()
     ensures ground_facts { GroundFacts }
+{}
+
+/// What all primitives take.
+pub fn worked_bounds()
+    ensures bound_rows { BoundRows }
 {}
