@@ -1,5 +1,5 @@
 -- Where things stand in the arena in which primitives are run, each behind the one before it, and the words that point to them.
-use Rattle.std.specs.Prelude.{ℕ, ◌+◌, ◌-◌, ◌*◌, ◌^◌, List, [], ◌∷◌, ◌++◌, replicate, slice_index_or}
+use Rattle.std.specs.Prelude.{ℕ, ◌+◌, ◌-◌, ◌*◌, ◌^◌, List, ◌∷◌, replicate, slice_index_or}
 use Rattle.isl_arena.specs.Tags.{cons_tag, object_tag}
 use Rattle.isl_arena.specs.FixedWords.{fixed_words}
 

@@ -1,5 +1,5 @@
 -- Characters and their codes from 0 to 255.
-use Rattle.std.specs.Prelude.{ℕ, ◌-◌, ◌^◌, List, [], ◌∷◌}
+use Rattle.std.specs.Prelude.{[], ◌∷◌}
 use Rattle.isl_meaning.specs.declared.primitive.Primitive.TheVariants.{CharCode, CodeChar}
 use Rattle.isl_meaning.specs.Objects.{character_class, integer_class}
 use Rattle.isl_arena.specs.Tags.{nil_word, character_word}

@@ -1,9 +1,9 @@
 -- Classes of values, and which class is below which.
-use Rattle.std.specs.Prelude.{ℕ, List, [], ◌∷◌, map}
+use Rattle.std.specs.Prelude.{[], ◌∷◌, map}
 use Rattle.isl_meaning.specs.declared.primitive.Primitive.TheVariants.{ClassOf, ClassName, IsSubclass, IsInstance}
 use Rattle.isl_meaning.specs.Objects.{vector_class, string_class, character_class, function_class, generic_function_class, cons_class, symbol_class, null_class, integer_class, stream_class, built_in_class_class, standard_class_class}
 use Rattle.isl_arena.specs.Tags.{nil_word, character_word}
-use Rattle.isl_arena_worked.specs.Addresses.{cons_at, object_at, number, minus, symbol_x, symbol_point, symbol_cons, symbol_empty, fresh, expanded, pair, abc, triple, a_function, a_generic, input, output, object_class, vectors, strings, characters, functions, generics, lists, conses, symbols, nulls, integers, streams, built_in_ones, standard_ones, standard_objects, serious_conditions, program_errors, domain_errors, points, shapes, dots, mishaps, a_point, a_dot, a_mishap, an_error, class_word}
+use Rattle.isl_arena_worked.specs.Addresses.{cons_at, object_at, number, minus, symbol_x, symbol_point, symbol_cons, symbol_empty, fresh, expanded, pair, abc, triple, a_function, a_generic, output, object_class, vectors, strings, characters, functions, generics, lists, conses, symbols, nulls, integers, streams, built_in_ones, standard_ones, standard_objects, serious_conditions, program_errors, domain_errors, points, shapes, dots, mishaps, a_point, a_dot, a_mishap, an_error, class_word}
 use Rattle.isl_arena_worked.specs.Kinds.{some_integers, some_characters, some_conses, some_strings, some_vectors, some_classes, some_streams, others_than}
 use Rattle.isl_arena_worked.specs.Rows.{gives, refuses, Does, DoesAlike, RefusesEach, FitsError}
 use Rattle.isl_arena_worked.specs.Sums.{greatest, least}

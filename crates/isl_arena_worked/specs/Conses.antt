@@ -1,5 +1,5 @@
 -- Conses are made, read and changed.
-use Rattle.std.specs.Prelude.{ℕ, ◌+◌, List, [], ◌∷◌}
+use Rattle.std.specs.Prelude.{◌+◌, [], ◌∷◌}
 use Rattle.isl_meaning.specs.declared.primitive.Primitive.TheVariants.{Cons, Car, Cdr, SetCar, SetCdr}
 use Rattle.isl_meaning.specs.Objects.{cons_class}
 use Rattle.isl_arena.specs.Tags.{cons_tag, nil_word, character_word}

@@ -1,6 +1,6 @@
 -- The arena in which primitives are run, word for word, and the state around it.
 use Rattle.std.specs.Prelude.{ℕ, ◌+◌, ◌*◌, ◌/◌, List, [], ◌∷◌, ◌++◌, length, map, replicate, Option, Some, None}
-use Rattle.isl_mid.specs.Arena.{Block, activation_frame, Arena}
+use Rattle.isl_mid.specs.Arena.{Block, activation_frame}
 use Rattle.isl_mid.specs.State.{State}
 use Rattle.isl_arena.specs.Tags.{nil_word, unbound_word, string_header, vector_header, instance_header, function_header, generic_header, class_header, input_header, output_header, symbol_header, fresh_header}
 use Rattle.isl_arena.specs.Codes.{frame_words}
@@ -95,9 +95,9 @@ abbrev pub instance_words : List ℕ
 instance_words =
     -- a point with x = 3 and a dot
     instance_header 2 ∷ object_at points ∷ number 3 ∷ unbound_word ∷ instance_header 0 ∷ object_at dots ∷
-    -- a mishap with x = nil, marked with "abc"
+    -- a mishap with x = (), marked with "abc"
     instance_header 1 ∷ object_at mishaps ∷ nil_word ∷ object_at abc ∷
-    -- a domain error: 7 is no cons... of the class of integers; its mark is nil
+    -- a domain error: the list (x) is none of the integers; its slots are named x and y here, its mark is nil
     instance_header 2 ∷ object_at domain_errors ∷ cons_at next_pair ∷ object_at integers ∷ nil_word ∷ []
 
 -- all words that stand there

@@ -4,7 +4,7 @@ use Rattle.isl_mid.specs.Arena.{word_at, left}
 use Rattle.isl_arena.specs.Tags.{string_header, vector_header, instance_header, function_header, generic_header, class_header, input_header, output_header, symbol_header, fresh_header}
 use Rattle.isl_arena.specs.Codes.{frame_words}
 use Rattle.isl_arena.specs.FixedWords.{nil_name_address, no_name_address}
-use Rattle.isl_arena_worked.specs.Addresses.{object_at, number, symbol_t, symbol_x, symbol_y, symbol_point, symbol_abcd, symbol_cons, symbol_empty, fresh, expanded, pair, next_pair, empty_string, abc, abcd, abcde, empty_vector, triple, a_function, a_generic, input, output, x_initargs, x_initform, object_class, vectors, strings, characters, functions, generics, lists, conses, symbols, nulls, integers, streams, built_in_ones, standard_ones, standard_objects, serious_conditions, program_errors, divisions_by_zero, integer_overflows, domain_errors, points, shapes, dots, mishaps, heap_begin, a_point, a_dot, a_mishap, an_error, made, class_words}
+use Rattle.isl_arena_worked.specs.Addresses.{object_at, number, symbol_t, symbol_x, symbol_y, symbol_point, symbol_abcd, symbol_cons, symbol_empty, fresh, expanded, pair, next_pair, empty_string, abc, abcd, abcde, empty_vector, triple, a_function, a_generic, input, output, x_initargs, x_initform, object_class, vectors, strings, characters, functions, generics, lists, conses, symbols, nulls, integers, streams, built_in_ones, standard_ones, standard_objects, serious_conditions, program_errors, divisions_by_zero, integer_overflows, domain_errors, points, shapes, dots, mishaps, a_point, a_dot, a_mishap, an_error, made, class_words}
 use Rattle.isl_arena_worked.specs.Ground.{words, with_room}
 use Rattle.isl_arena_worked.specs.Kinds.{some_integers, some_characters, some_conses, some_symbols, some_strings, some_vectors, some_generics, some_functions, some_classes, some_streams, some_conditions, some_instances, values, others_than}
 

@@ -1,5 +1,5 @@
 -- Instances are made, and their slots found, read and changed. Of a class only the words that say so are read.
-use Rattle.std.specs.Prelude.{ℕ, ◌+◌, List, [], ◌∷◌}
+use Rattle.std.specs.Prelude.{◌+◌, [], ◌∷◌}
 use Rattle.isl_meaning.specs.declared.primitive.Primitive.{Primitive}
 use Rattle.isl_meaning.specs.declared.primitive.Primitive.TheVariants.{Allocate, SlotCount, SlotPlace, SlotRef, SlotSet, SlotBound, SlotInitargs, SlotInitform, Continuable}
 use Rattle.isl_meaning.specs.Objects.{symbol_class, integer_class, standard_class_class, standard_object_class, serious_condition_class, program_error_class}

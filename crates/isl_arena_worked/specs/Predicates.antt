@@ -1,5 +1,5 @@
 -- Which values are of a kind, and which are the same.
-use Rattle.std.specs.Prelude.{ℕ, ◌^◌, List, [], ◌∷◌, map}
+use Rattle.std.specs.Prelude.{ℕ, List, [], ◌∷◌, map}
 use Rattle.isl_meaning.specs.declared.primitive.Primitive.{Primitive}
 use Rattle.isl_meaning.specs.declared.primitive.Primitive.TheVariants.{Same, IsNull, IsCons, IsInteger, IsSymbol, IsCharacter, IsString, IsVector, IsFunction, IsGeneric}
 use Rattle.isl_arena.specs.Tags.{nil_word, character_word}

@@ -1,5 +1,5 @@
 -- Quotients, rounded towards minus infinity, and remainders, which have the divisor's sign.
-use Rattle.std.specs.Prelude.{ℕ, ◌-◌, ◌^◌, List, [], ◌∷◌}
+use Rattle.std.specs.Prelude.{◌-◌, ◌^◌, [], ◌∷◌}
 use Rattle.isl_meaning.specs.declared.primitive.Primitive.TheVariants.{Divide, Modulo}
 use Rattle.isl_meaning.specs.Objects.{division_by_zero_class, integer_overflow_class}
 use Rattle.isl_arena_worked.specs.Addresses.{number, minus}

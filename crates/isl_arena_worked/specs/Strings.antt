@@ -1,5 +1,5 @@
 -- Strings are made, measured, read and changed. Four bytes stand in a word, the first one lowest; what is behind the last byte is clear.
-use Rattle.std.specs.Prelude.{ℕ, ◌+◌, ◌-◌, ◌^◌, List, [], ◌∷◌}
+use Rattle.std.specs.Prelude.{◌+◌, ◌^◌, [], ◌∷◌}
 use Rattle.isl_meaning.specs.declared.primitive.Primitive.TheVariants.{MakeString, StringLength, CharAt, SetCharAt}
 use Rattle.isl_meaning.specs.Objects.{string_class, character_class, integer_class, program_error_class}
 use Rattle.isl_arena.specs.Tags.{object_tag, nil_word, character_word, string_header}

@@ -1,5 +1,5 @@
 -- Sums, differences and products of integers from -2 ^ 29 to 2 ^ 29 - 1.
-use Rattle.std.specs.Prelude.{ℕ, ◌+◌, ◌-◌, ◌*◌, ◌^◌, List, [], ◌∷◌}
+use Rattle.std.specs.Prelude.{ℕ, ◌-◌, ◌^◌, [], ◌∷◌}
 use Rattle.isl_meaning.specs.declared.primitive.Primitive.TheVariants.{Add, Subtract, Multiply}
 use Rattle.isl_meaning.specs.Objects.{integer_overflow_class}
 use Rattle.isl_arena_worked.specs.Addresses.{number, minus}

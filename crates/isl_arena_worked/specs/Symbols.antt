@@ -1,5 +1,5 @@
 -- Names and serials of symbols, and fresh symbols.
-use Rattle.std.specs.Prelude.{ℕ, ◌-◌, ◌*◌, ◌^◌, List, [], ◌∷◌}
+use Rattle.std.specs.Prelude.{ℕ, ◌-◌, ◌^◌, [], ◌∷◌}
 use Rattle.isl_meaning.specs.declared.primitive.Primitive.TheVariants.{SymbolName, SymbolSerial, Gensym}
 use Rattle.isl_meaning.specs.Objects.{symbol_class}
 use Rattle.isl_mid.specs.State.{State, returns, with_arena}

@@ -1,8 +1,8 @@
 -- Vectors are made, measured, read and changed.
-use Rattle.std.specs.Prelude.{ℕ, ◌+◌, ◌-◌, ◌^◌, List, [], ◌∷◌}
+use Rattle.std.specs.Prelude.{◌+◌, ◌-◌, ◌^◌, [], ◌∷◌}
 use Rattle.isl_meaning.specs.declared.primitive.Primitive.TheVariants.{MakeVector, VectorLength, VectorRef, SetVectorRef}
 use Rattle.isl_meaning.specs.Objects.{vector_class, integer_class, program_error_class}
-use Rattle.isl_arena.specs.Tags.{object_tag, nil_word, character_word, vector_header}
+use Rattle.isl_arena.specs.Tags.{object_tag, nil_word, vector_header}
 use Rattle.isl_arena_worked.specs.Addresses.{cons_at, object_at, number, minus, symbol_x, pair, abc, empty_vector, triple, made}
 use Rattle.isl_arena_worked.specs.Kinds.{some_integers, some_vectors, others_than}
 use Rattle.isl_arena_worked.specs.Rows.{gives, stores, makes, refuses, signals, wants, Does, DoesThen, RefusesEach, FitsError, FitsCondition, FitsObject}

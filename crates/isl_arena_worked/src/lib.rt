@@ -4,6 +4,6 @@
 pub mod worked;
 
 pub use worked::{
-    worked_bounds, worked_classes, worked_conses, worked_ground, worked_instances, worked_numbers, worked_predicates, worked_streams, worked_strings,
-    worked_symbols, worked_vectors,
+    worked_bounds, worked_classes, worked_conses, worked_ground, worked_instances, worked_numbers,
+    worked_predicates, worked_streams, worked_strings, worked_symbols, worked_vectors,
 };
