@@ -1,0 +1,14 @@
+pub mod Bounds
+pub mod Characters
+pub mod Classes
+pub mod Comparisons
+pub mod Conses
+pub mod GroundFacts
+pub mod Instances
+pub mod Predicates
+pub mod Quotients
+pub mod Streams
+pub mod Strings
+pub mod Sums
+pub mod Symbols
+pub mod Vectors
