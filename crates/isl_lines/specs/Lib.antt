@@ -1,0 +1,5 @@
+pub mod Lines
+pub mod LineMeaning
+pub mod Flattened
+pub mod LineLaw
+pub mod Worked

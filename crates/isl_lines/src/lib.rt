@@ -1,0 +1,8 @@
+// Middle code as a list of lines, and that it does what the tree of steps does.
+#![tactic(auto)]
+
+pub mod line;
+pub mod worked;
+
+pub use line::{Line, LineList, LineProcedure, LineProcedureList, LineProgram};
+pub use worked::{worked_landings, worked_lines};
