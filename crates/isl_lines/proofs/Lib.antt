@@ -1,2 +1,4 @@
 pub mod Examples
 pub mod Lying
+pub mod Coming
+pub mod Following

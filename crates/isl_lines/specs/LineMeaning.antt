@@ -80,16 +80,17 @@ arrive_from e a line rs callers z = ended e z
 abbrev pub arrive : Activation → (line : ℕ) → List Caller → Outcome → Stage
 arrive a line callers r = arrive_from r.end a line r.registers callers r.state
 
--- the head of a landing, with the word of the cut: the record is closed, and the word is in the register
-abbrev pub land_at : Option Line → (word : ℕ) → Standing → List Standing → Activation → Registers → List Caller → State → Stage
-land_at (Some (Landed r)) word s records a rs callers z =
-    arrive (with_standing (closed s ∷ records) a) (s.landing + 1) callers (close s.outside (λ rs' y. ends falls (slice_set rs' r (Some word)) y) rs z)
-land_at line word s records a rs callers z = ended stuck z
+-- the head of the landing of a record, with the word of the cut: the record is closed, and the word is in the register
+abbrev pub land_at : Option Line → (word : ℕ) → Standing → Activation → Registers → List Caller → State → Stage
+land_at (Some (Landed r)) word s a rs callers z =
+    arrive a (s.landing + 1) callers (close s.outside (λ rs' y. ends falls (slice_set rs' r (Some word)) y) rs z)
+land_at line word s a rs callers z = ended stuck z
 
 -- the landing of the first of these records of an activation, and something else where there is none
 abbrev pub land : LineProgram → (word : ℕ) → List Standing → Activation → Registers → List Caller → State → (otherwise : Stage) → Stage
 land program word [] a rs callers z otherwise = otherwise
-land program word (s ∷ records) a rs callers z otherwise = land_at (line_of program a.procedure s.landing) word s records a rs callers z
+land program word (s ∷ records) a rs callers z otherwise =
+    land_at (line_of program a.procedure s.landing) word s (with_standing (closed s ∷ records) a) rs callers z
 
 -- A cut to the block that has so many outside. The record is sought in the callers, from the innermost on, and in an activation above
 -- them; the activations above the one that laid it end.
@@ -102,7 +103,7 @@ abbrev pub cut_from : LineProgram → (outside word : ℕ) → Activation → Re
 cut_from program outside word a rs callers z =
     land program word (standing_from outside a.standing) a rs callers z (cut_outwards program outside word callers z)
 
--- what comes after an end of code in an activation: at a line where it fell out, and in the caller where it returned
+-- What comes after an end in an activation: where something fell out it goes on at a line, and where it returned or cut, elsewhere.
 abbrev pub proceed_from : LineProgram → End → Activation → (line : ℕ) → Registers → List Caller → State → Stage
 proceed_from program falls a line rs callers z = running a line rs callers z
 proceed_from program (returns w) a line rs callers z = return_to callers w (with_arena (with_blocks a.outer z.arena) z)
@@ -192,10 +193,10 @@ do_line program (Some (Lay block words landing)) a line rs callers z =
     (lay (record_of words) (λ rs' y. ends falls (slice_set rs' block (Some (lent_from (length y.arena.memory) y.arena.blocks))) y) rs (charged record_cost z))
 do_line program (Some (Landed r)) a line rs callers z = ended stuck z
 do_line program (Some (GiveBack words)) a line rs callers z = give_back_at words a.standing a line rs callers z
-do_line program (Some (Return r)) a line rs callers z = proceed program a line callers (exec_step alone (return_word r) rs z)
-do_line program (Some (Cut block word)) a line rs callers z = proceed program a line callers (exec_step alone (cut_to block word) rs z)
-do_line program (Some (Halt r)) a line rs callers z = proceed program a line callers (exec_step alone (halt_with r) rs z)
-do_line program (Some (Unhandled class site)) a line rs callers z = proceed program a line callers (exec_step alone (end_unhandled class site) rs z)
+do_line program (Some (Return r)) a line rs callers z = proceed program a (line + 1) callers (exec_step alone (return_word r) rs z)
+do_line program (Some (Cut block word)) a line rs callers z = proceed program a (line + 1) callers (exec_step alone (cut_to block word) rs z)
+do_line program (Some (Halt r)) a line rs callers z = proceed program a (line + 1) callers (exec_step alone (halt_with r) rs z)
+do_line program (Some (Unhandled class site)) a line rs callers z = proceed program a (line + 1) callers (exec_step alone (end_unhandled class site) rs z)
 
 -- the stage one step later; an end stays
 abbrev pub next : LineProgram → Stage → Stage
