@@ -300,6 +300,11 @@ module _ (program : LineProgram) where
       from exhausted z m = m
       from stuck z m = m
 
+-- a procedure of the program of lines
+pub procedure_at :
+    (mid : MidProgram) (n : ℕ) (o : Option MidProcedure) → slice_get mid.procedures n ≡ o → slice_get (program_lines mid).procedures n ≡ option_map procedure_lines o
+procedure_at mid n o e = slice_get-map procedure_lines mid.procedures n ∙ ap (option_map procedure_lines) e
+
 -- steps, code and tasks of a program, where tasks below and further are met
 
 module _ (mid : MidProgram) (b : ℕ) (below further : Task → State → Outcome) (under : TasksMeet mid b below) (on_and_on : TasksMeet mid b further) where
@@ -321,9 +326,6 @@ module _ (mid : MidProgram) (b : ℕ) (below further : Task → State → Outcom
   count_goes_again Level s at a rs callers z h = under.goes_again s at a rs callers z h
   count_goes_again Turn s at a rs callers z h = on_and_on.goes_again s at a rs callers z h
 
-  procedure_at : (n : ℕ) (o : Option MidProcedure) → slice_get mid.procedures n ≡ o → slice_get flat.procedures n ≡ option_map procedure_lines o
-  procedure_at n o e = slice_get-map procedure_lines mid.procedures n ∙ ap (option_map procedure_lines) e
-
   -- calls
 
   entering_meets :
@@ -333,7 +335,7 @@ module _ (mid : MidProgram) (b : ℕ) (below further : Task → State → Outcom
   unfolding with_some proceed
   entering_meets n None words a line to rs callers z e =
       then_meets flat
-      (ap (λ o. enter_at o n words (record { activation = a; line = line; registers = rs; result = to } ∷ callers) z) (procedure_at n None e))
+      (ap (λ o. enter_at o n words (record { activation = a; line = line; registers = rs; result = to } ∷ callers) z) (procedure_at mid n None e))
       (ended_here flat b stuck z)
   entering_meets n (Some p) words a line to rs callers z e =
       called_meets flat b _ a line to rs callers _
@@ -489,3 +491,45 @@ module _ (mid : MidProgram) (b : ℕ) (below further : Task → State → Outcom
     step_meets (cut_to block word) at a rs callers z h = simple_meets (cut_to block word) (Cut block word) a at rs callers z h refl
     step_meets (halt_with r) at a rs callers z h = simple_meets (halt_with r) (Halt r) a at rs callers z h refl
     step_meets (end_unhandled class site) at a rs callers z h = simple_meets (end_unhandled class site) (Unhandled class site) a at rs callers z h refl
+
+  -- tasks
+
+  -- the body of a procedure that is entered, from its first line on
+  body_meets :
+      (n : ℕ) (p : MidProcedure) (outer : List Block) (callers : List Caller) (rs : Registers) (z : State) → slice_get mid.procedures n ≡ Some p
+      → Leaves flat (suc b) (running (record { procedure = n; outer = outer; standing = [] }) 0 rs callers z) callers (leaves outer (exec c (code_of p.body) rs z))
+  body_meets n p outer callers rs z e =
+      let own : Activation = record { procedure = n; outer = outer; standing = [] } in
+      let same = ap lines_in (procedure_at mid n (Some p) e) in
+      let lies = subst (λ lines. CodeLies lines 0 (code_of p.body)) (sym same) (all_lies (code_of p.body)) in
+      let past : length (code_lines 0 (code_of p.body)) ≤ 0 + line_count (code_of p.body) = omega (arith, code_length (code_of p.body) 0) in
+      leaves_meets flat (suc b) _ n outer (0 + line_count (code_of p.body)) callers (exec c (code_of p.body) rs z)
+      (ap (λ lines. slice_get lines (0 + line_count (code_of p.body))) same ∙ slice_get_past (code_lines 0 (code_of p.body)) (0 + line_count (code_of p.body)) past)
+      (code_meets (code_of p.body) 0 own rs callers z lies)
+
+  entry_meets :
+      (n : ℕ) (p : MidProcedure) → slice_get mid.procedures n ≡ Some p → (arguments : List ℕ) (callers : List Caller) (z : State)
+      → Leaves flat (suc b) (entering n arguments callers z) callers (run_task c (enter p arguments) z)
+  unfolding choose_by
+  entry_meets n p e arguments callers z =
+      then_meets flat (ap (λ o. enter_at o n arguments callers z) (procedure_at mid n (Some p) e)) (by (length arguments == p.parameters))
+    where
+      by :
+          (t : Bool)
+          → Leaves flat (suc b)
+          (arrive (record { procedure = n; outer = z.arena.blocks; standing = [] }) 0 callers
+          (choose_by t (lay (record { words = p.frame; kind = activation_frame }) (ends falls)) (ends stuck) (first_registers p.registers arguments) (charged (entry_cost p.parameters) z)))
+          callers
+          (choose_by t (lay (record { words = p.frame; kind = activation_frame }) (λ rs y. leaves z.arena.blocks (exec c (code_of p.body) rs y))) (ends stuck)
+          (first_registers p.registers arguments) (charged (entry_cost p.parameters) z))
+      by true =
+          lay_meets flat (suc b) (record { words = p.frame; kind = activation_frame }) (ends falls) (λ rs y. leaves z.arena.blocks (exec c (code_of p.body) rs y))
+          (record { procedure = n; outer = z.arena.blocks; standing = [] }) 0 callers (λ r. left_from flat r.end callers r.state) _ _ (λ asked left rs y. refl)
+          (λ rs y. body_meets n p z.arena.blocks callers rs y e)
+      by false = ended_here flat (suc b) stuck _
+
+  pub tasks_meet : TasksMeet mid (suc b) (run_task c)
+  tasks_meet = record {
+    enters = entry_meets;
+    goes_again = λ s at a rs callers z h. step_meets s at a rs callers z h;
+  }

@@ -2,3 +2,5 @@ pub mod Examples
 pub mod Lying
 pub mod Coming
 pub mod Following
+pub mod Growing
+pub mod LineLaws
