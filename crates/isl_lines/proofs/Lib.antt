@@ -4,3 +4,4 @@ pub mod Coming
 pub mod Following
 pub mod Growing
 pub mod LineLaws
+pub mod Appending
