@@ -20,16 +20,36 @@ IsWanting (unhandled class site) = ⊥
 IsWanting exhausted = ⊥
 IsWanting stuck = ⊥
 
+-- no end is both
+not_both : (e : End) → IsReached e → IsWanting e → ⊥
+not_both falls h k = k
+not_both (returns w) h k = k
+not_both (cuts n w) h k = k
+not_both (no_room asked left) h k = k
+not_both no_level h k = h
+not_both no_turn h k = h
+not_both (halts w) h k = k
+not_both (unhandled class site) h k = k
+not_both exhausted h k = k
+not_both stuck h k = k
+
 -- the machine comes to a stage
 pub record Comes (program : LineProgram) (from to : Stage) : Type 0 where
   pub steps : ℕ
   pub there : after program steps from ≡ to
 
--- after at least so many steps the machine is in a state
+-- a stage that is not the end of the run
+abbrev pub GoesOn : Stage → Type 0
+GoesOn (running a line rs callers z) = Unit {0}
+GoesOn (entering number arguments callers z) = Unit {0}
+GoesOn (ended e z) = ⊥
+
+-- after at least so many steps the machine is in a state, and its run has not ended
 pub record Pauses (program : LineProgram) (least : ℕ) (from : Stage) (z : State) : Type 0 where
   pub steps : ℕ
   pub enough : least ≤ steps
   pub there : state_of (after program steps from) ≡ z
+  pub goes_on : GoesOn (after program steps from)
 
 -- The machine meets an end and a state: where the end was reached it comes to a stage, and where it is for want of levels or turns it
 -- comes to the state, after at least so many steps.
@@ -88,6 +108,7 @@ module _ (program : LineProgram) where
       steps = c.steps + p.steps;
       enough = omega (arith, p.enough);
       there = ap state_of (after_sum c.steps p.steps s) ∙ ap (λ k. state_of (after program p.steps k)) c.there ∙ p.there;
+      goes_on = subst GoesOn (sym (after_sum c.steps p.steps s ∙ ap (after program p.steps) c.there)) p.goes_on;
     };
   }
 
@@ -100,13 +121,14 @@ module _ (program : LineProgram) where
       steps = suc p.steps;
       enough = omega (arith, p.enough);
       there = ap (λ k. state_of (after program p.steps k)) step ∙ p.there;
+      goes_on = subst (λ k. GoesOn (after program p.steps k)) (sym step) p.goes_on;
     };
   }
 
   pub with_fewer : {b c : ℕ} {s u : Stage} {e : End} {z : State} → b ≤ c → Meets program c s u e z → Meets program b s u e z
   with_fewer {b} {c} {s} {u} {e} {z} le m = record {
     comes = m.comes;
-    pauses = λ h. let p = m.pauses h in record { steps = p.steps; enough = omega (arith, p.enough); there = p.there };
+    pauses = λ h. let p = m.pauses h in record { steps = p.steps; enough = omega (arith, p.enough); there = p.there; goes_on = p.goes_on };
   }
 
   pub then_meets : {b : ℕ} {s t u : Stage} {e : End} {z : State} → next program s ≡ t → Meets program b t u e z → Meets program b s u e z
@@ -118,32 +140,19 @@ module _ (program : LineProgram) where
   pub meets_from : {b : ℕ} {s t u : Stage} {e : End} {z : State} → s ≡ t → Meets program b t u e z → Meets program b s u e z
   meets_from {b} {s} {t} {u} {e} {z} same m = subst (λ k. Meets program b k u e z) (sym same) m
 
+  -- an end that is reached is met where it is
+  reached_here : (b : ℕ) (e : End) (s : Stage) (z : State) → IsReached e → Meets program b s s e z
+  reached_here b e s z h = record { comes = λ k. here s; pauses = λ k. absurd (not_both e h k) }
+
   -- the run has ended
-  pub ended_here : (b : ℕ) (e : End) (z : State) → Meets program b (ended e z) (ended e z) e z
-  ended_here b e z = record {
-    comes = λ h. here (ended e z);
-    pauses = λ h. record { steps = b; enough = omega arith; there = ap state_of (after_end b e z) };
-  }
+  pub ended_here : (b : ℕ) (e : End) (z : State) → IsReached e → Meets program b (ended e z) (ended e z) e z
+  ended_here b e z h = reached_here b e (ended e z) z h
 
   -- an outcome is met where the activation proceeds from it
-  pub met_here : (b : ℕ) (a : Activation) (line : ℕ) (callers : List Caller) (r : Outcome) → Meets program b (proceed program a line callers r) (proceed program a line callers r) r.end r.state
-  unfolding proceed
-  met_here b a line callers r = from r.end r.registers r.state
-    where
-      reached : (e : End) (s : Stage) (z : State) → (IsWanting e → ⊥) → Meets program b s s e z
-      reached e s z h = record { comes = λ k. here s; pauses = λ k. absurd (h k) }
-
-      from : (e : End) (rs : Registers) (z : State) → Meets program b (proceed program a line callers (ends e rs z)) (proceed program a line callers (ends e rs z)) e z
-      from falls rs z = reached falls _ z (λ k. k)
-      from (returns w) rs z = reached (returns w) _ z (λ k. k)
-      from (cuts n w) rs z = reached (cuts n w) _ z (λ k. k)
-      from (no_room asked left) rs z = reached (no_room asked left) _ z (λ k. k)
-      from no_level rs z = ended_here b no_level z
-      from no_turn rs z = ended_here b no_turn z
-      from (halts w) rs z = reached (halts w) _ z (λ k. k)
-      from (unhandled class site) rs z = reached (unhandled class site) _ z (λ k. k)
-      from exhausted rs z = reached exhausted _ z (λ k. k)
-      from stuck rs z = reached stuck _ z (λ k. k)
+  pub met_here :
+      (b : ℕ) (a : Activation) (line : ℕ) (callers : List Caller) (r : Outcome) → IsReached r.end
+      → Meets program b (proceed program a line callers r) (proceed program a line callers r) r.end r.state
+  met_here b a line callers r h = reached_here b r.end (proceed program a line callers r) r.state h
 
   -- the records that stand, but for those sought, do not matter to a cut
   pub land_same :

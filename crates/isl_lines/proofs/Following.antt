@@ -16,7 +16,8 @@ use Rattle.isl_mid.specs.Words.{compares}
 use Rattle.isl_mid.specs.Arena.{Block, activation_frame, record_of, lent_from, left, with_blocks, with_new_block, blocks_outside, blocks_closed}
 use Rattle.isl_mid.specs.Costs.{operation_cost, test_cost, jump_cost, record_cost, give_back_cost, entry_cost}
 use Rattle.isl_mid.specs.State.{Registers, first_registers, State, End, falls, returns, cuts, no_room, no_level, no_turn, halts, unhandled, exhausted, stuck, Outcome, Next, ends, charged, with_arena, gives, go_on, with_some, choose_by, register, with_register, with_registers, jumped, landed}
-use Rattle.isl_mid.specs.Meaning.{lay, give_back, run_inside, run_landing, with_record, test, Task, enter, again, Context, context_of, called, leaves, count, with_callee, exec, exec_step, run_task}
+use Rattle.isl_mid.specs.Law.{IsReached}
+use Rattle.isl_mid.specs.Meaning.{lay, get_from, give_back, run_inside, run_landing, with_record, test, Task, enter, again, Context, context_of, called, leaves, count, with_callee, exec, exec_step, run_task}
 use Rattle.isl_lines.specs.declared.line.Line.{Line}
 use Rattle.isl_lines.specs.declared.line.Line.TheVariants.{Do, Branch, Jump, Lay, Landed, GiveBack, Return, Cut, Halt, Unhandled}
 use Rattle.isl_lines.specs.declared.line.LineProcedure.{LineProcedure}
@@ -63,6 +64,25 @@ unfolding with_registers with_some
 words_same [] k rs z = refl
 words_same (r ∷ more) k rs z = words_on (register r rs) more k rs z (λ k. words_same more k rs z)
 
+-- what operations and single steps come to is reached
+
+some_reached : {X : Type 0} (o : Option X) (f : X → Next) (rs : Registers) (z : State) → ((x : X) → IsReached (f x rs z).end) → IsReached (with_some o f rs z).end
+unfolding with_some
+some_reached None f rs z h = tt
+some_reached (Some x) f rs z h = h x
+
+choice_reached : (t : Bool) (f g : Next) (rs : Registers) (z : State) → IsReached (f rs z).end → IsReached (g rs z).end → IsReached (choose_by t f g rs z).end
+unfolding choose_by
+choice_reached true f g rs z h k = h
+choice_reached false f g rs z h k = k
+
+get_reached : (bytes : List ℕ) (to : ℕ) (rs : Registers) (z : State) → IsReached (get_from bytes to rs z).end
+get_reached [] to rs z = tt
+get_reached (byte ∷ bytes) to rs z = tt
+
+give_back_reached : (outside : ℕ) (rs : Registers) (z : State) → IsReached (give_back outside rs z).end
+give_back_reached outside rs z = some_reached _ _ rs _ (λ bs. tt)
+
 same_number : (n : ℕ) → (n == n) ≡ true
 same_number n = eq-eqb n n refl
 
@@ -78,7 +98,7 @@ module _ (program : LineProgram) where
       → Does program k (running a otherwise rs callers z) a to callers (g rs z)
       → Does program k (branch (both (Some m) p compare) a after otherwise rs callers z) a to callers (with_some p (λ n. choose_by (compare m n) f g) rs z)
   unfolding with_some choose_by proceed
-  second_meets k m None compare a after otherwise to rs callers z f g h i = ended_here program k stuck z
+  second_meets k m None compare a after otherwise to rs callers z f g h i = ended_here program k stuck z tt
   second_meets k m (Some n) compare a after otherwise to rs callers z f g h i = by (compare m n)
     where
       by : (t : Bool) → Does program k (branch (Some t) a after otherwise rs callers z) a to callers (choose_by t f g rs z)
@@ -92,7 +112,7 @@ module _ (program : LineProgram) where
       → Does program k (branch (both o (register second rs) compare) a after otherwise rs callers z) a to callers
       (with_some o (λ m. with_register second (λ n. choose_by (compare m n) f g)) rs z)
   unfolding with_some proceed
-  branch_meets k None second compare a after otherwise to rs callers z f g h i = ended_here program k stuck z
+  branch_meets k None second compare a after otherwise to rs callers z f g h i = ended_here program k stuck z tt
   branch_meets k (Some m) second compare a after otherwise to rs callers z f g h i =
       second_meets k m (register second rs) compare a after otherwise to rs callers z f g h i
 
@@ -112,7 +132,7 @@ module _ (program : LineProgram) where
       → Does program k (running a line rs callers z) a to callers (ends falls rs (charged jump_cost z))
   unfolding proceed
   jump_meets k a line to rs callers z e =
-      then_meets program (at_line a line rs callers z (Jump to) e) (met_here program k a to callers (ends falls rs (charged jump_cost z)))
+      then_meets program (at_line a line rs callers z (Jump to) e) (met_here program k a to callers (ends falls rs (charged jump_cost z)) tt)
 
   -- code and a jump behind it
   jumped_meets :
@@ -136,7 +156,7 @@ module _ (program : LineProgram) where
           (choose_by t (λ rs' y. g rs' (with_arena (with_new_block b y.arena) y)) (λ rs' y. ends (no_room b.words (left y.arena)) rs' y) rs z).end
           (choose_by t (λ rs' y. g rs' (with_arena (with_new_block b y.arena) y)) (λ rs' y. ends (no_room b.words (left y.arena)) rs' y) rs z).state
       by true = h _ _
-      by false = meets_to program (sym (e _ _ rs z)) (ended_here program k (no_room b.words (left z.arena)) z)
+      by false = meets_to program (sym (e _ _ rs z)) (ended_here program k (no_room b.words (left z.arena)) z tt)
 
   -- the innermost record is given back
 
@@ -165,7 +185,7 @@ module _ (program : LineProgram) where
       → Does program k (running (with_standing (st ∷ a.standing) a) line rs callers z) a (line + 1) callers (give_back st.outside rs z)
   give_back_meets k a st line rs callers z e =
       then_meets program (gave_back a st line rs callers z e ∙ give_back_arrives a (line + 1) st.outside rs callers z)
-      (met_here program k a (line + 1) callers (give_back st.outside rs z))
+      (met_here program k a (line + 1) callers (give_back st.outside rs z) (give_back_reached st.outside rs z))
 
   -- The inside of a control record and what catches a cut to it. Where the inside falls out, the record is given back, and the landing is
   -- jumped over.
@@ -190,7 +210,7 @@ module _ (program : LineProgram) where
           (o : Option (List Block)) (rs : Registers) (z : State)
           → Does program k (arrive a (line + 1) callers (with_some o (λ bs rs' y. ends falls rs' (with_arena (with_blocks bs y.arena) y)) rs z)) a to callers
           (landed outside catch (jumped (with_some o (λ bs rs' y. ends falls rs' (with_arena (with_blocks bs y.arena) y)) rs z)))
-      fell None rs z = ended_here program k stuck z
+      fell None rs z = ended_here program k stuck z tt
       fell (Some bs) rs z = jump_meets k a (line + 1) to rs callers (with_arena (with_blocks bs z.arena) z) j
 
       caught :
@@ -203,7 +223,7 @@ module _ (program : LineProgram) where
       caught false n w rs z c =
           after_coming program c
           (meets_from program (land_same program w (standing_from n a.standing) _ a rs callers z (cut_outwards program n w callers z))
-          (met_here program k a to callers (ends (cuts n w) rs z)))
+          (met_here program k a to callers (ends (cuts n w) rs z) tt))
 
       from :
           (e : End) (rs : Registers) (z : State)
@@ -250,7 +270,7 @@ module _ (program : LineProgram) where
           (with_some o (λ bs rs' y. ends falls (slice_set rs' word (Some w)) (with_arena (with_blocks bs y.arena) y)) rs z))
           a (line + 1) callers
           (with_some o (λ bs rs' y. go_on (code (slice_set rs' word (Some w)) (with_arena (with_blocks bs y.arena) y)) (give_back outside)) rs z)
-      by None = ended_here program k stuck z
+      by None = ended_here program k stuck z tt
       by (Some bs) =
           go_on_meets program k _ a (record { outside = outside; words = words; landing = landing; is_open = false } ∷ a.standing) line (line + 1) callers
           (code (slice_set rs word (Some w)) (with_arena (with_blocks bs z.arena) z)) (give_back outside) (λ n. refl) (h _ _)
@@ -267,7 +287,7 @@ module _ (program : LineProgram) where
       from : (e : End) (rs : Registers) (z : State) → Does program k s (record { procedure = number; outer = outer; standing = [] }) line callers (ends e rs z) → Leaves program k s callers (leaves outer (ends e rs z))
       from falls rs z m =
           after_coming program (m.comes tt)
-          (then_meets program (ap (λ o. do_line program o (record { procedure = number; outer = outer; standing = [] }) line rs callers z) e) (ended_here program k stuck z))
+          (then_meets program (ap (λ o. do_line program o (record { procedure = number; outer = outer; standing = [] }) line rs callers z) e) (ended_here program k stuck z tt))
       from (returns w) rs z m = record { comes = m.comes; pauses = λ h. absurd h }
       from (cuts n w) rs z m = m
       from (no_room asked left) rs z m = m
@@ -336,7 +356,7 @@ module _ (mid : MidProgram) (b : ℕ) (below further : Task → State → Outcom
   entering_meets n None words a line to rs callers z e =
       then_meets flat
       (ap (λ o. enter_at o n words (record { activation = a; line = line; registers = rs; result = to } ∷ callers) z) (procedure_at mid n None e))
-      (ended_here flat b stuck z)
+      (ended_here flat b stuck z tt)
   entering_meets n (Some p) words a line to rs callers z e =
       called_meets flat b _ a line to rs callers _
       (count_enters p.counted n p e words (record { activation = a; line = line; registers = rs; result = to } ∷ callers) z)
@@ -346,7 +366,7 @@ module _ (mid : MidProgram) (b : ℕ) (below further : Task → State → Outcom
       → Does flat b (call (Some words) o (record { activation = a; line = line; registers = rs; result = to } ∷ callers) z) a line callers
       (with_some o (λ n. with_some (slice_get mid.procedures n) (λ p rs' y. called (count c p.counted (enter p words) y) to rs')) rs z)
   unfolding with_some proceed
-  number_meets None words a line to rs callers z = ended_here flat b stuck z
+  number_meets None words a line to rs callers z = ended_here flat b stuck z tt
   number_meets (Some n) words a line to rs callers z = entering_meets n (slice_get mid.procedures n) words a line to rs callers z refl
 
   callee_meets :
@@ -361,7 +381,7 @@ module _ (mid : MidProgram) (b : ℕ) (below further : Task → State → Outcom
       → Does flat b (call o (callee_in callee rs) (record { activation = a; line = line; registers = rs; result = to } ∷ callers) z) a line callers
       (with_some o (λ words. with_callee c callee (λ p rs' y. called (count c p.counted (enter p words) y) to rs')) rs z)
   unfolding with_some proceed
-  words_meet None callee a line to rs callers z = ended_here flat b stuck z
+  words_meet None callee a line to rs callers z = ended_here flat b stuck z tt
   words_meet (Some words) callee a line to rs callers z = callee_meets callee words a line to rs callers z
 
   call_meets :
@@ -379,28 +399,29 @@ module _ (mid : MidProgram) (b : ℕ) (below further : Task → State → Outcom
   simple_meets :
       (s : MidStep) (x : Line) (a : Activation) (line : ℕ) (rs : Registers) (callers : List Caller) (z : State) → line_of flat a.procedure line ≡ Some x
       → do_line flat (Some x) a line rs callers z ≡ proceed flat a (line + 1) callers (exec_step c s rs z)
+      → IsReached (exec_step c s rs z).end
       → Does flat (suc b) (running a line rs callers z) a (line + 1) callers (exec_step c s rs z)
-  simple_meets s x a line rs callers z e h =
-      then_meets flat (at_line flat a line rs callers z x e ∙ h) (met_here flat (suc b) a (line + 1) callers (exec_step c s rs z))
+  simple_meets s x a line rs callers z e h reached =
+      then_meets flat (at_line flat a line rs callers z x e ∙ h) (met_here flat (suc b) a (line + 1) callers (exec_step c s rs z) reached)
 
   perform_meets :
       (o : Operation) (a : Activation) (line : ℕ) (rs : Registers) (callers : List Caller) (z : State) → line_of flat a.procedure line ≡ Some (Do o)
       → Does flat (suc b) (running a line rs callers z) a (line + 1) callers (exec_step c (perform o) rs z)
   unfolding exec exec_step
-  perform_meets (Move to from) a line rs callers z e = simple_meets (perform (Move to from)) (Do (Move to from)) a line rs callers z e refl
-  perform_meets (Constant to word) a line rs callers z e = simple_meets (perform (Constant to word)) (Do (Constant to word)) a line rs callers z e refl
-  perform_meets (Compute to which first second) a line rs callers z e = simple_meets (perform (Compute to which first second)) (Do (Compute to which first second)) a line rs callers z e refl
-  perform_meets (Load to base offset) a line rs callers z e = simple_meets (perform (Load to base offset)) (Do (Load to base offset)) a line rs callers z e refl
-  perform_meets (Store from base offset) a line rs callers z e = simple_meets (perform (Store from base offset)) (Do (Store from base offset)) a line rs callers z e refl
-  perform_meets (Request to words) a line rs callers z e = simple_meets (perform (Request to words)) (Do (Request to words)) a line rs callers z e refl
-  perform_meets (Draw to base offset) a line rs callers z e = simple_meets (perform (Draw to base offset)) (Do (Draw to base offset)) a line rs callers z e refl
-  perform_meets (Put from) a line rs callers z e = simple_meets (perform (Put from)) (Do (Put from)) a line rs callers z e refl
-  perform_meets (Get to) a line rs callers z e = simple_meets (perform (Get to)) (Do (Get to)) a line rs callers z e refl
+  perform_meets (Move to from) a line rs callers z e = simple_meets (perform (Move to from)) (Do (Move to from)) a line rs callers z e refl (some_reached _ _ rs _ (λ w. tt))
+  perform_meets (Constant to word) a line rs callers z e = simple_meets (perform (Constant to word)) (Do (Constant to word)) a line rs callers z e refl tt
+  perform_meets (Compute to which first second) a line rs callers z e = simple_meets (perform (Compute to which first second)) (Do (Compute to which first second)) a line rs callers z e refl (some_reached _ _ rs _ (λ v. some_reached _ _ rs _ (λ w. tt)))
+  perform_meets (Load to base offset) a line rs callers z e = simple_meets (perform (Load to base offset)) (Do (Load to base offset)) a line rs callers z e refl (some_reached _ _ rs _ (λ v. some_reached _ _ rs _ (λ w. tt)))
+  perform_meets (Store from base offset) a line rs callers z e = simple_meets (perform (Store from base offset)) (Do (Store from base offset)) a line rs callers z e refl (some_reached _ _ rs _ (λ v. some_reached _ _ rs _ (λ w. choice_reached _ _ _ rs _ tt tt)))
+  perform_meets (Request to words) a line rs callers z e = simple_meets (perform (Request to words)) (Do (Request to words)) a line rs callers z e refl (some_reached _ _ rs _ (λ w. choice_reached _ _ _ rs _ tt tt))
+  perform_meets (Draw to base offset) a line rs callers z e = simple_meets (perform (Draw to base offset)) (Do (Draw to base offset)) a line rs callers z e refl (some_reached _ _ rs _ (λ v. some_reached _ _ rs _ (λ w. choice_reached _ _ _ rs _ tt (choice_reached _ _ _ rs _ tt tt))))
+  perform_meets (Put from) a line rs callers z e = simple_meets (perform (Put from)) (Do (Put from)) a line rs callers z e refl (some_reached _ _ rs _ (λ w. tt))
+  perform_meets (Get to) a line rs callers z e = simple_meets (perform (Get to)) (Do (Get to)) a line rs callers z e refl (get_reached _ to rs _)
   perform_meets (Call to callee arguments) a line rs callers z e = call_meets to callee arguments a line rs callers z e
 
   fallen : (line : ℕ) (a : Activation) (rs : Registers) (callers : List Caller) (z : State) → Does flat (suc b) (running a line rs callers z) a line callers (ends falls rs z)
   unfolding proceed
-  fallen line a rs callers z = met_here flat (suc b) a line callers (ends falls rs z)
+  fallen line a rs callers z = met_here flat (suc b) a line callers (ends falls rs z) tt
 
   -- the body of a loop, and its next turn
   turn_meets :
@@ -487,10 +508,10 @@ module _ (mid : MidProgram) (b : ℕ) (below further : Task → State → Outcom
         record_meets block words word inside landing at a rs callers z h
         (λ records rs' y. code_meets inside (at + 1) (with_standing records a) rs' callers y h.1)
         (λ records rs' y. code_meets landing (at + 1 + line_count inside + 2 + 1) (with_standing records a) rs' callers y h.5)
-    step_meets (return_word r) at a rs callers z h = simple_meets (return_word r) (Return r) a at rs callers z h refl
-    step_meets (cut_to block word) at a rs callers z h = simple_meets (cut_to block word) (Cut block word) a at rs callers z h refl
-    step_meets (halt_with r) at a rs callers z h = simple_meets (halt_with r) (Halt r) a at rs callers z h refl
-    step_meets (end_unhandled class site) at a rs callers z h = simple_meets (end_unhandled class site) (Unhandled class site) a at rs callers z h refl
+    step_meets (return_word r) at a rs callers z h = simple_meets (return_word r) (Return r) a at rs callers z h refl (some_reached _ _ rs _ (λ w. tt))
+    step_meets (cut_to block word) at a rs callers z h = simple_meets (cut_to block word) (Cut block word) a at rs callers z h refl (some_reached _ _ rs _ (λ v. some_reached _ _ rs _ (λ w. some_reached _ _ rs _ (λ bs. tt))))
+    step_meets (halt_with r) at a rs callers z h = simple_meets (halt_with r) (Halt r) a at rs callers z h refl (some_reached _ _ rs _ (λ w. tt))
+    step_meets (end_unhandled class site) at a rs callers z h = simple_meets (end_unhandled class site) (Unhandled class site) a at rs callers z h refl (some_reached _ _ rs _ (λ v. some_reached _ _ rs _ (λ w. tt)))
 
   -- tasks
 
@@ -526,7 +547,7 @@ module _ (mid : MidProgram) (b : ℕ) (below further : Task → State → Outcom
           lay_meets flat (suc b) (record { words = p.frame; kind = activation_frame }) (ends falls) (λ rs y. leaves z.arena.blocks (exec c (code_of p.body) rs y))
           (record { procedure = n; outer = z.arena.blocks; standing = [] }) 0 callers (λ r. left_from flat r.end callers r.state) _ _ (λ asked left rs y. refl)
           (λ rs y. body_meets n p z.arena.blocks callers rs y e)
-      by false = ended_here flat (suc b) stuck _
+      by false = ended_here flat (suc b) stuck _ tt
 
   pub tasks_meet : TasksMeet mid (suc b) (run_task c)
   tasks_meet = record {

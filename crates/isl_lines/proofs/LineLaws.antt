@@ -11,8 +11,8 @@ use Rattle.isl_mid.specs.Law.{IsReached}
 use Rattle.isl_lines.specs.declared.line.LineProgram.{LineProgram}
 use Rattle.isl_lines.specs.LineMeaning.{Caller, Stage, running, entering, ended, state_of, begin, enter_at, next, after}
 use Rattle.isl_lines.specs.Flattened.{procedure_lines, program_lines}
-use Rattle.isl_lines.specs.LineLaw.{line_run, DoesTheSame, LawOfLines, LawOfLinePrinting}
-use Rattle.isl_lines.proofs.Coming.{IsWanting, Comes, Pauses, Meets, left_from, after_sum, after_end, with_fewer, then_meets, ended_here}
+use Rattle.isl_lines.specs.LineLaw.{line_run, DoesTheSame, EndsSo, LawOfLines, LawOfLineEnds, LawOfLinePrinting}
+use Rattle.isl_lines.proofs.Coming.{IsWanting, GoesOn, Comes, Pauses, Meets, left_from, after_sum, after_end, with_fewer, then_meets, ended_here}
 use Rattle.isl_lines.proofs.Following.{TasksMeet, procedure_at, tasks_meet}
 use Rattle.isl_lines.proofs.Growing.{after_grown}
 
@@ -23,9 +23,9 @@ fewer mid b c f le x = record {
 }
 
 -- where nothing is done for want of levels or turns, the machine is where it is
-waiting : (program : LineProgram) (s to : Stage) (e : End) → IsWanting e → (IsReached e → ⊥) → Meets program 0 s to e (state_of s)
+waiting : (program : LineProgram) (s to : Stage) (e : End) → GoesOn s → (IsReached e → ⊥) → Meets program 0 s to e (state_of s)
 unfolding after
-waiting program s to e w h = record { comes = λ k. absurd (h k); pauses = λ k. record { steps = 0; enough = omega arith; there = refl } }
+waiting program s to e g h = record { comes = λ k. absurd (h k); pauses = λ k. record { steps = 0; enough = omega arith; there = refl; goes_on = g } }
 
 no_turns_meet : (mid : MidProgram) → TasksMeet mid 0 (λ task z. ends no_turn [] z)
 no_turns_meet mid = record {
@@ -91,7 +91,7 @@ entry_task_meets :
     (with_some o (λ p rs y. f (enter p arguments) y) [] z).end (with_some o (λ p rs y. f (enter p arguments) y) [] z).state
 unfolding with_some
 entry_task_meets mid c f x entry arguments z None e =
-    then_meets (program_lines mid) (ap (λ o. enter_at o entry arguments [] z) (procedure_at mid entry None e)) (ended_here (program_lines mid) c stuck z)
+    then_meets (program_lines mid) (ap (λ o. enter_at o entry arguments [] z) (procedure_at mid entry None e)) (ended_here (program_lines mid) c stuck z tt)
 entry_task_meets mid c f x entry arguments z (Some p) e = x.enters entry p e arguments [] z
 
 -- a run of the tree is met, after at least so many steps where it ended for want of levels or turns
@@ -100,7 +100,7 @@ run_meets :
     → Meets (program_lines mid) c (begin entry arguments z)
     (ended (runs mid k turns_each entry arguments z).end (runs mid k turns_each entry arguments z).state)
     (runs mid k turns_each entry arguments z).end (runs mid k turns_each entry arguments z).state
-unfolding runs
+unfolding runs levels
 run_meets mid k turns_each c entry arguments z le lt =
     top_meets (program_lines mid) c (begin entry arguments z) _
     (entry_task_meets mid c (turns mid.procedures (levels mid.procedures turns_each k) (suc turns_each))
@@ -164,4 +164,35 @@ law_of_line_printing program n entry arguments z =
     (cases_lt c.steps n))
     (λ h. let w = m.pauses h in
     let p = printed_so_far flat n w.steps s w.enough in (p.0, ap (λ y. y.printed) (sym w.there) ∙ p.1))
+    (reached_or_wanting r.end)
+
+-- the end of a run is one
+ended_twice :
+    (program : LineProgram) (n m : ℕ) (s : Stage) (e f : End) (y z : State) → after program n s ≡ ended e y → after program m s ≡ ended f z
+    → (f ≡ e) × (z ≡ y)
+ended_twice program n m s e f y z h k =
+    let one = after_sum program n m s ∙ ap (after program m) h ∙ after_end program m e y in
+    let other = after_sum program m n s ∙ ap (after program n) k ∙ after_end program n f z in
+    let same : n + m ≡ m + n = omega arith in
+    let ends : ended f z ≡ ended e y = sym other ∙ ap (λ i. after program i s) (sym same) ∙ one in
+    (cc ends, cc ends)
+
+-- a run that has ended does not go on
+not_paused : (program : LineProgram) (n m : ℕ) (s : Stage) (e : End) (y : State) → n ≤ m → after program n s ≡ ended e y → GoesOn (after program m s) → ⊥
+not_paused program n m s e y le h g =
+    let sum : m ≡ n + (m - n) = omega arith in
+    let same : after program m s ≡ ended e y = ap (λ k. after program k s) sum ∙ after_sum program n (m - n) s ∙ ap (after program (m - n)) h ∙ after_end program (m - n) e y in
+    subst GoesOn same g
+
+pub law_of_line_ends : LawOfLineEnds
+law_of_line_ends program n entry arguments z e y h =
+    let r = runs program n n entry arguments z in
+    let flat = program_lines program in
+    let s = begin entry arguments z in
+    let m = run_meets program n n n entry arguments z (omega arith) (omega arith) in
+    ⊎_elim
+    (λ k. let c = m.comes k in
+    let same = ended_twice flat n c.steps s e r.end y r.state h c.there in
+    record { reached = k; end = same.0; state = same.1 })
+    (λ k. let w = m.pauses k in absurd (not_paused flat n w.steps s e y w.enough h w.goes_on))
     (reached_or_wanting r.end)
