@@ -1,11 +1,10 @@
 -- The machine comes from one stage to another: a lemma for each combinator of the meaning.
-use Rattle.std.proofs.Common.{◌≡◌, ℕ, zero, suc, ◌+◌, ◌≤◌, Bool, true, false, List, [], ◌∷◌, Option, Some, None, refl, sym, ap, ◌∙◌, subst, arith}
-use Rattle.isl_mid.specs.Arena.{Block, with_blocks}
-use Rattle.isl_mid.specs.State.{Registers, State, End, falls, returns, cuts, no_room, no_level, no_turn, halts, unhandled, exhausted, stuck, Outcome, Next, ends, go_on, with_some, choose_by, with_arena, charged, jumped}
+use Rattle.std.proofs.Common.{◌≡◌, ℕ, zero, suc, ◌+◌, ◌≤◌, List, [], ◌∷◌, refl, sym, ap, ◌∙◌, subst, arith}
+use Rattle.isl_mid.specs.State.{Registers, State, End, falls, returns, cuts, no_room, no_level, no_turn, halts, unhandled, exhausted, stuck, Outcome, Next, ends, go_on, charged, jumped}
 use Rattle.isl_mid.specs.Costs.{jump_cost}
 use Rattle.isl_mid.specs.Law.{IsReached}
 use Rattle.isl_lines.specs.declared.line.LineProgram.{LineProgram}
-use Rattle.isl_lines.specs.LineMeaning.{Standing, Activation, with_standing, Caller, Stage, running, entering, ended, state_of, return_to, standing_from, land, cut_from, cut_outwards, proceed, next, after}
+use Rattle.isl_lines.specs.LineMeaning.{Standing, Activation, with_standing, Caller, Stage, running, entering, ended, state_of, return_to, standing_from, land, cut_outwards, proceed, next, after}
 
 -- an end for want of levels or turns
 abbrev pub IsWanting : End → Type 0

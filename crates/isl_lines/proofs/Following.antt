@@ -1,6 +1,6 @@
 -- The machine of lines does what the tree of steps does: a lemma for each kind of line, and a case for each step.
-use Rattle.std.proofs.Common.{◌≡◌, ℕ, zero, suc, ◌+◌, ◌≤◌, Bool, true, false, List, [], ◌∷◌, length, Option, Some, None, option_map, refl, sym, ap, ◌∙◌, subst, arith, ◌==◌, if◌then◌else◌, eq-eqb}
-use Rattle.std.specs.Prelude.{slice_get, slice_set, map}
+use Rattle.std.proofs.Common.{◌≡◌, ℕ, suc, ◌+◌, ◌≤◌, Bool, true, false, List, [], ◌∷◌, length, Option, Some, None, option_map, refl, sym, ap, ◌∙◌, subst, arith, ◌==◌, if◌then◌else◌, eq-eqb}
+use Rattle.std.specs.Prelude.{slice_get, slice_set}
 use Rattle.std.proofs.lemmas.Option.{slice_get-map, slice_get_past}
 use Rattle.isl_mid.specs.declared.operation.Counted.{Counted}
 use Rattle.isl_mid.specs.declared.operation.Counted.TheVariants.{Level, Turn}
@@ -15,18 +15,17 @@ use Rattle.isl_mid.specs.MidCode.{MidStep, perform, choose, repeat, with_block, 
 use Rattle.isl_mid.specs.Words.{compares}
 use Rattle.isl_mid.specs.Arena.{Block, activation_frame, record_of, lent_from, left, with_blocks, with_new_block, blocks_outside, blocks_closed}
 use Rattle.isl_mid.specs.Costs.{operation_cost, test_cost, jump_cost, record_cost, give_back_cost, entry_cost}
-use Rattle.isl_mid.specs.State.{Registers, first_registers, State, End, falls, returns, cuts, no_room, no_level, no_turn, halts, unhandled, exhausted, stuck, Outcome, Next, ends, charged, with_arena, gives, go_on, with_some, choose_by, register, with_register, with_registers, jumped, landed}
+use Rattle.isl_mid.specs.State.{Registers, first_registers, State, End, falls, returns, cuts, no_room, no_level, no_turn, halts, unhandled, exhausted, stuck, Outcome, Next, ends, charged, with_arena, go_on, with_some, choose_by, register, with_register, with_registers, jumped, landed}
 use Rattle.isl_mid.specs.Law.{IsReached}
 use Rattle.isl_mid.specs.Meaning.{lay, get_from, give_back, run_inside, run_landing, with_record, test, Task, enter, again, Context, context_of, called, leaves, count, with_callee, exec, exec_step, run_task}
 use Rattle.isl_lines.specs.declared.line.Line.{Line}
 use Rattle.isl_lines.specs.declared.line.Line.TheVariants.{Do, Branch, Jump, Lay, Landed, GiveBack, Return, Cut, Halt, Unhandled}
-use Rattle.isl_lines.specs.declared.line.LineProcedure.{LineProcedure}
 use Rattle.isl_lines.specs.declared.line.LineProgram.{LineProgram}
 use Rattle.isl_lines.specs.Lines.{lines_in, lines_of, line_of}
-use Rattle.isl_lines.specs.LineMeaning.{Standing, Activation, with_standing, Caller, Stage, running, entering, ended, state_of, return_to, standing_from, closed, arrive, land_at, land, cut_from, cut_outwards, proceed, enter_at, alone, both, branch, words_before, words_in, callee_in, call, do_line, next, after}
+use Rattle.isl_lines.specs.LineMeaning.{Standing, Activation, with_standing, Caller, Stage, running, entering, ended, standing_from, arrive, land_at, land, cut_outwards, proceed, enter_at, both, branch, words_before, words_in, callee_in, call, do_line, next, after}
 use Rattle.isl_lines.specs.Flattened.{step_line_count, line_count, code_lines, procedure_lines, program_lines}
 use Rattle.isl_lines.proofs.Lying.{StepLies, CodeLies, all_lies, code_length}
-use Rattle.isl_lines.proofs.Coming.{IsWanting, Comes, Pauses, Meets, left_from, after_coming, after_step, with_fewer, then_meets, meets_to, meets_from, ended_here, met_here, land_same, go_on_meets, code_on, jumped_on}
+use Rattle.isl_lines.proofs.Coming.{Comes, Meets, left_from, after_coming, after_step, then_meets, meets_to, meets_from, ended_here, met_here, land_same, go_on_meets, code_on, jumped_on}
 
 -- an activation that stands in the program's lines does, from a stage on, what an outcome says, and goes on at a line where that falls out
 abbrev Does : LineProgram → (least : ℕ) → Stage → Activation → (to : ℕ) → List Caller → Outcome → Type 0

@@ -1,15 +1,14 @@
 -- The states of the machine grow: each step prints more behind what was printed, and costs no less.
-use Rattle.std.proofs.Common.{◌≡◌, ℕ, zero, suc, ◌+◌, Bool, true, false, ◌==◌, List, [], ◌∷◌, length, Option, Some, None, refl, sym, arith, if◌then◌else◌}
+use Rattle.std.proofs.Common.{ℕ, zero, suc, ◌+◌, Bool, true, false, ◌==◌, List, [], ◌∷◌, length, Option, Some, None, refl, sym, arith, if◌then◌else◌}
 use Rattle.std.specs.Prelude.{slice_get, slice_set}
 use Rattle.std.proofs.lemmas.List.{append-nil}
 use Rattle.isl_mid.specs.declared.operation.Operation.{Operation}
 use Rattle.isl_mid.specs.declared.operation.Operation.TheVariants.{Move, Constant, Compute, Load, Store, Request, Draw, Put, Get, Call}
-use Rattle.isl_mid.specs.declared.operation.Test.{Test}
 use Rattle.isl_mid.specs.MidCode.{MidStep, perform, return_word, cut_to, halt_with, end_unhandled}
 use Rattle.isl_mid.specs.Arena.{Arena, Block, activation_frame, record_of, lent_from, left, with_blocks, with_new_block}
-use Rattle.isl_mid.specs.Costs.{operation_cost, test_cost, jump_cost, record_cost, entry_cost}
-use Rattle.isl_mid.specs.State.{Registers, first_registers, State, End, falls, returns, cuts, no_room, no_level, no_turn, halts, unhandled, exhausted, stuck, Outcome, Next, ends, charged, with_arena, choose_by}
-use Rattle.isl_mid.specs.Meaning.{lay, give_back, close, Task, again, exec_step}
+use Rattle.isl_mid.specs.Costs.{test_cost, jump_cost, record_cost, entry_cost}
+use Rattle.isl_mid.specs.State.{Registers, State, End, falls, returns, cuts, no_room, no_level, no_turn, halts, unhandled, exhausted, stuck, Outcome, Next, ends, with_arena}
+use Rattle.isl_mid.specs.Meaning.{lay, give_back, close, again, exec_step}
 use Rattle.isl_mid.specs.Law.{Enlarged, Grown}
 use Rattle.isl_mid.proofs.Growth.{length-emptied, same_grown, both_grown, charged_grown, with_some_grown, choose_grown, give_back_grown, TasksGrow, task_grown}
 use Rattle.isl_lines.specs.declared.line.Line.{Line}
@@ -17,7 +16,7 @@ use Rattle.isl_lines.specs.declared.line.Line.TheVariants.{Do, Branch, Jump, Lay
 use Rattle.isl_lines.specs.declared.line.LineProcedure.{LineProcedure}
 use Rattle.isl_lines.specs.declared.line.LineProgram.{LineProgram}
 use Rattle.isl_lines.specs.Lines.{line_of}
-use Rattle.isl_lines.specs.LineMeaning.{Standing, Activation, with_standing, Caller, Stage, running, entering, ended, state_of, return_to, standing_from, closed, arrive, arrive_from, land_at, land, cut_outwards, cut_from, proceed, proceed_from, enter_at, alone, holds, branch, words_in, callee_in, call, perform_at, give_back_at, do_line, next, after}
+use Rattle.isl_lines.specs.LineMeaning.{Standing, Activation, with_standing, Caller, Stage, running, entering, ended, state_of, return_to, standing_from, closed, arrive, arrive_from, land_at, land, cut_outwards, proceed, proceed_from, enter_at, alone, holds, branch, words_in, callee_in, call, perform_at, give_back_at, do_line, next, after}
 
 block_enlarged : (b : Block) (arena : Arena) → Enlarged arena (with_new_block b arena)
 block_enlarged b arena = record { size = length-emptied _ b.words arena.memory; laid_from = refl; laid_to = refl; heap_from = refl; heap_to = omega arith }

@@ -1,18 +1,18 @@
 -- The laws of lines: tasks with so many levels and turns, and whole runs.
-use Rattle.std.proofs.Common.{◌≡◌, ◌⊎◌, inl, inr, ℕ, zero, suc, ◌+◌, ◌-◌, ◌<◌, ◌≤◌, List, [], ◌∷◌, ◌++◌, Option, Some, None, option_map, refl, sym, ap, ◌∙◌, subst, ⊎_elim, arith}
+use Rattle.std.proofs.Common.{◌≡◌, ◌⊎◌, inl, inr, ℕ, zero, suc, ◌+◌, ◌-◌, ◌<◌, ◌≤◌, List, [], ◌++◌, Option, Some, None, refl, sym, ap, ◌∙◌, subst, ⊎_elim, arith}
 use Rattle.std.specs.Prelude.{slice_get}
 use Rattle.std.proofs.lemmas.Bool.{cases_lt}
 use Rattle.std.proofs.lemmas.List.{append-nil}
 use Rattle.isl_mid.specs.declared.program.MidProcedure.{MidProcedure}
 use Rattle.isl_mid.specs.declared.program.MidProgram.{MidProgram}
-use Rattle.isl_mid.specs.State.{Registers, State, End, falls, returns, cuts, no_room, no_level, no_turn, halts, unhandled, exhausted, stuck, Outcome, Next, ends, with_some}
-use Rattle.isl_mid.specs.Meaning.{Task, enter, again, context_of, turns, levels, at_top, runs}
+use Rattle.isl_mid.specs.State.{Registers, State, End, falls, returns, cuts, no_room, no_level, no_turn, halts, unhandled, exhausted, stuck, Outcome, ends, with_some}
+use Rattle.isl_mid.specs.Meaning.{Task, enter, turns, levels, at_top, runs}
 use Rattle.isl_mid.specs.Law.{IsReached}
 use Rattle.isl_lines.specs.declared.line.LineProgram.{LineProgram}
-use Rattle.isl_lines.specs.LineMeaning.{Caller, Stage, running, entering, ended, state_of, begin, enter_at, next, after}
-use Rattle.isl_lines.specs.Flattened.{procedure_lines, program_lines}
-use Rattle.isl_lines.specs.LineLaw.{line_run, DoesTheSame, EndsSo, LawOfLines, LawOfLineEnds, LawOfLinePrinting}
-use Rattle.isl_lines.proofs.Coming.{IsWanting, GoesOn, Comes, Pauses, Meets, left_from, after_sum, after_end, with_fewer, then_meets, ended_here}
+use Rattle.isl_lines.specs.LineMeaning.{Stage, running, entering, ended, state_of, begin, enter_at, after}
+use Rattle.isl_lines.specs.Flattened.{program_lines}
+use Rattle.isl_lines.specs.LineLaw.{LawOfLines, LawOfLineEnds, LawOfLinePrinting}
+use Rattle.isl_lines.proofs.Coming.{IsWanting, GoesOn, Meets, left_from, after_sum, after_end, with_fewer, then_meets, ended_here}
 use Rattle.isl_lines.proofs.Following.{TasksMeet, procedure_at, tasks_meet}
 use Rattle.isl_lines.proofs.Growing.{after_grown}
 

@@ -6,7 +6,7 @@ use Rattle.std.proofs.lemmas.Option.{slice_get-get_or}
 use Rattle.isl_mid.specs.MidCode.{MidStep, perform, choose, repeat, with_block, return_word, cut_to, halt_with, end_unhandled, MidCode, no_step, step_and}
 use Rattle.isl_lines.specs.declared.line.Line.{Line}
 use Rattle.isl_lines.specs.declared.line.Line.TheVariants.{Do, Branch, Jump, Lay, Landed, GiveBack, Return, Cut, Halt, Unhandled}
-use Rattle.isl_lines.specs.Flattened.{step_line_count, line_count, choice_lines, loop_lines, record_lines, step_lines, code_lines}
+use Rattle.isl_lines.specs.Flattened.{step_line_count, line_count, step_lines, code_lines}
 
 -- these lines stand among the lines from there on
 abbrev pub HasAt : List Line → ℕ → List Line → Type 0

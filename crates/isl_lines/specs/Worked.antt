@@ -5,9 +5,9 @@ use Rattle.isl_mid.specs.declared.operation.Comparison.TheVariants as comparison
 use Rattle.isl_mid.specs.declared.operation.Callee.TheVariants as callee
 use Rattle.isl_mid.specs.declared.operation.Operation.TheVariants.{Constant, Compute, Put, Call}
 use Rattle.isl_mid.specs.declared.program.MidProcedure.{MidProcedure}
-use Rattle.isl_mid.specs.State.{State, returns, halts, stuck}
+use Rattle.isl_mid.specs.State.{returns, halts, stuck}
 use Rattle.isl_mid.specs.Worked.{program, start, run, printing, calling, cutting, nesting, falling, cutting_nowhere}
-use Rattle.isl_lines.specs.declared.line.Line.TheVariants.{Do, Branch, Jump, Lay, Landed, GiveBack, Return, Cut, Halt}
+use Rattle.isl_lines.specs.declared.line.Line.TheVariants.{Do, Branch, Jump, Lay, Landed, GiveBack, Return, Halt}
 use Rattle.isl_lines.specs.Lines.{lines_of}
 use Rattle.isl_lines.specs.LineMeaning.{Stage, ended, begin, after}
 use Rattle.isl_lines.specs.Flattened.{program_lines}
