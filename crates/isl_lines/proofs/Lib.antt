@@ -5,3 +5,4 @@ pub mod Following
 pub mod Growing
 pub mod LineLaws
 pub mod Appending
+pub mod Stacking

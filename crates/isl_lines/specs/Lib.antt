@@ -2,4 +2,5 @@ pub mod Lines
 pub mod LineMeaning
 pub mod Flattened
 pub mod LineLaw
+pub mod StackLaw
 pub mod Worked
