@@ -27,7 +27,7 @@ pub appended_more :
     → new ++ code_lines (length new) (code_of (drop (i + 1) code)) ≡ all
 appended_more lines new all code items i s same lt e m h =
     let here : drop i code ≡ s ∷ drop (i + 1) code =
-      ap (drop i) (sym same) ∙ drop-cons items i s lt ∙ ap (λ x. x ∷ drop (suc i) items) (sym e) ∙ ap (λ l. s ∷ drop (suc i) l) same ∙ ap (λ k. s ∷ drop k code) (sym (add-one i)) in
+    ap (drop i) (sym same) ∙ drop-cons items i s lt ∙ ap (λ x. x ∷ drop (suc i) items) (sym e) ∙ ap (λ l. s ∷ drop (suc i) l) same ∙ ap (λ k. s ∷ drop k code) (sym (add-one i)) in
     step_more lines s (code_of (drop (i + 1) code)) new m ∙ ap (λ l. lines ++ code_lines (length lines) (code_of l)) (sym here) ∙ h
 
 -- writing again
@@ -87,6 +87,7 @@ choice_written first second t old l1 l2 l3 l4 l5 l6 l7 l8 x y z branch_at jump_a
     let b = code_lines (length l3) second in
     let i = Branch t otherwise in
     let j = Jump end in
+    let last = Jump (at + step_line_count (choose t first second)) in
     let n1 : length l1 ≡ at + 1 = omega (arith, ap length e1, length-append old (x ∷ [])) in
     let n2 : length l2 ≡ at + 1 + line_count first = omega (arith, n1, ap length e2, length-append l1 a, code_length first (length l1)) in
     let n3 : length l3 ≡ at + 1 + line_count first + 1 = omega (arith, n2, ap length e3, length-append l2 (y ∷ [])) in
@@ -107,8 +108,8 @@ choice_written first second t old l1 l2 l3 l4 l5 l6 l7 l8 x y z branch_at jump_a
     ∙ three_writes old a b [] x y z i j j
     ∙ ap (λ n. old ++ Branch t n ∷ (a ++ j ∷ (b ++ j ∷ []))) o3
     ∙ ap (λ n. old ++ Branch t (at + 1 + line_count first + 1) ∷ (a ++ Jump n ∷ (b ++ Jump n ∷ []))) n5
-    ∙ ap (λ n. old ++ Branch t (at + 1 + line_count first + 1) ∷ (code_lines n first ++ Jump (at + step_line_count (choose t first second)) ∷ (b ++ Jump (at + step_line_count (choose t first second)) ∷ []))) n1
-    ∙ ap (λ n. old ++ Branch t (at + 1 + line_count first + 1) ∷ (code_lines (at + 1) first ++ Jump (at + step_line_count (choose t first second)) ∷ (code_lines n second ++ Jump (at + step_line_count (choose t first second)) ∷ []))) n3
+    ∙ ap (λ n. old ++ Branch t (at + 1 + line_count first + 1) ∷ (code_lines n first ++ last ∷ (b ++ last ∷ []))) n1
+    ∙ ap (λ n. old ++ Branch t (at + 1 + line_count first + 1) ∷ (code_lines (at + 1) first ++ last ∷ (code_lines n second ++ last ∷ []))) n3
 
 pub record_written :
     (block words word : ℕ) (inside landing : MidCode) (old l1 l2 l3 l4 l5 l6 l7 l8 l9 : List Line) (x y : Line) (lay_at jump_at landing_at end : ℕ)
@@ -124,6 +125,8 @@ record_written block words word inside landing old l1 l2 l3 l4 l5 l6 l7 l8 l9 x 
     let g = GiveBack words in
     let i = Lay block words landing_at in
     let j = Jump end in
+    let lay = Lay block words (at + 1 + line_count inside + 2) in
+    let over = Jump (at + step_line_count (with_block block words word inside landing)) in
     let n1 : length l1 ≡ at + 1 = omega (arith, ap length e1, length-append old (x ∷ [])) in
     let n2 : length l2 ≡ at + 1 + line_count inside = omega (arith, n1, ap length e2, length-append l1 a, code_length inside (length l1)) in
     let n3 : length l3 ≡ at + 1 + line_count inside + 1 = omega (arith, n2, ap length e3, length-append l2 (g ∷ [])) in
@@ -136,7 +139,7 @@ record_written block words word inside landing old l1 l2 l3 l4 l5 l6 l7 l8 l9 x 
     let p3 : jump_at ≡ length (old ++ i ∷ (a ++ g ∷ [])) = omega (arith, m3, n3, q, length-append old (i ∷ (a ++ g ∷ []))) in
     let all : l7 ≡ ((((((old ++ x ∷ []) ++ a) ++ g ∷ []) ++ y ∷ []) ++ Landed word ∷ []) ++ b) ++ g ∷ [] = cc in
     let flat :
-      ((((((old ++ x ∷ []) ++ a) ++ g ∷ []) ++ y ∷ []) ++ Landed word ∷ []) ++ b) ++ g ∷ [] ≡ old ++ x ∷ ((a ++ g ∷ []) ++ y ∷ (Landed word ∷ (b ++ g ∷ []))) = simp append_assoc in
+    ((((((old ++ x ∷ []) ++ a) ++ g ∷ []) ++ y ∷ []) ++ Landed word ∷ []) ++ b) ++ g ∷ [] ≡ old ++ x ∷ ((a ++ g ∷ []) ++ y ∷ (Landed word ∷ (b ++ g ∷ []))) = simp append_assoc in
     let regroup : (v w : Line) → old ++ v ∷ ((a ++ g ∷ []) ++ w ∷ (Landed word ∷ (b ++ g ∷ []))) ≡ old ++ v ∷ (a ++ g ∷ w ∷ Landed word ∷ (b ++ g ∷ [])) = λ v w. simp append_assoc in
     let sets : l9 ≡ slice_set (slice_set l7 lay_at i) jump_at j = cc in
     sets
@@ -147,5 +150,5 @@ record_written block words word inside landing old l1 l2 l3 l4 l5 l6 l7 l8 l9 x 
     ∙ regroup i j
     ∙ ap (λ n. old ++ Lay block words n ∷ (a ++ g ∷ j ∷ Landed word ∷ (b ++ g ∷ []))) o4
     ∙ ap (λ n. old ++ Lay block words (at + 1 + line_count inside + 2) ∷ (a ++ g ∷ Jump n ∷ Landed word ∷ (b ++ g ∷ []))) n7
-    ∙ ap (λ n. old ++ Lay block words (at + 1 + line_count inside + 2) ∷ (code_lines n inside ++ g ∷ Jump (at + step_line_count (with_block block words word inside landing)) ∷ Landed word ∷ (b ++ g ∷ []))) n1
-    ∙ ap (λ n. old ++ Lay block words (at + 1 + line_count inside + 2) ∷ (code_lines (at + 1) inside ++ g ∷ Jump (at + step_line_count (with_block block words word inside landing)) ∷ Landed word ∷ (code_lines n landing ++ g ∷ []))) n5
+    ∙ ap (λ n. old ++ lay ∷ (code_lines n inside ++ g ∷ over ∷ Landed word ∷ (b ++ g ∷ []))) n1
+    ∙ ap (λ n. old ++ lay ∷ (code_lines (at + 1) inside ++ g ∷ over ∷ Landed word ∷ (code_lines n landing ++ g ∷ []))) n5

@@ -35,6 +35,10 @@ Does program least s a to callers r = Meets program least s (proceed program a t
 abbrev Leaves : LineProgram → (least : ℕ) → Stage → List Caller → Outcome → Type 0
 Leaves program least s callers r = Meets program least s (left_from program r.end callers r.state) r.end r.state
 
+-- a control record with so many blocks outside, which lends so many words, with the line of its landing
+abbrev standing_at : (outside words landing : ℕ) → (is_open : Bool) → Standing
+standing_at outside words landing is_open = record { outside = outside; words = words; landing = landing; is_open = is_open }
+
 -- what tasks do is done by the machine, with at least so many steps before an end for want of levels or turns
 pub record TasksMeet (mid : MidProgram) (least : ℕ) (f : Task → State → Outcome) : Type 0 where
   pub enters :
@@ -194,17 +198,14 @@ module _ (program : LineProgram) where
       → line_of program a.procedure (line + 1) ≡ Some (Jump to)
       → ((w : ℕ) (rs : Registers) (y : State)
       → Does program k
-      (land_at (line_of program a.procedure landing) w (record { outside = outside; words = words; landing = landing; is_open = true })
-      (with_standing (record { outside = outside; words = words; landing = landing; is_open = false } ∷ a.standing) a) rs callers y)
+      (land_at (line_of program a.procedure landing) w (standing_at outside words landing true)
+      (with_standing (standing_at outside words landing false ∷ a.standing) a) rs callers y)
       a to callers (catch w rs y))
-      → Does program k s (with_standing (record { outside = outside; words = words; landing = landing; is_open = true } ∷ a.standing) a) line callers r
+      → Does program k s (with_standing (standing_at outside words landing true ∷ a.standing) a) line callers r
       → Does program k s a to callers (landed outside catch (go_on r (λ rs y. jumped (give_back outside rs y))))
   unfolding go_on landed with_some choose_by proceed
   inside_meets k s a outside words landing line to callers catch r e j h m = from r.end r.registers r.state m
     where
-      st : Standing
-      st = record { outside = outside; words = words; landing = landing; is_open = true }
-
       fell :
           (o : Option (List Block)) (rs : Registers) (z : State)
           → Does program k (arrive a (line + 1) callers (with_some o (λ bs rs' y. ends falls rs' (with_arena (with_blocks bs y.arena) y)) rs z)) a to callers
@@ -215,8 +216,8 @@ module _ (program : LineProgram) where
       caught :
           (t : Bool) (n w : ℕ) (rs : Registers) (z : State)
           → Comes program s
-          (land program w (if t then (record { outside = outside; words = words; landing = landing; is_open = true }) ∷ a.standing else standing_from n a.standing)
-          (with_standing (record { outside = outside; words = words; landing = landing; is_open = true } ∷ a.standing) a) rs callers z (cut_outwards program n w callers z))
+          (land program w (if t then (standing_at outside words landing true) ∷ a.standing else standing_from n a.standing)
+          (with_standing (standing_at outside words landing true ∷ a.standing) a) rs callers z (cut_outwards program n w callers z))
           → Does program k s a to callers (choose_by t (catch w) (ends (cuts n w)) rs z)
       caught true n w rs z c = after_coming program c (h w rs z)
       caught false n w rs z c =
@@ -226,11 +227,11 @@ module _ (program : LineProgram) where
 
       from :
           (e : End) (rs : Registers) (z : State)
-          → Does program k s (with_standing (record { outside = outside; words = words; landing = landing; is_open = true } ∷ a.standing) a) line callers (ends e rs z)
+          → Does program k s (with_standing (standing_at outside words landing true ∷ a.standing) a) line callers (ends e rs z)
           → Does program k s a to callers (landed outside catch (go_on (ends e rs z) (λ rs y. jumped (give_back outside rs y))))
       from falls rs z m =
           after_coming program (m.comes tt)
-          (then_meets program (gave_back a (record { outside = outside; words = words; landing = landing; is_open = true }) line rs callers z e)
+          (then_meets program (gave_back a (standing_at outside words landing true) line rs callers z e)
           (fell (blocks_outside outside z.arena.blocks) rs (charged give_back_cost z)))
       from (returns w) rs z m = m
       from (cuts n w) rs z m = caught (n == outside) n w rs z (m.comes tt)
@@ -249,31 +250,31 @@ module _ (program : LineProgram) where
       → line_of program a.procedure line ≡ Some (GiveBack words)
       → ((rs : Registers) (y : State)
       → Does program k
-      (running (with_standing (record { outside = outside; words = words; landing = landing; is_open = false } ∷ a.standing) a) (landing + 1) rs callers y)
-      (with_standing (record { outside = outside; words = words; landing = landing; is_open = false } ∷ a.standing) a) line callers (code rs y))
+      (running (with_standing (standing_at outside words landing false ∷ a.standing) a) (landing + 1) rs callers y)
+      (with_standing (standing_at outside words landing false ∷ a.standing) a) line callers (code rs y))
       → Does program k
-      (land_at (line_of program a.procedure landing) w (record { outside = outside; words = words; landing = landing; is_open = true })
-      (with_standing (record { outside = outside; words = words; landing = landing; is_open = false } ∷ a.standing) a) rs callers z)
+      (land_at (line_of program a.procedure landing) w (standing_at outside words landing true)
+      (with_standing (standing_at outside words landing false ∷ a.standing) a) rs callers z)
       a (line + 1) callers (run_landing outside word code w rs z)
   unfolding with_some proceed
   landing_meets k a outside words landing line word w callers code rs z l g h =
       meets_from program
-      (ap (λ o. land_at o w (record { outside = outside; words = words; landing = landing; is_open = true })
-      (with_standing (record { outside = outside; words = words; landing = landing; is_open = false } ∷ a.standing) a) rs callers z) l)
+      (ap (λ o. land_at o w (standing_at outside words landing true)
+      (with_standing (standing_at outside words landing false ∷ a.standing) a) rs callers z) l)
       (by (blocks_closed outside z.arena.blocks))
     where
       by :
           (o : Option (List Block))
           → Does program k
-          (arrive (with_standing (record { outside = outside; words = words; landing = landing; is_open = false } ∷ a.standing) a) (landing + 1) callers
+          (arrive (with_standing (standing_at outside words landing false ∷ a.standing) a) (landing + 1) callers
           (with_some o (λ bs rs' y. ends falls (slice_set rs' word (Some w)) (with_arena (with_blocks bs y.arena) y)) rs z))
           a (line + 1) callers
           (with_some o (λ bs rs' y. go_on (code (slice_set rs' word (Some w)) (with_arena (with_blocks bs y.arena) y)) (give_back outside)) rs z)
       by None = ended_here program k stuck z tt
       by (Some bs) =
-          go_on_meets program k _ a (record { outside = outside; words = words; landing = landing; is_open = false } ∷ a.standing) line (line + 1) callers
+          go_on_meets program k _ a (standing_at outside words landing false ∷ a.standing) line (line + 1) callers
           (code (slice_set rs word (Some w)) (with_arena (with_blocks bs z.arena) z)) (give_back outside) (λ n. refl) (h _ _)
-          (λ rs' y. give_back_meets k a (record { outside = outside; words = words; landing = landing; is_open = false }) line rs' callers y g)
+          (λ rs' y. give_back_meets k a (standing_at outside words landing false) line rs' callers y g)
 
   -- the body of a procedure, whose lines end where it falls out
   leaves_meets :
@@ -283,7 +284,9 @@ module _ (program : LineProgram) where
   unfolding leaves proceed
   leaves_meets k s number outer line callers r e m = from r.end r.registers r.state m
     where
-      from : (e : End) (rs : Registers) (z : State) → Does program k s (record { procedure = number; outer = outer; standing = [] }) line callers (ends e rs z) → Leaves program k s callers (leaves outer (ends e rs z))
+      from :
+          (e : End) (rs : Registers) (z : State) → Does program k s (record { procedure = number; outer = outer; standing = [] }) line callers (ends e rs z)
+          → Leaves program k s callers (leaves outer (ends e rs z))
       from falls rs z m =
           after_coming program (m.comes tt)
           (then_meets program (ap (λ o. do_line program o (record { procedure = number; outer = outer; standing = [] }) line rs callers z) e) (ended_here program k stuck z tt))
@@ -390,7 +393,11 @@ module _ (mid : MidProgram) (b : ℕ) (below further : Task → State → Outcom
       (with_registers arguments (λ words. with_callee c callee (λ p rs' y. called (count c p.counted (enter p words) y) to rs')) rs (charged (operation_cost (Call to callee arguments)) z))
   call_meets to callee arguments a line rs callers z e =
       after_step flat (at_line flat a line rs callers z (Do (Call to callee arguments)) e)
-      (subst (λ r. Does flat b (call (words_in arguments rs) (callee_in callee rs) (record { activation = a; line = line + 1; registers = rs; result = to } ∷ callers) (charged (operation_cost (Call to callee arguments)) z)) a (line + 1) callers r)
+      (subst
+      (λ r. Does flat b
+      (call (words_in arguments rs) (callee_in callee rs) (record { activation = a; line = line + 1; registers = rs; result = to } ∷ callers)
+      (charged (operation_cost (Call to callee arguments)) z))
+      a (line + 1) callers r)
       (sym (words_same arguments _ rs _))
       (words_meet (words_in arguments rs) callee a (line + 1) to rs callers (charged (operation_cost (Call to callee arguments)) z)))
 
@@ -407,15 +414,31 @@ module _ (mid : MidProgram) (b : ℕ) (below further : Task → State → Outcom
       (o : Operation) (a : Activation) (line : ℕ) (rs : Registers) (callers : List Caller) (z : State) → line_of flat a.procedure line ≡ Some (Do o)
       → Does flat (suc b) (running a line rs callers z) a (line + 1) callers (exec_step c (perform o) rs z)
   unfolding exec exec_step
-  perform_meets (Move to from) a line rs callers z e = simple_meets (perform (Move to from)) (Do (Move to from)) a line rs callers z e refl (some_reached _ _ rs _ (λ w. tt))
+  perform_meets (Move to from) a line rs callers z e =
+      simple_meets (perform (Move to from)) (Do (Move to from)) a line rs callers z e
+      refl (some_reached _ _ rs _ (λ w. tt))
   perform_meets (Constant to word) a line rs callers z e = simple_meets (perform (Constant to word)) (Do (Constant to word)) a line rs callers z e refl tt
-  perform_meets (Compute to which first second) a line rs callers z e = simple_meets (perform (Compute to which first second)) (Do (Compute to which first second)) a line rs callers z e refl (some_reached _ _ rs _ (λ v. some_reached _ _ rs _ (λ w. tt)))
-  perform_meets (Load to base offset) a line rs callers z e = simple_meets (perform (Load to base offset)) (Do (Load to base offset)) a line rs callers z e refl (some_reached _ _ rs _ (λ v. some_reached _ _ rs _ (λ w. tt)))
-  perform_meets (Store from base offset) a line rs callers z e = simple_meets (perform (Store from base offset)) (Do (Store from base offset)) a line rs callers z e refl (some_reached _ _ rs _ (λ v. some_reached _ _ rs _ (λ w. choice_reached _ _ _ rs _ tt tt)))
-  perform_meets (Request to words) a line rs callers z e = simple_meets (perform (Request to words)) (Do (Request to words)) a line rs callers z e refl (some_reached _ _ rs _ (λ w. choice_reached _ _ _ rs _ tt tt))
-  perform_meets (Draw to base offset) a line rs callers z e = simple_meets (perform (Draw to base offset)) (Do (Draw to base offset)) a line rs callers z e refl (some_reached _ _ rs _ (λ v. some_reached _ _ rs _ (λ w. choice_reached _ _ _ rs _ tt (choice_reached _ _ _ rs _ tt tt))))
-  perform_meets (Put from) a line rs callers z e = simple_meets (perform (Put from)) (Do (Put from)) a line rs callers z e refl (some_reached _ _ rs _ (λ w. tt))
-  perform_meets (Get to) a line rs callers z e = simple_meets (perform (Get to)) (Do (Get to)) a line rs callers z e refl (get_reached _ to rs _)
+  perform_meets (Compute to which first second) a line rs callers z e =
+      simple_meets (perform (Compute to which first second)) (Do (Compute to which first second)) a line rs callers z e
+      refl (some_reached _ _ rs _ (λ v. some_reached _ _ rs _ (λ w. tt)))
+  perform_meets (Load to base offset) a line rs callers z e =
+      simple_meets (perform (Load to base offset)) (Do (Load to base offset)) a line rs callers z e
+      refl (some_reached _ _ rs _ (λ v. some_reached _ _ rs _ (λ w. tt)))
+  perform_meets (Store from base offset) a line rs callers z e =
+      simple_meets (perform (Store from base offset)) (Do (Store from base offset)) a line rs callers z e
+      refl (some_reached _ _ rs _ (λ v. some_reached _ _ rs _ (λ w. choice_reached _ _ _ rs _ tt tt)))
+  perform_meets (Request to words) a line rs callers z e =
+      simple_meets (perform (Request to words)) (Do (Request to words)) a line rs callers z e
+      refl (some_reached _ _ rs _ (λ w. choice_reached _ _ _ rs _ tt tt))
+  perform_meets (Draw to base offset) a line rs callers z e =
+      simple_meets (perform (Draw to base offset)) (Do (Draw to base offset)) a line rs callers z e
+      refl (some_reached _ _ rs _ (λ v. some_reached _ _ rs _ (λ w. choice_reached _ _ _ rs _ tt (choice_reached _ _ _ rs _ tt tt))))
+  perform_meets (Put from) a line rs callers z e =
+      simple_meets (perform (Put from)) (Do (Put from)) a line rs callers z e
+      refl (some_reached _ _ rs _ (λ w. tt))
+  perform_meets (Get to) a line rs callers z e =
+      simple_meets (perform (Get to)) (Do (Get to)) a line rs callers z e
+      refl (get_reached _ to rs _)
   perform_meets (Call to callee arguments) a line rs callers z e = call_meets to callee arguments a line rs callers z e
 
   fallen : (line : ℕ) (a : Activation) (rs : Registers) (callers : List Caller) (z : State) → Does flat (suc b) (running a line rs callers z) a line callers (ends falls rs z)
@@ -463,8 +486,8 @@ module _ (mid : MidProgram) (b : ℕ) (below further : Task → State → Outcom
       (λ w rs'' x. subst
       (λ to. Does flat (suc b)
       (land_at (line_of flat a.procedure (at + 1 + line_count inside + 2)) w
-      (record { outside = length z.arena.blocks; words = words; landing = at + 1 + line_count inside + 2; is_open = true })
-      (with_standing (record { outside = length z.arena.blocks; words = words; landing = at + 1 + line_count inside + 2; is_open = false } ∷ a.standing) a) rs'' callers x)
+      (standing_at (length z.arena.blocks) words (at + 1 + line_count inside + 2) true)
+      (with_standing (standing_at (length z.arena.blocks) words (at + 1 + line_count inside + 2) false ∷ a.standing) a) rs'' callers x)
       a to callers (run_landing (length z.arena.blocks) word (λ rs3 v. exec c landing rs3 v) w rs'' x)) last
       (landing_meets flat (suc b) a (length z.arena.blocks) words (at + 1 + line_count inside + 2) (at + 1 + line_count inside + 2 + 1 + line_count landing) word w callers
       (λ rs3 v. exec c landing rs3 v) rs'' x h.4 h.6 (λ rs3 v. l _ rs3 v)))
@@ -507,10 +530,18 @@ module _ (mid : MidProgram) (b : ℕ) (below further : Task → State → Outcom
         record_meets block words word inside landing at a rs callers z h
         (λ records rs' y. code_meets inside (at + 1) (with_standing records a) rs' callers y h.1)
         (λ records rs' y. code_meets landing (at + 1 + line_count inside + 2 + 1) (with_standing records a) rs' callers y h.5)
-    step_meets (return_word r) at a rs callers z h = simple_meets (return_word r) (Return r) a at rs callers z h refl (some_reached _ _ rs _ (λ w. tt))
-    step_meets (cut_to block word) at a rs callers z h = simple_meets (cut_to block word) (Cut block word) a at rs callers z h refl (some_reached _ _ rs _ (λ v. some_reached _ _ rs _ (λ w. some_reached _ _ rs _ (λ bs. tt))))
-    step_meets (halt_with r) at a rs callers z h = simple_meets (halt_with r) (Halt r) a at rs callers z h refl (some_reached _ _ rs _ (λ w. tt))
-    step_meets (end_unhandled class site) at a rs callers z h = simple_meets (end_unhandled class site) (Unhandled class site) a at rs callers z h refl (some_reached _ _ rs _ (λ v. some_reached _ _ rs _ (λ w. tt)))
+    step_meets (return_word r) at a rs callers z h =
+        simple_meets (return_word r) (Return r) a at rs callers z h
+        refl (some_reached _ _ rs _ (λ w. tt))
+    step_meets (cut_to block word) at a rs callers z h =
+        simple_meets (cut_to block word) (Cut block word) a at rs callers z h
+        refl (some_reached _ _ rs _ (λ v. some_reached _ _ rs _ (λ w. some_reached _ _ rs _ (λ bs. tt))))
+    step_meets (halt_with r) at a rs callers z h =
+        simple_meets (halt_with r) (Halt r) a at rs callers z h
+        refl (some_reached _ _ rs _ (λ w. tt))
+    step_meets (end_unhandled class site) at a rs callers z h =
+        simple_meets (end_unhandled class site) (Unhandled class site) a at rs callers z h
+        refl (some_reached _ _ rs _ (λ v. some_reached _ _ rs _ (λ w. tt)))
 
   -- tasks
 

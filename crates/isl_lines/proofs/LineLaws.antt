@@ -126,9 +126,9 @@ law_of_lines program k turns_each entry arguments z =
     record {
       ends = λ h. let c = m.comes h in (c.steps, c.there);
       comes = ⊎_elim
-        (λ h. let c = m.comes h in (c.steps, ap state_of c.there))
-        (λ h. let p = m.pauses h in (p.steps, p.there))
-        (reached_or_wanting r.end);
+          (λ h. let c = m.comes h in (c.steps, ap state_of c.there))
+          (λ h. let p = m.pauses h in (p.steps, p.there))
+          (reached_or_wanting r.end);
     }
 
 -- The machine's states grow, so what it prints stays.

@@ -42,7 +42,9 @@ mutual
       let m = code_length second (at + 1 + line_count first + 1) in
       choice_length (code_lines (at + 1) first) (code_lines (at + 1 + line_count first + 1) second) (Jump 0) _ _ n m
     where
-      choice_length : (a b : List Line) (x y z : Line) → length a ≡ line_count first → length b ≡ line_count second → length (x ∷ (a ++ (y ∷ (b ++ z ∷ [])))) ≡ 1 + line_count first + 1 + line_count second + 1
+      choice_length :
+          (a b : List Line) (x y z : Line) → length a ≡ line_count first → length b ≡ line_count second
+          → length (x ∷ (a ++ (y ∷ (b ++ z ∷ [])))) ≡ 1 + line_count first + 1 + line_count second + 1
       choice_length a b x y z n m = omega (arith, length-append a (y ∷ (b ++ z ∷ [])), length-append b (z ∷ []))
   step_length (repeat counted head t body) at =
       let n = code_length head at in
@@ -109,14 +111,21 @@ mutual
   step_lies lines (perform o) at h = h.0
   step_lies lines (choose t first second) at h =
       let a = has_back lines (at + 1) (line_count first) (code_lines (at + 1) first) _ (code_length first (at + 1)) h.1 in
-      let b = has_back lines (at + 1 + line_count first + 1) (line_count second) (code_lines (at + 1 + line_count first + 1) second) _ (code_length second (at + 1 + line_count first + 1)) a.1 in
-      (h.0, code_lies lines first (at + 1) (has_front lines (at + 1) (code_lines (at + 1) first) _ h.1), a.0,
-      code_lies lines second (at + 1 + line_count first + 1) (has_front lines (at + 1 + line_count first + 1) (code_lines (at + 1 + line_count first + 1) second) _ a.1), b.0)
+      let b = has_back lines (at + 1 + line_count first + 1) (line_count second) (code_lines (at + 1 + line_count first + 1) second) _ (code_length second (at + 1 + line_count first + 1)) a.1 in (
+        h.0,
+        code_lies lines first (at + 1) (has_front lines (at + 1) (code_lines (at + 1) first) _ h.1),
+        a.0,
+        code_lies lines second (at + 1 + line_count first + 1) (has_front lines (at + 1 + line_count first + 1) (code_lines (at + 1 + line_count first + 1) second) _ a.1),
+        b.0,
+      )
   step_lies lines (repeat counted head t body) at h =
       let a = has_back lines at (line_count head) (code_lines at head) _ (code_length head at) h in
-      let b = has_back lines (at + line_count head + 1) (line_count body) (code_lines (at + line_count head + 1) body) _ (code_length body (at + line_count head + 1)) a.1 in
-      (code_lies lines head at (has_front lines at (code_lines at head) _ h), a.0,
-      code_lies lines body (at + line_count head + 1) (has_front lines (at + line_count head + 1) (code_lines (at + line_count head + 1) body) _ a.1), b.0)
+      let b = has_back lines (at + line_count head + 1) (line_count body) (code_lines (at + line_count head + 1) body) _ (code_length body (at + line_count head + 1)) a.1 in (
+        code_lies lines head at (has_front lines at (code_lines at head) _ h),
+        a.0,
+        code_lies lines body (at + line_count head + 1) (has_front lines (at + line_count head + 1) (code_lines (at + line_count head + 1) body) _ a.1),
+        b.0,
+      )
   step_lies lines (with_block block words word inside landing) at h =
       let i = at + 1 + line_count inside in
       let two : i + 1 + 1 ≡ i + 2 = omega arith in
@@ -124,11 +133,15 @@ mutual
       let more : i + 3 ≡ i + 2 + 1 = omega arith in
       let a = has_back lines (at + 1) (line_count inside) (code_lines (at + 1) inside) _ (code_length inside (at + 1)) h.1 in
       let c = subst (λ k. HasAt lines k (code_lines (i + 3) landing ++ GiveBack words ∷ [])) three a.1.1.1 in
-      let b = has_back lines (i + 3) (line_count landing) (code_lines (i + 3) landing) _ (code_length landing (i + 3)) c in
-      (h.0, code_lies lines inside (at + 1) (has_front lines (at + 1) (code_lines (at + 1) inside) _ h.1), a.0, a.1.0,
-      subst (λ k. slice_get lines k ≡ Some (Landed word)) two a.1.1.0,
-      subst (λ k. CodeLies lines k landing) more (code_lies lines landing (i + 3) (has_front lines (i + 3) (code_lines (i + 3) landing) _ c)),
-      subst (λ k. slice_get lines (k + line_count landing) ≡ Some (GiveBack words)) more b.0)
+      let b = has_back lines (i + 3) (line_count landing) (code_lines (i + 3) landing) _ (code_length landing (i + 3)) c in (
+        h.0,
+        code_lies lines inside (at + 1) (has_front lines (at + 1) (code_lines (at + 1) inside) _ h.1),
+        a.0,
+        a.1.0,
+        subst (λ k. slice_get lines k ≡ Some (Landed word)) two a.1.1.0,
+        subst (λ k. CodeLies lines k landing) more (code_lies lines landing (i + 3) (has_front lines (i + 3) (code_lines (i + 3) landing) _ c)),
+        subst (λ k. slice_get lines (k + line_count landing) ≡ Some (GiveBack words)) more b.0,
+      )
   step_lies lines (return_word r) at h = h.0
   step_lies lines (cut_to block word) at h = h.0
   step_lies lines (halt_with r) at h = h.0
@@ -136,9 +149,10 @@ mutual
 
   code_lies : (lines : List Line) (c : MidCode) (at : ℕ) → HasAt lines at (code_lines at c) → CodeLies lines at c
   code_lies lines no_step at h = tt
-  code_lies lines (step_and s c) at h =
-      (step_lies lines s at (has_front lines at (step_lines at s) _ h),
-      code_lies lines c (at + step_line_count s) (has_back lines at (step_line_count s) (step_lines at s) _ (step_length s at) h))
+  code_lies lines (step_and s c) at h = (
+    step_lies lines s at (has_front lines at (step_lines at s) _ h),
+    code_lies lines c (at + step_line_count s) (has_back lines at (step_line_count s) (step_lines at s) _ (step_length s at) h),
+  )
 
 -- the code of a procedure lies in its lines
 pub all_lies : (c : MidCode) → CodeLies (code_lines 0 c) 0 c

@@ -198,7 +198,7 @@ module _ (program : LineProgram) (first : List Block) where
       → StageStands program first (land program word (standing_from (length outer) records) a rs callers z otherwise)
   seeking a [] [] b outer word rs callers z otherwise e o m counted k h =
       let same : b ≡ frame_of program a.procedure = cc e in
-      absurd (cc (o, ap (λ x. is_open x.kind) same, frame_is_not_open (slice_get program.procedures a.procedure)))
+      absurd (cc (o, same, frame_is_not_open (slice_get program.procedures a.procedure)))
   seeking a [] (x ∷ xs) b outer word rs callers z otherwise e o m counted k h = h xs (cc e)
   seeking a (s ∷ records) inner b outer word rs callers z otherwise e o m counted k h =
       by (s.is_open && (length outer == s.outside)) refl inner e
@@ -214,7 +214,7 @@ module _ (program : LineProgram) (first : List Block) where
           landing_stands (line_of program a.procedure s.landing) word s records a rs callers z (m ∙ sym e) counted.0 counted.1 k
       by true t (x ∷ xs) e i =
           let rest : blocks_of program a records ≡ xs ++ b ∷ outer = cc e in
-          let count : length outer ≡ s.outside = eqb-true _ _ (back_true _ _ t) in
+          let count : length outer ≡ s.outside = eqb-true (length outer) s.outside (back_true s.is_open (length outer == s.outside) t) in
           absurd (omega (arith, count, counted.0, ap length rest, length-append xs (b ∷ outer)))
       by false t [] e i =
           let same : b ≡ record_block s = cc e in

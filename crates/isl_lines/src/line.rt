@@ -9,7 +9,10 @@ pub enum Line {
     /// An operation; then the next line.
     Do(Operation),
     /// The next line where the test holds, else that line.
-    Branch { test: Test, otherwise: usize },
+    Branch {
+        test: Test,
+        otherwise: usize,
+    },
     /// That line.
     Jump(usize),
     /// A control record that lends so many words is laid, with its address in the register `block`; then the next line. A
@@ -26,11 +29,17 @@ pub enum Line {
     /// The activation ends with the word.
     Return(Register),
     /// The activations and blocks above that block end, and its landing runs with the word.
-    Cut { block: Register, word: Register },
+    Cut {
+        block: Register,
+        word: Register,
+    },
     /// The program ends with the word.
     Halt(Register),
     /// The program ends with a condition that is not handled: the words for its class and its site.
-    Unhandled { class: Register, site: Register },
+    Unhandled {
+        class: Register,
+        site: Register,
+    },
 }
 
 /// Lines, by their numbers.

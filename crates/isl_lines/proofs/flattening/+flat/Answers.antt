@@ -8,16 +8,20 @@ append_code-loop-step-preserved t c =
 
 pub append_choice-returns : goal.append_choice-returns
 append_choice-returns t c =
-    choice_written (code_of c.args.first.now) (code_of c.args.second.now) c.args.test _ _ _ _ _ _ _ _ _ _ _ _ _ _ _ _ _ c.len-branch_at.ensures c.in_ok-push.ensures.ok c.in_ok-append_code.ensures c.len-jump_at.ensures c.in_ok-push-2.ensures.ok
-    c.len-otherwise.ensures c.in_ok-append_code-2.ensures c.len-last_at.ensures c.in_ok-push-3.ensures.ok c.len-end.ensures c.replace.ensures.now c.replace-2.ensures.now c.replace-3.ensures.now
+    choice_written (code_of c.args.first.now) (code_of c.args.second.now) c.args.test _ _ _ _ _ _ _ _ _ _ _ _ _ _ _ _ _
+    c.len-branch_at.ensures c.in_ok-push.ensures.ok c.in_ok-append_code.ensures c.len-jump_at.ensures c.in_ok-push-2.ensures.ok
+    c.len-otherwise.ensures c.in_ok-append_code-2.ensures c.len-last_at.ensures c.in_ok-push-3.ensures.ok c.len-end.ensures
+    c.replace.ensures.now c.replace-2.ensures.now c.replace-3.ensures.now
 
 pub append_loop-returns : goal.append_loop-returns
 append_loop-returns t c =
-    loop_written c.args.counted (code_of c.args.head.now) (code_of c.args.body.now) c.args.test _ _ _ _ _ _ _ _ _ _ c.len-start.ensures c.in_ok-append_code.ensures c.len-branch_at.ensures c.in_ok-push.ensures.ok c.in_ok-append_code-2.ensures
+    loop_written c.args.counted (code_of c.args.head.now) (code_of c.args.body.now) c.args.test _ _ _ _ _ _ _ _ _ _
+    c.len-start.ensures c.in_ok-append_code.ensures c.len-branch_at.ensures c.in_ok-push.ensures.ok c.in_ok-append_code-2.ensures
     c.in_ok-push-2.ensures.ok c.len-otherwise.ensures c.replace.ensures.now
 
 pub append_record-returns : goal.append_record-returns
 append_record-returns t c =
-    record_written c.args.block c.args.words c.args.word (code_of c.args.inside.now) (code_of c.args.landing.now) _ _ _ _ _ _ _ _ _ _ _ _ _ _ _ _ c.len-lay_at.ensures c.in_ok-push.ensures.ok c.in_ok-append_code.ensures c.in_ok-push-2.ensures.ok c.len-jump_at.ensures
+    record_written c.args.block c.args.words c.args.word (code_of c.args.inside.now) (code_of c.args.landing.now) _ _ _ _ _ _ _ _ _ _ _ _ _ _ _ _
+    c.len-lay_at.ensures c.in_ok-push.ensures.ok c.in_ok-append_code.ensures c.in_ok-push-2.ensures.ok c.len-jump_at.ensures
     c.in_ok-push-3.ensures.ok c.len-landing_at.ensures c.in_ok-push-4.ensures.ok c.in_ok-append_code-2.ensures c.in_ok-push-5.ensures.ok c.len-end.ensures
     c.replace.ensures.now c.replace-2.ensures.now
