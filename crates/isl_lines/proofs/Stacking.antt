@@ -7,6 +7,7 @@ use Rattle.isl_mid.specs.Arena.{Block, activation_frame, closed_record, is_open,
 use Rattle.isl_mid.specs.Costs.{give_back_cost, entry_cost}
 use Rattle.isl_mid.specs.State.{Registers, first_registers, State, End, falls, returns, cuts, no_room, no_level, no_turn, halts, unhandled, exhausted, stuck, Outcome, Next, ends, charged, with_arena, with_some, choose_by, register}
 use Rattle.isl_mid.specs.Meaning.{lay, get_from, give_back, exec_step}
+use Rattle.isl_lines.proofs.Conjunctions.{front_true, back_true, both_true}
 use Rattle.isl_lines.specs.declared.line.Line.{Line}
 use Rattle.isl_lines.specs.declared.line.Line.TheVariants.{Do, Branch, Jump, Lay, Landed, GiveBack, Return, Cut, Halt, Unhandled}
 use Rattle.isl_lines.specs.declared.line.LineProcedure.{LineProcedure}
@@ -71,14 +72,6 @@ abbrev CutTo : List Block → Option (List Block) → Type 0
 CutTo before None = Unit {0}
 CutTo before (Some after) = CutPart before after
 
-front_true : (a b : Bool) → (a && b) ≡ true → a ≡ true
-front_true true b h = refl
-front_true false b h = h
-
-back_true : (a b : Bool) → (a && b) ≡ true → b ≡ true
-back_true true b h = h
-back_true false b h = absurd (cc h)
-
 cut_part : (size : ℕ) (bs : List Block) (address : ℕ) → CutTo bs (blocks_from size bs address)
 cut_part size [] address = tt
 cut_part size (b ∷ bs) address = by (is_open b.kind && (lent_from size (b ∷ bs) == address)) refl (blocks_from size bs address) (cut_part size bs address)
@@ -114,10 +107,6 @@ frame_is_not_open (Some p) = refl
 open_record_is_open : (t : Bool) → is_open (record_kind t) ≡ true → t ≡ true
 open_record_is_open true h = refl
 open_record_is_open false h = h
-
-both_true : (a b : Bool) → a ≡ true → b ≡ true → (a && b) ≡ true
-both_true true b h k = k
-both_true false b h k = absurd (cc h)
 
 module _ (program : LineProgram) (first : List Block) where
   arrive_stands :

@@ -25,15 +25,15 @@ abbrev mutual
   line_count no_step = 0
   line_count (step_and s c) = step_line_count s + line_count c
 
--- a choice: the branch, the first code and a jump to the end, the second code and a jump to the end
+-- a choice: the branch to the second code, the first code and a jump to the end, the second code and a jump to the end
 abbrev pub choice_lines : Test → (second_at end : ℕ) → (first second : List Line) → List Line
 choice_lines t second_at end first second = Branch t second_at ∷ (first ++ (Jump end ∷ (second ++ Jump end ∷ [])))
 
--- a loop: the head, the branch to the end, the body and a jump back
+-- a loop: the head, the branch to the end, the body and a jump to the head
 abbrev pub loop_lines : Test → (at end : ℕ) → (head body : List Line) → List Line
 loop_lines t at end head body = head ++ (Branch t end ∷ (body ++ Jump at ∷ []))
 
--- A control record: it is laid; the inside, the give-back and a jump over the landing; and the landing between its head and the give-back
+-- A control record: the laying, the inside, the give-back and a jump to the end, the head of the landing, the landing and the give-back.
 abbrev pub record_lines : (block words word landing_at end : ℕ) → (inside landing : List Line) → List Line
 record_lines block words word landing_at end inside landing =
     Lay block words landing_at ∷ (inside ++ (GiveBack words ∷ Jump end ∷ Landed word ∷ (landing ++ GiveBack words ∷ [])))

@@ -3,4 +3,5 @@ pub mod LineMeaning
 pub mod Flattened
 pub mod LineLaw
 pub mod StackLaw
+pub mod LinesChecked
 pub mod Worked

@@ -31,6 +31,7 @@ pub record Activation : Type 0 where
   pub outer : List Block
   pub standing : List Standing
 
+-- an activation with other records that stand
 abbrev pub with_standing : List Standing → Activation → Activation
 with_standing records a = record a { standing = records }
 
@@ -48,6 +49,7 @@ pub data Stage : Type 0 where
   entering : (procedure : ℕ) → (arguments : List ℕ) → List Caller → State → Stage
   ended : End → State → Stage
 
+-- the state of a stage
 abbrev pub state_of : Stage → State
 state_of (running a line rs callers z) = z
 state_of (entering number arguments callers z) = z
@@ -69,6 +71,7 @@ abbrev pub standing_from : (outside : ℕ) → List Standing → List Standing
 standing_from outside [] = []
 standing_from outside (s ∷ records) = if s.is_open && (outside == s.outside) then s ∷ records else standing_from outside records
 
+-- a record that no cut goes to any more
 abbrev pub closed : Standing → Standing
 closed s = record s { is_open = false }
 
@@ -92,13 +95,14 @@ land program word [] a rs callers z otherwise = otherwise
 land program word (s ∷ records) a rs callers z otherwise =
     land_at (line_of program a.procedure s.landing) word s (with_standing (closed s ∷ records) a) rs callers z
 
--- A cut to the block that has so many outside. The record is sought in the callers, from the innermost on, and in an activation above
--- them; the activations above the one that laid it end.
+-- A cut to the block that has so many outside. The record is sought in the callers, from the innermost on; the activations above the one
+-- that laid it end.
 abbrev pub cut_outwards : LineProgram → (outside word : ℕ) → List Caller → State → Stage
 cut_outwards program outside word [] z = ended stuck z
 cut_outwards program outside word (c ∷ callers) z =
     land program word (standing_from outside c.activation.standing) c.activation c.registers callers z (cut_outwards program outside word callers z)
 
+-- the same, and the record is sought first in an activation above the callers
 abbrev pub cut_from : LineProgram → (outside word : ℕ) → Activation → Registers → List Caller → State → Stage
 cut_from program outside word a rs callers z =
     land program word (standing_from outside a.standing) a rs callers z (cut_outwards program outside word callers z)
@@ -131,10 +135,11 @@ enter_at (Some p) number arguments callers z =
 
 -- lines
 
--- a line that is also a step does what the step does; it has nothing below and nothing further
+-- A line that is also a step of the tree does what the step does, in this context: there is no procedure, and no task below or further.
 abbrev pub alone : Context
 alone = context_of [] (λ task z. ends stuck [] z) (λ task z. ends stuck [] z)
 
+-- two words compared; none where one of them is none
 abbrev pub both : Option ℕ → Option ℕ → (ℕ → ℕ → Bool) → Option Bool
 both None second compare = None
 both (Some a) None compare = None
@@ -144,45 +149,48 @@ both (Some a) (Some b) compare = Some (compare a b)
 abbrev pub holds : Test → Registers → Option Bool
 holds t rs = both (register t.first rs) (register t.second rs) (compares t.comparison)
 
+-- the next line where a test holds, else another one; it is stuck where a register was not set
 abbrev pub branch : Option Bool → Activation → (next otherwise : ℕ) → Registers → List Caller → State → Stage
 branch None a next otherwise rs callers z = ended stuck z
 branch (Some true) a next otherwise rs callers z = running a next rs callers z
 branch (Some false) a next otherwise rs callers z = running a otherwise rs callers z
 
--- the words in registers; none where one was not set
+-- a word before others; none where one of them is none
 abbrev pub words_before : Option ℕ → Option (List ℕ) → Option (List ℕ)
 words_before None words = None
 words_before (Some w) None = None
 words_before (Some w) (Some words) = Some (w ∷ words)
 
+-- the words in registers; none where one was not set
 abbrev pub words_in : List ℕ → Registers → Option (List ℕ)
 words_in [] rs = Some []
 words_in (r ∷ more) rs = words_before (register r rs) (words_in more rs)
 
--- the number of the procedure that is called
+-- the number of the procedure that is called; none where the register was not set
 abbrev pub callee_in : Callee → Registers → Option ℕ
 callee_in (Procedure n) rs = Some n
 callee_in (Word r) rs = register r rs
 
--- a call of the procedure of that number with those arguments, above these callers
+-- a call of the procedure of that number with those arguments, above these callers; it is stuck where they are none
 abbrev pub call : Option (List ℕ) → Option ℕ → List Caller → State → Stage
 call None callee callers z = ended stuck z
 call (Some words) None callers z = ended stuck z
 call (Some words) (Some number) callers z = entering number words callers z
 
+-- An operation. A call waits, with the next line to go on at; every other one does what the step does.
 abbrev pub perform_at : LineProgram → Operation → Activation → (line : ℕ) → Registers → List Caller → State → Stage
 perform_at program (Call to callee arguments) a line rs callers z =
     call (words_in arguments rs) (callee_in callee rs) (record { activation = a; line = line + 1; registers = rs; result = to } ∷ callers)
     (charged (operation_cost (Call to callee arguments)) z)
 perform_at program o a line rs callers z = proceed program a (line + 1) callers (exec_step alone (perform o) rs z)
 
--- the innermost record of the activation, with so many words, is given back
+-- the innermost record of the activation, which lends so many words, is given back
 abbrev pub give_back_at : (words : ℕ) → List Standing → Activation → (line : ℕ) → Registers → List Caller → State → Stage
 give_back_at words [] a line rs callers z = ended stuck z
 give_back_at words (s ∷ records) a line rs callers z =
     if words == s.words then arrive (with_standing records a) (line + 1) callers (give_back s.outside rs z) else ended stuck z
 
--- a line of an activation; behind the last line it is stuck, and so is the head of a landing that no cut has come to
+-- What an activation does at a line. Behind the last line it is stuck, and at the head of a landing too, where only a cut leads.
 abbrev pub do_line : LineProgram → Option Line → Activation → (line : ℕ) → Registers → List Caller → State → Stage
 do_line program None a line rs callers z = ended stuck z
 do_line program (Some (Do o)) a line rs callers z = perform_at program o a line rs callers z

@@ -2,6 +2,7 @@
 
 ghost use Rattle.isl_lines.specs.LineLaw.{LawOfLines, LawOfLineEnds, LawOfLinePrinting};
 ghost use Rattle.isl_lines.specs.StackLaw.{LawOfStack};
+ghost use Rattle.isl_lines.specs.LinesChecked.{LawOfForm};
 
 /// Whatever the levels and turns, the machine of a program's lines comes to the end that a run of the program reaches, with the
 /// same arena, output, input and cost; and where the run ends for want of levels or turns, it comes to a stage with all these.
@@ -23,4 +24,9 @@ pub fn law_line_printing()
 /// frame, and outside it the blocks of its caller.
 pub fn law_stack()
     ensures { LawOfStack }
+{}
+
+/// The lines of a program in form are in form: registers, constants, offsets, blocks, lines and calls.
+pub fn law_form()
+    ensures { LawOfForm }
 {}

@@ -7,6 +7,6 @@ pub mod line;
 pub mod worked;
 
 pub use flattening::{lines_of, program_lines};
-pub use laws::{law_line_ends, law_line_printing, law_lines, law_stack};
+pub use laws::{law_form, law_line_ends, law_line_printing, law_lines, law_stack};
 pub use line::{Line, LineList, LineProcedure, LineProcedureList, LineProgram};
 pub use worked::{worked_landings, worked_lines};
