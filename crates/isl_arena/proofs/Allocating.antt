@@ -40,7 +40,7 @@ use Rattle.isl_arena.proofs.Filling.{replicated}
 use Rattle.isl_arena.proofs.Arrays.{does_one}
 use Rattle.isl_arena.specs.ClassesThere.{ClassesThere}
 use Rattle.isl_arena.proofs.SlotRows.{class_low, truth_told}
-use Rattle.isl_arena.proofs.Allotting.{allotted, allotted_facts, allotted_heap, allotted_blocks, allotted_word, allotted_mark}
+use Rattle.isl_arena.proofs.Allotting.{allotted, allotted_grows, allotted_heap, allotted_blocks, allotted_word, allotted_mark}
 use Rattle.isl_arena.proofs.Allotting.{asking_code, beginning_code, filling_code, allocating_code, mark_address, beginning_falls, filling_ends}
 
 module _ (names : List (List ℕ)) (program : ProgramRows) (places : Places) (z : meaning.State) (y : State) (r : Represents names program places z y) where
@@ -181,7 +181,7 @@ module _ (names : List (List ℕ)) (program : ProgramRows) (places : Places) (z 
                   (filling_ends procedures below n y (k + 90 + 140) w count bit r.arena room turns));
               answers =
                   answers_made names program places z y r (2 + count + bit) 0 made z now _ (alike_self z)
-                  (allotted_facts y.arena (2 + count + bit) mark all r.arena room few (omega (arith, r.arena.aligned)) (omega arith))
+                  (allotted_grows y.arena (2 + count + bit) mark all r.arena room few (omega (arith, r.arena.aligned)) (omega arith))
                   (allotted_heap y.arena (2 + count + bit) mark all r.arena room few (omega (arith, r.arena.aligned)) (omega arith))
                   (allotted_blocks y.arena (2 + count + bit) mark all r.arena room few (omega (arith, r.arena.aligned)) (omega arith))
                   refl refl (omega arith) (instance_stands room) known (omega (arith, cost));

@@ -14,11 +14,12 @@ use Rattle.isl_arena.specs.Tags.{nil_word, unbound_word, instance_header}
 use Rattle.isl_arena.specs.Standing.{ArenaStands}
 use Rattle.isl_arena.specs.Steps as steps
 use Rattle.isl_arena.proofs.WordFacts.{instance_header_made}
-use Rattle.isl_arena.proofs.Memory.{Facts, heap_below, stands_with_word, stands_with_heap, facts_with_heap, facts_stored, facts_with_words, with_words, words_stand, words_behind, stored_in_heap}
+use Rattle.isl_arena.proofs.Memory.{heap_below, stands_with_word, stands_with_heap, grows_with_heap, grows_stored, grows_with_words, with_words, words_stand, words_behind, stored_in_heap}
 use Rattle.isl_arena.proofs.Running.{RunsTo, turning, none_left, and_then, and_ends, costing, constant_falls}
 use Rattle.isl_arena.proofs.Running.{compute_known, move_falls, store_in_heap, request_falls, return_ends, address_here, address_above}
 use Rattle.isl_arena.proofs.Doing.{paid}
 use Rattle.isl_arena.proofs.Filling.{fill, fill_falls}
+use Rattle.isl_arena.proofs.Growing.{Grows}
 
 -- ---- the arena
 
@@ -35,8 +36,8 @@ stored_blocks x [] a = refl
 stored_blocks x (w ∷ ws) a = stored_blocks (x + 4) ws (with_word x w a)
 
 module _ (a : Arena) (words mark : ℕ) (ws : List ℕ) (stands : ArenaStands a) (room : words ≤ left a) (few : length ws ≤ words) (aligned : mark % 4 ≡ 0) (behind : a.heap_to ≤ mark) where
-  pub allotted_facts : Facts a (allotted words mark ws a)
-  allotted_facts = facts_with_words a.heap_to ws (facts_stored mark nil_word (facts_with_heap words stands room) aligned behind) stands.aligned (omega arith)
+  pub allotted_grows : Grows a (allotted words mark ws a)
+  allotted_grows = grows_with_words a.heap_to ws (grows_stored mark nil_word (grows_with_heap words stands room) aligned behind) stands.aligned (omega arith)
 
   pub allotted_heap : (allotted words mark ws a).heap_to ≡ a.heap_to + 4 * words
   allotted_heap = stored_heap a.heap_to ws (with_word mark nil_word (with_heap words a))

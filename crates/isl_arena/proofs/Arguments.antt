@@ -192,12 +192,12 @@ module _ (names : List (List ℕ)) (program : ProgramRows) (places : Places) (z 
   word_told (character c) w e = let h = character_word_is places c w e in omega (arith, h.0, h.1)
   word_told (symbol s) w e =
       let there = symbol_there s w e in
-      let below = spot_below y.arena there.spot r.arena there.spot_stands in
+      let below = spot_below r.arena there.spot_stands in
       omega (arith, there.word, below, there.spot_stands.some, r.arena.room, r.arena.size)
   word_told nil w e = let h : nil_word ≡ w = cc e in omega arith
   word_told (object i) w e =
       let there = object_there i w e in
-      let below = spot_below y.arena there.spot r.arena there.spot_stands in
+      let below = spot_below r.arena there.spot_stands in
       omega (arith, there.word, there.tag, there.spot_stands.tag, below, there.spot_stands.some, r.arena.room, r.arena.size)
 
   -- the two words behind the word of a cons

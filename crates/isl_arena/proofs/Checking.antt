@@ -209,7 +209,7 @@ module _ (names : List (List ℕ)) (program : ProgramRows) (places : Places) (z 
     where
       of_one : (o : Object) (s : Spot) → SpotStands y.arena s → ObjectAt names program places y.arena s o → header_of o < 2 ^ 32
       of_one (instance c values mark) s stands at =
-          omega (arith, at.size.words, spot_below y.arena s r.arena stands, r.arena.room, r.arena.size)
+          omega (arith, at.size.words, spot_below r.arena stands, r.arena.room, r.arena.size)
       of_one (cons car cdr) s stands at = omega arith
       of_one o s stands at = omega arith
 

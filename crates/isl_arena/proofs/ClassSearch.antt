@@ -248,10 +248,10 @@ module _
         count = length (precedence program c)
 
         bounded : list + 4 * count < 2 ^ 32
-        bounded = omega (arith, one.stands.size.words, spot_below y.arena one.spot r.arena one.spot_stands, r.arena.room, r.arena.size)
+        bounded = omega (arith, one.stands.size.words, spot_below r.arena one.spot_stands, r.arena.room, r.arena.size)
 
         other_bounded : other.spot.address + 4 < 2 ^ 32
-        other_bounded = omega (arith, other.stands.size.words, spot_below y.arena other.spot r.arena other.spot_stands, r.arena.room, r.arena.size)
+        other_bounded = omega (arith, other.stands.size.words, spot_below r.arena other.spot_stands, r.arena.room, r.arena.size)
 
         abbrev asked : Registers
         asked = slice_set rs 4 (Some (4 * d))

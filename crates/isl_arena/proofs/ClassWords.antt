@@ -131,7 +131,7 @@ module _ {names : List (List ℕ)} {program : ProgramRows} {places : Places} {z 
   module _ (i : ℕ) (e : word_of places (object i) ≡ Some here.word) {rs : Registers} (o : OnTheWay here (shift_left here.word 30) rs) where
     -- the words behind the header of an object that has one
     second_bounded : (s : Spot) → SpotStands y.arena s → here.word ≡ s.address + 2 → here.word + 2 < 2 ^ 32
-    second_bounded s stands at = omega (arith, at, stands.some, spot_below y.arena s here.represents.arena stands, here.represents.arena.room, here.represents.arena.size)
+    second_bounded s stands at = omega (arith, at, stands.some, spot_below here.represents.arena stands, here.represents.arena.room, here.represents.arena.size)
 
     second_of : (s : Spot) (x : ℕ) → here.word ≡ s.address + 2 → word_at y.arena (s.address + 4) ≡ Some x → word_at y.arena (here.word + 2) ≡ Some x
     second_of s x at f = let same : here.word + 2 ≡ s.address + 4 = omega (arith, at) in rw same f

@@ -21,13 +21,14 @@ use Rattle.isl_arena.specs.FixedWords.{class_address, pending_address}
 use Rattle.isl_arena.specs.Represents.{Represents}
 use Rattle.isl_arena.specs.Answers.{done, Signalled}
 use Rattle.isl_arena.specs.Steps as steps
-use Rattle.isl_arena.proofs.Memory.{Facts, heap_below, in_spot_lent, spot_still_stands}
+use Rattle.isl_arena.proofs.Memory.{heap_below, in_spot_lent}
 use Rattle.isl_arena.proofs.Running.{RunsTo, and_then, and_ends, none_left, costing, parts_then, constant_falls, compute_known, load_falls, store_falls, store_in_heap, request_falls}
 use Rattle.isl_arena.proofs.Running.{request_wanting, return_ends, address_above, address_here}
 use Rattle.isl_arena.proofs.Representing.{fixed_spot, fixed_stands}
 use Rattle.isl_arena.proofs.BuiltInFacts.{built_in_known, is_condition_class, slot_count_is, condition_words}
-use Rattle.isl_arena.proofs.Making.{Room, is_left, is_wanting, room_for, begun, begun_facts, begun_heap, begun_blocks, fixed_below, answers_wanting, condition_at, signalled_new}
+use Rattle.isl_arena.proofs.Making.{Room, is_left, is_wanting, room_for, begun, begun_grows, begun_heap, begun_blocks, fixed_below, answers_wanting, condition_at, signalled_new}
 use Rattle.isl_arena.proofs.Doing.{Alike, Run, paid}
+use Rattle.isl_arena.proofs.Growing.{Grows, spot_grown}
 
 -- a class of conditions that is built in, has no slots, and is signalled by primitives
 pub data PlainCondition : ℕ → Type 0 where
@@ -114,7 +115,7 @@ module _ (names : List (List ℕ)) (program : ProgramRows) (places : Places) (z 
       let small = heap_below r.arena in
       let fixed = fixed_below names program places z y r in
       let loaded : word_at (begun words (header ∷ []) y.arena) class ≡ Some word =
-      (begun_facts words (header ∷ []) r.arena room).words class (omega arith) ∙ stands in
+      (begun_grows words (header ∷ []) r.arena room).words class (omega arith) ∙ stands in
       costing
       (and_then constant_falls
       (and_then (request_falls refl room)
@@ -126,8 +127,8 @@ module _ (names : List (List ℕ)) (program : ProgramRows) (places : Places) (z 
       none_left))))))) (omega arith)
 
   -- the fixed word of a condition is lent as long as the arena grows
-  pending_lent : (b : Arena) → Facts y.arena b → is_lent b pending_address ≡ true
-  pending_lent b g = in_spot_lent {s = fixed_spot} pending_address (spot_still_stands g (fixed_stands names program places z y r)) refl (omega arith) (omega arith)
+  pending_lent : (b : Arena) → Grows y.arena b → is_lent b pending_address ≡ true
+  pending_lent b g = in_spot_lent {s = fixed_spot} pending_address (spot_grown g (fixed_stands names program places z y r)) refl (omega arith) (omega arith)
 
 module _ (names : List (List ℕ)) (program : ProgramRows) (places : Places) (z : meaning.State) (y : State) (r : Represents names program places z y) where
   -- the slots and the mark of a domain error are stored, and it is handed over
@@ -147,7 +148,7 @@ module _ (names : List (List ℕ)) (program : ProgramRows) (places : Places) (z 
       let fixed = fixed_below names program places z y r in
       let heap : ℕ = y.arena.heap_to in
       let loaded : word_at (begun 5 (header ∷ named ∷ w ∷ []) y.arena) (class_address expected) ≡ Some word =
-      (begun_facts 5 (header ∷ named ∷ w ∷ []) r.arena room).words (class_address expected) (omega arith) ∙ stands in
+      (begun_grows 5 (header ∷ named ∷ w ∷ []) r.arena room).words (class_address expected) (omega arith) ∙ stands in
       let all : List ℕ = header ∷ named ∷ w ∷ word ∷ nil_word ∷ [] in
       costing
       (and_then (store_in_heap at refl (address_above heap 8 (heap + 4 + 4) (omega arith) (omega arith)) (omega (arith, r.arena.aligned)) (omega (arith, r.arena.heap)) (omega arith))
@@ -155,7 +156,7 @@ module _ (names : List (List ℕ)) (program : ProgramRows) (places : Places) (z 
       (and_then (store_in_heap refl refl (address_above heap 12 (heap + 4 + 4 + 4) (omega arith) (omega arith)) (omega (arith, r.arena.aligned)) (omega (arith, r.arena.heap)) (omega arith))
       (and_then constant_falls
       (and_then (store_in_heap refl refl (address_above heap 16 (heap + 4 + 4 + 4 + 4) (omega arith) (omega arith)) (omega (arith, r.arena.aligned)) (omega (arith, r.arena.heap)) (omega arith))
-      (hand_over_ends heap (omega arith) (pending_lent names program places z y r (begun 5 all y.arena) (begun_facts 5 all r.arena room))))))))
+      (hand_over_ends heap (omega arith) (pending_lent names program places z y r (begun 5 all y.arena) (begun_grows 5 all r.arena room))))))))
       (omega arith)
 
   -- the mark of a condition without slots is stored, and it is handed over
@@ -172,7 +173,7 @@ module _ (names : List (List ℕ)) (program : ProgramRows) (places : Places) (z 
       costing
       (and_then constant_falls
       (and_then (store_in_heap refl refl (address_above heap 8 (heap + 4 + 4) (omega arith) (omega arith)) (omega (arith, r.arena.aligned)) (omega (arith, r.arena.heap)) (omega arith))
-      (hand_over_ends heap (omega arith) (pending_lent names program places z y r (begun 3 all y.arena) (begun_facts 3 all r.arena room)))))
+      (hand_over_ends heap (omega arith) (pending_lent names program places z y r (begun 3 all y.arena) (begun_grows 3 all r.arena room)))))
       (omega arith)
 
   -- where its words are not left, the code of a condition ends so
@@ -198,7 +199,7 @@ module _ (names : List (List ℕ)) (program : ProgramRows) (places : Places) (z 
       let stored : List ℕ = instance_header (length vs) ∷ named.word ∷ (ws ++ nil_word ∷ []) in
       signalled_new names program places z y r class vs (3 + length vs) z' (record y { arena = begun (3 + length vs) stored y.arena }) rs k alike
       (sym (condition_words program r.built_in class (length vs) low high))
-      (begun_facts (3 + length vs) stored r.arena room) (begun_heap (3 + length vs) stored y.arena) (begun_blocks (3 + length vs) stored y.arena) refl refl
+      (begun_grows (3 + length vs) stored r.arena room) (begun_heap (3 + length vs) stored y.arena) (begun_blocks (3 + length vs) stored y.arena) refl refl
       (condition_at names program places z y r class named.word vs ws (is_condition_class program r.built_in class low high) count named.of_value are room)
       (built_in_known program r.built_in class high)
 

@@ -32,7 +32,7 @@ use Rattle.isl_arena.proofs.Memory.{heap_below, stored_in_spot, others_in_spot}
 use Rattle.isl_arena.proofs.Keeping.{same_word}
 use Rattle.isl_arena.proofs.Growing.{changes_part, spot_below}
 use Rattle.isl_arena.proofs.FixedChanges.{one_word}
-use Rattle.isl_arena.proofs.Making.{Room, is_left, is_wanting, room_for, begun, begun_facts, begun_word, changes_stored, answers_wanting, answers_made}
+use Rattle.isl_arena.proofs.Making.{Room, is_left, is_wanting, room_for, begun, begun_grows, begun_word, changes_stored, answers_wanting, answers_made}
 use Rattle.isl_arena.proofs.Arguments.{ObjectFound, object_found}
 use Rattle.isl_arena.proofs.ClassesKept.{IsMade}
 use Rattle.isl_arena.proofs.Doing.{alike_self, paid, Run, goes_on, returns_value}
@@ -81,10 +81,10 @@ module _
         (part : Part) (v : Value) (w : ℕ) (car cdr : Value) (it : ObjectFound names program places z y r v w (cons car cdr))
         → address w (offset_of part) ≡ it.spot.address + 4 * words_behind part
     part_address first_part v w car cdr it =
-        let high = spot_below y.arena it.spot r.arena it.spot_stands in
+        let high = spot_below r.arena it.spot_stands in
         address_below w 0 (it.spot.address + 4 * 0) (omega (arith, it.word)) (omega (arith, it.word, it.stands.size.words, high, r.arena.room, r.arena.size))
     part_address second_part v w car cdr it =
-        let high = spot_below y.arena it.spot r.arena it.spot_stands in
+        let high = spot_below r.arena it.spot_stands in
         address_above w 3 (it.spot.address + 4 * 1) (omega (arith, it.word)) (omega (arith, it.stands.size.words, high, r.arena.room, r.arena.size))
 
     part_stands : (part : Part) (s : Spot) (car cdr : Value) → ConsAt places y.arena s car cdr → ValueAt places y.arena (s.address + 4 * words_behind part) (part_of part (car, cdr))
@@ -263,7 +263,7 @@ module _
                 (and_ends tt (return_ends refl)))))));
             answers =
                 answers_made names program places z y r 2 0 (cons v u) z (record y { arena = arena_with_cons; cost = y.cost + 6 + 20 + 8 + 8 + 6 + 10 + 14 }) _
-                (alike_self z) (begun_facts 2 (a ∷ b ∷ []) r.arena room) refl refl refl refl (omega arith) (cons_stands room) tt (omega arith);
+                (alike_self z) (begun_grows 2 (a ∷ b ∷ []) r.arena room) refl refl refl refl (omega arith) (cons_stands room) tt (omega arith);
           }
         where
           pointer : (h : ℕ) → h ≤ 2 ^ 26 → sum32 h 1 ≡ h + 1

@@ -20,14 +20,14 @@ use Rattle.isl_arena.specs.Layouts.{PairAt}
 use Rattle.isl_arena.specs.Represents.{Represents}
 use Rattle.isl_arena.specs.Answers.{Done, done, IsPrimitive}
 use Rattle.isl_arena.specs.Codes.{code_of_primitive, procedure_of}
-use Rattle.isl_arena.proofs.Memory.{Facts, heap_below, in_spot_lent, in_spot_there, spot_still_stands, word_here}
-use Rattle.isl_arena.proofs.Growing.{Changes}
+use Rattle.isl_arena.proofs.Memory.{heap_below, in_spot_lent, in_spot_there, word_here}
+use Rattle.isl_arena.proofs.Growing.{Changes, Grows, spot_grown}
 use Rattle.isl_arena.proofs.WordFacts.{next_serial}
 use Rattle.isl_arena.proofs.Running.{RunsTo, and_then, and_ends, costing, constant_falls, compute_falls, compute_known, load_falls, store_falls, store_in_heap, request_falls, request_wanting}
 use Rattle.isl_arena.proofs.Running.{return_ends, address_above, address_here}
 use Rattle.isl_arena.proofs.Representing.{fixed_spot, fixed_stands, kept_both, kept_made, kept_grown, kept_fixed}
 use Rattle.isl_arena.proofs.FixedChanges.{one_word, represents_serial, word_of_fixed}
-use Rattle.isl_arena.proofs.Making.{Room, is_left, is_wanting, room_for, begun, begun_facts, begun_heap, begun_blocks, begun_word, grows_by, changes_stored, fixed_below, answers_wanting}
+use Rattle.isl_arena.proofs.Making.{Room, is_left, is_wanting, room_for, begun, begun_grows, begun_heap, begun_blocks, begun_word, changes_stored, fixed_below, answers_wanting}
 use Rattle.isl_arena.proofs.Making.{represents_new, pointer_made}
 use Rattle.isl_arena.proofs.Doing.{alike_self, Run, paid}
 use Rattle.isl_arena.proofs.Entering.{does_by_code}
@@ -47,11 +47,11 @@ module _ (names : List (List ℕ)) (program : ProgramRows) (places : Places) (z 
   abbrev serial_arena : Arena
   serial_arena = with_word serial_address (next_word z) symbol_arena
 
-  grown : Facts y.arena symbol_arena
-  grown = begun_facts 2 (fresh_header ∷ serial_word z ∷ []) r.arena room
+  grown : Grows y.arena symbol_arena
+  grown = begun_grows 2 (fresh_header ∷ serial_word z ∷ []) r.arena room
 
   serial_lent : is_lent symbol_arena serial_address ≡ true
-  serial_lent = in_spot_lent {s = fixed_spot} serial_address (spot_still_stands grown (fixed_stands names program places z y r)) refl (omega arith) (omega arith)
+  serial_lent = in_spot_lent {s = fixed_spot} serial_address (spot_grown grown (fixed_stands names program places z y r)) refl (omega arith) (omega arith)
 
   -- the code comes to the pointer to the symbol, with these words stored
   gensym_ends :
@@ -64,7 +64,7 @@ module _ (names : List (List ℕ)) (program : ProgramRows) (places : Places) (z 
       let small = heap_below r.arena in
       let fixed = fixed_below names program places z y r in
       let loaded : word_at (begun 2 (fresh_header ∷ []) y.arena) serial_address ≡ Some (serial_word z) =
-      (begun_facts 2 (fresh_header ∷ []) r.arena room).words serial_address (omega arith) ∙ r.fixed.serial in
+      (begun_grows 2 (fresh_header ∷ []) r.arena room).words serial_address (omega arith) ∙ r.fixed.serial in
       costing
       (and_then constant_falls
       (and_then (request_falls refl room)
@@ -101,7 +101,7 @@ module _ (names : List (List ℕ)) (program : ProgramRows) (places : Places) (z 
     };
     blocks = blocks;
     kept =
-        kept_both places z y.arena symbol_arena serial_arena (kept_grown names program places z y r symbol_arena (grows_by grown))
+        kept_both places z y.arena symbol_arena serial_arena (kept_grown names program places z y r symbol_arena grown)
         (kept_made places z spot one symbol_arena serial_arena
         (kept_fixed names program after (meaning.stored one z) with_symbol there serial_arena
         (word_of_fixed names program after (meaning.stored one z) with_symbol there serial_address serial_arena (omega arith) changes)));

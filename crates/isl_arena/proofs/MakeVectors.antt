@@ -28,7 +28,7 @@ use Rattle.isl_arena.proofs.Keeping.{same_word}
 use Rattle.isl_arena.proofs.Memory.{heap_below, stands_with_heap}
 use Rattle.isl_arena.proofs.Running.{RunsTo, turning, none_left, parts_then, and_then, and_ends, costing, constant_falls, compute_known, move_falls, store_in_heap, request_falls}
 use Rattle.isl_arena.proofs.Running.{request_wanting, return_ends, address_here, address_above}
-use Rattle.isl_arena.proofs.Making.{Room, is_left, is_wanting, room_for, begun, begun_facts, begun_heap, begun_blocks, begun_word, answers_made, answers_wanting}
+use Rattle.isl_arena.proofs.Making.{Room, is_left, is_wanting, room_for, begun, begun_grows, begun_heap, begun_blocks, begun_word, answers_made, answers_wanting}
 use Rattle.isl_arena.proofs.Doing.{alike_self, Run, paid}
 use Rattle.isl_arena.proofs.Checking.{integer_needed}
 use Rattle.isl_arena.proofs.Filling.{fill, fill_falls, replicated}
@@ -168,7 +168,7 @@ module _ (names : List (List ℕ)) (program : ProgramRows) (places : Places) (z 
                   (filling_ends procedures below n y (k + 32 + 64) count r.arena room turns));
               answers =
                   answers_made names program places z y r (2 + length (replicate count v)) 0 (vector (replicate count v)) z now _ (alike_self z)
-                  (begun_facts (2 + count) all r.arena room) (begun_heap (2 + count) all y.arena ∙ omega (arith, many)) (begun_blocks (2 + count) all y.arena) refl refl
+                  (begun_grows (2 + count) all r.arena room) (begun_heap (2 + count) all y.arena ∙ omega (arith, many)) (begun_blocks (2 + count) all y.arena) refl refl
                   (omega arith) (vector_stands count b v word room) tt (omega (arith, many, cost));
             }
 

@@ -23,7 +23,7 @@ use Rattle.isl_arena.specs.FixedWords.{pending_address}
 use Rattle.isl_arena.specs.Layouts.{ObjectAt, InstanceAt}
 use Rattle.isl_arena.specs.Represents.{Represents}
 use Rattle.isl_arena.specs.Answers.{Enlarged, Returned, Pending, Signalled, RoomWanting, done, no_words, words_asked, units_after}
-use Rattle.isl_arena.proofs.Memory.{Facts, in_spot_lent, in_spot_there, word_here, word_elsewhere, stands_with_word, stands_with_heap, facts_with_heap, with_words, facts_with_words}
+use Rattle.isl_arena.proofs.Memory.{in_spot_lent, in_spot_there, word_here, word_elsewhere, stands_with_word, stands_with_heap, grows_with_heap, with_words, grows_with_words}
 use Rattle.isl_arena.proofs.Memory.{words_stand}
 use Rattle.isl_arena.proofs.Keeping.{same_word, words_extended, words_of_condition, words_at_least, extends_one}
 use Rattle.isl_arena.proofs.Growing.{Grows, grows_same, Changes, spot_below}
@@ -47,18 +47,7 @@ room_for words a = by (nat_le words (left a)) refl
     by true e = is_left (grind (arith, nat_tests))
     by false e = is_wanting (grind (arith, nat_tests))
 
-pub grows_by : {a b : Arena} → Facts a b → Grows a b
-grows_by g = record {
-  size = g.size;
-  laid_from = g.laid_from;
-  laid_to = g.laid_to;
-  heap_from = g.heap_from;
-  heap_to = g.heap_to;
-  stands = g.stands;
-  words = g.words;
-}
-
-pub enlarged_by : {a b : Arena} (words : ℕ) → Facts a b → b.heap_to ≡ a.heap_to + 4 * words → Enlarged a b words
+pub enlarged_by : {a b : Arena} (words : ℕ) → Grows a b → b.heap_to ≡ a.heap_to + 4 * words → Enlarged a b words
 enlarged_by words g to = record { size = g.size; laid_from = g.laid_from; laid_to = g.laid_to; heap_from = g.heap_from; heap_to = to }
 
 -- the arena with so many new words, of which the first ones were stored
@@ -92,11 +81,11 @@ pub begun_blocks : (words : ℕ) (ws : List ℕ) (a : Arena) → (begun words ws
 begun_blocks words ws a = stored_blocks a.heap_to ws (with_heap words a)
 
 -- all else stays
-pub begun_facts : {a : Arena} (words : ℕ) (ws : List ℕ) → ArenaStands a → words ≤ left a → Facts a (begun words ws a)
-begun_facts {a} words ws h room = facts_with_words a.heap_to ws (facts_with_heap words h room) h.aligned (omega arith)
+pub begun_grows : {a : Arena} (words : ℕ) (ws : List ℕ) → ArenaStands a → words ≤ left a → Grows a (begun words ws a)
+begun_grows {a} words ws h room = grows_with_words a.heap_to ws (grows_with_heap words h room) h.aligned (omega arith)
 
-pub new_facts : {a : Arena} (ws : List ℕ) → ArenaStands a → length ws ≤ left a → Facts a (with_new ws a)
-new_facts ws h room = begun_facts (length ws) ws h room
+pub new_grows : {a : Arena} (ws : List ℕ) → ArenaStands a → length ws ≤ left a → Grows a (with_new ws a)
+new_grows ws h room = begun_grows (length ws) ws h room
 
 -- each word stands where it was stored
 pub begun_word :
@@ -165,7 +154,7 @@ tag_small (fresh_symbol s) = omega arith
 module _ (names : List (List ℕ)) (program : ProgramRows) (places : Places) (z : meaning.State) (y : State) (r : Represents names program places z y) where
   -- the fixed words are lent, and stand below the heap's end
   pub fixed_below : 184 ≤ y.arena.heap_to
-  fixed_below = spot_below y.arena fixed_spot r.arena (fixed_stands names program places z y r)
+  fixed_below = spot_below r.arena (fixed_stands names program places z y r)
 
   pub fixed_lent : (x : ℕ) → x % 4 ≡ 0 → x < 184 → is_lent y.arena x ≡ true
   fixed_lent x aligned high = in_spot_lent x (fixed_stands names program places z y r) aligned (omega arith) high
@@ -197,7 +186,7 @@ module _ (names : List (List ℕ)) (program : ProgramRows) (places : Places) (z 
 
   -- a new object, at the end of the heap, in an arena that grew by its words
   module _
-      (words tag : ℕ) (o : Object) (y' : State) (g : Facts y.arena y'.arena) (to : y'.arena.heap_to ≡ y.arena.heap_to + 4 * words)
+      (words tag : ℕ) (o : Object) (y' : State) (g : Grows y.arena y'.arena) (to : y'.arena.heap_to ≡ y.arena.heap_to + 4 * words)
       (blocks : y'.arena.blocks ≡ y.arena.blocks) (printed : y'.printed ≡ y.printed) (input : y'.input ≡ y.input) (some : 1 ≤ words) (small : tag < 4)
     where
       -- the spot of the object, and the places with it
@@ -211,7 +200,7 @@ module _ (names : List (List ℕ)) (program : ProgramRows) (places : Places) (z 
         -- it is represented
         pub represents_new : Represents names program places_made (meaning.stored o z') y'
         represents_new =
-            represents_made names program places z' y (represents_same names program places z z' y alike.store alike.symbols alike.printed alike.input r) y' (grows_by g) printed input
+            represents_made names program places z' y (represents_same names program places z z' y alike.store alike.symbols alike.printed alike.input r) y' g printed input
             spot_made o refl (omega (arith, to)) some small made is_made
 
         -- and it is the value of its pointer
@@ -229,12 +218,12 @@ module _ (names : List (List ℕ)) (program : ProgramRows) (places : Places) (z 
           represents = represents_new;
           arena = enlarged_by words g to;
           blocks = blocks;
-          kept = kept_grown names program places z y r y'.arena (grows_by g);
+          kept = kept_grown names program places z y r y'.arena g;
         }
 
   -- so such a run answers
   pub answers_made :
-      {budget : ℕ} (size besides : ℕ) (o : Object) (z' : meaning.State) (y' : State) (rs : Registers) → Alike z z' → Facts y.arena y'.arena
+      {budget : ℕ} (size besides : ℕ) (o : Object) (z' : meaning.State) (y' : State) (rs : Registers) → Alike z z' → Grows y.arena y'.arena
       → y'.arena.heap_to ≡ y.arena.heap_to + 4 * size → y'.arena.blocks ≡ y.arena.blocks → y'.printed ≡ y.printed → y'.input ≡ y.input → 1 ≤ size
       → ObjectAt names program (with_object (record { address = y.arena.heap_to; words = size; tag = tag_of o }) places) y'.arena
       (record { address = y.arena.heap_to; words = size; tag = tag_of o }) o
@@ -305,7 +294,7 @@ module _ (names : List (List ℕ)) (program : ProgramRows) (places : Places) (z 
   -- where a new condition stands, and its pointer was stored at the fixed address, it is to be signalled
   pub signalled_new :
       (class : ℕ) (vs : List Value) (words : ℕ) (z' : meaning.State) (y' : State) (rs : Registers) (k : ℕ) → Alike z z'
-      → words ≡ instance_words program class (length vs) → Facts y.arena y'.arena → y'.arena.heap_to ≡ y.arena.heap_to + 4 * words
+      → words ≡ instance_words program class (length vs) → Grows y.arena y'.arena → y'.arena.heap_to ≡ y.arena.heap_to + 4 * words
       → y'.arena.blocks ≡ y.arena.blocks → y'.printed ≡ y.printed → y'.input ≡ y.input
       → InstanceAt names program (with_object (record { address = y.arena.heap_to; words = words; tag = object_tag }) places) y'.arena
       (record { address = y.arena.heap_to; words = words; tag = object_tag }) class (map (λ v. Some v) vs) nil
@@ -361,7 +350,7 @@ module _ (names : List (List ℕ)) (program : ProgramRows) (places : Places) (z 
         };
         blocks = blocks;
         kept =
-            kept_both places z y.arena y'.arena pending_state.arena (kept_grown names program places z y r y'.arena (grows_by g))
+            kept_both places z y.arena y'.arena pending_state.arena (kept_grown names program places z y r y'.arena g)
             (kept_same places z z' y'.arena pending_state.arena alike.store
             (kept_made places z' spot condition y'.arena pending_state.arena
             (kept_fixed names program after (meaning.stored condition z') y' there pending_state.arena

@@ -7,6 +7,7 @@ use Rattle.isl_mid.specs.Arena.{Block, is_record, Arena, words_of, begin_of, len
 use Rattle.isl_mid.proofs.Growth.{length-emptied}
 use Rattle.isl_arena.specs.Places.{Spot, end_of}
 use Rattle.isl_arena.specs.Standing.{ArenaStands, IsLentPart, of_laid, of_heap, SpotStands}
+use Rattle.isl_arena.proofs.Growing.{Grows, spot_below}
 
 -- tests
 
@@ -114,14 +115,6 @@ in_spot_lent {a} {s} x stands e h g = from stands.part
     from (of_laid low high) = lent_in_laid a x e (omega arith) (omega arith)
     from (of_heap low high) = lent_in_heap a x e (omega arith) (omega arith)
 
--- below where the heap ends, and so below the stack
-pub spot_below : {a : Arena} {s : Spot} → ArenaStands a → SpotStands a s → end_of s ≤ a.heap_to
-spot_below {a} {s} arena stands = from stands.part
-  where
-    from : IsLentPart a s → end_of s ≤ a.heap_to
-    from (of_laid low high) = omega (arith, arena.laid, arena.heap)
-    from (of_heap low high) = high
-
 -- where the heap ends is no more than 2 ^ 26, so addresses are words
 pub heap_below : {a : Arena} → ArenaStands a → a.heap_to ≤ 2 ^ 26
 heap_below {a} arena = omega (arith, arena.room, arena.size)
@@ -176,16 +169,6 @@ stands_with_word {a} x w h =
       blocks = omega (arith, same, h.blocks);
     }
 
--- What stays where an arena grows: the bounds but for the heap, which may have grown, and the words laid and in the heap.
-pub record Facts (earlier later : Arena) : Type 0 where
-  pub size : length later.memory ≡ length earlier.memory
-  pub laid_from : later.laid_from ≡ earlier.laid_from
-  pub laid_to : later.laid_to ≡ earlier.laid_to
-  pub heap_from : later.heap_from ≡ earlier.heap_from
-  pub heap_to : earlier.heap_to ≤ later.heap_to
-  pub stands : ArenaStands later
-  pub words : (x : ℕ) → x < earlier.heap_to → word_at later x ≡ word_at earlier x
-
 -- below the heap's end and the stack, whether an address is lent does not hang on where they end
 lent_below :
     (a : Arena) (to size : ℕ) (bs : List Block) (x : ℕ) → x < a.heap_to → a.heap_to ≤ to → is_in_record size bs x ≡ false
@@ -223,8 +206,8 @@ stands_with_heap {a} n h some =
       blocks = omega (arith, same, h.blocks);
     }
 
-pub facts_with_heap : {a : Arena} (n : ℕ) → ArenaStands a → n ≤ left a → Facts a (with_heap n a)
-facts_with_heap {a} n h some =
+pub grows_with_heap : {a : Arena} (n : ℕ) → ArenaStands a → n ≤ left a → Grows a (with_heap n a)
+grows_with_heap {a} n h some =
     let same : length (emptied (a.heap_to / 4) n a.memory) ≡ length a.memory = length-emptied (a.heap_to / 4) n a.memory in
     record {
       size = same;
@@ -260,14 +243,6 @@ pub new_spot_stands :
 new_spot_stands {a} n tag h some small =
     record { aligned = h.aligned; some = some; tag = small; part = of_heap h.heap (omega arith) }
 
--- a spot that stands still does
-pub spot_still_stands : {a b : Arena} {s : Spot} → Facts a b → SpotStands a s → SpotStands b s
-spot_still_stands {a} {b} {s} g h = record { aligned = h.aligned; some = h.some; tag = h.tag; part = from h.part }
-  where
-    from : IsLentPart a s → IsLentPart b s
-    from (of_laid low high) = of_laid (omega (arith, g.laid_from)) (omega (arith, g.laid_to))
-    from (of_heap low high) = of_heap (omega (arith, g.heap_from)) (omega (arith, g.heap_to))
-
 -- a block is laid
 
 pub stands_with_new_block : {a : Arena} (b : Block) → ArenaStands a → b.words ≤ left a → ArenaStands (with_new_block b a)
@@ -282,8 +257,8 @@ stands_with_new_block {a} b h some =
       blocks = omega (arith, same, h.blocks);
     }
 
-pub facts_with_new_block : {a : Arena} (b : Block) → ArenaStands a → b.words ≤ left a → Facts a (with_new_block b a)
-facts_with_new_block {a} b h some =
+pub grows_with_new_block : {a : Arena} (b : Block) → ArenaStands a → b.words ≤ left a → Grows a (with_new_block b a)
+grows_with_new_block {a} b h some =
     let same : length (with_new_block b a).memory ≡ length a.memory = length-emptied _ b.words a.memory in
     record {
       size = same;
@@ -315,8 +290,8 @@ stands_with_blocks {a} bs h fewer = record {
   blocks = omega (arith, h.blocks);
 }
 
-pub facts_with_blocks : {a : Arena} (bs : List Block) → ArenaStands a → words_of bs ≤ words_of a.blocks → Facts a (with_blocks bs a)
-facts_with_blocks {a} bs h fewer = record {
+pub grows_with_blocks : {a : Arena} (bs : List Block) → ArenaStands a → words_of bs ≤ words_of a.blocks → Grows a (with_blocks bs a)
+grows_with_blocks {a} bs h fewer = record {
   size = refl;
   laid_from = refl;
   laid_to = refl;
@@ -330,10 +305,10 @@ pub left_with_blocks : {a : Arena} (bs : List Block) → ArenaStands a → words
 left_with_blocks {a} bs h fewer = omega (arith, h.room, h.blocks)
 
 -- the innermost block is given back
-pub facts_given_back : {a : Arena} (b : Block) (bs : List Block) → ArenaStands a → a.blocks ≡ b ∷ bs → Facts a (with_blocks bs a)
-facts_given_back {a} b bs h e =
+pub grows_given_back : {a : Arena} (b : Block) (bs : List Block) → ArenaStands a → a.blocks ≡ b ∷ bs → Grows a (with_blocks bs a)
+grows_given_back {a} b bs h e =
     let same : words_of a.blocks ≡ b.words + words_of bs = ap words_of e in
-    facts_with_blocks bs h (omega arith)
+    grows_with_blocks bs h (omega arith)
 
 pub left_given_back : {a : Arena} (b : Block) (bs : List Block) → ArenaStands a → a.blocks ≡ b ∷ bs → left (with_blocks bs a) ≡ left a + b.words
 left_given_back {a} b bs h e =
@@ -350,25 +325,9 @@ left_with_heap {a} n h some =
     let same : length (emptied (a.heap_to / 4) n a.memory) ≡ length a.memory = length-emptied (a.heap_to / 4) n a.memory in
     omega (arith, same, h.room, h.blocks)
 
--- one change after another
-
-pub facts_same : {a : Arena} → ArenaStands a → Facts a a
-facts_same h = record { size = refl; laid_from = refl; laid_to = refl; heap_from = refl; heap_to = omega arith; stands = h; words = λ x low. refl }
-
-pub facts_both : {a b c : Arena} → Facts a b → Facts b c → Facts a c
-facts_both {a} {b} {c} g h = record {
-  size = h.size ∙ g.size;
-  laid_from = h.laid_from ∙ g.laid_from;
-  laid_to = h.laid_to ∙ g.laid_to;
-  heap_from = h.heap_from ∙ g.heap_from;
-  heap_to = omega (arith, g.heap_to, h.heap_to);
-  stands = h.stands;
-  words = λ x low. h.words x (omega (arith, low, g.heap_to)) ∙ g.words x low;
-}
-
 -- a word is stored above where the heap ended before
-pub facts_stored : {a b : Arena} (x w : ℕ) → Facts a b → x % 4 ≡ 0 → a.heap_to ≤ x → Facts a (with_word x w b)
-facts_stored {a} {b} x w g e above = record {
+pub grows_stored : {a b : Arena} (x w : ℕ) → Grows a b → x % 4 ≡ 0 → a.heap_to ≤ x → Grows a (with_word x w b)
+grows_stored {a} {b} x w g e above = record {
   size = length-set b.memory (x / 4) (Some w) ∙ g.size;
   laid_from = g.laid_from;
   laid_to = g.laid_to;
@@ -380,10 +339,6 @@ facts_stored {a} {b} x w g e above = record {
   where
     is_other : (m n : ℕ) → n < m → (m == n) ≡ false
     is_other m n h = grind (arith, nat_tests)
-
--- the frame of a procedure is laid, what the body does grows from there, and the blocks are those of before again
-pub facts_left : {a b : Arena} (block : Block) → ArenaStands a → block.words ≤ left a → Facts (with_new_block block a) b → b.blocks ≡ block ∷ a.blocks → Facts a (with_blocks a.blocks b)
-facts_left {a} {b} block h some g e = facts_both (facts_both (facts_with_new_block block h some) g) (facts_given_back block a.blocks g.stands e)
 
 -- the words of a spot by their numbers: one is stored, the others are as before
 
@@ -445,6 +400,6 @@ words_stand x (v ∷ ws) a (suc i) w h e low high found =
     ∙ words_stand (x + 4) ws (with_word x v a) i w (stands_with_word x v h) (omega arith) (omega arith) (omega arith) found
 
 -- an arena grows where they are stored above where the heap ended before
-pub facts_with_words : {a b : Arena} (x : ℕ) (ws : List ℕ) → Facts a b → x % 4 ≡ 0 → a.heap_to ≤ x → Facts a (with_words x ws b)
-facts_with_words {a} {b} x [] g e above = g
-facts_with_words {a} {b} x (w ∷ ws) g e above = facts_with_words {a = a} {b = with_word x w b} (x + 4) ws (facts_stored x w g e above) (omega arith) (omega arith)
+pub grows_with_words : {a b : Arena} (x : ℕ) (ws : List ℕ) → Grows a b → x % 4 ≡ 0 → a.heap_to ≤ x → Grows a (with_words x ws b)
+grows_with_words {a} {b} x [] g e above = g
+grows_with_words {a} {b} x (w ∷ ws) g e above = grows_with_words {a = a} {b = with_word x w b} (x + 4) ws (grows_stored x w g e above) (omega arith) (omega arith)

@@ -82,11 +82,11 @@ module _
         by (character c) e h = absurd (omega (arith, h))
         by (symbol s) e h =
             let there = symbol_there names program places z y r s w e in
-            omega (arith, there.word, spot_below y.arena there.spot r.arena there.spot_stands, heap_below r.arena)
+            omega (arith, there.word, spot_below r.arena there.spot_stands, heap_below r.arena)
         by nil e h = absurd (omega (arith, h))
         by (object i) e h =
             let there = object_there names program places z y r i w e in
-            omega (arith, there.word, there.tag, there.spot_stands.tag, spot_below y.arena there.spot r.arena there.spot_stands, heap_below r.arena)
+            omega (arith, there.word, there.tag, there.spot_stands.tag, spot_below r.arena there.spot_stands, heap_below r.arena)
 
     -- the argument is a symbol, with which the code behind goes on, or a domain error
     pub symbol_needed :

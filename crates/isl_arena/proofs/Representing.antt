@@ -150,7 +150,7 @@ module _ (names : List (List ℕ)) (program : ProgramRows) (places : Places) (z 
     represents_grown = record {
       built_in = r.built_in;
       arena = g.stands;
-      spots = λ p s e. spot_grown y.arena y'.arena s g (r.spots p s e);
+      spots = λ p s e. spot_grown g (r.spots p s e);
       apart = r.apart;
       count = r.count;
       classes = r.classes;
@@ -181,7 +181,7 @@ module _ (names : List (List ℕ)) (program : ProgramRows) (places : Places) (z 
 
         -- the old spots end where the new one begins
         old_in_front : (p : Owner) (old : Spot) → spot_of places p ≡ Some old → end_of old ≤ s.address
-        old_in_front p old e = let below = spot_below y.arena old r.arena (r.spots p old e) in omega arith
+        old_in_front p old e = let below = spot_below r.arena (r.spots p old e) in omega arith
 
         made_apart : (p q : Owner) (first second : Spot) → same_owner p q ≡ false → OldOrNew s places p first → OldOrNew s places q second → Apart first second
         made_apart p q first second different (of_old d) (of_old e) = r.apart p q first second different d e
@@ -192,7 +192,7 @@ module _ (names : List (List ℕ)) (program : ProgramRows) (places : Places) (z 
             absurd (grind (arith, nat_tests))
 
         made_spot : (p : Owner) (found : Spot) → OldOrNew s places p found → SpotStands y'.arena found
-        made_spot p found (of_old e) = spot_grown y.arena y'.arena found g (r.spots p found e)
+        made_spot p found (of_old e) = spot_grown g (r.spots p found e)
         made_spot p found (of_new e same) = rw same new_stands
 
         made_object :

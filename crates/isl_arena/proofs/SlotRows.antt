@@ -53,7 +53,7 @@ module _ (names : List (List ℕ)) (program : ProgramRows) (places : Places) (z 
       (v : Value) (w c : ℕ) → ObjectFound names program places z y r v w (class_object c)
       → w + 28 + 4 * length (precedence program c) + 12 * length (slots program c) < 2 ^ 27
   class_low v w c it =
-      let high = spot_below y.arena it.spot r.arena it.spot_stands in
+      let high = spot_below r.arena it.spot_stands in
       omega (arith, it.word, it.stands.size.words, high, r.arena.room, r.arena.size)
 
 -- the lines behind the test of a place: so far behind the word of the class, behind four times the classes above and twelve times the place

@@ -97,7 +97,7 @@ module _ (names : List (List ℕ)) (program : ProgramRows) (places : Places) (z 
       (v : Value) (w c : ℕ) (values : List (Option Value)) (mark : Value) → ObjectFound names program places z y r v w (instance c values mark)
       → w + 4 * length values + 8 < 2 ^ 27
   instance_low v w c values mark it =
-      let high = spot_below y.arena it.spot r.arena it.spot_stands in
+      let high = spot_below r.arena it.spot_stands in
       omega (arith, it.word, it.stands.size.words, words_at_least program c (length values), high, r.arena.room, r.arena.size)
 
   -- no value has the word of a slot without a value

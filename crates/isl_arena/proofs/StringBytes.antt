@@ -79,7 +79,7 @@ module _ (names : List (List ℕ)) (program : ProgramRows) (places : Places) (z 
   -- a string stands in the heap or beside the code, so its word and its length are not large
   string_low : (v : Value) (w : ℕ) (bytes : List ℕ) → ObjectFound names program places z y r v w (string bytes) → w + length bytes + 8 < 2 ^ 27
   string_low v w bytes it =
-      let high = spot_below y.arena it.spot r.arena it.spot_stands in
+      let high = spot_below r.arena it.spot_stands in
       omega (arith, it.word, it.stands.size.words, high, r.arena.room, r.arena.size)
 
 pub string_length_does : IsPrimitive StringLength (procedure_of StringLength)

@@ -46,7 +46,7 @@ class_name_does = does_one ClassName refl (λ names program places z y procedure
     (first_registers 8 (w ∷ [])) (omega arith) refl refl word (omega arith) (λ c found.
     let it = object_found names program places z y r v w (class_object c) word found in
     let bounded : it.spot.address + 8 < 2 ^ 32 =
-    omega (arith, it.stands.size.words, spot_below y.arena it.spot r.arena it.spot_stands, r.arena.room, r.arena.size)
+    omega (arith, it.stands.size.words, spot_below r.arena it.spot_stands, r.arena.room, r.arena.size)
     in
     goes_on names program places z y procedures below
     (load_falls refl (address_above w 6 (it.spot.address + 8) (omega (arith, it.word)) bounded) it.stands.name.stands)

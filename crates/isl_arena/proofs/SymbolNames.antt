@@ -25,16 +25,17 @@ use Rattle.isl_arena.specs.Represents.{Represents}
 use Rattle.isl_arena.specs.Answers.{units_after, IsPrimitive}
 use Rattle.isl_arena.specs.Codes.{procedure_of}
 use Rattle.isl_arena.specs.Steps as steps
-use Rattle.isl_arena.proofs.Memory.{heap_below, spot_below}
+use Rattle.isl_arena.proofs.Memory.{heap_below}
 use Rattle.isl_arena.proofs.Arguments.{word_told, symbol_there}
 use Rattle.isl_arena.proofs.Running.{RunsTo, turning, none_left, and_then, and_ends, costing, move_falls, constant_falls, compute_known, load_falls, store_in_heap, request_falls, request_wanting}
 use Rattle.isl_arena.proofs.Running.{return_ends, choose_first_falls, address_above, address_below, address_here}
-use Rattle.isl_arena.proofs.Making.{Room, is_left, is_wanting, room_for, begun, begun_facts, begun_heap, begun_blocks, fixed_below, answers_wanting, answers_made}
+use Rattle.isl_arena.proofs.Making.{Room, is_left, is_wanting, room_for, begun, begun_grows, begun_heap, begun_blocks, fixed_below, answers_wanting, answers_made}
 use Rattle.isl_arena.proofs.Doing.{alike_self, Run, goes_on, test_fails, paid}
 use Rattle.isl_arena.proofs.Arrays.{does_one}
 use Rattle.isl_arena.proofs.NeedingSymbols.{SymbolFound, is_nil, is_named, is_fresh, header_address, last_two, symbol_needed}
 use Rattle.isl_arena.proofs.NewTexts.{words_from_count, text_words, text_word_there, string_begun}
 use Rattle.isl_arena.proofs.CopyingWords.{copy_words, Copies, copies}
+use Rattle.isl_arena.proofs.Growing.{spot_below}
 
 -- ---- the code
 
@@ -117,14 +118,14 @@ module _
         text_stands : (i w : ℕ) → slice_get (text_words bytes) i ≡ Some w → word_at begun_arena (s.address + 8 + 4 * i) ≡ Some w
         text_stands i w found =
             let low : i < count = omega (arith, as_many, slice_get_within (text_words bytes) i w found) in
-            (begun_facts (2 + count) (string_header ∷ 4 * length bytes ∷ []) r.arena room).words (s.address + 8 + 4 * i) (omega (arith, text.size.words))
+            (begun_grows (2 + count) (string_header ∷ 4 * length bytes ∷ []) r.arena room).words (s.address + 8 + 4 * i) (omega (arith, text.size.words))
             ∙ text.words i low ∙ sym (text_word_there bytes i low) ∙ found
 
         -- so they are copied behind the header and the count
         copied : Copies procedures below n (text_words bytes) (heap + 4 + 4) r0 (Some (4 * length bytes)) None (Some heap) (Some p) (Some (heap + 4 * count)) (Some 2) (Some heap) loop_state
         copied =
             copies procedures below (text_words bytes) n p heap (heap + 4 * count) (s.address + 8) (heap + 4 + 4) r0 (Some (4 * length bytes)) None (Some heap) (Some 2) loop_state
-            (begun_facts (2 + count) (string_header ∷ 4 * length bytes ∷ []) r.arena room).stands (omega arith) (omega arith) (omega (arith, as_many))
+            (begun_grows (2 + count) (string_header ∷ 4 * length bytes ∷ []) r.arena room).stands (omega arith) (omega arith) (omega (arith, as_many))
             (omega (arith, r.arena.aligned)) (omega (arith, r.arena.heap)) (omega (arith, as_many)) (omega (arith, as_many, text.size.words)) (omega (arith, as_many)) text_stands
 
         copy_ends :
@@ -177,7 +178,7 @@ module _
                 runs = copy_ends r0 r7 k room turns;
                 answers =
                     answers_made names program places z y r (2 + count) (length bytes) (string bytes) z (record y { arena = string_arena; cost = k + 172 + 62 * count }) _
-                    (alike_self z) (begun_facts (2 + count) all r.arena room) (begun_heap (2 + count) all y.arena) (begun_blocks (2 + count) all y.arena) refl refl (omega arith)
+                    (alike_self z) (begun_grows (2 + count) all r.arena room) (begun_heap (2 + count) all y.arena) (begun_blocks (2 + count) all y.arena) refl refl (omega arith)
                     (string_begun bytes r.arena room text.bytes) tt (omega (arith, cost));
               }
 

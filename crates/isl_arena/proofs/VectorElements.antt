@@ -73,7 +73,7 @@ module _ (names : List (List ℕ)) (program : ProgramRows) (places : Places) (z 
   -- a vector stands in the heap or beside the code, so its word and its length are not large
   vector_low : (v : Value) (w : ℕ) (vs : List Value) → ObjectFound names program places z y r v w (vector vs) → w + 4 * length vs + 8 < 2 ^ 27
   vector_low v w vs it =
-      let high = spot_below y.arena it.spot r.arena it.spot_stands in
+      let high = spot_below r.arena it.spot_stands in
       omega (arith, it.word, it.stands.size.words, high, r.arena.room, r.arena.size)
 
 pub vector_length_does : IsPrimitive VectorLength (procedure_of VectorLength)
