@@ -14,7 +14,7 @@ use Rattle.isl_arena.specs.Tags.{nil_word, unbound_word, instance_header}
 use Rattle.isl_arena.specs.Standing.{ArenaStands}
 use Rattle.isl_arena.specs.Steps as steps
 use Rattle.isl_arena.proofs.WordFacts.{instance_header_made}
-use Rattle.isl_arena.proofs.Memory.{heap_below, stands_with_word, stands_with_heap, grows_with_heap, grows_stored, grows_with_words, with_words, words_stand, words_behind, stored_in_heap}
+use Rattle.isl_arena.proofs.Memory.{heap_below, stands_with_word, stands_with_heap, grows_with_heap, grows_stored, grows_with_words, with_words, words_stand, words_behind, stored_in_heap, stored_heap, stored_from, stored_blocks}
 use Rattle.isl_arena.proofs.Running.{RunsTo, turning, none_left, and_then, and_ends, costing, constant_falls}
 use Rattle.isl_arena.proofs.Running.{compute_known, move_falls, store_in_heap, request_falls, return_ends, address_here, address_above}
 use Rattle.isl_arena.proofs.Doing.{paid}
@@ -26,14 +26,6 @@ use Rattle.isl_arena.proofs.Growing.{Grows}
 -- so many words more, of which nil was stored at an address, and then these words from the first one on
 abbrev pub allotted : (words mark : ℕ) → List ℕ → Arena → Arena
 allotted words mark ws a = with_words a.heap_to ws (with_word mark nil_word (with_heap words a))
-
-stored_heap : (x : ℕ) (ws : List ℕ) (a : Arena) → (with_words x ws a).heap_to ≡ a.heap_to
-stored_heap x [] a = refl
-stored_heap x (w ∷ ws) a = stored_heap (x + 4) ws (with_word x w a)
-
-stored_blocks : (x : ℕ) (ws : List ℕ) (a : Arena) → (with_words x ws a).blocks ≡ a.blocks
-stored_blocks x [] a = refl
-stored_blocks x (w ∷ ws) a = stored_blocks (x + 4) ws (with_word x w a)
 
 module _ (a : Arena) (words mark : ℕ) (ws : List ℕ) (stands : ArenaStands a) (room : words ≤ left a) (few : length ws ≤ words) (aligned : mark % 4 ≡ 0) (behind : a.heap_to ≤ mark) where
   pub allotted_grows : Grows a (allotted words mark ws a)

@@ -20,17 +20,9 @@ use Rattle.isl_arena.specs.Represents.{Represents}
 use Rattle.isl_arena.proofs.Keeping.{pointer_tells, header_of, header_of_symbol, symbol_tag, header_at_symbol, object_tag_is, header_at_object}
 use Rattle.isl_arena.proofs.Growing.{spot_below}
 use Rattle.isl_arena.proofs.Owners.{object_within}
+use Rattle.isl_arena.proofs.WordFacts.{integer_word_tag}
 
 -- ---- words of atoms
-
--- the lowest 32 bits of four times a number
-four_times : (n z : ℤ) → z ≡ pos 4 *ℤ n → low_word z % 4 ≡ 0
-unfolding low_word
-four_times n (pos m) e = omega (arith, ints, e)
-four_times n (negsuc m) e = omega (arith, ints, e)
-
-pub integer_tag : (n : ℤ) → integer_word n % 4 ≡ 0
-integer_tag n = four_times n (pos 4 *ℤ n) refl
 
 -- a choice that comes to something
 pub chosen : (b : Bool) (x w : ℕ) → (if b then Some x else None) ≡ Some w → (b ≡ true) × (w ≡ x)
@@ -161,7 +153,7 @@ module _ (names : List (List ℕ)) (program : ProgramRows) (places : Places) (z 
 
   -- the tag of a word
   pub tag_told : (v : Value) (w : ℕ) → word_of places v ≡ Some w → w % 4 ≡ value_tag z v
-  tag_told (integer n) w e = ap (λ x. x % 4) (integer_word_is places n w e).1 ∙ integer_tag n
+  tag_told (integer n) w e = ap (λ x. x % 4) (integer_word_is places n w e).1 ∙ integer_word_tag n
   tag_told (character c) w e = let h = character_word_is places c w e in omega (arith, h.1)
   tag_told (symbol s) w e = let there = symbol_there s w e in omega (arith, there.word, there.spot_stands.aligned)
   tag_told nil w e = let h : nil_word ≡ w = cc e in omega arith

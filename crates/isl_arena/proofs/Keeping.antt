@@ -1,5 +1,5 @@
 -- By kind of object: its words say the same as long as they stay and its values have the words that they had.
-use Rattle.std.proofs.Common.{◌≡◌, ℕ, ◌+◌, ◌*◌, ◌<◌, ◌≤◌, true, List, [], ◌∷◌, length, Option, Some, None, refl, ap, ◌∙◌, arith}
+use Rattle.std.proofs.Common.{◌≡◌, ℕ, suc, ◌+◌, ◌*◌, ◌<◌, ◌≤◌, true, List, [], ◌∷◌, length, Option, Some, None, refl, ap, ◌∙◌, arith}
 use Rattle.std.specs.Prelude.{slice_index_or}
 use Rattle.std.proofs.lemmas.Option.{slice_get_within}
 use Rattle.isl_base.specs.Names.{slice_get-front}
@@ -66,6 +66,13 @@ words_extended before after more [] [] h = tt
 words_extended before after more [] (w ∷ ws) h = h
 words_extended before after more (v ∷ vs) [] h = h
 words_extended before after more (v ∷ vs) (w ∷ ws) h = (more.word v w h.0, words_extended before after more vs ws h.1)
+
+-- the words of values are as many as the values
+pub as_many_words : (places : Places) (vs : List Value) (ws : List ℕ) → WordsOf places vs ws → length ws ≡ length vs
+as_many_words places [] [] h = refl
+as_many_words places [] (w ∷ ws) h = absurd h
+as_many_words places (v ∷ vs) [] h = absurd h
+as_many_words places (v ∷ vs) (w ∷ ws) h = ap (λ n. suc n) (as_many_words places vs ws h.1)
 
 -- a condition has one word more
 pub words_of_condition : (program : ProgramRows) (c n : ℕ) → is_below program c serious_condition_class ≡ true → instance_words program c n ≡ 3 + n

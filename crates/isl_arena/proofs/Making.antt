@@ -23,9 +23,9 @@ use Rattle.isl_arena.specs.FixedWords.{pending_address}
 use Rattle.isl_arena.specs.Layouts.{ObjectAt, InstanceAt}
 use Rattle.isl_arena.specs.Represents.{Represents}
 use Rattle.isl_arena.specs.Answers.{Enlarged, Returned, Pending, Signalled, RoomWanting, done, no_words, words_asked, units_after}
-use Rattle.isl_arena.proofs.Memory.{in_spot_lent, in_spot_there, word_here, word_elsewhere, stands_with_word, stands_with_heap, grows_with_heap, with_words, grows_with_words}
+use Rattle.isl_arena.proofs.Memory.{in_spot_lent, in_spot_there, word_here, word_elsewhere, stands_with_word, stands_with_heap, grows_with_heap, with_words, grows_with_words, stored_heap, stored_from, stored_blocks}
 use Rattle.isl_arena.proofs.Memory.{words_stand}
-use Rattle.isl_arena.proofs.Keeping.{same_word, words_extended, words_of_condition, words_at_least, extends_one}
+use Rattle.isl_arena.proofs.Keeping.{same_word, words_extended, words_of_condition, words_at_least, extends_one, as_many_words}
 use Rattle.isl_arena.proofs.Growing.{Grows, grows_same, Changes, spot_below}
 use Rattle.isl_arena.proofs.Owners.{new_spot_found}
 use Rattle.isl_arena.proofs.ClassesKept.{IsMade}
@@ -59,18 +59,6 @@ abbrev pub with_new : List ℕ → Arena → Arena
 with_new ws a = begun (length ws) ws a
 
 -- it has the heap and the blocks of before, but for the new words
-stored_heap : (x : ℕ) (ws : List ℕ) (a : Arena) → (with_words x ws a).heap_to ≡ a.heap_to
-stored_heap x [] a = refl
-stored_heap x (w ∷ ws) a = stored_heap (x + 4) ws (with_word x w a)
-
-stored_from : (x : ℕ) (ws : List ℕ) (a : Arena) → (with_words x ws a).heap_from ≡ a.heap_from
-stored_from x [] a = refl
-stored_from x (w ∷ ws) a = stored_from (x + 4) ws (with_word x w a)
-
-stored_blocks : (x : ℕ) (ws : List ℕ) (a : Arena) → (with_words x ws a).blocks ≡ a.blocks
-stored_blocks x [] a = refl
-stored_blocks x (w ∷ ws) a = stored_blocks (x + 4) ws (with_word x w a)
-
 pub begun_heap : (words : ℕ) (ws : List ℕ) (a : Arena) → (begun words ws a).heap_to ≡ a.heap_to + 4 * words
 begun_heap words ws a = stored_heap a.heap_to ws (with_heap words a)
 
@@ -118,12 +106,6 @@ changes_stored {a} x w h aligned = record {
     behind y low = grind (arith, nat_tests)
 
 -- ---- slots
-
-pub as_many_words : (places : Places) (vs : List Value) (ws : List ℕ) → WordsOf places vs ws → length ws ≡ length vs
-as_many_words places [] [] h = refl
-as_many_words places [] (w ∷ ws) h = absurd h
-as_many_words places (v ∷ vs) [] h = absurd h
-as_many_words places (v ∷ vs) (w ∷ ws) h = ap (λ n. suc n) (as_many_words places vs ws h.1)
 
 -- where the words of values stand, so do slots with these values
 pub slot_stands :

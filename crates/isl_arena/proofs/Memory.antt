@@ -8,6 +8,7 @@ use Rattle.isl_mid.proofs.Growth.{length-emptied}
 use Rattle.isl_arena.specs.Places.{Spot, end_of}
 use Rattle.isl_arena.specs.Standing.{ArenaStands, IsLentPart, of_laid, of_heap, SpotStands}
 use Rattle.isl_arena.proofs.Growing.{Grows, spot_below}
+use Rattle.std.proofs.lemmas.Bool.{eq-eqb}
 
 -- tests
 
@@ -16,9 +17,6 @@ within from to x h g = grind (arith, nat_tests)
 
 not_within_below : (from to x : ℕ) → x < from → is_within from to x ≡ false
 not_within_below from to x h = grind (arith, nat_tests)
-
-is_same : (m n : ℕ) → m ≡ n → (m == n) ≡ true
-is_same m n e = grind (arith, nat_tests)
 
 -- lists
 
@@ -93,7 +91,7 @@ word_found a x h = ap (λ t. if t then word_in (slice_get a.memory (x / 4)) else
 -- spots that stand
 
 pub lent_in_heap : (a : Arena) (x : ℕ) → x % 4 ≡ 0 → a.heap_from ≤ x → x < a.heap_to → is_lent a x ≡ true
-lent_in_heap a x e h g = true_and _ _ (is_same _ _ e) (second_of_three _ _ _ (within _ _ x h g))
+lent_in_heap a x e h g = true_and _ _ (eq-eqb _ _ e) (second_of_three _ _ _ (within _ _ x h g))
   where
     second_of_three : (p q r : Bool) → q ≡ true → (p || q || r) ≡ true
     second_of_three true q r h = refl
@@ -101,7 +99,7 @@ lent_in_heap a x e h g = true_and _ _ (is_same _ _ e) (second_of_three _ _ _ (wi
     second_of_three false false r h = absurd (cc h)
 
 pub lent_in_laid : (a : Arena) (x : ℕ) → x % 4 ≡ 0 → a.laid_from ≤ x → x < a.laid_to → is_lent a x ≡ true
-lent_in_laid a x e h g = true_and _ _ (is_same _ _ e) (first_of_three _ _ _ (within _ _ x h g))
+lent_in_laid a x e h g = true_and _ _ (eq-eqb _ _ e) (first_of_three _ _ _ (within _ _ x h g))
   where
     first_of_three : (p q r : Bool) → p ≡ true → (p || q || r) ≡ true
     first_of_three true q r h = refl
@@ -362,6 +360,19 @@ spot_stands_with_word {a} {s} x w h = record { aligned = h.aligned; some = h.som
 abbrev pub with_words : ℕ → List ℕ → Arena → Arena
 with_words x [] a = a
 with_words x (w ∷ ws) a = with_words (x + 4) ws (with_word x w a)
+
+-- the heap and the blocks are those of before
+pub stored_heap : (x : ℕ) (ws : List ℕ) (a : Arena) → (with_words x ws a).heap_to ≡ a.heap_to
+stored_heap x [] a = refl
+stored_heap x (w ∷ ws) a = stored_heap (x + 4) ws (with_word x w a)
+
+pub stored_from : (x : ℕ) (ws : List ℕ) (a : Arena) → (with_words x ws a).heap_from ≡ a.heap_from
+stored_from x [] a = refl
+stored_from x (w ∷ ws) a = stored_from (x + 4) ws (with_word x w a)
+
+pub stored_blocks : (x : ℕ) (ws : List ℕ) (a : Arena) → (with_words x ws a).blocks ≡ a.blocks
+stored_blocks x [] a = refl
+stored_blocks x (w ∷ ws) a = stored_blocks (x + 4) ws (with_word x w a)
 
 -- one more behind them
 pub with_words_and : (x : ℕ) (ws : List ℕ) (w : ℕ) (a : Arena) → with_words x (ws ++ w ∷ []) a ≡ with_word (x + 4 * length ws) w (with_words x ws a)

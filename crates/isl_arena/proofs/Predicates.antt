@@ -24,7 +24,7 @@ use Rattle.isl_arena.specs.Represents.{Represents}
 use Rattle.isl_arena.specs.Answers.{IsPrimitive}
 use Rattle.isl_arena.specs.Codes.{procedure_of}
 use Rattle.isl_arena.specs.Steps as steps
-use Rattle.isl_arena.proofs.WordFacts.{tag_tested, low_byte_tested, header_tested, two_headers_tested}
+use Rattle.isl_arena.proofs.WordFacts.{tag_tested, low_byte_tested, equal_bit, two_headers_tested}
 use Rattle.isl_arena.proofs.Running.{constant_falls, compute_falls, load_falls, address_up, address_below}
 use Rattle.isl_arena.proofs.Arguments.{word_told}
 use Rattle.isl_arena.proofs.Telling.{IntegerTold, integer_found, no_integer, CharacterTold, character_found, no_character, ConsTold, cons_found, no_cons}
@@ -193,12 +193,12 @@ module _
 pub is_string_does : IsPrimitive IsString (procedure_of IsString)
 is_string_does = does_one IsString refl (λ names program places z y procedures below n v w r.
     kind_says names program places z y r procedures below n w v string_header 1 (λ o. is_some (as_string o)) (λ h. h == string_header) string_kind
-    (λ h low. header_tested h string_header low (omega arith)))
+    (λ h low. equal_bit h string_header low (omega arith)))
 
 pub is_vector_does : IsPrimitive IsVector (procedure_of IsVector)
 is_vector_does = does_one IsVector refl (λ names program places z y procedures below n v w r.
     kind_says names program places z y r procedures below n w v vector_header 1 (λ o. is_some (as_vector o)) (λ h. h == vector_header) vector_kind
-    (λ h low. header_tested h vector_header low (omega arith)))
+    (λ h low. equal_bit h vector_header low (omega arith)))
 
 pub is_function_does : IsPrimitive IsFunction (procedure_of IsFunction)
 is_function_does = does_one IsFunction refl (λ names program places z y procedures below n v w r.
@@ -208,7 +208,7 @@ is_function_does = does_one IsFunction refl (λ names program places z y procedu
 pub is_generic_does : IsPrimitive IsGeneric (procedure_of IsGeneric)
 is_generic_does = does_one IsGeneric refl (λ names program places z y procedures below n v w r.
     kind_says names program places z y r procedures below n w v generic_header 1 is_generic (λ h. h == generic_header) generic_kind
-    (λ h low. header_tested h generic_header low (omega arith)))
+    (λ h low. equal_bit h generic_header low (omega arith)))
 
 -- ---- symbols
 

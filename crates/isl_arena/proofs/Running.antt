@@ -18,6 +18,8 @@ use Rattle.isl_mid.specs.Meaning.{store, get_from, test, count, Task, enter, aga
 use Rattle.isl_arena.specs.Places.{Spot, end_of}
 use Rattle.isl_arena.specs.Standing.{SpotStands}
 use Rattle.isl_arena.proofs.Memory.{lent_in_heap, in_spot_lent}
+use Rattle.std.proofs.lemmas.Bool.{eq-eqb}
+use Rattle.isl_arena.proofs.WordFacts.{low_word_of_word}
 
 -- an end that is not falling out
 abbrev pub IsLast : End → Type 0
@@ -65,9 +67,6 @@ is_at_most m n h = grind (arith, nat_tests)
 is_not_at_most : (m n : ℕ) → n < m → nat_le m n ≡ false
 is_not_at_most m n h = grind (arith, nat_tests)
 
-is_same : (m n : ℕ) → m ≡ n → (m == n) ≡ true
-is_same m n e = grind (arith, nat_tests)
-
 -- where code falls out, it jumps; every other end passes
 pub jumped_falls : {r : Outcome} {rs : Registers} {z : State} → r ≡ ends falls rs z → jumped r ≡ ends falls rs (charged jump_cost z)
 unfolding go_on
@@ -89,17 +88,13 @@ loop_test c how head t body rs z = test t (loop_turn c how head t body) (ends fa
 
 -- addresses
 
-address_of_word : (b : ℕ) → b < 2 ^ 32 → low_word (pos b) ≡ b
-unfolding low_word
-address_of_word b h = omega arith
-
 pub address_up : (b k : ℕ) → b + k < 2 ^ 32 → address b (pos k) ≡ b + k
-address_up b k h = address_of_word (b + k) h
+address_up b k h = low_word_of_word (b + k) h
 
 pub address_down : (b k : ℕ) → b + suc k < 2 ^ 32 → address (b + suc k) (negsuc k) ≡ b
 address_down b k h =
     let e : (pos (b + suc k) +ℤ negsuc k) ≡ pos b = omega (arith, ints) in
-    ap low_word e ∙ address_of_word b (omega arith)
+    ap low_word e ∙ low_word_of_word b (omega arith)
 
 pub address_here : (b : ℕ) → b < 2 ^ 32 → address b (pos 0) ≡ b
 address_here b h = address_up b 0 (omega arith) ∙ omega arith
@@ -446,7 +441,7 @@ pub enters_wanting :
     → EntersTo procedures below n p ws z
     (ends (no_room p.frame (left z.arena)) (first_registers p.registers ws) (charged (entry_cost p.parameters) z))
 unfolding turns
-enters_wanting {p = p} e h = record { same = first_chosen _ _ _ _ (is_same _ _ e) ∙ second_chosen _ _ _ _ (is_not_at_most _ _ h) }
+enters_wanting {p = p} e h = record { same = first_chosen _ _ _ _ (eq-eqb _ _ e) ∙ second_chosen _ _ _ _ (is_not_at_most _ _ h) }
 
 -- its frame is left, and the body runs
 pub enters :
@@ -456,7 +451,7 @@ pub enters :
     → EntersTo procedures below n p ws z (leaves z.arena.blocks r)
 unfolding turns
 enters {z = z} e h g =
-    record { same = first_chosen _ _ _ _ (is_same _ _ e) ∙ first_chosen _ _ _ _ (is_at_most _ _ h) ∙ ap (leaves z.arena.blocks) g.same }
+    record { same = first_chosen _ _ _ _ (eq-eqb _ _ e) ∙ first_chosen _ _ _ _ (is_at_most _ _ h) ∙ ap (leaves z.arena.blocks) g.same }
 
 -- the body returns, and the blocks are those of before
 pub enters_returns :

@@ -305,12 +305,15 @@ character_integer c h = rw (integer_word_of_pos c (omega arith)) (omega arith)
 pub character_of_integer : (c : ℕ) → c ≤ 255 → sum32 (shift_left (integer_word (pos c)) 6) 15 ≡ character_word c
 character_of_integer c h = rw (integer_word_of_pos c (omega arith)) (omega arith)
 
+-- ---- words that are equal
+
+-- a word is that one where their difference is below 1
+pub equal_bit : (a b : ℕ) → a < 2 ^ 32 → b < 2 ^ 32 → nat_lt (difference32 a b) 1 ≡ (a == b)
+equal_bit a b g h = grind (arith, nat_tests)
+
 -- ---- headers
 
--- whether a header is one of so many from that one on
-pub header_tested : (h header : ℕ) → h < 2 ^ 32 → header < 2 ^ 32 → nat_lt (difference32 h header) 1 ≡ (h == header)
-header_tested h header g k = grind (arith, nat_tests)
-
+-- whether a header is that one or the next one
 pub two_headers_tested : (h header : ℕ) → h < 2 ^ 32 → suc header < 2 ^ 32 → nat_lt (difference32 h header) 2 ≡ (h == header || h == suc header)
 two_headers_tested h header g k = grind (arith, nat_tests)
 
@@ -334,10 +337,6 @@ pub word_or_nil : (w : ℕ) (b : Bool) → w < 2 ^ 32 → sum32 (product32 (diff
 word_or_nil w true h = omega arith
 word_or_nil w false h = omega arith
 
--- 1 where a word is that one, as a difference that is below 1
-pub equal_bit : (a b : ℕ) → a < 2 ^ 32 → b < 2 ^ 32 → nat_lt (difference32 a b) 1 ≡ (a == b)
-equal_bit = header_tested
-
 -- ---- pointers
 
 -- the tag of a pointer to an address
@@ -346,10 +345,6 @@ pointer_tag address tag g h = omega arith
 
 pub pointer_without_tag : (address tag : ℕ) → address + tag < 2 ^ 32 → difference32 (address + tag) tag ≡ address
 pointer_without_tag address tag h = omega arith
-
--- what is at an offset from an address
-pub address_ahead : (base offset : ℕ) → base + offset < 2 ^ 32 → address base (pos offset) ≡ base + offset
-address_ahead base offset h = low_word_of_word (base + offset) h
 
 -- spots of at least a word that are apart have different pointers
 pub apart_pointers : (s r : Spot) → s.address % 4 ≡ 0 → r.address % 4 ≡ 0 → s.tag < 4 → r.tag < 4 → 1 ≤ s.words → 1 ≤ r.words → Apart s r → pointer_to s ≢ pointer_to r
