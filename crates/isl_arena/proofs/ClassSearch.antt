@@ -29,7 +29,7 @@ use Rattle.isl_arena.proofs.Running.{repeat_falls, repeat_turn, repeat_ends, add
 use Rattle.isl_arena.proofs.Growing.{spot_below, grows_same}
 use Rattle.isl_arena.proofs.Representing.{kept_grown, represents_grown, represents_same}
 use Rattle.isl_arena.proofs.Arguments.{ObjectFound, object_found}
-use Rattle.isl_arena.proofs.Doing.{Alike, alike_charged, paid, Run, goes_on, returns_value}
+use Rattle.isl_arena.proofs.Doing.{Alike, alike_charged, paid, Run, goes_on, returns_value, step_returns}
 use Rattle.isl_arena.proofs.Checking.{register_here, register_beside, same_size}
 
 -- what the loop does in a turn
@@ -183,30 +183,6 @@ module _
     (names : List (List ℕ)) (program : ProgramRows) (places : Places) (z : meaning.State) (y : State) (r : Represents names program places z y)
     (procedures : List MidProcedure) (below : Task → State → Outcome)
   where
-    -- a step returns with the word of a value, where things stand as they stood
-    step_returns :
-        {n budget k k' w : ℕ} {v : Value} {z' : meaning.State} {s : MidStep} {code : MidCode} {rs rs' : Registers}
-        → StepsTo (turning procedures below n) s rs (paid y k) (ends (returns w) rs' (paid y k')) → word_of places v ≡ Some w → Alike z z'
-        → k' + 250 * z.units ≤ budget + 250 * z'.units → Run names program places z y procedures below n budget (result v z') (step_and s code) rs k
-    step_returns {k' = k'} {w = w} {z' = z'} {rs' = rs'} g e alike cost = record {
-      outcome = ends (returns w) rs' (paid y k');
-      runs = and_ends tt g;
-      answers = record {
-        comes = done (record {
-          word = w;
-          end = refl;
-          of_value = e;
-          represents =
-              represents_same names program places z z' (paid y k') alike.store alike.symbols alike.printed alike.input
-              (represents_grown names program places z y r (paid y k') (grows_same y.arena r.arena) refl refl);
-          arena = record { size = refl; laid_from = refl; laid_to = refl; heap_from = refl; heap_to = omega arith };
-          blocks = refl;
-          kept = kept_grown names program places z y r y.arena (grows_same y.arena r.arena);
-        });
-        cost = cost;
-      };
-    }
-
     -- The loop, and nil behind it, where a class is sought among others.
     sought_run :
         (n budget k at d : ℕ) (cs : List ℕ) (rs : Registers) → passed (λ c. d == c) cs ≤ n → InFront names program places z y r procedures below d at (length cs) rs
@@ -220,7 +196,7 @@ module _
             → Run names program places z y procedures below n budget (says (is_in d cs) (meaning.charged (passed (λ c. d == c) cs) z))
             (code_of (search ∷ steps.constant 5 nil_word ∷ return_word 5 ∷ [])) rs k
         by (found_there rs' k' there steps within) =
-            rw there (step_returns steps r.fixed.true_value.of_value (alike_charged z (passed (λ c. d == c) cs)) (omega (arith, within, cost)))
+            rw there (step_returns names program places z y procedures below r steps r.fixed.true_value.of_value (alike_charged z (passed (λ c. d == c) cs)) (omega (arith, within, cost)))
         by (not_there rs' k' there steps size within) =
             rw there
             (goes_on names program places z y procedures below steps

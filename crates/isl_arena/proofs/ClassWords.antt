@@ -34,6 +34,7 @@ use Rattle.isl_arena.proofs.ClassHeaders.{KindHeader, of_string, of_vector, of_f
 use Rattle.isl_arena.proofs.ClassHeaders.{finds_after, finds_first, finds_second, six, six_there, finds_fixed, finds_where, finds_otherwise, finds_by_header, finds_of_class}
 use Rattle.isl_arena.proofs.ClassHeaders.{finds_of_instance, finds_of_other}
 use Rattle.isl_arena.proofs.Checking.{register_here, register_beside, same_size}
+use Rattle.isl_arena.proofs.Telling.{character_not_nil}
 
 module _ {names : List (List ℕ)} {program : ProgramRows} {places : Places} {z : meaning.State} {y : State} (here : Seeking names program places z y) where
   -- ---- by the tag
@@ -183,9 +184,6 @@ module _ {names : List (List ℕ)} {program : ProgramRows} {places : Places} {z 
   finds_stored i e o output_stream stored spot at = finds_kind_object i e o _ stored refl refl of_output refl refl
   finds_stored i e o (fresh_symbol serial) stored spot at = finds_kind_object i e o _ stored refl refl of_fresh refl refl
 
-  character_not_nil : (c w : ℕ) → w ≡ 256 * c + 15 → (w == nil_word) ≡ false
-  character_not_nil c w h = grind (arith, nat_tests)
-
   finds_value : {k : ℕ} {rs : Registers} (v : Value) → word_of places v ≡ Some here.word → OnTheWay here (shift_left here.word 30) rs → Finds here (class_of z v) (code_of by_tag) rs k 232
   finds_value (integer n) e o = finds_integer (integer n) e o refl
   finds_value (character c) e o =
@@ -212,7 +210,7 @@ module _ {names : List (List ℕ)} {program : ProgramRows} {places : Places} {z 
 -- ---- the primitive that gives the class of a value
 
 pub class_of_does : IsPrimitive ClassOf (procedure_of ClassOf)
-class_of_does = does_one ClassOf refl (λ names program places z y procedures below n v w r word.
+class_of_does = does_one ClassOf refl (λ v w names program places z y procedures below n r are units.
     let here : Seeking names program places z y = record {
       represents = r;
       procedures = procedures;
@@ -226,6 +224,6 @@ class_of_does = does_one ClassOf refl (λ names program places z y procedures be
       start = first_registers 8 (w ∷ []);
       held = refl;
     } in
-    let f = class_found here {k = y.cost} v word refl in
+    let f = class_found here {k = y.cost} v are.0 refl in
     part_then names program places z y procedures below (class_word 2 0) (return_word 2 ∷ []) f.runs
     (returns_value names program places z y procedures below r f.there f.of_class (alike_self z) (omega (arith, f.within))))

@@ -106,12 +106,12 @@ module _
         (returns_value names program places z y procedures below r refl at.of_value (alike_self z) (omega arith)))
 
 pub car_does : IsPrimitive Car (procedure_of Car)
-car_does = does_one Car refl (λ names program places z y procedures below n v w r.
-    takes_part names program places z y r procedures below n w v first_part)
+car_does = does_one Car refl (λ v w names program places z y procedures below n r are units.
+    takes_part names program places z y r procedures below n w v first_part are.0)
 
 pub cdr_does : IsPrimitive Cdr (procedure_of Cdr)
-cdr_does = does_one Cdr refl (λ names program places z y procedures below n v w r.
-    takes_part names program places z y r procedures below n w v second_part)
+cdr_does = does_one Cdr refl (λ v w names program places z y procedures below n r are units.
+    takes_part names program places z y r procedures below n w v second_part are.0)
 
 -- ---- a part is set
 
@@ -197,12 +197,12 @@ module _
         first second found refl refl (omega arith))
 
 pub set_car_does : IsPrimitive SetCar (procedure_of SetCar)
-set_car_does = does_two SetCar refl (λ names program places z y procedures below n v u a w r.
-    sets_part names program places z y r procedures below n a w v u first_part)
+set_car_does = does_two SetCar refl (λ v u a w names program places z y procedures below n r are units.
+    sets_part names program places z y r procedures below n a w v u first_part are.0 are.1.0)
 
 pub set_cdr_does : IsPrimitive SetCdr (procedure_of SetCdr)
-set_cdr_does = does_two SetCdr refl (λ names program places z y procedures below n v u a w r.
-    sets_part names program places z y r procedures below n a w v u second_part)
+set_cdr_does = does_two SetCdr refl (λ v u a w names program places z y procedures below n r are units.
+    sets_part names program places z y r procedures below n a w v u second_part are.0 are.1.0)
 
 -- ---- a cons is made
 
@@ -270,5 +270,5 @@ module _
           pointer h low = omega arith
 
 pub cons_does : IsPrimitive Cons (procedure_of Cons)
-cons_does = does_two Cons refl (λ names program places z y procedures below n v u a b r first second.
-    makes_cons names program places z y r procedures below n a b v u first second (room_for 2 y.arena))
+cons_does = does_two Cons refl (λ v u a b names program places z y procedures below n r are units.
+    makes_cons names program places z y r procedures below n a b v u are.0 are.1.0 (room_for 2 y.arena))

@@ -14,6 +14,7 @@ use Rattle.isl_arena.specs.Standing.{ArenaStands}
 use Rattle.isl_arena.specs.Steps as steps
 use Rattle.isl_arena.proofs.Memory.{heap_below, word_elsewhere, stands_with_word, with_words}
 use Rattle.isl_arena.proofs.Running.{StepsTo, turning, none_left, and_then, constant_falls, compute_known, load_falls, store_in_heap, address_above, repeat_falls, repeat_turn}
+use Rattle.std.proofs.lemmas.Bool.{lt-ltb}
 
 -- the loop
 abbrev pub copy_words : MidStep
@@ -22,9 +23,6 @@ copy_words =
 
 sum_of_four : (a : ℕ) → a + 4 < 2 ^ 32 → sum32 a 4 ≡ a + 4
 sum_of_four a h = omega arith
-
-is_below : (a b : ℕ) → a < b → nat_lt a b ≡ true
-is_below a b h = grind (arith, nat_tests)
 
 is_not_below : (a b : ℕ) → a ≡ b → nat_lt a b ≡ false
 is_not_below a b h = grind (arith, nat_tests)
@@ -59,7 +57,7 @@ module _ (procedures : List MidProcedure) (below : Task → State → Outcome) w
         seven = rest.seven;
         paid = rest.paid;
         steps =
-            repeat_turn procedures below n none_left refl refl (is_below d e more)
+            repeat_turn procedures below n none_left refl refl (lt-ltb d e more)
             (and_then (load_falls refl (address_above s 6 from (sym from_is) (omega arith)) found)
             (and_then (store_in_heap refl refl (address_above d 8 at (sym at_is) (omega arith)) aligned low (omega arith))
             (and_then constant_falls

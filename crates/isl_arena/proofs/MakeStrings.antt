@@ -37,8 +37,9 @@ use Rattle.isl_arena.proofs.Making.{Room, is_left, is_wanting, room_for, answers
 use Rattle.isl_arena.proofs.Doing.{alike_self, Run, paid}
 use Rattle.isl_arena.proofs.Checking.{integer_needed, character_needed}
 use Rattle.isl_arena.proofs.Filling.{fill, six_after, fill_falls, replicated}
-use Rattle.isl_arena.proofs.Arrays.{does_two, length_test, length_needed}
+use Rattle.isl_arena.proofs.Arrays.{length_test, length_needed}
 use Rattle.isl_arena.proofs.Growing.{Grows}
+use Rattle.isl_arena.proofs.Taking.{does_two}
 
 -- ---- the arena
 

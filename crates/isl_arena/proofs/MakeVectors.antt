@@ -32,7 +32,8 @@ use Rattle.isl_arena.proofs.Making.{Room, is_left, is_wanting, room_for, begun, 
 use Rattle.isl_arena.proofs.Doing.{alike_self, Run, paid}
 use Rattle.isl_arena.proofs.Checking.{integer_needed}
 use Rattle.isl_arena.proofs.Filling.{fill, fill_falls, replicated}
-use Rattle.isl_arena.proofs.Arrays.{does_two, length_test, length_needed}
+use Rattle.isl_arena.proofs.Arrays.{length_test, length_needed}
+use Rattle.isl_arena.proofs.Taking.{does_two}
 
 -- the code behind the tests of the length, with four times the length in register 0 and the element in register 1: how many words are wanted
 abbrev asking_code : List MidStep

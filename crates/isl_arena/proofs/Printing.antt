@@ -186,5 +186,5 @@ module _
         (puts_on n (y.cost + 130 + 244 * 2) (y.cost + 6 + 10 + 6 + 12 + 2 + 8 + 6 + 10 + 6 + 12 + 2 + 6 + 10 + 6 + 12 + 2) w c v is_output _ _ first found at small (omega arith))))
 
 pub put_char_does : IsPrimitive PutChar (procedure_of PutChar)
-put_char_does = does_two PutChar refl (λ names program places z y procedures below n v u w x r first second.
-    puts_char names program places z y r procedures below n w x v u first second)
+put_char_does = does_two PutChar refl (λ v u w x names program places z y procedures below n r are units.
+    puts_char names program places z y r procedures below n w x v u are.0 are.1.0)

@@ -34,8 +34,9 @@ use Rattle.isl_arena.proofs.Making.{changes_stored}
 use Rattle.isl_arena.proofs.FixedChanges.{one_word}
 use Rattle.isl_arena.proofs.Arguments.{ObjectFound}
 use Rattle.isl_arena.proofs.Doing.{Run}
-use Rattle.isl_arena.proofs.Arrays.{does_three, returns_changed}
+use Rattle.isl_arena.proofs.Arrays.{returns_changed}
 use Rattle.isl_arena.proofs.Slots.{slot_registers, instance_low, slot_needed, slot_sum}
+use Rattle.isl_arena.proofs.Taking.{does_three}
 
 -- an instance in whose spot one slot was set
 pub instance_set :

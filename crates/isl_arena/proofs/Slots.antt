@@ -37,7 +37,8 @@ use Rattle.isl_arena.proofs.Conditions.{program_error as of_program, signal_run}
 use Rattle.isl_arena.proofs.Checking.{register_here, Scratched, scratched_six, scratched_seven, not_scratched, six_here, seven_behind_six, tag_registers, instance_registers, integer_needed}
 use Rattle.isl_arena.proofs.Needing.{instance_needed}
 use Rattle.isl_arena.proofs.Saying.{saying, says_run}
-use Rattle.isl_arena.proofs.Arrays.{does_one, does_two, length_word_is, index_needed}
+use Rattle.isl_arena.proofs.Arrays.{length_word_is, index_needed}
+use Rattle.isl_arena.proofs.Taking.{does_one, does_two}
 
 -- ---- registers
 

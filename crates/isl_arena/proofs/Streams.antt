@@ -38,27 +38,7 @@ use Rattle.isl_arena.proofs.FixedChanges.{word_of_fixed, represents_read}
 use Rattle.isl_arena.proofs.Making.{changes_stored, fixed_lent}
 use Rattle.isl_arena.proofs.Doing.{alike_self, Answers, Run, goes_on, returns_value, first_answers, test_fails}
 use Rattle.isl_arena.proofs.Entering.{does_by_code}
-
--- the code of a primitive without arguments comes to its answer
-abbrev pub DoesNone : Primitive → Type 0
-DoesNone which =
-    (names : List (List ℕ)) (program : ProgramRows) (places : Places) (z : meaning.State) (y : State) (procedures : List MidProcedure)
-    (below : Task → State → Outcome) (n : ℕ)
-    → Represents names program places z y
-    → Run names program places z y procedures below n (y.cost + 130 + 244 * arity which) (primitive names program which [] z)
-    (code_of (code_of_primitive which)) (first_registers 8 []) y.cost
-
-pub does_none : (which : Primitive) → arity which ≡ 0 → DoesNone which → IsPrimitive which (procedure_of which)
-does_none which none code names program procedures below n places z y vs ws r are count units =
-    does_by_code names program places z y procedures below n which vs ws r are count (λ y' r'. by y' r' vs ws are (count ∙ none))
-  where
-    by :
-        (y' : State) → Represents names program places z y' → (vs : List Value) (ws : List ℕ) → WordsOf places vs ws → length vs ≡ 0
-        → Run names program places z y' procedures below n (y'.cost + 130 + 244 * arity which) (primitive names program which vs z)
-        (code_of (code_of_primitive which)) (first_registers 8 ws) y'.cost
-    by y' r' [] [] are count = code names program places z y' procedures below n r'
-    by y' r' [] (w ∷ ws) are count = absurd are
-    by y' r' (v ∷ vs) ws are count = absurd (omega (arith, count))
+use Rattle.isl_arena.proofs.Taking.{does_none}
 
 -- ---- values at fixed addresses
 
@@ -76,15 +56,15 @@ module _
         (returns_value names program places z y procedures below r refl at.of_value (alike_self z) (omega arith)))
 
 pub standard_input_does : IsPrimitive StandardInput (procedure_of StandardInput)
-standard_input_does = does_none StandardInput refl (λ names program places z y procedures below n r.
+standard_input_does = does_none StandardInput refl (λ names program places z y procedures below n r are units.
     returns_fixed names program places z y r procedures below n input_address (standard_input names program) (omega arith) r.fixed.input_stream)
 
 pub standard_output_does : IsPrimitive StandardOutput (procedure_of StandardOutput)
-standard_output_does = does_none StandardOutput refl (λ names program places z y procedures below n r.
+standard_output_does = does_none StandardOutput refl (λ names program places z y procedures below n r are units.
     returns_fixed names program places z y r procedures below n output_address (standard_output names program) (omega arith) r.fixed.output_stream)
 
 pub is_fresh_line_does : IsPrimitive IsFreshLine (procedure_of IsFreshLine)
-is_fresh_line_does = does_none IsFreshLine refl (λ names program places z y procedures below n r.
+is_fresh_line_does = does_none IsFreshLine refl (λ names program places z y procedures below n r are units.
     returns_fixed names program places z y r procedures below n line_address (truth (is_fresh_line z.printed)) (omega arith) r.fixed.line)
 
 -- ---- bytes that are read
@@ -242,7 +222,7 @@ module _
         })
 
 pub get_byte_does : IsPrimitive GetByte (procedure_of GetByte)
-get_byte_does = does_none GetByte refl (λ names program places z y procedures below n r.
+get_byte_does = does_none GetByte refl (λ names program places z y procedures below n r are units.
     gets_byte names program places z y r procedures below n z.input r.input (peeked y.arena y.input z.input r.fixed.input))
 
 -- ---- a byte is looked at
@@ -332,5 +312,5 @@ module _
         (returns_value names program places z y procedures below r refl (byte_value places byte (are 0 (omega arith))) (alike_self z) (omega arith))))))
 
 pub peek_byte_does : IsPrimitive PeekByte (procedure_of PeekByte)
-peek_byte_does = does_none PeekByte refl (λ names program places z y procedures below n r.
+peek_byte_does = does_none PeekByte refl (λ names program places z y procedures below n r are units.
     peeks_byte names program places z y r procedures below n z.input refl (peeked y.arena y.input z.input r.fixed.input))

@@ -37,7 +37,8 @@ use Rattle.isl_arena.proofs.Arguments.{ObjectFound, object_found}
 use Rattle.isl_arena.proofs.Doing.{alike_self, paid, Run, goes_on, returns_value, part_then}
 use Rattle.isl_arena.proofs.Checking.{integer_needed, character_needed}
 use Rattle.isl_arena.proofs.Needing.{string_needed}
-use Rattle.isl_arena.proofs.Arrays.{does_one, does_two, does_three, length_word_is, index_test, index_needed, stores_changed}
+use Rattle.isl_arena.proofs.Arrays.{length_word_is, index_test, index_needed, stores_changed}
+use Rattle.isl_arena.proofs.Taking.{does_one, does_two, does_three}
 
 -- the word of a character
 pub character_there : (places : Places) (c : ℕ) → c < 256 → word_of places (character c) ≡ Some (character_word c)

@@ -32,19 +32,18 @@ use Rattle.isl_arena.proofs.Arguments.{object_found}
 use Rattle.isl_arena.proofs.Doing.{alike_self, Run, goes_on, returns_value, part_then}
 use Rattle.isl_arena.proofs.Checking.{header_registers}
 use Rattle.isl_arena.proofs.Needing.{class_needed}
-use Rattle.isl_arena.proofs.Taking.{does_one}
-use Rattle.isl_arena.proofs.Arrays.{does_two}
+use Rattle.isl_arena.proofs.Taking.{does_one, does_two}
 use Rattle.isl_arena.specs.ClassesThere.{ClassesThere}
 use Rattle.isl_arena.proofs.ClassHeaders.{Seeking, Finds}
 use Rattle.isl_arena.proofs.ClassWords.{class_found}
 use Rattle.isl_arena.proofs.ClassSearch.{asking, asking_run}
 
 pub class_name_does : IsPrimitive ClassName (procedure_of ClassName)
-class_name_does = does_one ClassName refl (λ names program places z y procedures below n v w r word.
+class_name_does = does_one ClassName refl (λ v w names program places z y procedures below n r are units.
     class_needed names program places z y r procedures below n (y.cost + 130 + 244) y.cost 0 w v
     (λ c. result (symbol (named (class_name names (slice_get program.classes c)))) z) (steps.load 5 0 (pos 6) ∷ return_word 5 ∷ [])
-    (first_registers 8 (w ∷ [])) (omega arith) refl refl word (omega arith) (λ c found.
-    let it = object_found names program places z y r v w (class_object c) word found in
+    (first_registers 8 (w ∷ [])) (omega arith) refl refl are.0 (omega arith) (λ c found.
+    let it = object_found names program places z y r v w (class_object c) are.0 found in
     let bounded : it.spot.address + 8 < 2 ^ 32 =
     omega (arith, it.stands.size.words, spot_below r.arena it.spot_stands, r.arena.room, r.arena.size)
     in

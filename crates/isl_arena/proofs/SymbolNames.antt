@@ -31,11 +31,11 @@ use Rattle.isl_arena.proofs.Running.{RunsTo, turning, none_left, and_then, and_e
 use Rattle.isl_arena.proofs.Running.{return_ends, choose_first_falls, address_above, address_below, address_here}
 use Rattle.isl_arena.proofs.Making.{Room, is_left, is_wanting, room_for, begun, begun_grows, begun_heap, begun_blocks, fixed_below, answers_wanting, answers_made}
 use Rattle.isl_arena.proofs.Doing.{alike_self, Run, goes_on, test_fails, paid}
-use Rattle.isl_arena.proofs.Arrays.{does_one}
 use Rattle.isl_arena.proofs.NeedingSymbols.{SymbolFound, is_nil, is_named, is_fresh, header_address, last_two, symbol_needed}
 use Rattle.isl_arena.proofs.NewTexts.{words_from_count, text_words, text_word_there, string_begun}
 use Rattle.isl_arena.proofs.CopyingWords.{copy_words, Copies, copies}
 use Rattle.isl_arena.proofs.Growing.{spot_below}
+use Rattle.isl_arena.proofs.Taking.{does_one}
 
 -- ---- the code
 

@@ -86,7 +86,7 @@ not_nil w h = grind (arith, nat_tests)
 not_character : (w : ℕ) → w % 4 < 3 → (w % 256 == 15) ≡ false
 not_character w h = grind (arith, nat_tests)
 
-character_not_nil : (c w : ℕ) → w ≡ 256 * c + 15 → (w == nil_word) ≡ false
+pub character_not_nil : (c w : ℕ) → w ≡ 256 * c + 15 → (w == nil_word) ≡ false
 character_not_nil c w h = grind (arith, nat_tests)
 
 instance_not_named : (n : ℕ) → (16 * n + 3 == symbol_header) ≡ false

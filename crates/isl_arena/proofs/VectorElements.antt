@@ -31,7 +31,8 @@ use Rattle.isl_arena.proofs.Arguments.{ObjectFound, object_found}
 use Rattle.isl_arena.proofs.Doing.{alike_self, goes_on, returns_value}
 use Rattle.isl_arena.proofs.Checking.{integer_needed}
 use Rattle.isl_arena.proofs.Needing.{vector_needed}
-use Rattle.isl_arena.proofs.Arrays.{does_one, does_two, does_three, length_word_is, index_test, index_needed, stores_changed}
+use Rattle.isl_arena.proofs.Arrays.{length_word_is, index_test, index_needed, stores_changed}
+use Rattle.isl_arena.proofs.Taking.{does_one, does_two, does_three}
 
 -- a vector in whose spot one element was set
 pub vector_set :
