@@ -1,14 +1,12 @@
 -- What the word of a value tells of it in a represented state: its tag, and the header to which it points.
-use Rattle.std.proofs.Common.{◌≡◌, ℕ, zero, suc, ◌+◌, ◌-◌, ◌*◌, ◌%◌, ◌^◌, ◌<◌, ◌≤◌, ℤ, pos, Bool, true, false, List, [], ◌∷◌, length, Option, Some, None, refl, sym, ap, ◌∙◌, arith}
-use Rattle.std.specs.Prelude.{negsuc, ◌*ℤ◌, nat_le, slice_get, if◌then◌else◌}
+use Rattle.std.proofs.Common.{◌≡◌, ℕ, zero, suc, ◌+◌, ◌-◌, ◌*◌, ◌%◌, ◌^◌, ◌<◌, ◌≤◌, ℤ, Bool, true, false, List, [], ◌∷◌, length, Option, Some, None, refl, sym, ap, ◌∙◌, arith}
+use Rattle.std.specs.Prelude.{nat_le, slice_get, if◌then◌else◌}
 use Rattle.std.proofs.lemmas.Bool.Decides.{nat_tests}
-use Rattle.std.proofs.lemmas.Int.{ints}
 use Rattle.isl_meaning.specs.declared.program.ProgramRows.{ProgramRows}
 use Rattle.isl_meaning.specs.Values.{SymbolValue, Value, integer, character, symbol, nil, object, in_range}
-use Rattle.isl_meaning.specs.Objects.{Object, cons}
+use Rattle.isl_meaning.specs.Objects.{Object}
 use Rattle.isl_meaning.specs.State as meaning
 use Rattle.isl_meaning.specs.Classes.{fetch}
-use Rattle.isl_mid.specs.Words.{low_word}
 use Rattle.isl_mid.specs.Arena.{word_at}
 use Rattle.isl_mid.specs.State.{State}
 use Rattle.isl_mid.proofs.WordBounds.{low_word_bounded}
@@ -191,26 +189,3 @@ module _ (names : List (List ℕ)) (program : ProgramRows) (places : Places) (z 
       let there = object_there i w e in
       let below = spot_below r.arena there.spot_stands in
       omega (arith, there.word, there.tag, there.spot_stands.tag, below, there.spot_stands.some, r.arena.room, r.arena.size)
-
-  -- the two words behind the word of a cons
-  pub record ConsWords (w : ℕ) (car cdr : Value) : Type 0 where
-    pub car_word : ℕ
-    pub of_car : word_of places car ≡ Some car_word
-    pub car_at : word_at y.arena (w - 1) ≡ Some car_word
-    pub cdr_word : ℕ
-    pub of_cdr : word_of places cdr ≡ Some cdr_word
-    pub cdr_at : word_at y.arena (w + 3) ≡ Some cdr_word
-
-  pub cons_words : (v : Value) (w : ℕ) (car cdr : Value) → word_of places v ≡ Some w → fetch z v ≡ Some (cons car cdr) → ConsWords w car cdr
-  cons_words v w car cdr e f =
-      let it = object_found v w (cons car cdr) e f in
-      let first : w - 1 ≡ it.spot.address = omega (arith, it.word) in
-      let second : w + 3 ≡ it.spot.address + 4 = omega (arith, it.word) in
-      record {
-        car_word = it.stands.car.word;
-        of_car = it.stands.car.of_value;
-        car_at = rw first it.stands.car.stands;
-        cdr_word = it.stands.cdr.word;
-        of_cdr = it.stands.cdr.of_value;
-        cdr_at = rw second it.stands.cdr.stands;
-      }

@@ -4,26 +4,23 @@ use Rattle.std.proofs.Common.{◌≡◌, ℕ, ◌+◌, ◌*◌, ◌/◌, ◌%◌
 use Rattle.std.specs.Prelude.{is_some, slice_get, slice_set}
 use Rattle.std.proofs.Math.ListN.{length-set}
 use Rattle.isl_meaning.specs.declared.program.ProgramRows.{ProgramRows}
-use Rattle.isl_meaning.specs.declared.primitive.Primitive.{Primitive}
-use Rattle.isl_meaning.specs.Arity.{arity}
 use Rattle.isl_meaning.specs.Values.{Value, integer, object, in_range}
 use Rattle.isl_meaning.specs.Objects.{Object, function, integer_class, program_error_class}
 use Rattle.isl_meaning.specs.State as meaning
-use Rattle.isl_meaning.specs.Primitives.{Answer, result, needs, program_error, domain_error, length_of, index_of, an_index, change, primitive}
+use Rattle.isl_meaning.specs.Primitives.{Answer, result, needs, program_error, domain_error, length_of, index_of, an_index, change}
 use Rattle.isl_mid.specs.declared.program.MidProcedure.{MidProcedure}
 use Rattle.isl_mid.specs.declared.operation.Comparison.TheVariants.{AtLeast, LessUnsigned}
 use Rattle.isl_mid.specs.Words.{compares, address}
 use Rattle.isl_mid.specs.Arena.{Arena, with_word}
 use Rattle.isl_mid.specs.MidCode.{MidStep, return_word, code_of}
-use Rattle.isl_mid.specs.State.{Registers, State, Outcome, returns, ends, register, first_registers}
+use Rattle.isl_mid.specs.State.{Registers, State, Outcome, returns, ends, register}
 use Rattle.isl_mid.specs.Meaning.{Task}
 use Rattle.isl_arena.specs.Tags.{integer_word}
-use Rattle.isl_arena.specs.Places.{Spot, end_of, Places, of_object, spot_of, word_of, WordsOf}
+use Rattle.isl_arena.specs.Places.{Spot, end_of, Places, of_object, spot_of, word_of}
 use Rattle.isl_arena.specs.FixedWords.{class_address}
 use Rattle.isl_arena.specs.Layouts.{ObjectAt}
 use Rattle.isl_arena.specs.Represents.{Represents}
-use Rattle.isl_arena.specs.Answers.{done, units_after, IsPrimitive}
-use Rattle.isl_arena.specs.Codes.{code_of_primitive, procedure_of}
+use Rattle.isl_arena.specs.Answers.{done}
 use Rattle.isl_arena.specs.Steps as steps
 use Rattle.isl_arena.proofs.WordFacts.{integer_word_of_pos, in_range_is, length_tested, length_word, index_is, index_word, index_tested}
 use Rattle.isl_arena.proofs.Running.{constant_falls, and_then, and_ends, store_in_spot, return_ends}
@@ -35,7 +32,6 @@ use Rattle.isl_arena.proofs.Making.{changes_stored}
 use Rattle.isl_arena.proofs.Doing.{alike_self, Answers, Run, goes_on, test_passes, second_answers}
 use Rattle.isl_arena.proofs.Conditions.{program_error as of_program, domain_error_run, signal_run}
 use Rattle.isl_arena.proofs.Checking.{Scratched, scratched_six, not_scratched, six_here}
-use Rattle.isl_arena.proofs.Entering.{does_by_code}
 
 -- ---- lengths and indices
 

@@ -8,28 +8,26 @@ use Rattle.isl_meaning.specs.Values.{Value}
 use Rattle.isl_meaning.specs.Lookup.{is_in, passed}
 use Rattle.isl_meaning.specs.Objects.{class_object}
 use Rattle.isl_meaning.specs.Classes.{fetch, precedence, is_below}
-use Rattle.isl_meaning.specs.Primitives.{result, says}
+use Rattle.isl_meaning.specs.Primitives.{says}
 use Rattle.isl_meaning.specs.State as meaning
 use Rattle.isl_mid.specs.declared.program.MidProcedure.{MidProcedure}
 use Rattle.isl_mid.specs.declared.operation.Arithmetic.TheVariants as which
 use Rattle.isl_mid.specs.declared.operation.Comparison.TheVariants.{Equal}
 use Rattle.isl_mid.specs.Arena.{word_at}
 use Rattle.isl_mid.specs.Words.{sum32}
-use Rattle.isl_mid.specs.MidCode.{MidStep, return_word, MidCode, step_and, code_of}
+use Rattle.isl_mid.specs.MidCode.{MidStep, return_word, code_of}
 use Rattle.isl_mid.specs.State.{Registers, State, Outcome, falls, returns, ends, register}
 use Rattle.isl_mid.specs.Meaning.{Task}
 use Rattle.isl_arena.specs.Tags.{nil_word}
 use Rattle.isl_arena.specs.Places.{Places, word_of}
 use Rattle.isl_arena.specs.FixedWords.{true_address}
 use Rattle.isl_arena.specs.Represents.{Represents}
-use Rattle.isl_arena.specs.Answers.{done}
 use Rattle.isl_arena.specs.Steps as steps
 use Rattle.isl_arena.proofs.Running.{StepsTo, turning, none_left, and_then, and_ends, constant_falls, compute_known, load_falls, return_ends, choose_first_ends, choose_second_falls}
 use Rattle.isl_arena.proofs.Running.{repeat_falls, repeat_turn, repeat_ends, address_here, address_up, address_above}
-use Rattle.isl_arena.proofs.Growing.{spot_below, grows_same}
-use Rattle.isl_arena.proofs.Representing.{kept_grown, represents_grown, represents_same}
+use Rattle.isl_arena.proofs.Growing.{spot_below}
 use Rattle.isl_arena.proofs.Arguments.{ObjectFound, object_found}
-use Rattle.isl_arena.proofs.Doing.{Alike, alike_charged, paid, Run, goes_on, returns_value, step_returns}
+use Rattle.isl_arena.proofs.Doing.{alike_charged, paid, Run, goes_on, returns_value, step_returns}
 use Rattle.isl_arena.proofs.Checking.{register_here, register_beside, same_size}
 
 -- what the loop does in a turn

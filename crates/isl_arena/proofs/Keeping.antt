@@ -46,9 +46,6 @@ pub record Extends (before after : Places) : Type 0 where
 pub extends_same : (places : Places) → Extends places places
 extends_same places = record { word = λ v w e. e }
 
-pub extends_both : (first second third : Places) → Extends first second → Extends second third → Extends first third
-extends_both first second third g h = record { word = λ v w e. h.word v w (g.word v w e) }
-
 pub same_word : (s : Spot) (places : Places) (v : Value) (w : ℕ) → word_of places v ≡ Some w → word_of (with_object s places) v ≡ Some w
 same_word s places (integer n) w e = e
 same_word s places (character c) w e = e

@@ -14,7 +14,7 @@ use Rattle.isl_arena.specs.Represents.{Represents}
 use Rattle.isl_arena.specs.Answers.{Enlarged, Kept, words_asked, Returned, Pending, Done, RoomWanting, Comes, done, no_words}
 use Rattle.isl_arena.proofs.Memory.{grows_with_new_block, left_with_new_block, grows_given_back}
 use Rattle.isl_arena.proofs.Growing.{Grows, spot_below, grows_same}
-use Rattle.isl_arena.proofs.Representing.{fixed_spot, fixed_stands, kept_grown, kept_both, represents_grown}
+use Rattle.isl_arena.proofs.Representing.{fixed_stands, kept_grown, kept_both, represents_grown}
 
 -- how the body of a procedure is left
 

@@ -1,7 +1,7 @@
 -- A new object at the end of the heap, whose words were requested and stored one after another: what the arena is then, that it represents
 -- the state with the object, and how a run ends that returns it. And the store of a condition that is to be signalled.
 use Rattle.std.proofs.Common.{◌≡◌, ℕ, zero, suc, ◌+◌, ◌*◌, ◌/◌, ◌%◌, ◌<◌, ◌≤◌, Bool, true, false, List, [], ◌∷◌, ◌++◌, length, Some, None, refl, sym, ap, subst, ◌∙◌, arith}
-use Rattle.std.specs.Prelude.{◌==◌, nat_le, map, slice_get, slice_index_or}
+use Rattle.std.specs.Prelude.{nat_le, map, slice_get, slice_index_or}
 use Rattle.std.proofs.lemmas.Bool.Decides.{nat_tests}
 use Rattle.std.proofs.lemmas.List.{length-map}
 use Rattle.std.proofs.Math.ListN.{length-append, length-set}
@@ -23,7 +23,7 @@ use Rattle.isl_arena.specs.FixedWords.{pending_address}
 use Rattle.isl_arena.specs.Layouts.{ObjectAt, InstanceAt}
 use Rattle.isl_arena.specs.Represents.{Represents}
 use Rattle.isl_arena.specs.Answers.{Enlarged, Returned, Pending, Signalled, RoomWanting, done, no_words, words_asked, units_after}
-use Rattle.isl_arena.proofs.Memory.{in_spot_lent, in_spot_there, word_here, word_elsewhere, stands_with_word, stands_with_heap, grows_with_heap, with_words, grows_with_words, stored_heap, stored_from, stored_blocks}
+use Rattle.isl_arena.proofs.Memory.{in_spot_lent, in_spot_there, word_here, word_elsewhere, stands_with_word, stands_with_heap, grows_with_heap, with_words, grows_with_words, stored_heap, stored_blocks}
 use Rattle.isl_arena.proofs.Memory.{words_stand}
 use Rattle.isl_arena.proofs.Keeping.{same_word, words_extended, words_of_condition, words_at_least, extends_one, as_many_words}
 use Rattle.isl_arena.proofs.Growing.{Grows, grows_same, Changes, spot_below}
@@ -32,6 +32,7 @@ use Rattle.isl_arena.proofs.ClassesKept.{IsMade}
 use Rattle.isl_arena.proofs.Representing.{fixed_spot, fixed_stands, represents_same, represents_grown, represents_made, kept_both, kept_same, kept_made, kept_grown, kept_fixed}
 use Rattle.isl_arena.proofs.FixedChanges.{one_word, represents_pending, word_of_fixed}
 use Rattle.isl_arena.proofs.Doing.{Alike, Answers, paid}
+use Rattle.std.proofs.lemmas.Bool.{ne_eqb}
 
 -- ---- arenas
 
@@ -54,16 +55,9 @@ enlarged_by words g to = record { size = g.size; laid_from = g.laid_from; laid_t
 abbrev pub begun : (words : ℕ) → List ℕ → Arena → Arena
 begun words ws a = with_words a.heap_to ws (with_heap words a)
 
--- the arena with new words, which were all stored
-abbrev pub with_new : List ℕ → Arena → Arena
-with_new ws a = begun (length ws) ws a
-
 -- it has the heap and the blocks of before, but for the new words
 pub begun_heap : (words : ℕ) (ws : List ℕ) (a : Arena) → (begun words ws a).heap_to ≡ a.heap_to + 4 * words
 begun_heap words ws a = stored_heap a.heap_to ws (with_heap words a)
-
-pub begun_from : (words : ℕ) (ws : List ℕ) (a : Arena) → (begun words ws a).heap_from ≡ a.heap_from
-begun_from words ws a = stored_from a.heap_to ws (with_heap words a)
 
 pub begun_blocks : (words : ℕ) (ws : List ℕ) (a : Arena) → (begun words ws a).blocks ≡ a.blocks
 begun_blocks words ws a = stored_blocks a.heap_to ws (with_heap words a)
@@ -72,20 +66,12 @@ begun_blocks words ws a = stored_blocks a.heap_to ws (with_heap words a)
 pub begun_grows : {a : Arena} (words : ℕ) (ws : List ℕ) → ArenaStands a → words ≤ left a → Grows a (begun words ws a)
 begun_grows {a} words ws h room = grows_with_words a.heap_to ws (grows_with_heap words h room) h.aligned (omega arith)
 
-pub new_grows : {a : Arena} (ws : List ℕ) → ArenaStands a → length ws ≤ left a → Grows a (with_new ws a)
-new_grows ws h room = begun_grows (length ws) ws h room
-
 -- each word stands where it was stored
 pub begun_word :
     {a : Arena} (words : ℕ) (ws : List ℕ) (i w : ℕ) → ArenaStands a → words ≤ left a → length ws ≤ words → slice_get ws i ≡ Some w
     → word_at (begun words ws a) (a.heap_to + 4 * i) ≡ Some w
 begun_word {a} words ws i w h room some found =
     words_stand a.heap_to ws (with_heap words a) i w (stands_with_heap words h room) h.aligned (omega (arith, h.heap)) (omega arith) found
-
-pub new_word :
-    {a : Arena} (ws : List ℕ) (i w : ℕ) → ArenaStands a → length ws ≤ left a → slice_get ws i ≡ Some w
-    → word_at (with_new ws a) (a.heap_to + 4 * i) ≡ Some w
-new_word ws i w h room found = begun_word (length ws) ws i w h room (omega arith) found
 
 -- a word that is stored in a spot changes at most that spot
 pub changes_stored : {a : Arena} (x w : ℕ) → ArenaStands a → x % 4 ≡ 0 → Changes (one_word x) a (with_word x w a)
@@ -95,15 +81,9 @@ changes_stored {a} x w h aligned = record {
   heap_from = refl;
   heap_to = omega arith;
   stands = stands_with_word x w h;
-  before = λ y low. word_elsewhere a x w y aligned (other y (omega arith));
-  after = λ y low high. word_elsewhere a x w y aligned (behind y (omega arith));
+  before = λ y low. word_elsewhere a x w y aligned (ne_eqb x y (λ same. omega arith));
+  after = λ y low high. word_elsewhere a x w y aligned (ne_eqb x y (λ same. omega arith));
 }
-  where
-    other : (y : ℕ) → y < x → (x == y) ≡ false
-    other y low = grind (arith, nat_tests)
-
-    behind : (y : ℕ) → x + 4 ≤ y → (x == y) ≡ false
-    behind y low = grind (arith, nat_tests)
 
 -- ---- slots
 

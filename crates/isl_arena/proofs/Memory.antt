@@ -1,5 +1,5 @@
 -- What stands where after a change of the arena.
-use Rattle.std.proofs.Common.{◌≡◌, ℕ, zero, suc, ◌+◌, ◌-◌, ◌*◌, ◌/◌, ◌%◌, ◌^◌, ◌<◌, ◌≤◌, length, Bool, true, false, List, [], ◌∷◌, ◌++◌, Option, Some, None, refl, ap, ◌∙◌, arith}
+use Rattle.std.proofs.Common.{◌≡◌, ℕ, zero, suc, ◌+◌, ◌*◌, ◌/◌, ◌%◌, ◌^◌, ◌<◌, ◌≤◌, length, Bool, true, false, List, [], ◌∷◌, Option, Some, None, refl, ap, ◌∙◌, arith}
 use Rattle.std.specs.Prelude.{◌==◌, ◌&&◌, ◌||◌, if◌then◌else◌, slice_get, slice_set}
 use Rattle.std.proofs.lemmas.Bool.Decides.{nat_tests}
 use Rattle.std.proofs.Math.ListN.{length-set}
@@ -8,7 +8,7 @@ use Rattle.isl_mid.proofs.Growth.{length-emptied}
 use Rattle.isl_arena.specs.Places.{Spot, end_of}
 use Rattle.isl_arena.specs.Standing.{ArenaStands, IsLentPart, of_laid, of_heap, SpotStands}
 use Rattle.isl_arena.proofs.Growing.{Grows, spot_below}
-use Rattle.std.proofs.lemmas.Bool.{eq-eqb}
+use Rattle.std.proofs.lemmas.Bool.{eq-eqb, ne_eqb}
 
 -- tests
 
@@ -32,20 +32,12 @@ got_elsewhere (y ∷ ys) zero (suc j) x h = refl
 got_elsewhere (y ∷ ys) (suc i) zero x h = refl
 got_elsewhere (y ∷ ys) (suc i) (suc j) x h = got_elsewhere ys i j x (λ e. h (ap (λ n. suc n) e))
 
--- memory with words emptied: those in front are as they were, and at the places themselves there is none
+-- memory with words emptied: those in front are as they were
 emptied_in_front : (i n : ℕ) (ws : List (Option ℕ)) (j : ℕ) → j < i → slice_get (emptied i n ws) j ≡ slice_get ws j
 emptied_in_front i n [] j h = refl
 emptied_in_front zero n (w ∷ ws) j h = absurd (omega arith)
 emptied_in_front (suc i) n (w ∷ ws) zero h = refl
 emptied_in_front (suc i) n (w ∷ ws) (suc j) h = emptied_in_front i n ws j (omega arith)
-
-emptied_within : (i n : ℕ) (ws : List (Option ℕ)) (j : ℕ) → i ≤ j → j < i + n → word_in (slice_get (emptied i n ws) j) ≡ None
-emptied_within i n [] j h g = refl
-emptied_within zero zero (w ∷ ws) j h g = absurd (omega arith)
-emptied_within zero (suc n) (w ∷ ws) zero h g = refl
-emptied_within zero (suc n) (w ∷ ws) (suc j) h g = emptied_within zero n ws j (omega arith) (omega arith)
-emptied_within (suc i) n (w ∷ ws) zero h g = absurd (omega arith)
-emptied_within (suc i) n (w ∷ ws) (suc j) h g = emptied_within i n ws j (omega arith) (omega arith)
 
 -- what is lent
 
@@ -219,28 +211,6 @@ grows_with_heap {a} n h some =
           (emptied_in_front (a.heap_to / 4) n a.memory (x / 4) (omega (arith, h.aligned))) low;
     }
 
--- the new words are lent, and nothing was stored there; by their addresses, and by their numbers
-
-pub new_lent : {a : Arena} (n x : ℕ) → ArenaStands a → x % 4 ≡ 0 → a.heap_to ≤ x → x < a.heap_to + 4 * n → is_lent (with_heap n a) x ≡ true
-new_lent {a} n x h e low high = lent_in_heap (with_heap n a) x e (omega (arith, h.heap)) high
-
-pub new_none : {a : Arena} (n x : ℕ) → ArenaStands a → x % 4 ≡ 0 → a.heap_to ≤ x → x < a.heap_to + 4 * n → word_at (with_heap n a) x ≡ None
-new_none {a} n x h e low high =
-    word_found (with_heap n a) x (new_lent n x h e low high)
-    ∙ emptied_within (a.heap_to / 4) n a.memory (x / 4) (omega arith) (omega (arith, h.aligned))
-
-pub new_word_lent : {a : Arena} (n k : ℕ) → ArenaStands a → k < n → is_lent (with_heap n a) (a.heap_to + 4 * k) ≡ true
-new_word_lent {a} n k h low = new_lent n (a.heap_to + 4 * k) h (omega (arith, h.aligned)) (omega arith) (omega arith)
-
-pub new_word_none : {a : Arena} (n k : ℕ) → ArenaStands a → k < n → word_at (with_heap n a) (a.heap_to + 4 * k) ≡ None
-new_word_none {a} n k h low = new_none n (a.heap_to + 4 * k) h (omega (arith, h.aligned)) (omega arith) (omega arith)
-
--- they are a spot
-pub new_spot_stands :
-    {a : Arena} (n tag : ℕ) → ArenaStands a → 1 ≤ n → tag < 4 → SpotStands (with_heap n a) (record { address = a.heap_to; words = n; tag = tag })
-new_spot_stands {a} n tag h some small =
-    record { aligned = h.aligned; some = some; tag = small; part = of_heap h.heap (omega arith) }
-
 -- a block is laid
 
 pub stands_with_new_block : {a : Arena} (b : Block) → ArenaStands a → b.words ≤ left a → ArenaStands (with_new_block b a)
@@ -299,29 +269,11 @@ grows_with_blocks {a} bs h fewer = record {
   words = λ x low. words_below a (with_blocks bs a) x h refl refl refl (omega arith) (omega (arith, h.room)) refl low;
 }
 
-pub left_with_blocks : {a : Arena} (bs : List Block) → ArenaStands a → words_of bs ≤ words_of a.blocks → left (with_blocks bs a) + words_of bs ≡ left a + words_of a.blocks
-left_with_blocks {a} bs h fewer = omega (arith, h.room, h.blocks)
-
 -- the innermost block is given back
 pub grows_given_back : {a : Arena} (b : Block) (bs : List Block) → ArenaStands a → a.blocks ≡ b ∷ bs → Grows a (with_blocks bs a)
 grows_given_back {a} b bs h e =
     let same : words_of a.blocks ≡ b.words + words_of bs = ap words_of e in
     grows_with_blocks bs h (omega arith)
-
-pub left_given_back : {a : Arena} (b : Block) (bs : List Block) → ArenaStands a → a.blocks ≡ b ∷ bs → left (with_blocks bs a) ≡ left a + b.words
-left_given_back {a} b bs h e =
-    let same : words_of a.blocks ≡ b.words + words_of bs = ap words_of e in
-    omega (arith, h.room, h.blocks)
-
--- how many words are left otherwise
-
-pub left_with_word : (a : Arena) (x w : ℕ) → left (with_word x w a) ≡ left a
-left_with_word a x w = ap (λ n. (begin_of n a.blocks - a.heap_to) / 4) (length-set a.memory (x / 4) (Some w))
-
-pub left_with_heap : {a : Arena} (n : ℕ) → ArenaStands a → n ≤ left a → left (with_heap n a) + n ≡ left a
-left_with_heap {a} n h some =
-    let same : length (emptied (a.heap_to / 4) n a.memory) ≡ length a.memory = length-emptied (a.heap_to / 4) n a.memory in
-    omega (arith, same, h.room, h.blocks)
 
 -- a word is stored above where the heap ended before
 pub grows_stored : {a b : Arena} (x w : ℕ) → Grows a b → x % 4 ≡ 0 → a.heap_to ≤ x → Grows a (with_word x w b)
@@ -332,11 +284,8 @@ grows_stored {a} {b} x w g e above = record {
   heap_from = g.heap_from;
   heap_to = g.heap_to;
   stands = stands_with_word x w g.stands;
-  words = λ y low. word_elsewhere b x w y e (is_other x y (omega arith)) ∙ g.words y low;
+  words = λ y low. word_elsewhere b x w y e (ne_eqb x y (λ same. omega arith)) ∙ g.words y low;
 }
-  where
-    is_other : (m n : ℕ) → n < m → (m == n) ≡ false
-    is_other m n h = grind (arith, nat_tests)
 
 -- the words of a spot by their numbers: one is stored, the others are as before
 
@@ -349,13 +298,6 @@ pub others_in_spot :
 others_in_spot {a} {s} i j w stands h =
     word_elsewhere a (s.address + 4 * i) w (s.address + 4 * j) (omega (arith, stands.aligned)) (grind (arith, nat_tests))
 
-pub spot_stands_with_word : {a : Arena} {s : Spot} (x w : ℕ) → SpotStands a s → SpotStands (with_word x w a) s
-spot_stands_with_word {a} {s} x w h = record { aligned = h.aligned; some = h.some; tag = h.tag; part = from h.part }
-  where
-    from : IsLentPart a s → IsLentPart (with_word x w a) s
-    from (of_laid low high) = of_laid low high
-    from (of_heap low high) = of_heap low high
-
 -- words that are stored one after another from an address on
 abbrev pub with_words : ℕ → List ℕ → Arena → Arena
 with_words x [] a = a
@@ -366,36 +308,20 @@ pub stored_heap : (x : ℕ) (ws : List ℕ) (a : Arena) → (with_words x ws a).
 stored_heap x [] a = refl
 stored_heap x (w ∷ ws) a = stored_heap (x + 4) ws (with_word x w a)
 
-pub stored_from : (x : ℕ) (ws : List ℕ) (a : Arena) → (with_words x ws a).heap_from ≡ a.heap_from
-stored_from x [] a = refl
-stored_from x (w ∷ ws) a = stored_from (x + 4) ws (with_word x w a)
-
 pub stored_blocks : (x : ℕ) (ws : List ℕ) (a : Arena) → (with_words x ws a).blocks ≡ a.blocks
 stored_blocks x [] a = refl
 stored_blocks x (w ∷ ws) a = stored_blocks (x + 4) ws (with_word x w a)
-
--- one more behind them
-pub with_words_and : (x : ℕ) (ws : List ℕ) (w : ℕ) (a : Arena) → with_words x (ws ++ w ∷ []) a ≡ with_word (x + 4 * length ws) w (with_words x ws a)
-with_words_and x [] w a = ap (λ n. with_word n w a) (omega arith)
-with_words_and x (v ∷ ws) w a =
-    with_words_and (x + 4) ws w (with_word x v a) ∙ ap (λ n. with_word n w (with_words (x + 4) ws (with_word x v a))) (omega arith)
 
 -- the words in front and behind are as they were
 pub words_in_front : (x : ℕ) (ws : List ℕ) (a : Arena) (y : ℕ) → x % 4 ≡ 0 → y < x → word_at (with_words x ws a) y ≡ word_at a y
 words_in_front x [] a y e h = refl
 words_in_front x (w ∷ ws) a y e h =
-    words_in_front (x + 4) ws (with_word x w a) y (omega arith) (omega arith) ∙ word_elsewhere a x w y e (differs x y h)
-  where
-    differs : (m n : ℕ) → n < m → (m == n) ≡ false
-    differs m n h = grind (arith, nat_tests)
+    words_in_front (x + 4) ws (with_word x w a) y (omega arith) (omega arith) ∙ word_elsewhere a x w y e (ne_eqb x y (λ same. omega arith))
 
 pub words_behind : (x : ℕ) (ws : List ℕ) (a : Arena) (y : ℕ) → x % 4 ≡ 0 → x + 4 * length ws ≤ y → word_at (with_words x ws a) y ≡ word_at a y
 words_behind x [] a y e h = refl
 words_behind x (w ∷ ws) a y e h =
-    words_behind (x + 4) ws (with_word x w a) y (omega arith) (omega arith) ∙ word_elsewhere a x w y e (differs x y (omega arith))
-  where
-    differs : (m n : ℕ) → m < n → (m == n) ≡ false
-    differs m n h = grind (arith, nat_tests)
+    words_behind (x + 4) ws (with_word x w a) y (omega arith) (omega arith) ∙ word_elsewhere a x w y e (ne_eqb x y (λ same. omega arith))
 
 -- and they stand where they were stored
 pub words_stand :

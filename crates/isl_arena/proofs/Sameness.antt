@@ -1,15 +1,12 @@
 -- Two values are the same exactly where their words are.
-use Rattle.std.proofs.Common.{◌≡◌, ℕ, ◌+◌, ◌-◌, ◌%◌, ◌^◌, ◌<◌, ◌≤◌, ℤ, pos, Bool, true, false, List, Some, refl, sym, ap, ◌∙◌, arith}
-use Rattle.std.specs.Prelude.{negsuc, ◌==◌, ◌&&◌, ◌*ℤ◌}
+use Rattle.std.proofs.Common.{◌≡◌, ℕ, ◌+◌, ◌%◌, ◌<◌, ◌≤◌, Bool, true, false, List, Some, refl, sym, ap, ◌∙◌, arith}
+use Rattle.std.specs.Prelude.{◌==◌, ◌&&◌}
 use Rattle.std.proofs.lemmas.Bool.Decides.{nat_tests}
 use Rattle.std.proofs.lemmas.Slice.Eq.{bytes_eq-Decides}
-use Rattle.std.proofs.lemmas.Int.{ints}
-use borrow.Author.Differences.{up, down}
 use Rattle.isl_meaning.specs.declared.program.ProgramRows.{ProgramRows}
-use Rattle.isl_meaning.specs.Values.{SymbolValue, named, unnamed, same_symbol, Value, integer, character, symbol, nil, object, in_range, int_equal, same}
+use Rattle.isl_meaning.specs.Values.{SymbolValue, named, unnamed, same_symbol, Value, integer, character, symbol, nil, object, int_equal, same}
 use Rattle.isl_meaning.specs.Objects.{Object, cons}
 use Rattle.isl_meaning.specs.State as meaning
-use Rattle.isl_mid.specs.Words.{low_word}
 use Rattle.isl_mid.specs.State.{State}
 use Rattle.isl_arena.specs.Tags.{integer_word, nil_word, tag_of}
 use Rattle.isl_arena.specs.Places.{Spot, Places, Owner, of_object, of_symbol, same_owner, spot_of, word_of}
@@ -18,6 +15,7 @@ use Rattle.isl_arena.specs.Represents.{Represents}
 use Rattle.isl_arena.proofs.Arguments.{integer_word_is, character_word_is, tag_in, value_tag, tag_told, symbol_there, object_there}
 use Rattle.isl_arena.proofs.Telling.{object_low, nil_told}
 use Rattle.isl_arena.proofs.WordFacts.{integer_word_one_to_one, int_equal_tells, int_equal_same}
+use Rattle.std.proofs.lemmas.Bool.{eq-eqb, ne_eqb}
 
 -- ---- symbols
 
@@ -37,14 +35,8 @@ symbol_same (unnamed x s) (unnamed y r) h =
 
 -- a test that says when two numbers are equal
 decided : (b : Bool) (w u : ℕ) → (b ≡ true → w ≡ u) → (w ≡ u → b ≡ true) → (w == u) ≡ b
-decided true w u g h = let e : w ≡ u = g refl in rw e (itself u)
-  where
-    itself : (u : ℕ) → (u == u) ≡ true
-    itself u = grind (arith, nat_tests)
-decided false w u g h = differ w u (λ e. absurd (cc (h e)))
-  where
-    differ : (w u : ℕ) → (w ≡ u → ⊥) → (w == u) ≡ false
-    differ w u h = grind (arith, nat_tests)
+decided true w u g h = eq-eqb w u (g refl)
+decided false w u g h = ne_eqb w u (λ e. absurd (cc (h e)))
 
 turned : (w u : ℕ) → (w == u) ≡ (u == w)
 turned w u = grind (arith, nat_tests)

@@ -6,12 +6,12 @@ use Rattle.std.proofs.lemmas.Bool.Decides.{nat_tests}
 use Rattle.isl_meaning.specs.declared.program.ProgramRows.{ProgramRows}
 use Rattle.isl_meaning.specs.declared.program.SlotRow.{SlotRow}
 use Rattle.isl_meaning.specs.declared.primitive.Primitive.TheVariants.{SlotPlace}
-use Rattle.isl_meaning.specs.Values.{Value, integer}
+use Rattle.isl_meaning.specs.Values.{Value}
 use Rattle.isl_meaning.specs.Objects.{instance, class_object, program_error_class, standard_object_class}
 use Rattle.isl_meaning.specs.State as meaning
 use Rattle.isl_meaning.specs.Classes.{precedence, slots}
 use Rattle.isl_meaning.specs.Layout.{class_value}
-use Rattle.isl_meaning.specs.Primitives.{result, Spelt, as_symbol, a_symbol, is_slot, slot_place}
+use Rattle.isl_meaning.specs.Primitives.{Spelt, as_symbol, a_symbol, is_slot, slot_place}
 use Rattle.isl_mid.specs.declared.program.MidProcedure.{MidProcedure}
 use Rattle.isl_mid.specs.declared.operation.Arithmetic.TheVariants as which
 use Rattle.isl_mid.specs.Words.{sum32, product32}
@@ -22,16 +22,14 @@ use Rattle.isl_arena.specs.Tags.{instance_header}
 use Rattle.isl_arena.specs.Places.{Places, word_of}
 use Rattle.isl_arena.specs.FixedWords.{class_address}
 use Rattle.isl_arena.specs.Represents.{Represents}
-use Rattle.isl_arena.specs.Answers.{done, units_after, IsPrimitive}
+use Rattle.isl_arena.specs.Answers.{units_after, IsPrimitive}
 use Rattle.isl_arena.specs.Codes.{procedure_of}
 use Rattle.isl_arena.specs.Steps as steps
 use Rattle.isl_arena.specs.Steps.{steps_of}
 use Rattle.isl_arena.specs.declared.line.Line.TheVariants as line
 use Rattle.isl_arena.proofs.Running.{and_ends, constant_falls, compute_known, load_falls, address_above}
-use Rattle.isl_arena.proofs.Growing.{grows_same}
-use Rattle.isl_arena.proofs.Representing.{represents_same, represents_grown, kept_grown}
 use Rattle.isl_arena.proofs.Arguments.{ObjectFound, object_found}
-use Rattle.isl_arena.proofs.Doing.{Alike, alike_charged, Answers, Run, goes_on, part_answers, paid, value_answers}
+use Rattle.isl_arena.proofs.Doing.{alike_charged, Run, goes_on, part_answers, paid, value_answers}
 use Rattle.isl_arena.proofs.Conditions.{program_error as of_program, signal_run}
 use Rattle.isl_arena.proofs.Checking.{instance_registers}
 use Rattle.isl_arena.proofs.Needing.{instance_needed}

@@ -4,13 +4,11 @@ use Rattle.std.specs.Prelude.{negsuc, ◌==◌, not, slice_set}
 use Rattle.std.proofs.lemmas.Bool.Decides.{nat_tests}
 use Rattle.std.proofs.Math.ListN.{length-set}
 use Rattle.isl_meaning.specs.declared.program.ProgramRows.{ProgramRows}
-use Rattle.isl_meaning.specs.declared.primitive.Primitive.{Primitive}
 use Rattle.isl_meaning.specs.declared.primitive.Primitive.TheVariants.{StandardInput, StandardOutput, IsFreshLine, GetByte, PeekByte}
-use Rattle.isl_meaning.specs.Arity.{arity}
 use Rattle.isl_meaning.specs.Values.{Value, integer, in_range, truth}
 use Rattle.isl_meaning.specs.State as meaning
 use Rattle.isl_meaning.specs.Layout.{standard_input, standard_output}
-use Rattle.isl_meaning.specs.Primitives.{result, first_byte, other_bytes, is_fresh_line, primitive}
+use Rattle.isl_meaning.specs.Primitives.{result, first_byte, other_bytes, is_fresh_line}
 use Rattle.isl_mid.specs.declared.program.MidProcedure.{MidProcedure}
 use Rattle.isl_mid.specs.declared.operation.Arithmetic.TheVariants as which
 use Rattle.isl_mid.specs.declared.operation.Comparison.TheVariants as comparison
@@ -21,13 +19,13 @@ use Rattle.isl_mid.specs.MidCode.{MidStep, perform, return_word, code_of}
 use Rattle.isl_mid.specs.State.{Registers, State, Outcome, falls, returns, ends, first_registers}
 use Rattle.isl_mid.specs.Meaning.{Task, Context}
 use Rattle.isl_arena.specs.Tags.{nil_word, integer_word}
-use Rattle.isl_arena.specs.Places.{Places, word_of, WordsOf}
+use Rattle.isl_arena.specs.Places.{Places, word_of}
 use Rattle.isl_arena.specs.Standing.{ValueAt}
 use Rattle.isl_arena.specs.FixedWords.{input_address, output_address, line_address, peeked_address, InputIs, untouched, looked_at}
 use Rattle.isl_arena.specs.Layouts.{AreBytes}
 use Rattle.isl_arena.specs.Represents.{Represents}
 use Rattle.isl_arena.specs.Answers.{done, IsPrimitive}
-use Rattle.isl_arena.specs.Codes.{code_of_primitive, procedure_of}
+use Rattle.isl_arena.specs.Codes.{procedure_of}
 use Rattle.isl_arena.specs.Steps as steps
 use Rattle.isl_arena.proofs.WordFacts.{integer_word_tag, integer_word_of_pos, integer_word_of_negsuc, byte_read, end_read, in_range_is}
 use Rattle.isl_arena.proofs.Running.{StepsTo, constant_falls, compute_known, load_falls, store_falls, get_falls, get_at_end}
@@ -37,7 +35,6 @@ use Rattle.isl_arena.proofs.Representing.{fixed_spot, fixed_stands, represents_s
 use Rattle.isl_arena.proofs.FixedChanges.{word_of_fixed, represents_read}
 use Rattle.isl_arena.proofs.Making.{changes_stored, fixed_lent}
 use Rattle.isl_arena.proofs.Doing.{alike_self, Answers, Run, goes_on, returns_value, first_answers, test_fails}
-use Rattle.isl_arena.proofs.Entering.{does_by_code}
 use Rattle.isl_arena.proofs.Taking.{does_none}
 
 -- ---- values at fixed addresses

@@ -7,17 +7,17 @@ use Rattle.isl_meaning.specs.Values.{SymbolValue, named, unnamed, Value, integer
 use Rattle.isl_meaning.specs.Objects.{Object, cons, string, vector, instance, class_object, fresh_symbol}
 use Rattle.isl_meaning.specs.State as meaning
 use Rattle.isl_meaning.specs.Classes.{fetch}
-use Rattle.isl_meaning.specs.Primitives.{as_integer, as_character, as_cons, as_string, as_vector, as_class, as_instance, as_stream, fresh_in, as_symbol, Spelt, by_serial, is_function, is_generic}
+use Rattle.isl_meaning.specs.Primitives.{as_integer, as_character, as_cons, as_string, as_vector, as_class, as_instance, as_stream, fresh_in, as_symbol, Spelt, by_serial}
 use Rattle.isl_mid.specs.Arena.{Arena, word_at}
 use Rattle.isl_mid.specs.State.{State}
 use Rattle.isl_arena.specs.Tags.{cons_tag, object_tag, integer_word, nil_word, character_word, string_header, vector_header}
-use Rattle.isl_arena.specs.Tags.{class_header, input_header, output_header, function_header, generic_header, symbol_header, fresh_header, tag_of}
+use Rattle.isl_arena.specs.Tags.{class_header, input_header, output_header, symbol_header, fresh_header, tag_of}
 use Rattle.isl_arena.specs.Places.{Places, word_of}
 use Rattle.isl_arena.specs.Represents.{Represents}
 use Rattle.isl_arena.proofs.Keeping.{header_of}
 use Rattle.isl_arena.proofs.Arguments.{integer_word_is, character_word_is, tag_in, header_in, value_tag, value_header, tag_told, header_told, symbol_there, object_there, object_found}
-use Rattle.isl_arena.proofs.HeaderKinds.{IsKindOf, string_kind, vector_kind, class_kind, instance_kind, stream_kind, function_kind}
-use Rattle.isl_arena.proofs.HeaderKinds.{generic_kind, instance_of, stream_of, string_is, vector_is, class_is, instance_is, stream_is}
+use Rattle.isl_arena.proofs.HeaderKinds.{IsKindOf, string_kind, vector_kind, class_kind, instance_kind, stream_kind}
+use Rattle.isl_arena.proofs.HeaderKinds.{instance_of, stream_of, string_is, vector_is, class_is, instance_is, stream_is}
 
 -- ---- cases
 
@@ -172,14 +172,6 @@ module _ (names : List (List ℕ)) (program : ProgramRows) (places : Places) (z 
       (v : Value) (w : ℕ) → word_of places v ≡ Some w
       → FoundByHeader as_stream stream_of (λ h. h == input_header || h == output_header) y.arena (fetch z v) w
   stream_told = header_finds as_stream stream_of _ stream_kind stream_is
-
-  pub function_told :
-      (v : Value) (w : ℕ) → word_of places v ≡ Some w
-      → ByHeader y.arena w (λ h. h == function_header || h == generic_header) (is_function (fetch z v))
-  function_told = header_decides is_function _ function_kind
-
-  pub generic_told : (v : Value) (w : ℕ) → word_of places v ≡ Some w → ByHeader y.arena w (λ h. h == generic_header) (is_generic (fetch z v))
-  generic_told = header_decides is_generic _ generic_kind
 
   pub integer_told : (v : Value) (w : ℕ) → word_of places v ≡ Some w → IntegerTold v w
   integer_told (integer n) w e =
