@@ -31,7 +31,7 @@ use Rattle.isl_arena.proofs.FixedChanges.{one_word}
 use Rattle.isl_arena.proofs.Making.{changes_stored}
 use Rattle.isl_arena.proofs.Doing.{alike_self, Answers, Run, goes_on, test_passes, second_answers}
 use Rattle.isl_arena.proofs.Conditions.{program_error as of_program, domain_error_run, signal_run}
-use Rattle.isl_arena.proofs.Checking.{Scratched, scratched_six, not_scratched, six_here}
+use Rattle.isl_arena.proofs.Registers.{Scratched, not_scratched, scratched_six, six_here}
 
 -- ---- lengths and indices
 

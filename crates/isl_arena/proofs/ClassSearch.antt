@@ -28,7 +28,7 @@ use Rattle.isl_arena.proofs.Running.{repeat_falls, repeat_turn, repeat_ends, add
 use Rattle.isl_arena.proofs.Growing.{spot_below}
 use Rattle.isl_arena.proofs.Arguments.{ObjectFound, object_found}
 use Rattle.isl_arena.proofs.Doing.{alike_charged, paid, Run, goes_on, returns_value, step_returns}
-use Rattle.isl_arena.proofs.Checking.{register_here, register_beside, same_size}
+use Rattle.isl_arena.proofs.Registers.{register_beside, register_here, same_size}
 
 -- what the loop does in a turn
 abbrev search_body : List MidStep

@@ -33,8 +33,8 @@ use Rattle.isl_arena.proofs.Taking.{does_one}
 use Rattle.isl_arena.proofs.ClassHeaders.{KindHeader, of_string, of_vector, of_function, of_generic, of_input, of_output, of_symbol, of_fresh, Seeking, OnTheWay, Finds, finds_within}
 use Rattle.isl_arena.proofs.ClassHeaders.{finds_after, finds_first, finds_second, six, six_there, finds_fixed, finds_where, finds_otherwise, finds_by_header, finds_of_class}
 use Rattle.isl_arena.proofs.ClassHeaders.{finds_of_instance, finds_of_other}
-use Rattle.isl_arena.proofs.Checking.{register_here, register_beside, same_size}
 use Rattle.isl_arena.proofs.Telling.{character_not_nil}
+use Rattle.isl_arena.proofs.Registers.{register_beside, register_here, same_size}
 
 module _ {names : List (List ℕ)} {program : ProgramRows} {places : Places} {z : meaning.State} {y : State} (here : Seeking names program places z y) where
   -- ---- by the tag

@@ -1,7 +1,6 @@
 -- A cons that is made, its two parts, and a part that is set do what the meaning says of them.
 use Rattle.std.proofs.Common.{◌≡◌, ℕ, ◌+◌, ◌*◌, ◌^◌, ◌<◌, ◌≤◌, ℤ, pos, List, [], ◌∷◌, ◌++◌, Some, refl, ap, ◌∙◌, arith}
 use Rattle.std.specs.Prelude.{negsuc, slice_set}
-use Rattle.std.proofs.Math.ListN.{length-set}
 use Rattle.isl_meaning.specs.declared.program.ProgramRows.{ProgramRows}
 use Rattle.isl_meaning.specs.declared.primitive.Primitive.TheVariants.{Cons, Car, Cdr, SetCar, SetCdr}
 use Rattle.isl_meaning.specs.Values.{Value}
@@ -26,18 +25,17 @@ use Rattle.isl_arena.specs.Represents.{Represents}
 use Rattle.isl_arena.specs.Answers.{IsPrimitive}
 use Rattle.isl_arena.specs.Codes.{procedure_of}
 use Rattle.isl_arena.specs.Steps as steps
-use Rattle.isl_arena.proofs.Running.{constant_falls, compute_known, load_falls, store_in_heap, store_in_spot, request_falls, request_wanting}
+use Rattle.isl_arena.proofs.Running.{constant_falls, compute_known, load_falls, store_in_heap, request_falls, request_wanting}
 use Rattle.isl_arena.proofs.Running.{and_then, and_ends, return_ends, address_here, address_up, address_above, address_below}
 use Rattle.isl_arena.proofs.Memory.{heap_below, stored_in_spot, others_in_spot}
 use Rattle.isl_arena.proofs.Keeping.{same_word}
-use Rattle.isl_arena.proofs.Growing.{changes_part, spot_below}
-use Rattle.isl_arena.proofs.FixedChanges.{one_word}
-use Rattle.isl_arena.proofs.Making.{Room, is_left, is_wanting, room_for, begun, begun_grows, begun_word, changes_stored, answers_wanting, answers_made}
+use Rattle.isl_arena.proofs.Growing.{spot_below}
+use Rattle.isl_arena.proofs.Making.{Room, is_left, is_wanting, room_for, begun, begun_grows, begun_word, answers_wanting, answers_made}
 use Rattle.isl_arena.proofs.Arguments.{ObjectFound, object_found}
 use Rattle.isl_arena.proofs.ClassesKept.{IsMade}
 use Rattle.isl_arena.proofs.Doing.{alike_self, paid, Run, goes_on, returns_value}
 use Rattle.isl_arena.proofs.Checking.{tag_registers, cons_needed}
-use Rattle.isl_arena.proofs.Arrays.{returns_changed}
+use Rattle.isl_arena.proofs.Arrays.{stores_changed}
 use Rattle.isl_arena.proofs.Taking.{does_one, does_two}
 
 -- ---- the parts of a cons
@@ -156,34 +154,12 @@ module _
         → Run names program places z y procedures below n budget (result v (change u (with_part part v (car, cdr)) z))
         (code_of (steps.store 0 1 (offset_of part) ∷ return_word 0 ∷ [])) rs k
     stores_part n budget k a w v u car cdr part rs first second found held held_cons cost =
-        rw it.value
-        (record {
-          outcome = ends (returns a) rs (record y { arena = later; cost = k + 8 + 14 });
-          runs =
-              and_then
-              (store_in_spot it.spot_stands held held_cons (part_address names program places z y r procedures below part u w car cdr it)
-              (omega (arith, it.spot_stands.aligned)) (omega arith) (omega (arith, low, it.stands.size.words)))
-              (and_ends tt (return_ends held));
-          answers =
-              returns_changed names program places z y r procedures below budget (k + 8 + 14) it.number a it.spot (cons car cdr) (with_part part v (car, cdr)) v later rs
-              it.stored tt (part_made program part v (car, cdr)) (λ p e. absurd (cc e)) it.found
-              (changes_part it.spot (one_word at) y.arena later (omega arith) (omega (arith, low, it.stands.size.words))
-              (changes_stored at a r.arena (omega (arith, it.spot_stands.aligned))))
-              (cons_set places y.arena it.spot car cdr v a part r.arena it.spot_stands first it.stands names program) first
-              (length-set y.arena.memory _ (Some a)) refl refl (omega (arith, cost));
-        })
-      where
-        it : ObjectFound names program places z y r u w (cons car cdr)
-        it = object_found names program places z y r u w (cons car cdr) second found
-
-        low : words_behind part < 2
-        low = part_below part
-
-        at : ℕ
-        at = it.spot.address + 4 * words_behind part
-
-        later : Arena
-        later = with_word at a y.arena
+        let it = object_found names program places z y r u w (cons car cdr) second found in
+        let low : words_behind part < 2 = part_below part in
+        stores_changed names program places z y r procedures below n budget k it.number 0 1 0 w (it.spot.address + 4 * words_behind part) a a (offset_of part) it.spot
+        (cons car cdr) (with_part part v (car, cdr)) v u rs held held_cons (part_address names program places z y r procedures below part u w car cdr it) held first
+        (omega (arith, it.spot_stands.aligned)) (omega arith) (omega (arith, low, it.stands.size.words)) it.stored tt (part_made program part v (car, cdr))
+        (λ p e. absurd (cc e)) it.found it.value (cons_set places y.arena it.spot car cdr v a part r.arena it.spot_stands first it.stands names program) cost
 
     sets_part :
         (n a w : ℕ) (v u : Value) (part : Part) → word_of places v ≡ Some a → word_of places u ≡ Some w

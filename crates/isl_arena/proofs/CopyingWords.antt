@@ -1,10 +1,9 @@
 -- The line that copies words: what its loop comes to.
-use Rattle.std.proofs.Common.{◌≡◌, ℕ, zero, suc, ◌+◌, ◌*◌, ◌%◌, ◌^◌, ◌<◌, ◌≤◌, pos, List, [], ◌∷◌, ◌++◌, length, Option, Some, refl, sym, ap, ◌∙◌, arith}
+use Rattle.std.proofs.Common.{◌≡◌, ℕ, zero, suc, ◌+◌, ◌*◌, ◌%◌, ◌<◌, ◌≤◌, pos, List, [], ◌∷◌, ◌++◌, length, Option, Some, refl, sym, ap, ◌∙◌, arith}
 use Rattle.std.specs.Prelude.{slice_get}
 use Rattle.std.proofs.lemmas.Option.{slice_get_within}
 use Rattle.isl_mid.specs.declared.operation.Arithmetic.TheVariants as which
 use Rattle.isl_mid.specs.declared.program.MidProcedure.{MidProcedure}
-use Rattle.isl_mid.specs.Words.{sum32}
 use Rattle.isl_mid.specs.Arena.{word_at, with_word}
 use Rattle.isl_mid.specs.MidCode.{MidStep}
 use Rattle.isl_mid.specs.State.{State, Outcome, falls, ends}
@@ -14,14 +13,12 @@ use Rattle.isl_arena.specs.Steps as steps
 use Rattle.isl_arena.proofs.Memory.{heap_below, word_elsewhere, stands_with_word, with_words}
 use Rattle.isl_arena.proofs.Running.{StepsTo, turning, none_left, and_then, constant_falls, compute_known, load_falls, store_in_heap, address_above, repeat_falls, repeat_turn}
 use Rattle.std.proofs.lemmas.Bool.{lt-ltb, le-ltb, ne_eqb}
+use Rattle.isl_arena.proofs.WordFacts.{sum_fits}
 
 -- the loop
 abbrev pub copy_words : MidStep
 copy_words =
     steps.while_below 7 5 (steps.load 6 4 (pos 6) ∷ steps.store 6 7 (pos 8) ∷ steps.compute_by 7 which.Add 7 4 ++ steps.compute_by 4 which.Add 4 4)
-
-sum_of_four : (a : ℕ) → a + 4 < 2 ^ 32 → sum32 a 4 ≡ a + 4
-sum_of_four a h = omega arith
 
 module _ (procedures : List MidProcedure) (below : Task → State → Outcome) where
   -- With so many turns, these words are stored from an address on. What is left in the registers that the loop uses does not matter.
@@ -54,9 +51,9 @@ module _ (procedures : List MidProcedure) (below : Task → State → Outcome) w
             (and_then (load_falls refl (address_above s 6 from (sym from_is) (omega arith)) found)
             (and_then (store_in_heap refl refl (address_above d 8 at (sym at_is) (omega arith)) aligned low (omega arith))
             (and_then constant_falls
-            (and_then (compute_known refl refl (sum_of_four d (omega arith)))
+            (and_then (compute_known refl refl (sum_fits d 4 (omega arith)))
             (and_then constant_falls
-            (and_then (compute_known refl refl (sum_of_four s (omega arith)))
+            (and_then (compute_known refl refl (sum_fits s 4 (omega arith)))
             none_left))))))
             rest.steps;
         cost = omega (arith, rest.cost);

@@ -1,5 +1,5 @@
 -- A fresh symbol is made with the serial that comes next, as the meaning says.
-use Rattle.std.proofs.Common.{◌≡◌, ℕ, ◌+◌, ◌*◌, ◌/◌, ◌%◌, ◌^◌, ◌≤◌, true, List, [], ◌∷◌, length, Some, None, refl, ap, ◌∙◌, arith}
+use Rattle.std.proofs.Common.{◌≡◌, ℕ, ◌+◌, ◌*◌, ◌/◌, ◌%◌, ◌^◌, ◌≤◌, List, [], ◌∷◌, length, Some, None, refl, ap, ◌∙◌, arith}
 use Rattle.std.specs.Prelude.{slice_get}
 use Rattle.std.proofs.Math.ListN.{length-set}
 use Rattle.isl_meaning.specs.declared.program.ProgramRows.{ProgramRows}
@@ -9,7 +9,7 @@ use Rattle.isl_meaning.specs.Objects.{Object, fresh_symbol}
 use Rattle.isl_meaning.specs.State as meaning
 use Rattle.isl_meaning.specs.Primitives.{makes_symbol, primitive}
 use Rattle.isl_mid.specs.declared.program.MidProcedure.{MidProcedure}
-use Rattle.isl_mid.specs.Arena.{Arena, left, is_lent, word_at, with_word}
+use Rattle.isl_mid.specs.Arena.{Arena, left, word_at, with_word}
 use Rattle.isl_mid.specs.MidCode.{code_of}
 use Rattle.isl_mid.specs.State.{Registers, State, Outcome, returns, no_room, ends, first_registers}
 use Rattle.isl_mid.specs.Meaning.{Task, Context}
@@ -20,14 +20,14 @@ use Rattle.isl_arena.specs.Layouts.{PairAt}
 use Rattle.isl_arena.specs.Represents.{Represents}
 use Rattle.isl_arena.specs.Answers.{Done, done, IsPrimitive}
 use Rattle.isl_arena.specs.Codes.{code_of_primitive, procedure_of}
-use Rattle.isl_arena.proofs.Memory.{heap_below, in_spot_lent, in_spot_there, word_here}
-use Rattle.isl_arena.proofs.Growing.{Changes, Grows, spot_grown}
+use Rattle.isl_arena.proofs.Memory.{heap_below}
+use Rattle.isl_arena.proofs.Growing.{Changes, Grows}
 use Rattle.isl_arena.proofs.WordFacts.{next_serial}
 use Rattle.isl_arena.proofs.Running.{RunsTo, and_then, and_ends, costing, constant_falls, compute_falls, compute_known, load_falls, store_falls, store_in_heap, request_falls, request_wanting}
 use Rattle.isl_arena.proofs.Running.{return_ends, address_above, address_here}
-use Rattle.isl_arena.proofs.Representing.{fixed_spot, fixed_stands, kept_both, kept_made, kept_grown, kept_fixed}
+use Rattle.isl_arena.proofs.Representing.{kept_both, kept_made, kept_grown, kept_fixed}
 use Rattle.isl_arena.proofs.FixedChanges.{one_word, represents_serial, word_of_fixed}
-use Rattle.isl_arena.proofs.Making.{Room, is_left, is_wanting, room_for, begun, begun_grows, begun_heap, begun_blocks, begun_word, changes_stored, fixed_below, answers_wanting}
+use Rattle.isl_arena.proofs.Making.{Room, is_left, is_wanting, room_for, begun, begun_grows, begun_heap, begun_blocks, begun_word, changes_stored, fixed_below, answers_wanting, fixed_still_lent, stored_fixed}
 use Rattle.isl_arena.proofs.Making.{represents_new, pointer_made}
 use Rattle.isl_arena.proofs.Doing.{alike_self, Run, paid}
 use Rattle.isl_arena.proofs.Entering.{does_by_code}
@@ -49,9 +49,6 @@ module _ (names : List (List ℕ)) (program : ProgramRows) (places : Places) (z 
 
   grown : Grows y.arena symbol_arena
   grown = begun_grows 2 (fresh_header ∷ serial_word z ∷ []) r.arena room
-
-  serial_lent : is_lent symbol_arena serial_address ≡ true
-  serial_lent = in_spot_lent {s = fixed_spot} serial_address (spot_grown grown (fixed_stands names program places z y r)) refl (omega arith) (omega arith)
 
   -- the code comes to the pointer to the symbol, with these words stored
   gensym_ends :
@@ -80,7 +77,7 @@ module _ (names : List (List ℕ)) (program : ProgramRows) (places : Places) (z 
       (and_then constant_falls
       (and_then (compute_known refl refl (next_serial z.symbols))
       (and_then constant_falls
-      (and_then (store_falls refl refl (address_above 0 serial_address serial_address refl (omega arith)) serial_lent)
+      (and_then (store_falls refl refl (address_above 0 serial_address serial_address refl (omega arith)) (fixed_still_lent names program places z y r symbol_arena grown serial_address refl (omega arith)))
       (and_then constant_falls
       (and_then (compute_known refl refl (omega arith))
       (and_ends tt (return_ends refl))))))))))))))))))) (omega arith)
@@ -145,9 +142,7 @@ module _ (names : List (List ℕ)) (program : ProgramRows) (places : Places) (z 
       changes = changes_stored serial_address (next_word z) grown.stands refl
 
       serial : word_at serial_arena serial_address ≡ Some (next_word z)
-      serial =
-          word_here symbol_arena serial_address (next_word z) serial_lent
-          (in_spot_there {s = fixed_spot} serial_address grown.stands (fixed_stands names program after (meaning.stored one z) with_symbol there) (omega arith))
+      serial = stored_fixed names program after (meaning.stored one z) with_symbol there serial_address (next_word z) refl (omega arith)
 
 module _
     (names : List (List ℕ)) (program : ProgramRows) (places : Places) (z : meaning.State) (y : State) (r : Represents names program places z y)

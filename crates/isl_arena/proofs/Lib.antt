@@ -1,3 +1,5 @@
+pub mod Lists
+pub mod Registers
 pub mod Running
 pub mod Memory
 pub mod WordFacts

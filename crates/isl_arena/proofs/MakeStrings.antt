@@ -36,10 +36,11 @@ use Rattle.isl_arena.proofs.Running.{request_falls, request_wanting, return_ends
 use Rattle.isl_arena.proofs.Making.{Room, is_left, is_wanting, room_for, answers_made, answers_wanting}
 use Rattle.isl_arena.proofs.Doing.{alike_self, Run, paid}
 use Rattle.isl_arena.proofs.Checking.{integer_needed, character_needed}
-use Rattle.isl_arena.proofs.Filling.{fill, six_after, fill_falls, replicated}
+use Rattle.isl_arena.proofs.Filling.{fill, six_after, fill_falls}
 use Rattle.isl_arena.proofs.Arrays.{length_test, length_needed}
 use Rattle.isl_arena.proofs.Growing.{Grows}
 use Rattle.isl_arena.proofs.Taking.{does_two}
+use Rattle.isl_arena.proofs.Lists.{replicated}
 
 -- ---- the arena
 

@@ -26,7 +26,7 @@ use Rattle.isl_arena.specs.Answers.{Enlarged, Returned, Pending, Signalled, Room
 use Rattle.isl_arena.proofs.Memory.{in_spot_lent, in_spot_there, word_here, word_elsewhere, stands_with_word, stands_with_heap, grows_with_heap, with_words, grows_with_words, stored_heap, stored_blocks}
 use Rattle.isl_arena.proofs.Memory.{words_stand}
 use Rattle.isl_arena.proofs.Keeping.{same_word, words_extended, words_of_condition, words_at_least, extends_one, as_many_words}
-use Rattle.isl_arena.proofs.Growing.{Grows, grows_same, Changes, spot_below}
+use Rattle.isl_arena.proofs.Growing.{Grows, grows_same, Changes, spot_below, spot_grown}
 use Rattle.isl_arena.proofs.Owners.{new_spot_found}
 use Rattle.isl_arena.proofs.ClassesKept.{IsMade}
 use Rattle.isl_arena.proofs.Representing.{fixed_spot, fixed_stands, represents_same, represents_grown, represents_made, kept_both, kept_same, kept_made, kept_grown, kept_fixed}
@@ -120,6 +120,15 @@ module _ (names : List (List ℕ)) (program : ProgramRows) (places : Places) (z 
 
   pub fixed_lent : (x : ℕ) → x % 4 ≡ 0 → x < 184 → is_lent y.arena x ≡ true
   fixed_lent x aligned high = in_spot_lent x (fixed_stands names program places z y r) aligned (omega arith) high
+
+  -- also where the arena grew
+  pub fixed_still_lent : (b : Arena) → Grows y.arena b → (x : ℕ) → x % 4 ≡ 0 → x < 184 → is_lent b x ≡ true
+  fixed_still_lent b g x aligned high = in_spot_lent x (spot_grown g (fixed_stands names program places z y r)) aligned (omega arith) high
+
+  -- what is stored there stands there
+  pub stored_fixed : (address word : ℕ) → address % 4 ≡ 0 → address < 184 → word_at (with_word address word y.arena) address ≡ Some word
+  stored_fixed address word aligned low =
+      word_here y.arena address word (fixed_lent address aligned low) (in_spot_there {s = fixed_spot} address r.arena (fixed_stands names program places z y r) (omega arith))
 
 module _ (names : List (List ℕ)) (program : ProgramRows) (places : Places) (z : meaning.State) (y : State) (r : Represents names program places z y) where
   -- words that are not left were asked for, where nothing else changed
@@ -299,9 +308,7 @@ module _ (names : List (List ℕ)) (program : ProgramRows) (places : Places) (z 
         pending = record {
           word = word;
           of_value = pointer_made words object_tag condition y' g to blocks printed input some (omega arith) z' alike made known;
-          stands =
-              word_here y'.arena pending_address word (fixed_lent names program after (meaning.stored condition z') y' there pending_address refl (omega arith))
-              (in_spot_there {s = fixed_spot} pending_address g.stands (fixed_stands names program after (meaning.stored condition z') y' there) (omega arith));
+          stands = stored_fixed names program after (meaning.stored condition z') y' there pending_address word refl (omega arith);
         };
         arena = record {
           size = length-set y'.arena.memory (pending_address / 4) (Some word) ∙ g.size;

@@ -9,6 +9,7 @@ use Rattle.isl_arena.specs.Places.{Spot, end_of}
 use Rattle.isl_arena.specs.Standing.{ArenaStands, IsLentPart, of_laid, of_heap, SpotStands}
 use Rattle.isl_arena.proofs.Growing.{Grows, spot_below}
 use Rattle.std.proofs.lemmas.Bool.{eq-eqb, ne_eqb}
+use Rattle.isl_arena.proofs.Lists.{set_here, set_elsewhere}
 
 -- tests
 
@@ -17,20 +18,6 @@ within from to x h g = grind (arith, nat_tests)
 
 not_within_below : (from to x : ℕ) → x < from → is_within from to x ≡ false
 not_within_below from to x h = grind (arith, nat_tests)
-
--- lists
-
-got_here : {X : Type 0} (xs : List X) (i : ℕ) (x : X) → i < length xs → slice_get (slice_set xs i x) i ≡ Some x
-got_here [] i x h = absurd (omega arith)
-got_here (y ∷ ys) zero x h = refl
-got_here (y ∷ ys) (suc i) x h = got_here ys i x (omega arith)
-
-got_elsewhere : {X : Type 0} (xs : List X) (i j : ℕ) (x : X) → (i ≡ j → ⊥) → slice_get (slice_set xs i x) j ≡ slice_get xs j
-got_elsewhere [] i j x h = refl
-got_elsewhere (y ∷ ys) zero zero x h = absurd (h refl)
-got_elsewhere (y ∷ ys) zero (suc j) x h = refl
-got_elsewhere (y ∷ ys) (suc i) zero x h = refl
-got_elsewhere (y ∷ ys) (suc i) (suc j) x h = got_elsewhere ys i j x (λ e. h (ap (λ n. suc n) e))
 
 -- memory with words emptied: those in front are as they were
 emptied_in_front : (i n : ℕ) (ws : List (Option ℕ)) (j : ℕ) → j < i → slice_get (emptied i n ws) j ≡ slice_get ws j
@@ -133,7 +120,7 @@ lent_with_word a x w y =
 
 pub word_here : (a : Arena) (x w : ℕ) → is_lent a x ≡ true → x / 4 < length a.memory → word_at (with_word x w a) x ≡ Some w
 word_here a x w h g =
-    word_found (with_word x w a) x (lent_with_word a x w x ∙ h) ∙ ap word_in (got_here a.memory (x / 4) (Some w) g)
+    word_found (with_word x w a) x (lent_with_word a x w x ∙ h) ∙ ap word_in (set_here a.memory (x / 4) (Some w) g)
 
 -- the same for an address in the heap
 pub stored_in_heap : {a : Arena} (x w : ℕ) → ArenaStands a → x % 4 ≡ 0 → a.heap_from ≤ x → x < a.heap_to → word_at (with_word x w a) x ≡ Some w
@@ -142,7 +129,7 @@ stored_in_heap {a} x w h e low high = word_here a x w (lent_in_heap a x e low hi
 pub word_elsewhere : (a : Arena) (x w y : ℕ) → x % 4 ≡ 0 → (x == y) ≡ false → word_at (with_word x w a) y ≡ word_at a y
 word_elsewhere a x w y e h =
     same_word a (with_word x w a) y (lent_with_word a x w y)
-    (λ l. ap word_in (got_elsewhere a.memory (x / 4) (y / 4) (Some w) (λ same. other (omega (arith, aligned a y l)))))
+    (λ l. ap word_in (set_elsewhere a.memory (x / 4) (y / 4) (Some w) (λ same. other (omega (arith, aligned a y l)))))
   where
     other : x ≡ y → ⊥
     other same = grind (arith, nat_tests)

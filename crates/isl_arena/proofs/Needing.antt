@@ -25,8 +25,9 @@ use Rattle.isl_arena.proofs.WordFacts.{tag_tested, low_four_bits_tested, equal_b
 use Rattle.isl_arena.proofs.HeaderKinds.{instance_of, stream_of}
 use Rattle.isl_arena.proofs.Telling.{FoundByHeader, found_kind, found_other_kind, found_other_tag, string_told, vector_told, class_told, instance_told, stream_told}
 use Rattle.isl_arena.proofs.Doing.{Run, goes_on, second_answers, part_then, part_answers, paid}
-use Rattle.isl_arena.proofs.Checking.{tag_registers, header_registers, instance_registers, Scratched, scratched_six, scratched_seven, six_here, seven_behind_six, errs, tag_scratched, tag_passes, tag_errs, header_loaded, header_passes, header_errs, header_errs_by_tag, header_bounded}
+use Rattle.isl_arena.proofs.Checking.{tag_registers, header_registers, instance_registers, errs, tag_scratched, tag_passes, tag_errs, header_loaded, header_passes, header_errs, header_errs_by_tag, header_bounded}
 use Rattle.isl_arena.proofs.Running.{RunsTo, turning, none_left, and_then, parts_then, constant_falls, compute_falls, choose_first_falls}
+use Rattle.isl_arena.proofs.Registers.{Scratched, scratched_seven, scratched_six, seven_behind_six, six_here}
 
 module _
     (names : List (List ℕ)) (program : ProgramRows) (places : Places) (z : meaning.State) (y : State) (r : Represents names program places z y)

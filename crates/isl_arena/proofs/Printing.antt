@@ -32,13 +32,13 @@ use Rattle.isl_arena.proofs.Keeping.{header_of}
 use Rattle.isl_arena.proofs.HeaderKinds.{stream_of}
 use Rattle.isl_arena.proofs.Arguments.{object_found, word_told}
 use Rattle.isl_arena.proofs.FixedChanges.{represents_printed}
-use Rattle.isl_arena.proofs.Making.{changes_stored, fixed_lent}
+use Rattle.isl_arena.proofs.Making.{changes_stored, fixed_lent, stored_fixed}
 use Rattle.isl_arena.proofs.Doing.{alike_self, Run, goes_on, test_passes, second_answers}
 use Rattle.isl_arena.proofs.Conditions.{domain_error_run}
 use Rattle.isl_arena.proofs.Checking.{header_registers, character_needed}
 use Rattle.isl_arena.proofs.Needing.{stream_needed}
 use Rattle.isl_arena.proofs.Taking.{does_two}
-use Rattle.isl_arena.proofs.Streams.{returns_stored, stored_fixed}
+use Rattle.isl_arena.proofs.Streams.{returns_stored}
 
 -- ---- whether the output is at the start of a line
 

@@ -33,13 +33,15 @@ use Rattle.isl_arena.proofs.Doing.{alike_charged, Run, goes_on, part_answers, pa
 use Rattle.isl_arena.proofs.Conditions.{program_error as of_program, signal_run}
 use Rattle.isl_arena.proofs.Checking.{instance_registers}
 use Rattle.isl_arena.proofs.Needing.{instance_needed}
-use Rattle.isl_arena.proofs.NeedingSymbols.{symbol_needed, last_two}
+use Rattle.isl_arena.proofs.NeedingSymbols.{symbol_needed}
 use Rattle.isl_arena.proofs.Arrays.{length_word_is}
 use Rattle.isl_arena.specs.ClassesThere.{ClassesThere}
 use Rattle.isl_arena.proofs.Slots.{instance_low}
 use Rattle.isl_arena.proofs.SlotRows.{class_found, class_low}
-use Rattle.isl_arena.proofs.SlotSearch.{search_slot, position_at_most, NameAt, Searched, found, missed, search, slot_told, sum_is}
+use Rattle.isl_arena.proofs.SlotSearch.{search_slot, position_at_most, NameAt, Searched, found, missed, search, slot_told}
 use Rattle.isl_arena.proofs.Taking.{does_two}
+use Rattle.isl_arena.proofs.Registers.{last_two}
+use Rattle.isl_arena.proofs.WordFacts.{sum_fits}
 
 -- what the search is charged bounds its turns
 place_units :
@@ -121,7 +123,7 @@ module _
         (load_falls refl (address_above w 2 (it.spot.address + 4) (omega (arith, it.word)) (omega (arith, it.word, low))) it.stands.class.stands)
         (goes_on names program places z y procedures below
         (load_falls refl (address_above class_word 18 (of_class.spot.address + 20) (omega (arith, is_word)) (omega (arith, is_word, high))) of_class.stands.above)
-        (goes_on names program places z y procedures below (compute_known refl refl (sum_is above class_word (omega (arith, high))))
+        (goes_on names program places z y procedures below (compute_known refl refl (sum_fits above class_word (omega (arith, high))))
         (goes_on names program places z y procedures below constant_falls
         (goes_on names program places z y procedures below
         (compute_known refl refl (let sum : sum32 (above + class_word) 26 ≡ rows_from = omega (arith, is_word, high) in sum))

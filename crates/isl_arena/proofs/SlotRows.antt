@@ -36,8 +36,9 @@ use Rattle.isl_arena.proofs.Conditions.{domain_error_run}
 use Rattle.isl_arena.proofs.Checking.{instance_registers}
 use Rattle.isl_arena.proofs.Needing.{instance_needed}
 use Rattle.isl_arena.specs.ClassesThere.{ClassesThere}
-use Rattle.isl_arena.proofs.Slots.{counting, slot_registers, slot_needed, instance_low, header_without_kind, four_times_count}
+use Rattle.isl_arena.proofs.Slots.{counting, slot_registers, slot_needed, instance_low}
 use Rattle.isl_arena.proofs.Taking.{does_one, does_two}
+use Rattle.isl_arena.proofs.WordFacts.{header_without_kind, four_times_count}
 
 module _ (names : List (List ℕ)) (program : ProgramRows) (places : Places) (z : meaning.State) (y : State) (r : Represents names program places z y) (classes : ClassesThere names program z) where
   -- the class of an instance

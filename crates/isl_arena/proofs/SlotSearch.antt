@@ -31,6 +31,7 @@ use Rattle.isl_arena.proofs.Arguments.{symbol_there}
 use Rattle.isl_arena.proofs.Sameness.{same_value_same_word}
 use Rattle.isl_arena.proofs.Doing.{paid}
 use Rattle.std.proofs.lemmas.Bool.{lt-ltb, le-ltb}
+use Rattle.isl_arena.proofs.WordFacts.{sum_fits}
 
 -- ---- places
 
@@ -49,9 +50,6 @@ module _ {X : Type 0} (p : X → Bool) where
 abbrev pub search_slot : MidStep
 search_slot =
     steps.while_below 5 7 (steps.load 4 5 (pos 0) ∷ steps.return_if (steps.comparing Equal 4 1) 3 ∷ steps.compute_by 5 which.Add 5 12 ++ steps.compute_by 3 which.Add 3 4)
-
-pub sum_is : (a b : ℕ) → a + b < 2 ^ 32 → sum32 a b ≡ a + b
-sum_is a b h = omega arith
 
 module _ (procedures : List MidProcedure) (below : Task → State → Outcome) (y : State) (x : ℕ) (p : SlotRow → Bool) where
   -- the word at an address is the one that is sought exactly where the row passes
@@ -97,7 +95,7 @@ module _ (procedures : List MidProcedure) (below : Task → State → Outcome) (
         (and_then (load_falls refl (address_here a (omega arith)) at.stands)
         (and_then (choose_second_falls refl refl (at.tells ∙ fails) none_left)
         (and_then constant_falls
-        (and_then (compute_known refl refl (sum_is a 12 (omega arith)))
+        (and_then (compute_known refl refl (sum_fits a 12 (omega arith)))
         (and_then constant_falls
         (and_then (compute_known refl refl (let next : sum32 (4 * i) 4 ≡ 4 * (i + 1) = omega arith in next))
         none_left))))))

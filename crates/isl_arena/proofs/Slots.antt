@@ -12,7 +12,7 @@ use Rattle.isl_meaning.specs.Primitives.{Answer, result, a_slot, an_integer, an_
 use Rattle.isl_mid.specs.declared.program.MidProcedure.{MidProcedure}
 use Rattle.isl_mid.specs.declared.operation.Arithmetic.TheVariants as which
 use Rattle.isl_mid.specs.declared.operation.Comparison.TheVariants.{LessUnsigned, Different}
-use Rattle.isl_mid.specs.Words.{sum32, shift_left, shift_right, address}
+use Rattle.isl_mid.specs.Words.{sum32, address}
 use Rattle.isl_mid.specs.Arena.{word_at}
 use Rattle.isl_mid.specs.MidCode.{MidStep, return_word, code_of}
 use Rattle.isl_mid.specs.State.{Registers, State, Outcome, register, first_registers}
@@ -34,11 +34,13 @@ use Rattle.isl_arena.proofs.Arguments.{ObjectFound, object_found, character_word
 use Rattle.isl_arena.proofs.Telling.{integer_low, symbol_low, object_low}
 use Rattle.isl_arena.proofs.Doing.{alike_self, Run, goes_on, returns_value, test_passes, second_answers}
 use Rattle.isl_arena.proofs.Conditions.{program_error as of_program, signal_run}
-use Rattle.isl_arena.proofs.Checking.{register_here, Scratched, scratched_six, scratched_seven, not_scratched, six_here, seven_behind_six, tag_registers, instance_registers, integer_needed}
+use Rattle.isl_arena.proofs.Checking.{tag_registers, instance_registers, integer_needed}
 use Rattle.isl_arena.proofs.Needing.{instance_needed}
 use Rattle.isl_arena.proofs.Saying.{saying, says_run}
 use Rattle.isl_arena.proofs.Arrays.{length_word_is, index_needed}
 use Rattle.isl_arena.proofs.Taking.{does_one, does_two}
+use Rattle.isl_arena.proofs.Registers.{Scratched, not_scratched, register_here, scratched_seven, scratched_six, seven_behind_six, six_here}
+use Rattle.isl_arena.proofs.WordFacts.{header_without_kind, four_times_count}
 
 -- ---- registers
 
@@ -85,12 +87,6 @@ need_slot of at rest =
     steps_of (line.NeedInstance of (pos (class_address standard_object_class)))
     ++ steps.need_tag at 0 (pos (class_address integer_class))
     ++ counting of (steps.either (steps.comparing LessUnsigned at 7) [] (steps.signal (pos (class_address program_error_class))) ∷ rest)
-
-pub header_without_kind : (count : ℕ) → shift_right (instance_header count) 4 ≡ count
-header_without_kind count = omega arith
-
-pub four_times_count : (count : ℕ) → count < 2 ^ 29 → shift_left count 2 ≡ 4 * count
-four_times_count count h = omega arith
 
 module _ (names : List (List ℕ)) (program : ProgramRows) (places : Places) (z : meaning.State) (y : State) (r : Represents names program places z y) where
   -- an instance stands in the heap or beside the code, so its word and the number of its slots are not large

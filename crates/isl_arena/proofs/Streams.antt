@@ -30,10 +30,9 @@ use Rattle.isl_arena.specs.Steps as steps
 use Rattle.isl_arena.proofs.WordFacts.{integer_word_tag, integer_word_of_pos, integer_word_of_negsuc, byte_read, end_read, in_range_is}
 use Rattle.isl_arena.proofs.Running.{StepsTo, constant_falls, compute_known, load_falls, store_falls, get_falls, get_at_end}
 use Rattle.isl_arena.proofs.Running.{choose_first_ends, choose_second_falls, none_left, and_then, and_ends, return_ends, address_up, address_above}
-use Rattle.isl_arena.proofs.Memory.{word_here, in_spot_there}
-use Rattle.isl_arena.proofs.Representing.{fixed_spot, fixed_stands, represents_same, kept_fixed}
+use Rattle.isl_arena.proofs.Representing.{represents_same, kept_fixed}
 use Rattle.isl_arena.proofs.FixedChanges.{word_of_fixed, represents_read}
-use Rattle.isl_arena.proofs.Making.{changes_stored, fixed_lent}
+use Rattle.isl_arena.proofs.Making.{changes_stored, fixed_lent, stored_fixed}
 use Rattle.isl_arena.proofs.Doing.{alike_self, Answers, Run, goes_on, returns_value, first_answers, test_fails}
 use Rattle.isl_arena.proofs.Taking.{does_none}
 
@@ -144,12 +143,6 @@ module _ (names : List (List ℕ)) (program : ProgramRows) (places : Places) (z 
     });
     cost = cost;
   }
-
-  -- what was stored there stands there
-  pub stored_fixed : (address word : ℕ) → address % 4 ≡ 0 → address < 184 → word_at (with_word address word y.arena) address ≡ Some word
-  stored_fixed address word aligned low =
-      word_here y.arena address word (fixed_lent names program places z y r address aligned low)
-      (in_spot_there {s = fixed_spot} address r.arena (fixed_stands names program places z y r) (omega arith))
 
 -- ---- a byte is got
 

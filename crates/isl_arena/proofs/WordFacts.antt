@@ -35,6 +35,14 @@ low_four_bits_tested w t = grind (arith, nat_tests)
 pub low_byte_tested : (w c : ℕ) → (shift_left w 24 == 2 ^ 24 * c) ≡ (w % 256 == c)
 low_byte_tested w c = grind (arith, nat_tests)
 
+-- ---- sums and products by four that fit in a word
+
+pub sum_fits : (a b : ℕ) → a + b < 2 ^ 32 → sum32 a b ≡ a + b
+sum_fits a b h = omega arith
+
+pub four_times_count : (count : ℕ) → 4 * count < 2 ^ 32 → shift_left count 2 ≡ 4 * count
+four_times_count count h = omega arith
+
 -- ---- the lowest 32 bits of a number
 
 pub low_word_of_pos : (n : ℕ) → low_word (pos n) ≡ n % 2 ^ 32
@@ -256,6 +264,9 @@ equal_bit a b g h = grind (arith, nat_tests)
 -- whether a header is that one or the next one
 pub two_headers_tested : (h header : ℕ) → h < 2 ^ 32 → suc header < 2 ^ 32 → nat_lt (difference32 h header) 2 ≡ (h == header || h == suc header)
 two_headers_tested h header g k = grind (arith, nat_tests)
+
+pub header_without_kind : (slots : ℕ) → shift_right (instance_header slots) 4 ≡ slots
+header_without_kind slots = omega arith
 
 pub instance_header_made : (slots : ℕ) → 16 * slots + 3 < 2 ^ 32 → sum32 (shift_left (4 * slots) 2) 3 ≡ instance_header slots
 instance_header_made slots h = omega arith
