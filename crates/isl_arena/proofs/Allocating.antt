@@ -37,13 +37,14 @@ use Rattle.isl_arena.proofs.Doing.{alike_self, Run, goes_on, test_passes, second
 use Rattle.isl_arena.proofs.Conditions.{program_error as of_program, signal_run}
 use Rattle.isl_arena.proofs.Needing.{class_needed}
 use Rattle.isl_arena.specs.ClassesThere.{ClassesThere}
-use Rattle.isl_arena.proofs.SlotRows.{class_low, truth_told}
+use Rattle.isl_arena.proofs.SlotRows.{class_low}
 use Rattle.isl_arena.proofs.Allotting.{allotted, allotted_grows, allotted_heap, allotted_blocks, allotted_word, allotted_mark}
 use Rattle.isl_arena.proofs.Allotting.{asking_code, beginning_code, allocating_code, mark_address, beginning_falls}
 use Rattle.isl_arena.proofs.Taking.{does_one}
 use Rattle.isl_arena.proofs.Lists.{replicated}
 use Rattle.isl_arena.proofs.Filling.{filling_code, filling_ends}
 use Rattle.isl_arena.proofs.Memory.{heap_below, stands_with_heap}
+use Rattle.isl_arena.proofs.Telling.{truth_told}
 
 module _ (names : List (List ℕ)) (program : ProgramRows) (places : Places) (z : meaning.State) (y : State) (r : Represents names program places z y) where
   -- the bit of a condition

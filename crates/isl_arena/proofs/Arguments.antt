@@ -1,5 +1,5 @@
 -- What the word of a value tells of it in a represented state: its tag, and the header to which it points.
-use Rattle.std.proofs.Common.{◌≡◌, ℕ, zero, suc, ◌+◌, ◌-◌, ◌*◌, ◌%◌, ◌^◌, ◌<◌, ◌≤◌, ℤ, Bool, true, false, List, [], ◌∷◌, length, Option, Some, None, refl, sym, ap, ◌∙◌, arith}
+use Rattle.std.proofs.Common.{◌≡◌, ℕ, pos, zero, suc, ◌+◌, ◌-◌, ◌*◌, ◌%◌, ◌^◌, ◌<◌, ◌≤◌, ℤ, Bool, true, false, List, [], ◌∷◌, length, Option, Some, None, refl, sym, ap, ◌∙◌, arith}
 use Rattle.std.specs.Prelude.{nat_le, slice_get, if◌then◌else◌}
 use Rattle.std.proofs.lemmas.Bool.Decides.{nat_tests}
 use Rattle.isl_meaning.specs.declared.program.ProgramRows.{ProgramRows}
@@ -18,7 +18,7 @@ use Rattle.isl_arena.specs.Represents.{Represents}
 use Rattle.isl_arena.proofs.Keeping.{pointer_tells, header_of, header_of_symbol, symbol_tag, header_at_symbol, object_tag_is, header_at_object}
 use Rattle.isl_arena.proofs.Growing.{spot_below}
 use Rattle.isl_arena.proofs.Owners.{object_within}
-use Rattle.isl_arena.proofs.WordFacts.{integer_word_tag}
+use Rattle.isl_arena.proofs.WordFacts.{integer_word_tag, integer_word_of_pos, in_range_is}
 
 -- ---- words of atoms
 
@@ -32,6 +32,17 @@ integer_word_is places n w e = chosen (in_range n) (integer_word n) w e
 
 pub character_word_is : (places : Places) (c w : ℕ) → word_of places (character c) ≡ Some w → (c ≤ 255) × (w ≡ 256 * c + 15)
 character_word_is places c w e = let h = chosen (nat_le c 255) (character_word c) w e in (grind (arith, nat_tests), h.1)
+
+-- an integer in range, a length and a character have their words
+pub integer_word_there : (places : Places) (i : ℤ) → in_range i ≡ true → word_of places (integer i) ≡ Some (integer_word i)
+integer_word_there places i range = rw range refl
+
+pub length_word_is : (places : Places) (count : ℕ) → count < 2 ^ 29 → word_of places (integer (pos count)) ≡ Some (4 * count)
+length_word_is places count h =
+    integer_word_there places (pos count) (in_range_is (pos count) (omega arith) (omega arith)) ∙ ap (λ w. Some w) (integer_word_of_pos count (omega arith))
+
+pub character_word_there : (places : Places) (c : ℕ) → c ≤ 255 → word_of places (character c) ≡ Some (character_word c)
+character_word_there places c small = let is : nat_le c 255 ≡ true = grind (arith, nat_tests) in rw is refl
 
 -- ---- the tag and the header that a value's word leads to
 

@@ -4,7 +4,7 @@ use Rattle.std.proofs.Common.{◌≡◌, ℕ, ◌+◌, ◌*◌, ◌/◌, ◌%◌
 use Rattle.std.specs.Prelude.{is_some, slice_get, slice_set}
 use Rattle.std.proofs.Math.ListN.{length-set}
 use Rattle.isl_meaning.specs.declared.program.ProgramRows.{ProgramRows}
-use Rattle.isl_meaning.specs.Values.{Value, integer, object, in_range}
+use Rattle.isl_meaning.specs.Values.{Value, object, in_range}
 use Rattle.isl_meaning.specs.Objects.{Object, function, integer_class, program_error_class}
 use Rattle.isl_meaning.specs.State as meaning
 use Rattle.isl_meaning.specs.Primitives.{Answer, result, needs, program_error, domain_error, length_of, index_of, an_index, change}
@@ -22,7 +22,7 @@ use Rattle.isl_arena.specs.Layouts.{ObjectAt}
 use Rattle.isl_arena.specs.Represents.{Represents}
 use Rattle.isl_arena.specs.Answers.{done}
 use Rattle.isl_arena.specs.Steps as steps
-use Rattle.isl_arena.proofs.WordFacts.{integer_word_of_pos, in_range_is, length_tested, length_word, index_is, index_word, index_tested}
+use Rattle.isl_arena.proofs.WordFacts.{length_tested, length_word, index_is, index_word, index_tested}
 use Rattle.isl_arena.proofs.Running.{constant_falls, and_then, and_ends, store_in_spot, return_ends}
 use Rattle.isl_arena.proofs.Growing.{Changes, changes_part}
 use Rattle.isl_arena.proofs.ClassesKept.{IsMade}
@@ -42,12 +42,6 @@ index_test of rest = steps.either (steps.comparing LessUnsigned of 7) [] (steps.
 -- the lines that the integer in register 0 is a length
 abbrev pub length_test : List MidStep → List MidStep
 length_test rest = steps.constant 6 0 ∷ steps.either (steps.comparing AtLeast 0 6) [] (steps.domain_error 0 (pos (class_address integer_class))) ∷ rest
-
--- the word of a length
-pub length_word_is : (places : Places) (count : ℕ) → count < 2 ^ 29 → word_of places (integer (pos count)) ≡ Some (4 * count)
-length_word_is places count h =
-    let range : in_range (pos count) ≡ true = in_range_is (pos count) (omega arith) (omega arith) in
-    rw range (ap (λ w. Some w) (integer_word_of_pos count (omega arith)))
 
 module _
     (names : List (List ℕ)) (program : ProgramRows) (places : Places) (z : meaning.State) (y : State) (r : Represents names program places z y)

@@ -32,6 +32,7 @@ use Rattle.isl_arena.proofs.Conditions.{PlainCondition, integer_overflow, signal
 use Rattle.isl_arena.proofs.Checking.{tag_registers, integer_needed}
 use Rattle.isl_arena.proofs.Taking.{two_registers, does_two}
 use Rattle.isl_arena.proofs.Saying.{saying, says_run}
+use Rattle.isl_arena.proofs.Arguments.{integer_word_there}
 
 -- the registers where both arguments are integers
 abbrev pub integer_registers : ℕ → ℕ → Registers
@@ -150,9 +151,6 @@ number_at_least_does = does_two NumberAtLeast refl (λ v w a b names program pla
 -- the lines that a result in register 3 is in range where registers 4 and 5 are equal, and returned
 abbrev ending : List MidStep
 ending = steps.either (steps.comparing comparison.Equal 4 5) [] (steps.signal (pos (class_address integer_overflow_class))) ∷ return_word 3 ∷ []
-
-pub integer_word_there : (places : Places) (i : ℤ) → in_range i ≡ true → word_of places (integer i) ≡ Some (integer_word i)
-integer_word_there places i range = rw range refl
 
 module _
     (names : List (List ℕ)) (program : ProgramRows) (places : Places) (z : meaning.State) (y : State) (r : Represents names program places z y)

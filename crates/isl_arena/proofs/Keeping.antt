@@ -191,6 +191,16 @@ module _ (a b : Arena) (s : Spot) (same : SameWords a b s) where
       object_kept output_stream t = stream_kept _ t
       object_kept (fresh_symbol serial) t = pair_kept _ _ t
 
+-- ---- the tag of an object is 1 or 2
+
+pub tag_low : (o : Object) → tag_of o < 3
+tag_low (cons car cdr) = omega arith
+tag_low o = omega arith
+
+pub tag_some : (o : Object) → 1 ≤ tag_of o
+tag_some (cons car cdr) = omega arith
+tag_some o = omega arith
+
 -- ---- what the first word of an object says
 
 -- the header of an object that is no cons

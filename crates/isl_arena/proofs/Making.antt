@@ -8,7 +8,7 @@ use Rattle.std.proofs.Math.ListN.{length-append, length-set}
 use Rattle.isl_base.specs.Names.{slice_get-front, slice_get-behind}
 use Rattle.isl_meaning.specs.declared.program.ProgramRows.{ProgramRows}
 use Rattle.isl_meaning.specs.Values.{Value, nil, object}
-use Rattle.isl_meaning.specs.Objects.{Object, cons, string, vector, instance, function, closure, generic_function, class_object, input_stream, output_stream, fresh_symbol}
+use Rattle.isl_meaning.specs.Objects.{Object, instance}
 use Rattle.isl_meaning.specs.Objects.{serious_condition_class}
 use Rattle.isl_meaning.specs.State as meaning
 use Rattle.isl_meaning.specs.Classes.{slots, is_below}
@@ -25,7 +25,7 @@ use Rattle.isl_arena.specs.Represents.{Represents}
 use Rattle.isl_arena.specs.Answers.{Enlarged, Returned, Pending, Signalled, RoomWanting, done, no_words, words_asked, units_after}
 use Rattle.isl_arena.proofs.Memory.{in_spot_lent, in_spot_there, word_here, word_elsewhere, stands_with_word, stands_with_heap, grows_with_heap, with_words, grows_with_words, stored_heap, stored_blocks}
 use Rattle.isl_arena.proofs.Memory.{words_stand}
-use Rattle.isl_arena.proofs.Keeping.{same_word, words_extended, words_of_condition, words_at_least, extends_one, as_many_words}
+use Rattle.isl_arena.proofs.Keeping.{same_word, words_extended, words_of_condition, words_at_least, extends_one, as_many_words, tag_low}
 use Rattle.isl_arena.proofs.Growing.{Grows, grows_same, Changes, spot_below, spot_grown}
 use Rattle.isl_arena.proofs.Owners.{new_spot_found}
 use Rattle.isl_arena.proofs.ClassesKept.{IsMade}
@@ -95,21 +95,6 @@ slot_stands places a address [] ws i h low stand = absurd (omega arith)
 slot_stands places a address (v ∷ vs) [] i h low stand = absurd h
 slot_stands places a address (v ∷ vs) (w ∷ ws) zero h low stand = record { word = w; of_value = h.0; stands = stand w refl }
 slot_stands places a address (v ∷ vs) (w ∷ ws) (suc i) h low stand = slot_stands places a address vs ws i h.1 (omega arith) stand
-
--- ---- tags
-
-pub tag_small : (o : Object) → tag_of o < 4
-tag_small (cons car cdr) = omega arith
-tag_small (string bytes) = omega arith
-tag_small (vector vs) = omega arith
-tag_small (instance c vs mark) = omega arith
-tag_small (function p) = omega arith
-tag_small (closure required rest body env) = omega arith
-tag_small (generic_function g) = omega arith
-tag_small (class_object c) = omega arith
-tag_small input_stream = omega arith
-tag_small output_stream = omega arith
-tag_small (fresh_symbol s) = omega arith
 
 -- ---- a represented state
 
@@ -201,7 +186,7 @@ module _ (names : List (List ℕ)) (program : ProgramRows) (places : Places) (z 
       → IsMade program o → y'.cost + 250 * z.units ≤ budget + 250 * (z'.units + size + besides)
       → Answers names program places z y budget (makes size besides o z') (ends (returns (y.arena.heap_to + tag_of o)) rs y')
   answers_made size besides o z' y' rs alike g to blocks printed input some made is_made cost = record {
-    comes = done (returned_new size (tag_of o) o y' g to blocks printed input some (tag_small o) z' alike made is_made rs);
+    comes = done (returned_new size (tag_of o) o y' g to blocks printed input some (omega (arith, tag_low o)) z' alike made is_made rs);
     cost = cost;
   }
 

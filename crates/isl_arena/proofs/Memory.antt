@@ -8,8 +8,9 @@ use Rattle.isl_mid.proofs.Growth.{length-emptied}
 use Rattle.isl_arena.specs.Places.{Spot, end_of}
 use Rattle.isl_arena.specs.Standing.{ArenaStands, IsLentPart, of_laid, of_heap, SpotStands}
 use Rattle.isl_arena.proofs.Growing.{Grows, spot_below}
-use Rattle.std.proofs.lemmas.Bool.{eq-eqb, ne_eqb}
+use Rattle.std.proofs.lemmas.Bool.{eq-eqb, ne_eqb, and_from, or_left, or_right}
 use Rattle.isl_arena.proofs.Lists.{set_here, set_elsewhere}
+use Rattle.isl_mid.proofs.WordBounds.{first_true}
 
 -- tests
 
@@ -28,13 +29,6 @@ emptied_in_front (suc i) n (w ∷ ws) (suc j) h = emptied_in_front i n ws j (ome
 
 -- what is lent
 
-true_and : (a b : Bool) → a ≡ true → b ≡ true → (a && b) ≡ true
-true_and a b h g = cc
-
-first_and : (a b : Bool) → (a && b) ≡ true → a ≡ true
-first_and true b h = refl
-first_and false b h = absurd (cc h)
-
 -- below the stack no word is in a record
 not_in_record : (size : ℕ) (bs : List Block) (x : ℕ) → x < begin_of size bs → is_in_record size bs x ≡ false
 not_in_record size [] x h = refl
@@ -49,7 +43,7 @@ not_in_record size (b ∷ bs) x h =
 
 aligned : (a : Arena) (x : ℕ) → is_lent a x ≡ true → x % 4 ≡ 0
 aligned a x h =
-    let e : (x % 4 == 0) ≡ true = first_and (x % 4 == 0) _ h in
+    let e : (x % 4 == 0) ≡ true = first_true (x % 4 == 0) _ h in
     grind (arith, nat_tests)
 
 -- the same word, where the same is lent and the word there is the same
@@ -70,19 +64,10 @@ word_found a x h = ap (λ t. if t then word_in (slice_get a.memory (x / 4)) else
 -- spots that stand
 
 pub lent_in_heap : (a : Arena) (x : ℕ) → x % 4 ≡ 0 → a.heap_from ≤ x → x < a.heap_to → is_lent a x ≡ true
-lent_in_heap a x e h g = true_and _ _ (eq-eqb _ _ e) (second_of_three _ _ _ (within _ _ x h g))
-  where
-    second_of_three : (p q r : Bool) → q ≡ true → (p || q || r) ≡ true
-    second_of_three true q r h = refl
-    second_of_three false true r h = refl
-    second_of_three false false r h = absurd (cc h)
+lent_in_heap a x e h g = and_from _ _ (eq-eqb _ _ e) (or_left _ _ (or_right _ _ (within _ _ x h g)))
 
 pub lent_in_laid : (a : Arena) (x : ℕ) → x % 4 ≡ 0 → a.laid_from ≤ x → x < a.laid_to → is_lent a x ≡ true
-lent_in_laid a x e h g = true_and _ _ (eq-eqb _ _ e) (first_of_three _ _ _ (within _ _ x h g))
-  where
-    first_of_three : (p q r : Bool) → p ≡ true → (p || q || r) ≡ true
-    first_of_three true q r h = refl
-    first_of_three false q r h = absurd (cc h)
+lent_in_laid a x e h g = and_from _ _ (eq-eqb _ _ e) (or_left _ _ (or_left _ _ (within _ _ x h g)))
 
 -- an address in a spot that stands is lent
 pub in_spot_lent : {a : Arena} {s : Spot} (x : ℕ) → SpotStands a s → x % 4 ≡ 0 → s.address ≤ x → x < end_of s → is_lent a x ≡ true

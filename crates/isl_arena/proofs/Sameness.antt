@@ -5,7 +5,6 @@ use Rattle.std.proofs.lemmas.Bool.Decides.{nat_tests}
 use Rattle.std.proofs.lemmas.Slice.Eq.{bytes_eq-Decides}
 use Rattle.isl_meaning.specs.declared.program.ProgramRows.{ProgramRows}
 use Rattle.isl_meaning.specs.Values.{SymbolValue, named, unnamed, same_symbol, Value, integer, character, symbol, nil, object, int_equal, same}
-use Rattle.isl_meaning.specs.Objects.{Object, cons}
 use Rattle.isl_meaning.specs.State as meaning
 use Rattle.isl_mid.specs.State.{State}
 use Rattle.isl_arena.specs.Tags.{integer_word, nil_word, tag_of}
@@ -16,6 +15,7 @@ use Rattle.isl_arena.proofs.Arguments.{integer_word_is, character_word_is, tag_i
 use Rattle.isl_arena.proofs.Telling.{object_low, nil_told}
 use Rattle.isl_arena.proofs.WordFacts.{integer_word_one_to_one, int_equal_tells, int_equal_same}
 use Rattle.std.proofs.lemmas.Bool.{eq-eqb, ne_eqb}
+use Rattle.isl_arena.proofs.Keeping.{tag_some}
 
 -- ---- symbols
 
@@ -56,10 +56,6 @@ spots_differ :
     → w ≡ s.address + s.tag → u ≡ t.address + t.tag → (w == u) ≡ false
 spots_differ s t w u (in_front h) d e f g m n p q = decided false w u (λ x. absurd (cc x)) (λ x. absurd (omega arith))
 spots_differ s t w u (behind h) d e f g m n p q = decided false w u (λ x. absurd (cc x)) (λ x. absurd (omega arith))
-
-tag_some : (o : Object) → 1 ≤ tag_of o
-tag_some (cons car cdr) = omega arith
-tag_some o = omega arith
 
 module _ (names : List (List ℕ)) (program : ProgramRows) (places : Places) (z : meaning.State) (y : State) (r : Represents names program places z y) where
   -- the tag of an object is that of no integer, character or nil

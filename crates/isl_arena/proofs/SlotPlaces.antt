@@ -28,13 +28,12 @@ use Rattle.isl_arena.specs.Steps as steps
 use Rattle.isl_arena.specs.Steps.{steps_of}
 use Rattle.isl_arena.specs.declared.line.Line.TheVariants as line
 use Rattle.isl_arena.proofs.Running.{and_ends, constant_falls, compute_known, load_falls, address_above}
-use Rattle.isl_arena.proofs.Arguments.{ObjectFound, object_found}
+use Rattle.isl_arena.proofs.Arguments.{ObjectFound, object_found, length_word_is}
 use Rattle.isl_arena.proofs.Doing.{alike_charged, Run, goes_on, part_answers, paid, value_answers}
 use Rattle.isl_arena.proofs.Conditions.{program_error as of_program, signal_run}
 use Rattle.isl_arena.proofs.Checking.{instance_registers}
 use Rattle.isl_arena.proofs.Needing.{instance_needed}
 use Rattle.isl_arena.proofs.NeedingSymbols.{symbol_needed}
-use Rattle.isl_arena.proofs.Arrays.{length_word_is}
 use Rattle.isl_arena.specs.ClassesThere.{ClassesThere}
 use Rattle.isl_arena.proofs.Slots.{instance_low}
 use Rattle.isl_arena.proofs.SlotRows.{class_found, class_low}

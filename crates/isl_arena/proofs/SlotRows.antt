@@ -4,7 +4,7 @@ use Rattle.std.specs.Prelude.{◌==◌, not, nat_le, slice_get, slice_set, if◌
 use Rattle.isl_meaning.specs.declared.program.ProgramRows.{ProgramRows}
 use Rattle.isl_meaning.specs.declared.program.SlotRow.{SlotRow}
 use Rattle.isl_meaning.specs.declared.primitive.Primitive.TheVariants.{SlotInitargs, SlotInitform, Continuable}
-use Rattle.isl_meaning.specs.Values.{Value, integer, character, symbol, nil, object, truth, same}
+use Rattle.isl_meaning.specs.Values.{Value, integer, character, symbol, nil, object, truth}
 use Rattle.isl_meaning.specs.Objects.{Object, cons, string, vector, instance, function, closure, generic_function, class_object, input_stream, output_stream, fresh_symbol, serious_condition_class}
 use Rattle.isl_meaning.specs.State as meaning
 use Rattle.isl_meaning.specs.Classes.{fetch, class_of, class_of_object, precedence, slots, is_below, is_condition}
@@ -29,7 +29,7 @@ use Rattle.isl_arena.specs.Steps as steps
 use Rattle.isl_arena.proofs.Running.{load_falls, constant_falls, compute_known, address_above, address_below}
 use Rattle.isl_arena.proofs.Growing.{spot_below}
 use Rattle.isl_arena.proofs.Arguments.{ObjectFound, object_found, item_there}
-use Rattle.isl_arena.proofs.Telling.{nil_told}
+use Rattle.isl_arena.proofs.Telling.{truth_told}
 use Rattle.isl_arena.proofs.BuiltInFacts.{no_condition_class}
 use Rattle.isl_arena.proofs.Doing.{alike_self, Run, goes_on, returns_value, test_passes, second_answers}
 use Rattle.isl_arena.proofs.Conditions.{domain_error_run}
@@ -161,14 +161,6 @@ value_class_below z nil e = omega arith
 value_class_below z (object i) e = class_below (slice_get z.store i) e
 
 module _ (names : List (List ℕ)) (program : ProgramRows) (places : Places) (z : meaning.State) (y : State) (r : Represents names program places z y) where
-  -- t or nil, by its word
-  pub truth_told : (b : Bool) (word : ℕ) → word_of places (truth b) ≡ Some word → not (word == nil_word) ≡ b
-  truth_told b word e = ap not (nil_told names program places z y r (truth b) word e) ∙ turned b
-    where
-      turned : (b : Bool) → not (same (truth b) nil) ≡ b
-      turned true = refl
-      turned false = refl
-
   -- the class of an instance that is stored
   instance_class : (v : Value) (i : ℕ × List (Option Value) × Value) → as_instance (fetch z v) ≡ Some i → class_of z v ≡ i.0
   instance_class (object k) i e = by (slice_get z.store k) e

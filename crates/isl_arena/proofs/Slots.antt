@@ -30,14 +30,14 @@ use Rattle.isl_arena.specs.declared.line.Line.TheVariants as line
 use Rattle.isl_arena.proofs.Running.{load_falls, constant_falls, compute_known, address_above, address_below}
 use Rattle.isl_arena.proofs.Keeping.{words_at_least}
 use Rattle.isl_arena.proofs.Growing.{spot_below}
-use Rattle.isl_arena.proofs.Arguments.{ObjectFound, object_found, character_word_is}
+use Rattle.isl_arena.proofs.Arguments.{ObjectFound, object_found, character_word_is, length_word_is}
 use Rattle.isl_arena.proofs.Telling.{integer_low, symbol_low, object_low}
 use Rattle.isl_arena.proofs.Doing.{alike_self, Run, goes_on, returns_value, test_passes, second_answers}
 use Rattle.isl_arena.proofs.Conditions.{program_error as of_program, signal_run}
 use Rattle.isl_arena.proofs.Checking.{tag_registers, instance_registers, integer_needed}
 use Rattle.isl_arena.proofs.Needing.{instance_needed}
 use Rattle.isl_arena.proofs.Saying.{saying, says_run}
-use Rattle.isl_arena.proofs.Arrays.{length_word_is, index_needed}
+use Rattle.isl_arena.proofs.Arrays.{index_needed}
 use Rattle.isl_arena.proofs.Taking.{does_one, does_two}
 use Rattle.isl_arena.proofs.Registers.{Scratched, not_scratched, register_here, scratched_seven, scratched_six, seven_behind_six, six_here}
 use Rattle.isl_arena.proofs.WordFacts.{header_without_kind, four_times_count}

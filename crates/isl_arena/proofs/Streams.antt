@@ -5,7 +5,7 @@ use Rattle.std.proofs.lemmas.Bool.Decides.{nat_tests}
 use Rattle.std.proofs.Math.ListN.{length-set}
 use Rattle.isl_meaning.specs.declared.program.ProgramRows.{ProgramRows}
 use Rattle.isl_meaning.specs.declared.primitive.Primitive.TheVariants.{StandardInput, StandardOutput, IsFreshLine, GetByte, PeekByte}
-use Rattle.isl_meaning.specs.Values.{Value, integer, in_range, truth}
+use Rattle.isl_meaning.specs.Values.{Value, integer, truth}
 use Rattle.isl_meaning.specs.State as meaning
 use Rattle.isl_meaning.specs.Layout.{standard_input, standard_output}
 use Rattle.isl_meaning.specs.Primitives.{result, first_byte, other_bytes, is_fresh_line}
@@ -35,6 +35,8 @@ use Rattle.isl_arena.proofs.FixedChanges.{word_of_fixed, represents_read}
 use Rattle.isl_arena.proofs.Making.{changes_stored, fixed_lent, stored_fixed}
 use Rattle.isl_arena.proofs.Doing.{alike_self, Answers, Run, goes_on, returns_value, first_answers, test_fails}
 use Rattle.isl_arena.proofs.Taking.{does_none}
+use Rattle.isl_arena.proofs.Telling.{not_nil}
+use Rattle.isl_arena.proofs.Arguments.{integer_word_there}
 
 -- ---- values at fixed addresses
 
@@ -91,7 +93,7 @@ other_are_bytes (byte ∷ more) bytes = λ i h. bytes (suc i) (omega arith)
 
 -- the integer of a byte, and of the end, has its word
 byte_value : (places : Places) (byte : ℕ) → byte < 256 → word_of places (integer (pos byte)) ≡ Some (integer_word (pos byte))
-byte_value places byte h = let range : in_range (pos byte) ≡ true = in_range_is (pos byte) (omega arith) (omega arith) in rw range refl
+byte_value places byte h = integer_word_there places (pos byte) (in_range_is (pos byte) (omega arith) (omega arith))
 
 value_got : (places : Places) (left : List ℕ) → AreBytes left → word_of places (first_byte left) ≡ Some (word_got left)
 value_got places [] bytes = refl
@@ -99,10 +101,7 @@ value_got places (byte ∷ more) bytes = byte_value places byte (bytes 0 (omega 
 
 -- a word of an integer is not that of nil
 integer_not_nil : (i : ℤ) → (integer_word i == nil_word) ≡ false
-integer_not_nil i = by (integer_word i) (integer_word_tag i)
-  where
-    by : (w : ℕ) → w % 4 ≡ 0 → (w == nil_word) ≡ false
-    by w h = grind (arith, nat_tests)
+integer_not_nil i = not_nil (integer_word i) (omega (arith, integer_word_tag i))
 
 -- the input where a byte was looked at, and where none was
 data Peeked (a : Arena) (left bytes : List ℕ) : Type 0 where

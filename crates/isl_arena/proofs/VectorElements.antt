@@ -27,11 +27,11 @@ use Rattle.isl_arena.specs.Steps as steps
 use Rattle.isl_arena.proofs.Running.{load_falls, compute_known, address_above}
 use Rattle.isl_arena.proofs.Memory.{word_elsewhere, stored_in_spot}
 use Rattle.isl_arena.proofs.Growing.{spot_below}
-use Rattle.isl_arena.proofs.Arguments.{ObjectFound, object_found}
+use Rattle.isl_arena.proofs.Arguments.{ObjectFound, object_found, length_word_is}
 use Rattle.isl_arena.proofs.Doing.{alike_self, goes_on, returns_value}
 use Rattle.isl_arena.proofs.Checking.{integer_needed}
 use Rattle.isl_arena.proofs.Needing.{vector_needed}
-use Rattle.isl_arena.proofs.Arrays.{length_word_is, index_test, index_needed, stores_changed}
+use Rattle.isl_arena.proofs.Arrays.{index_test, index_needed, stores_changed}
 use Rattle.isl_arena.proofs.Taking.{does_one, does_two, does_three}
 
 -- a vector in whose spot one element was set
