@@ -51,6 +51,24 @@ pub record Seeking (names : List (List ℕ)) (program : ProgramRows) (places : P
   pub start : Registers
   pub held : register of start ≡ Some word
 
+-- the word is in register 0, and that of the class is to come into register 2
+abbrev pub seeking_first :
+    {names : List (List ℕ)} {program : ProgramRows} {places : Places} {z : meaning.State} {y : State} (r : Represents names program places z y)
+    (procedures : List MidProcedure) (below : Task → State → Outcome) (n w : ℕ) (start : Registers) → register 0 start ≡ Some w → Seeking names program places z y
+seeking_first r procedures below n w start held = record {
+  represents = r;
+  procedures = procedures;
+  below = below;
+  turns = n;
+  to = 2;
+  to_low = omega arith;
+  of = 0;
+  of_low = omega arith;
+  word = w;
+  start = start;
+  held = held;
+}
+
 module _ {names : List (List ℕ)} {program : ProgramRows} {places : Places} {z : meaning.State} {y : State} (here : Seeking names program places z y) where
   -- Registers on the way: those of the arguments are as they were, 0 is in register 5, and that word is in register 7.
   pub record OnTheWay (seventh : ℕ) (rs : Registers) : Type 0 where
@@ -102,14 +120,14 @@ module _ {names : List (List ℕ)} {program : ProgramRows} {places : Places} {z 
   }
 
   -- in a branch
-  pub finds_first :
-      {class k bound a b : ℕ} {t : Test} {first second : MidCode} {rs : Registers} → register t.first rs ≡ Some a → register t.second rs ≡ Some b
-      → compares t.comparison a b ≡ true → Finds class first rs (k + 12) bound → Finds class (step_and (choose t first second) no_step) rs k (14 + bound)
-  finds_first e g h f = record {
+  finds_branch :
+      {class k bound : ℕ} {s : MidStep} {branch : MidCode} {rs : Registers} (f : Finds class branch rs (k + 12) bound)
+      → StepsTo (turning here.procedures here.below here.turns) s rs (paid y k) (ends falls f.registers (paid y (f.cost + 2))) → Finds class (step_and s no_step) rs k (14 + bound)
+  finds_branch f g = record {
     registers = f.registers;
     cost = f.cost + 2;
     word = f.word;
-    runs = and_then (choose_first_falls e g h f.runs) none_left;
+    runs = and_then g none_left;
     of_class = f.of_class;
     there = f.there;
     size = f.size;
@@ -117,20 +135,15 @@ module _ {names : List (List ℕ)} {program : ProgramRows} {places : Places} {z 
     within = omega (arith, f.within);
   }
 
+  pub finds_first :
+      {class k bound a b : ℕ} {t : Test} {first second : MidCode} {rs : Registers} → register t.first rs ≡ Some a → register t.second rs ≡ Some b
+      → compares t.comparison a b ≡ true → Finds class first rs (k + 12) bound → Finds class (step_and (choose t first second) no_step) rs k (14 + bound)
+  finds_first e g h f = finds_branch f (choose_first_falls e g h f.runs)
+
   pub finds_second :
       {class k bound a b : ℕ} {t : Test} {first second : MidCode} {rs : Registers} → register t.first rs ≡ Some a → register t.second rs ≡ Some b
       → compares t.comparison a b ≡ false → Finds class second rs (k + 12) bound → Finds class (step_and (choose t first second) no_step) rs k (14 + bound)
-  finds_second e g h f = record {
-    registers = f.registers;
-    cost = f.cost + 2;
-    word = f.word;
-    runs = and_then (choose_second_falls e g h f.runs) none_left;
-    of_class = f.of_class;
-    there = f.there;
-    size = f.size;
-    others = f.others;
-    within = omega (arith, f.within);
-  }
+  finds_second e g h f = finds_branch f (choose_second_falls e g h f.runs)
 
   -- a word is put into register 4, 6 or 7
   pub six : {v : ℕ} {rs : Registers} (x : ℕ) → OnTheWay v rs → OnTheWay v (slice_set rs 6 (Some x))

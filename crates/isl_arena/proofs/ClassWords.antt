@@ -30,7 +30,7 @@ use Rattle.isl_arena.proofs.Arguments.{character_word_is, tag_in, header_in, val
 use Rattle.isl_arena.proofs.Running.{constant_falls, compute_falls}
 use Rattle.isl_arena.proofs.Doing.{alike_self, part_then, returns_value}
 use Rattle.isl_arena.proofs.Taking.{does_one}
-use Rattle.isl_arena.proofs.ClassHeaders.{KindHeader, of_string, of_vector, of_function, of_generic, of_input, of_output, of_symbol, of_fresh, Seeking, OnTheWay, Finds, finds_within}
+use Rattle.isl_arena.proofs.ClassHeaders.{KindHeader, of_string, of_vector, of_function, of_generic, of_input, of_output, of_symbol, of_fresh, Seeking, OnTheWay, Finds, finds_within, seeking_first}
 use Rattle.isl_arena.proofs.ClassHeaders.{finds_after, finds_first, finds_second, six, six_there, finds_fixed, finds_where, finds_otherwise, finds_by_header, finds_of_class}
 use Rattle.isl_arena.proofs.ClassHeaders.{finds_of_instance, finds_of_other}
 use Rattle.isl_arena.proofs.Telling.{character_not_nil}
@@ -204,26 +204,14 @@ module _ {names : List (List ℕ)} {program : ProgramRows} {places : Places} {z 
       rw there.stored (finds_stored i e o there.one there.stored there.spot there.stands)
 
   -- the line finds the word of the class of the value
-  pub class_found : {k : ℕ} (v : Value) → word_of places v ≡ Some here.word → length here.start ≡ 8 → Finds here (class_of z v) (code_of (class_word here.to here.of)) here.start k 254
-  class_found v e size = finds_by_tag size (λ k rs o. finds_value v e o)
+  pub class_of_found : {k : ℕ} (v : Value) → word_of places v ≡ Some here.word → length here.start ≡ 8 → Finds here (class_of z v) (code_of (class_word here.to here.of)) here.start k 254
+  class_of_found v e size = finds_by_tag size (λ k rs o. finds_value v e o)
 
 -- ---- the primitive that gives the class of a value
 
 pub class_of_does : IsPrimitive ClassOf (procedure_of ClassOf)
 class_of_does = does_one ClassOf refl (λ v w names program places z y procedures below n r are units.
-    let here : Seeking names program places z y = record {
-      represents = r;
-      procedures = procedures;
-      below = below;
-      turns = n;
-      to = 2;
-      to_low = omega arith;
-      of = 0;
-      of_low = omega arith;
-      word = w;
-      start = first_registers 8 (w ∷ []);
-      held = refl;
-    } in
-    let f = class_found here {k = y.cost} v are.0 refl in
+    let here : Seeking names program places z y = seeking_first r procedures below n w (first_registers 8 (w ∷ [])) refl in
+    let f = class_of_found here {k = y.cost} v are.0 refl in
     part_then names program places z y procedures below (class_word 2 0) (return_word 2 ∷ []) f.runs
     (returns_value names program places z y procedures below r f.there f.of_class (alike_self z) (omega (arith, f.within))))

@@ -49,9 +49,9 @@ abbrev offset_of : Part → ℤ
 offset_of first_part = negsuc 0
 offset_of second_part = pos 3
 
-abbrev words_behind : Part → ℕ
-words_behind first_part = 0
-words_behind second_part = 1
+abbrev words_to : Part → ℕ
+words_to first_part = 0
+words_to second_part = 1
 
 abbrev part_of : Part → Value × Value → Value
 part_of first_part c = c.0
@@ -77,7 +77,7 @@ module _
     -- a part stands at its offset
     part_address :
         (part : Part) (v : Value) (w : ℕ) (car cdr : Value) (it : ObjectFound names program places z y r v w (cons car cdr))
-        → address w (offset_of part) ≡ it.spot.address + 4 * words_behind part
+        → address w (offset_of part) ≡ it.spot.address + 4 * words_to part
     part_address first_part v w car cdr it =
         let high = spot_below r.arena it.spot_stands in
         address_below w 0 (it.spot.address + 4 * 0) (omega (arith, it.word)) (omega (arith, it.word, it.stands.size.words, high, r.arena.room, r.arena.size))
@@ -85,7 +85,7 @@ module _
         let high = spot_below r.arena it.spot_stands in
         address_above w 3 (it.spot.address + 4 * 1) (omega (arith, it.word)) (omega (arith, it.stands.size.words, high, r.arena.room, r.arena.size))
 
-    part_stands : (part : Part) (s : Spot) (car cdr : Value) → ConsAt places y.arena s car cdr → ValueAt places y.arena (s.address + 4 * words_behind part) (part_of part (car, cdr))
+    part_stands : (part : Part) (s : Spot) (car cdr : Value) → ConsAt places y.arena s car cdr → ValueAt places y.arena (s.address + 4 * words_to part) (part_of part (car, cdr))
     part_stands first_part s car cdr t = record { word = t.car.word; of_value = t.car.of_value; stands = ap (word_at y.arena) (omega arith) ∙ t.car.stands }
     part_stands second_part s car cdr t = t.cdr
 
@@ -117,7 +117,7 @@ cdr_does = does_one Cdr refl (λ v w names program places z y procedures below n
 cons_set :
     (places : Places) (a : Arena) (s : Spot) (car cdr v : Value) (w : ℕ) (part : Part) → ArenaStands a → SpotStands a s → word_of places v ≡ Some w
     → ConsAt places a s car cdr → (names : List (List ℕ)) (program : ProgramRows)
-    → ObjectAt names program places (with_word (s.address + 4 * words_behind part) w a) s (with_part part v (car, cdr))
+    → ObjectAt names program places (with_word (s.address + 4 * words_to part) w a) s (with_part part v (car, cdr))
 cons_set places a s car cdr v w first_part arena stands word t names program = record {
   size = t.size;
   car = record {
@@ -139,7 +139,7 @@ cons_set places a s car cdr v w second_part arena stands word t names program = 
   cdr = record { word = w; of_value = word; stands = stored_in_spot 1 w arena stands (omega (arith, t.size.words)) };
 }
 
-part_below : (part : Part) → words_behind part < 2
+part_below : (part : Part) → words_to part < 2
 part_below first_part = omega arith
 part_below second_part = omega arith
 
@@ -155,8 +155,8 @@ module _
         (code_of (steps.store 0 1 (offset_of part) ∷ return_word 0 ∷ [])) rs k
     stores_part n budget k a w v u car cdr part rs first second found held held_cons cost =
         let it = object_found names program places z y r u w (cons car cdr) second found in
-        let low : words_behind part < 2 = part_below part in
-        stores_changed names program places z y r procedures below n budget k it.number 0 1 0 w (it.spot.address + 4 * words_behind part) a a (offset_of part) it.spot
+        let low : words_to part < 2 = part_below part in
+        stores_changed names program places z y r procedures below n budget k it.number 0 1 0 w (it.spot.address + 4 * words_to part) a a (offset_of part) it.spot
         (cons car cdr) (with_part part v (car, cdr)) v u rs held held_cons (part_address names program places z y r procedures below part u w car cdr it) held first
         (omega (arith, it.spot_stands.aligned)) (omega arith) (omega (arith, low, it.stands.size.words)) it.stored tt (part_made program part v (car, cdr))
         (λ p e. absurd (cc e)) it.found it.value (cons_set places y.arena it.spot car cdr v a part r.arena it.spot_stands first it.stands names program) cost

@@ -47,10 +47,10 @@ aligned a x h =
     grind (arith, nat_tests)
 
 -- the same word, where the same is lent and the word there is the same
-same_word :
+same_lent_word :
     (a b : Arena) (x : ℕ) → is_lent b x ≡ is_lent a x → (is_lent a x ≡ true → word_in (slice_get b.memory (x / 4)) ≡ word_in (slice_get a.memory (x / 4)))
     → word_at b x ≡ word_at a x
-same_word a b x e h = by_test (is_lent b x) (is_lent a x) _ _ e h
+same_lent_word a b x e h = by_test (is_lent b x) (is_lent a x) _ _ e h
   where
     by_test : (s t : Bool) (v w : Option ℕ) → s ≡ t → (t ≡ true → v ≡ w) → (if s then v else None) ≡ (if t then w else None)
     by_test true true v w e h = h refl
@@ -113,7 +113,7 @@ stored_in_heap {a} x w h e low high = word_here a x w (lent_in_heap a x e low hi
 
 pub word_elsewhere : (a : Arena) (x w y : ℕ) → x % 4 ≡ 0 → (x == y) ≡ false → word_at (with_word x w a) y ≡ word_at a y
 word_elsewhere a x w y e h =
-    same_word a (with_word x w a) y (lent_with_word a x w y)
+    same_lent_word a (with_word x w a) y (lent_with_word a x w y)
     (λ l. ap word_in (set_elsewhere a.memory (x / 4) (y / 4) (Some w) (λ same. other (omega (arith, aligned a y l)))))
   where
     other : x ≡ y → ⊥
@@ -147,7 +147,7 @@ words_below :
 words_below a b x h e f g more room same low =
     let here : is_in_record (length a.memory) a.blocks x ≡ false = not_in_record (length a.memory) a.blocks x (omega (arith, h.room)) in
     let there : is_in_record (length b.memory) b.blocks x ≡ false = not_in_record (length b.memory) b.blocks x (omega (arith, room)) in
-    same_word a b x
+    same_lent_word a b x
     (ap (λ n. (x % 4 == 0) && (is_within n b.laid_to x || is_within b.heap_from b.heap_to x || is_in_record (length b.memory) b.blocks x)) e
     ∙ ap (λ n. (x % 4 == 0) && (is_within a.laid_from n x || is_within b.heap_from b.heap_to x || is_in_record (length b.memory) b.blocks x)) f
     ∙ ap (λ n. (x % 4 == 0) && (is_within a.laid_from a.laid_to x || is_within n b.heap_to x || is_in_record (length b.memory) b.blocks x)) g

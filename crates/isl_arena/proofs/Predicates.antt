@@ -37,6 +37,7 @@ use Rattle.isl_arena.proofs.Doing.{alike_self, Run, goes_on, returns_value, test
 use Rattle.isl_arena.proofs.Checking.{header_bounded}
 use Rattle.isl_arena.proofs.Saying.{saying, says_run}
 use Rattle.isl_arena.proofs.Taking.{does_one, does_two}
+use Rattle.std.proofs.lemmas.Bool.{or_from}
 
 -- ---- words compared
 
@@ -221,9 +222,6 @@ is_nil_or_symbol =
     steps.constant 6 nil_word ∷ steps.constant 5 0 ∷ steps.load 5 5 (pos true_address) ∷ steps.return_if (steps.comparing comparison.Equal 0 6) 5
     ∷ header_is symbol_header 2
 
-neither : (a b : Bool) → a ≡ false → b ≡ false → (a || b) ≡ false
-neither a b f g = cc
-
 module _
     (names : List (List ℕ)) (program : ProgramRows) (places : Places) (z : meaning.State) (y : State) (r : Represents names program places z y)
     (procedures : List MidProcedure) (below : Task → State → Outcome)
@@ -258,7 +256,7 @@ module _
     symbol_says n w v word (serial_found serial is not_nil tag at behind) =
         behind_nil n w v (is_some (as_symbol z v)) word not_nil (of_kind fresh_header (rw is refl) tag at refl)
     symbol_says n w v word (no_symbol_header h none not_nil tag at first second) =
-        behind_nil n w v (is_some (as_symbol z v)) word not_nil (of_other_kind h (rw none refl) tag at (neither (h == symbol_header) (h == fresh_header) first second))
+        behind_nil n w v (is_some (as_symbol z v)) word not_nil (of_other_kind h (rw none refl) tag at (or_from (h == symbol_header) (h == fresh_header) first second))
     symbol_says n w v word (no_symbol_tag none not_nil tag) =
         behind_nil n w v (is_some (as_symbol z v)) word not_nil (of_other_tag (rw none refl) tag)
 

@@ -34,8 +34,8 @@ use Rattle.isl_arena.proofs.Checking.{header_registers}
 use Rattle.isl_arena.proofs.Needing.{class_needed}
 use Rattle.isl_arena.proofs.Taking.{does_one, does_two}
 use Rattle.isl_arena.specs.ClassesThere.{ClassesThere}
-use Rattle.isl_arena.proofs.ClassHeaders.{Seeking, Finds}
-use Rattle.isl_arena.proofs.ClassWords.{class_found}
+use Rattle.isl_arena.proofs.ClassHeaders.{Seeking, Finds, seeking_first}
+use Rattle.isl_arena.proofs.ClassWords.{class_of_found}
 use Rattle.isl_arena.proofs.ClassSearch.{asking, asking_run}
 
 pub class_name_does : IsPrimitive ClassName (procedure_of ClassName)
@@ -128,22 +128,10 @@ is_instance_run names program places z y procedures below n w x v u r there word
     (class.others 1 (omega arith) (λ e. omega (arith, e))) other_word other (instance_turns names program z v u d n other units) (omega (arith, class.within))))
   where
     here : Seeking names program places z y
-    here = record {
-      represents = r;
-      procedures = procedures;
-      below = below;
-      turns = n;
-      to = 2;
-      to_low = omega arith;
-      of = 0;
-      of_low = omega arith;
-      word = w;
-      start = header_registers x class_header class_header 1 (first_registers 8 (w ∷ x ∷ []));
-      held = refl;
-    }
+    here = seeking_first r procedures below n w (header_registers x class_header class_header 1 (first_registers 8 (w ∷ x ∷ []))) refl
 
     class : Finds here (class_of z v) (code_of (class_word 2 0)) here.start (class_tested y.cost) 254
-    class = class_found here v word refl
+    class = class_of_found here v word refl
 
 pub is_instance_does : IsPrimitive IsInstance (procedure_of IsInstance)
 is_instance_does = does_two IsInstance refl (λ v u w x names program places z y procedures below n r are units.
