@@ -16,9 +16,9 @@ use Rattle.isl_arena.specs.Standing.{SpotStands}
 use Rattle.isl_arena.specs.Layouts.{ObjectAt, SymbolAt}
 use Rattle.isl_arena.specs.Represents.{Represents}
 use Rattle.isl_arena.proofs.Keeping.{pointer_tells, header_of, header_of_symbol, symbol_tag, header_at_symbol, object_tag_is, header_at_object}
-use Rattle.isl_arena.proofs.Growing.{spot_below}
 use Rattle.isl_arena.proofs.Owners.{object_within}
 use Rattle.isl_arena.proofs.WordFacts.{integer_word_tag, integer_word_of_pos, in_range_is}
+use Rattle.isl_arena.proofs.Memory.{spot_low}
 
 -- ---- words of atoms
 
@@ -193,10 +193,10 @@ module _ (names : List (List ℕ)) (program : ProgramRows) (places : Places) (z 
   word_told (character c) w e = let h = character_word_is places c w e in omega (arith, h.0, h.1)
   word_told (symbol s) w e =
       let there = symbol_there s w e in
-      let below = spot_below r.arena there.spot_stands in
-      omega (arith, there.word, below, there.spot_stands.some, r.arena.room, r.arena.size)
+      let below = spot_low r.arena there.spot_stands in
+      omega (arith, there.word, below, there.spot_stands.some)
   word_told nil w e = let h : nil_word ≡ w = cc e in omega arith
   word_told (object i) w e =
       let there = object_there i w e in
-      let below = spot_below r.arena there.spot_stands in
-      omega (arith, there.word, there.tag, there.spot_stands.tag, below, there.spot_stands.some, r.arena.room, r.arena.size)
+      let below = spot_low r.arena there.spot_stands in
+      omega (arith, there.word, there.tag, there.spot_stands.tag, below, there.spot_stands.some)

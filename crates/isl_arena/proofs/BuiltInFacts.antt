@@ -16,6 +16,7 @@ use Rattle.isl_meaning.specs.Lookup.{is_in}
 use Rattle.isl_meaning.specs.Objects.{built_in_classes, serious_condition_class}
 use Rattle.isl_meaning.specs.Classes.{precedence_of, slots_of, precedence, slots, is_below}
 use Rattle.isl_meaning.specs.Primitives.{instance_words}
+use Rattle.isl_arena.proofs.Keeping.{words_of_condition}
 
 -- a class stands at its number, with that precedence list and so many slots, and instances of it can be made
 pub record RowAt (classes : List ClassRow) (c : ℕ) (above : List ℕ) (count : ℕ) : Type 0 where
@@ -121,4 +122,4 @@ module _ (program : ProgramRows) (built_in : begins_with_built_in program.classe
 
   -- so an instance of one of them has one word more
   pub condition_words : (c n : ℕ) → serious_condition_class < suc c → c < built_in_classes → instance_words program c n ≡ 3 + n
-  condition_words c n low high = let e = is_condition_class c low high in rw e (omega arith)
+  condition_words c n low high = words_of_condition program c n (is_condition_class c low high)

@@ -19,7 +19,6 @@ use Rattle.isl_arena.specs.Places.{Spot, Places, word_of}
 use Rattle.isl_arena.specs.Standing.{SpotStands}
 use Rattle.isl_arena.specs.Layouts.{ObjectAt}
 use Rattle.isl_arena.proofs.Keeping.{header_of}
-use Rattle.isl_arena.proofs.Growing.{spot_below}
 use Rattle.isl_arena.specs.FixedWords.{class_address}
 use Rattle.isl_arena.specs.Represents.{Represents}
 use Rattle.isl_arena.specs.Steps as steps
@@ -32,6 +31,7 @@ use Rattle.isl_arena.proofs.Telling.{integer_told, character_told, cons_told, In
 use Rattle.isl_arena.proofs.Doing.{alike_self, Run, goes_on, test_passes, second_answers, part_then, part_answers, paid}
 use Rattle.isl_arena.proofs.Conditions.{domain_error_run}
 use Rattle.isl_arena.proofs.Registers.{Scratched, not_scratched, scratched_seven, scratched_six, seven_behind_six, six_here}
+use Rattle.isl_arena.proofs.Memory.{spot_low}
 
 -- registers behind a test of the tag
 abbrev pub tag_registers : (w bits : ℕ) → Registers → Registers
@@ -166,7 +166,7 @@ module _ (names : List (List ℕ)) (program : ProgramRows) (places : Places) (z 
     where
       of_one : (o : Object) (s : Spot) → SpotStands y.arena s → ObjectAt names program places y.arena s o → header_of o < 2 ^ 32
       of_one (instance c values mark) s stands at =
-          omega (arith, at.size.words, spot_below r.arena stands, r.arena.room, r.arena.size)
+          omega (arith, at.size.words, spot_low r.arena stands)
       of_one (cons car cdr) s stands at = omega arith
       of_one o s stands at = omega arith
 

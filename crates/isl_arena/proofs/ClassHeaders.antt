@@ -23,7 +23,7 @@ use Rattle.isl_arena.proofs.WordFacts.{low_four_bits_tested}
 use Rattle.isl_arena.proofs.Running.{RunsTo, StepsTo, turning, none_left, and_then, constant_falls, compute_falls, load_falls, choose_first_falls, choose_second_falls, address_up}
 use Rattle.isl_arena.proofs.Running.{address_above, address_below}
 use Rattle.isl_arena.proofs.Doing.{paid}
-use Rattle.isl_arena.proofs.Registers.{register_beside, register_here, same_size}
+use Rattle.isl_arena.proofs.Registers.{register_beside, register_here, same_size, six_here}
 
 -- a header of an object that is no class and no instance, or of a symbol, with the number of the class
 pub data KindHeader : (header class : ℕ) → Type 0 where
@@ -171,7 +171,7 @@ module _ {names : List (List ℕ)} {program : ProgramRows} {places : Places} {z 
   }
 
   pub six_there : {v : ℕ} {rs : Registers} (x : ℕ) → OnTheWay v rs → register 6 (slice_set rs 6 (Some x)) ≡ Some x
-  six_there {rs = rs} x o = register_here rs 6 x (omega (arith, o.size))
+  six_there {rs = rs} x o = six_here rs x o.size
 
   -- the word of the class comes into the register
   put_there :

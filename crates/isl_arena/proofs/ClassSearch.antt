@@ -25,10 +25,10 @@ use Rattle.isl_arena.specs.Represents.{Represents}
 use Rattle.isl_arena.specs.Steps as steps
 use Rattle.isl_arena.proofs.Running.{StepsTo, turning, none_left, and_then, and_ends, constant_falls, compute_known, load_falls, return_ends, choose_first_ends, choose_second_falls}
 use Rattle.isl_arena.proofs.Running.{repeat_falls, repeat_turn, repeat_ends, address_here, address_up, address_above}
-use Rattle.isl_arena.proofs.Growing.{spot_below}
 use Rattle.isl_arena.proofs.Arguments.{ObjectFound, object_found}
 use Rattle.isl_arena.proofs.Doing.{alike_charged, paid, Run, goes_on, returns_value, step_returns}
 use Rattle.isl_arena.proofs.Registers.{register_beside, register_here, same_size}
+use Rattle.isl_arena.proofs.Memory.{spot_low}
 
 -- what the loop does in a turn
 abbrev search_body : List MidStep
@@ -222,10 +222,10 @@ module _
         count = length (precedence program c)
 
         bounded : list + 4 * count < 2 ^ 32
-        bounded = omega (arith, one.stands.size.words, spot_below r.arena one.spot_stands, r.arena.room, r.arena.size)
+        bounded = omega (arith, one.stands.size.words, spot_low r.arena one.spot_stands)
 
         other_bounded : other.spot.address + 4 < 2 ^ 32
-        other_bounded = omega (arith, other.stands.size.words, spot_below r.arena other.spot_stands, r.arena.room, r.arena.size)
+        other_bounded = omega (arith, other.stands.size.words, spot_low r.arena other.spot_stands)
 
         abbrev asked : Registers
         asked = slice_set rs 4 (Some (4 * d))

@@ -24,7 +24,6 @@ use Rattle.isl_arena.specs.Codes.{procedure_of}
 use Rattle.isl_arena.specs.Steps as steps
 use Rattle.isl_arena.specs.Steps.{class_of_object, class_word}
 use Rattle.isl_arena.proofs.Keeping.{header_of}
-use Rattle.isl_arena.proofs.Growing.{spot_below}
 use Rattle.isl_arena.proofs.WordFacts.{tag_tested}
 use Rattle.isl_arena.proofs.Arguments.{character_word_is, tag_in, header_in, value_tag, value_header, tag_told, header_told, word_told, object_there, object_found}
 use Rattle.isl_arena.proofs.Running.{constant_falls, compute_falls}
@@ -35,6 +34,7 @@ use Rattle.isl_arena.proofs.ClassHeaders.{finds_after, finds_first, finds_second
 use Rattle.isl_arena.proofs.ClassHeaders.{finds_of_instance, finds_of_other}
 use Rattle.isl_arena.proofs.Telling.{character_not_nil}
 use Rattle.isl_arena.proofs.Registers.{register_beside, register_here, same_size}
+use Rattle.isl_arena.proofs.Memory.{spot_low}
 
 module _ {names : List (List ℕ)} {program : ProgramRows} {places : Places} {z : meaning.State} {y : State} (here : Seeking names program places z y) where
   -- ---- by the tag
@@ -132,7 +132,7 @@ module _ {names : List (List ℕ)} {program : ProgramRows} {places : Places} {z 
   module _ (i : ℕ) (e : word_of places (object i) ≡ Some here.word) {rs : Registers} (o : OnTheWay here (shift_left here.word 30) rs) where
     -- the words behind the header of an object that has one
     second_bounded : (s : Spot) → SpotStands y.arena s → here.word ≡ s.address + 2 → here.word + 2 < 2 ^ 32
-    second_bounded s stands at = omega (arith, at, stands.some, spot_below here.represents.arena stands, here.represents.arena.room, here.represents.arena.size)
+    second_bounded s stands at = omega (arith, at, stands.some, spot_low here.represents.arena stands)
 
     second_of : (s : Spot) (x : ℕ) → here.word ≡ s.address + 2 → word_at y.arena (s.address + 4) ≡ Some x → word_at y.arena (here.word + 2) ≡ Some x
     second_of s x at f = let same : here.word + 2 ≡ s.address + 4 = omega (arith, at) in rw same f

@@ -27,9 +27,8 @@ use Rattle.isl_arena.specs.Codes.{procedure_of}
 use Rattle.isl_arena.specs.Steps as steps
 use Rattle.isl_arena.proofs.Running.{constant_falls, compute_known, load_falls, store_in_heap, request_falls, request_wanting}
 use Rattle.isl_arena.proofs.Running.{and_then, and_ends, return_ends, address_here, address_up, address_above, address_below}
-use Rattle.isl_arena.proofs.Memory.{heap_below, stored_in_spot, others_in_spot}
+use Rattle.isl_arena.proofs.Memory.{heap_below, stored_in_spot, others_in_spot, spot_low}
 use Rattle.isl_arena.proofs.Keeping.{same_word}
-use Rattle.isl_arena.proofs.Growing.{spot_below}
 use Rattle.isl_arena.proofs.Making.{Room, is_left, is_wanting, room_for, begun, begun_grows, begun_word, answers_wanting, answers_made}
 use Rattle.isl_arena.proofs.Arguments.{ObjectFound, object_found}
 use Rattle.isl_arena.proofs.ClassesKept.{IsMade}
@@ -79,11 +78,11 @@ module _
         (part : Part) (v : Value) (w : ℕ) (car cdr : Value) (it : ObjectFound names program places z y r v w (cons car cdr))
         → address w (offset_of part) ≡ it.spot.address + 4 * words_to part
     part_address first_part v w car cdr it =
-        let high = spot_below r.arena it.spot_stands in
-        address_below w 0 (it.spot.address + 4 * 0) (omega (arith, it.word)) (omega (arith, it.word, it.stands.size.words, high, r.arena.room, r.arena.size))
+        let high = spot_low r.arena it.spot_stands in
+        address_below w 0 (it.spot.address + 4 * 0) (omega (arith, it.word)) (omega (arith, it.word, it.stands.size.words, high))
     part_address second_part v w car cdr it =
-        let high = spot_below r.arena it.spot_stands in
-        address_above w 3 (it.spot.address + 4 * 1) (omega (arith, it.word)) (omega (arith, it.stands.size.words, high, r.arena.room, r.arena.size))
+        let high = spot_low r.arena it.spot_stands in
+        address_above w 3 (it.spot.address + 4 * 1) (omega (arith, it.word)) (omega (arith, it.stands.size.words, high))
 
     part_stands : (part : Part) (s : Spot) (car cdr : Value) → ConsAt places y.arena s car cdr → ValueAt places y.arena (s.address + 4 * words_to part) (part_of part (car, cdr))
     part_stands first_part s car cdr t = record { word = t.car.word; of_value = t.car.of_value; stands = ap (word_at y.arena) (omega arith) ∙ t.car.stands }

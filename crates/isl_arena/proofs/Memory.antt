@@ -81,7 +81,11 @@ in_spot_lent {a} {s} x stands e h g = from stands.part
 pub heap_below : {a : Arena} → ArenaStands a → a.heap_to ≤ 2 ^ 26
 heap_below {a} arena = omega (arith, arena.room, arena.size)
 
--- and there is a word of the memory at it
+-- and so are those of the words of a spot
+pub spot_low : {a : Arena} {s : Spot} → ArenaStands a → SpotStands a s → end_of s ≤ 2 ^ 26
+spot_low arena stands = omega (arith, spot_below arena stands, heap_below arena)
+
+-- there is a word of the memory at an address in front of where the heap ends
 pub in_heap_there : {a : Arena} (x : ℕ) → ArenaStands a → x < a.heap_to → x / 4 < length a.memory
 in_heap_there {a} x arena h = omega (arith, arena.room, arena.aligned)
 

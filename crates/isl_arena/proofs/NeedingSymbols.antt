@@ -20,8 +20,7 @@ use Rattle.isl_arena.specs.Represents.{Represents}
 use Rattle.isl_arena.specs.Steps.{steps_of}
 use Rattle.isl_arena.specs.declared.line.Line.TheVariants as line
 use Rattle.isl_arena.proofs.WordFacts.{two_headers_tested}
-use Rattle.isl_arena.proofs.Memory.{heap_below}
-use Rattle.isl_arena.proofs.Growing.{spot_below}
+use Rattle.isl_arena.proofs.Memory.{spot_low}
 use Rattle.isl_arena.proofs.Arguments.{value_tag, tag_told, symbol_there, object_there}
 use Rattle.isl_arena.proofs.Telling.{SymbolTold, nil_found, name_found, serial_found, no_symbol_header, no_symbol_tag, symbol_told}
 use Rattle.isl_arena.proofs.Running.{constant_falls, choose_second_falls, address_below}
@@ -62,11 +61,11 @@ module _
         by (character c) e h = absurd (omega (arith, h))
         by (symbol s) e h =
             let there = symbol_there names program places z y r s w e in
-            omega (arith, there.word, spot_below r.arena there.spot_stands, heap_below r.arena)
+            omega (arith, there.word, spot_low r.arena there.spot_stands)
         by nil e h = absurd (omega (arith, h))
         by (object i) e h =
             let there = object_there names program places z y r i w e in
-            omega (arith, there.word, there.tag, there.spot_stands.tag, spot_below r.arena there.spot_stands, heap_below r.arena)
+            omega (arith, there.word, there.tag, there.spot_stands.tag, spot_low r.arena there.spot_stands)
 
     -- the argument is a symbol, with which the code behind goes on, or a domain error
     pub symbol_needed :

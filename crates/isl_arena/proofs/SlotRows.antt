@@ -27,7 +27,6 @@ use Rattle.isl_arena.specs.Answers.{IsPrimitive}
 use Rattle.isl_arena.specs.Codes.{procedure_of}
 use Rattle.isl_arena.specs.Steps as steps
 use Rattle.isl_arena.proofs.Running.{load_falls, constant_falls, compute_known, address_above, address_below}
-use Rattle.isl_arena.proofs.Growing.{spot_below}
 use Rattle.isl_arena.proofs.Arguments.{ObjectFound, object_found, item_there}
 use Rattle.isl_arena.proofs.Telling.{truth_told}
 use Rattle.isl_arena.proofs.BuiltInFacts.{no_condition_class}
@@ -39,6 +38,7 @@ use Rattle.isl_arena.specs.ClassesThere.{ClassesThere}
 use Rattle.isl_arena.proofs.Slots.{counting, slot_registers, slot_needed, instance_low}
 use Rattle.isl_arena.proofs.Taking.{does_one, does_two}
 use Rattle.isl_arena.proofs.WordFacts.{header_without_kind, four_times_count}
+use Rattle.isl_arena.proofs.Memory.{spot_low}
 
 module _ (names : List (List ℕ)) (program : ProgramRows) (places : Places) (z : meaning.State) (y : State) (r : Represents names program places z y) (classes : ClassesThere names program z) where
   -- the class of an instance
@@ -54,8 +54,8 @@ module _ (names : List (List ℕ)) (program : ProgramRows) (places : Places) (z 
       (v : Value) (w c : ℕ) → ObjectFound names program places z y r v w (class_object c)
       → w + 28 + 4 * length (precedence program c) + 12 * length (slots program c) < 2 ^ 27
   class_low v w c it =
-      let high = spot_below r.arena it.spot_stands in
-      omega (arith, it.word, it.stands.size.words, high, r.arena.room, r.arena.size)
+      let high = spot_low r.arena it.spot_stands in
+      omega (arith, it.word, it.stands.size.words, high)
 
 -- the lines behind the test of a place: so far behind the word of the class, behind four times the classes above and twelve times the place
 abbrev rows_of : (offset : ℕ) → List MidStep

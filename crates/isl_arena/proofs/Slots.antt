@@ -29,7 +29,6 @@ use Rattle.isl_arena.specs.Steps.{steps_of}
 use Rattle.isl_arena.specs.declared.line.Line.TheVariants as line
 use Rattle.isl_arena.proofs.Running.{load_falls, constant_falls, compute_known, address_above, address_below}
 use Rattle.isl_arena.proofs.Keeping.{words_at_least}
-use Rattle.isl_arena.proofs.Growing.{spot_below}
 use Rattle.isl_arena.proofs.Arguments.{ObjectFound, object_found, character_word_is, length_word_is}
 use Rattle.isl_arena.proofs.Telling.{integer_low, symbol_low, object_low}
 use Rattle.isl_arena.proofs.Doing.{alike_self, Run, goes_on, returns_value, test_passes, second_answers}
@@ -40,7 +39,8 @@ use Rattle.isl_arena.proofs.Saying.{saying, says_run}
 use Rattle.isl_arena.proofs.Arrays.{index_needed}
 use Rattle.isl_arena.proofs.Taking.{does_one, does_two}
 use Rattle.isl_arena.proofs.Registers.{Scratched, not_scratched, register_here, scratched_seven, scratched_six, seven_behind_six, six_here}
-use Rattle.isl_arena.proofs.WordFacts.{header_without_kind, four_times_count}
+use Rattle.isl_arena.proofs.WordFacts.{header_without_kind, four_times_count, sum_fits}
+use Rattle.isl_arena.proofs.Memory.{spot_low}
 
 -- ---- registers
 
@@ -94,8 +94,8 @@ module _ (names : List (List ℕ)) (program : ProgramRows) (places : Places) (z 
       (v : Value) (w c : ℕ) (values : List (Option Value)) (mark : Value) → ObjectFound names program places z y r v w (instance c values mark)
       → w + 4 * length values + 8 < 2 ^ 27
   instance_low v w c values mark it =
-      let high = spot_below r.arena it.spot_stands in
-      omega (arith, it.word, it.stands.size.words, words_at_least program c (length values), high, r.arena.room, r.arena.size)
+      let high = spot_low r.arena it.spot_stands in
+      omega (arith, it.word, it.stands.size.words, words_at_least program c (length values), high)
 
   -- no value has the word of a slot without a value
   pub no_value_unbound : (v : Value) (w : ℕ) → word_of places v ≡ Some w → (w == unbound_word) ≡ false
@@ -186,7 +186,7 @@ module _
 
     -- the address of the slot's word, as it is computed
     pub slot_sum : sum32 w x ≡ w + x
-    slot_sum = omega (arith, low)
+    slot_sum = sum_fits w x (omega (arith, low))
 
     pub slot_word_address : address (w + x) (pos 6) ≡ it.spot.address + 8 + 4 * j
     slot_word_address = address_above (w + x) 6 (it.spot.address + 8 + 4 * j) (omega (arith, it.word)) (omega (arith, it.word, low))

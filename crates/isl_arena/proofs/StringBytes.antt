@@ -31,8 +31,7 @@ use Rattle.isl_arena.proofs.WordFacts.{character_code}
 use Rattle.isl_arena.proofs.ArithmeticBytes.{byte_below, changed_bytes, byte_offset, byte_shift, byte_in, word_changed, byte_in_is, character_in_is, word_changed_is, other_packed}
 use Rattle.isl_arena.proofs.ArithmeticBytes.{byte_offset_is, byte_shift_is, word_of_byte_there}
 use Rattle.isl_arena.proofs.Running.{RunsTo, and_then, none_left, costing, constant_falls, compute_falls, load_falls, compute_known, address_above}
-use Rattle.isl_arena.proofs.Memory.{word_elsewhere, stored_in_spot}
-use Rattle.isl_arena.proofs.Growing.{spot_below}
+use Rattle.isl_arena.proofs.Memory.{word_elsewhere, stored_in_spot, spot_low}
 use Rattle.isl_arena.proofs.Arguments.{ObjectFound, object_found, character_word_there, length_word_is}
 use Rattle.isl_arena.proofs.Doing.{alike_self, paid, Run, goes_on, returns_value, part_then}
 use Rattle.isl_arena.proofs.Checking.{integer_needed, character_needed}
@@ -77,8 +76,8 @@ module _ (names : List (List ℕ)) (program : ProgramRows) (places : Places) (z 
   -- a string stands in the heap or beside the code, so its word and its length are not large
   string_low : (v : Value) (w : ℕ) (bytes : List ℕ) → ObjectFound names program places z y r v w (string bytes) → w + length bytes + 8 < 2 ^ 27
   string_low v w bytes it =
-      let high = spot_below r.arena it.spot_stands in
-      omega (arith, it.word, it.stands.size.words, high, r.arena.room, r.arena.size)
+      let high = spot_low r.arena it.spot_stands in
+      omega (arith, it.word, it.stands.size.words, high)
 
 pub string_length_does : IsPrimitive StringLength (procedure_of StringLength)
 string_length_does = does_one StringLength refl (λ v a names program places z y procedures below n r are units.

@@ -26,7 +26,6 @@ use Rattle.isl_arena.specs.Codes.{code_of_primitive, procedure_of}
 use Rattle.isl_arena.specs.Steps as steps
 use Rattle.isl_arena.specs.Steps.{class_word}
 use Rattle.isl_arena.proofs.Running.{load_falls, address_above}
-use Rattle.isl_arena.proofs.Growing.{spot_below}
 use Rattle.isl_arena.proofs.BuiltInFacts.{built_in_row}
 use Rattle.isl_arena.proofs.Arguments.{object_found}
 use Rattle.isl_arena.proofs.Doing.{alike_self, Run, goes_on, returns_value, part_then}
@@ -37,6 +36,7 @@ use Rattle.isl_arena.specs.ClassesThere.{ClassesThere}
 use Rattle.isl_arena.proofs.ClassHeaders.{Seeking, Finds, seeking_first}
 use Rattle.isl_arena.proofs.ClassWords.{class_of_found}
 use Rattle.isl_arena.proofs.ClassSearch.{asking, asking_run}
+use Rattle.isl_arena.proofs.Memory.{spot_low}
 
 pub class_name_does : IsPrimitive ClassName (procedure_of ClassName)
 class_name_does = does_one ClassName refl (λ v w names program places z y procedures below n r are units.
@@ -45,7 +45,7 @@ class_name_does = does_one ClassName refl (λ v w names program places z y proce
     (first_registers 8 (w ∷ [])) (omega arith) refl refl are.0 (omega arith) (λ c found.
     let it = object_found names program places z y r v w (class_object c) are.0 found in
     let bounded : it.spot.address + 8 < 2 ^ 32 =
-    omega (arith, it.stands.size.words, spot_below r.arena it.spot_stands, r.arena.room, r.arena.size)
+    omega (arith, it.stands.size.words, spot_low r.arena it.spot_stands)
     in
     goes_on names program places z y procedures below
     (load_falls refl (address_above w 6 (it.spot.address + 8) (omega (arith, it.word)) bounded) it.stands.name.stands)
