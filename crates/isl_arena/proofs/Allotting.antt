@@ -4,7 +4,7 @@ use Rattle.std.specs.Prelude.{slice_get}
 use Rattle.isl_meaning.specs.Values.{same}
 use Rattle.isl_mid.specs.declared.operation.Arithmetic.TheVariants as which
 use Rattle.isl_mid.specs.declared.operation.Operation.TheVariants.{Move, Request}
-use Rattle.isl_mid.specs.Words.{sum32, shift_left}
+use Rattle.isl_mid.specs.Words.{sum32}
 use Rattle.isl_mid.specs.Arena.{Arena, left, word_at, with_word, with_heap}
 use Rattle.isl_mid.specs.MidCode.{MidStep, perform, code_of}
 use Rattle.isl_mid.specs.State.{State, falls, ends}
@@ -12,7 +12,7 @@ use Rattle.isl_mid.specs.Meaning.{Context}
 use Rattle.isl_arena.specs.Tags.{nil_word, unbound_word, instance_header}
 use Rattle.isl_arena.specs.Standing.{ArenaStands}
 use Rattle.isl_arena.specs.Steps as steps
-use Rattle.isl_arena.proofs.WordFacts.{instance_header_made}
+use Rattle.isl_arena.proofs.WordFacts.{instance_header_made, four_times_count, sum_fits}
 use Rattle.isl_arena.proofs.Memory.{heap_below, stands_with_word, stands_with_heap, grows_with_heap, grows_stored, grows_with_words, with_words, words_stand, words_behind, stored_in_heap, stored_heap, stored_blocks}
 use Rattle.isl_arena.proofs.Running.{RunsTo, none_left, and_then, costing, constant_falls}
 use Rattle.isl_arena.proofs.Running.{compute_known, move_falls, store_in_heap, request_falls, address_here, address_above}
@@ -79,15 +79,13 @@ pub beginning_falls :
 beginning_falls y k w count bit stands small room =
     let heap : ℕ = y.arena.heap_to in
     let high : heap + 4 * (2 + count + bit) ≤ 2 ^ 26 = heap_below (stands_with_heap (2 + count + bit) stands room) in
-    let four_bits : shift_left bit 2 ≡ 4 * bit = omega arith in
-    let behind_slots : sum32 (4 * bit) (4 * count) ≡ 4 * bit + 4 * count = omega arith in
     let behind_heap : sum32 (4 * bit + 4 * count) heap ≡ heap + 4 * (count + bit) = omega arith in
     let end_is : sum32 (4 * count) heap ≡ heap + 4 * count = omega arith in
     costing
     (and_then (request_falls refl room)
     (and_then constant_falls
-    (and_then (compute_known refl refl four_bits)
-    (and_then (compute_known refl refl behind_slots)
+    (and_then (compute_known refl refl (four_times_count bit (omega arith)))
+    (and_then (compute_known refl refl (sum_fits (4 * bit) (4 * count) (omega arith)))
     (and_then (compute_known refl refl behind_heap)
     (and_then constant_falls
     (and_then

@@ -11,7 +11,7 @@ use Rattle.isl_meaning.specs.Primitives.{result, makes, a_cons, change}
 use Rattle.isl_mid.specs.declared.program.MidProcedure.{MidProcedure}
 use Rattle.isl_mid.specs.declared.operation.Arithmetic.TheVariants as which
 use Rattle.isl_mid.specs.declared.operation.Operation.TheVariants as operation
-use Rattle.isl_mid.specs.Words.{sum32, address}
+use Rattle.isl_mid.specs.Words.{address}
 use Rattle.isl_mid.specs.Arena.{Arena, left, word_at, with_word}
 use Rattle.isl_mid.specs.MidCode.{MidStep, perform, return_word, code_of}
 use Rattle.isl_mid.specs.State.{Registers, State, Outcome, returns, no_room, ends, register, first_registers}
@@ -36,6 +36,7 @@ use Rattle.isl_arena.proofs.Doing.{alike_self, paid, Run, goes_on, returns_value
 use Rattle.isl_arena.proofs.Checking.{tag_registers, cons_needed}
 use Rattle.isl_arena.proofs.Arrays.{stores_changed}
 use Rattle.isl_arena.proofs.Taking.{does_one, does_two}
+use Rattle.isl_arena.proofs.WordFacts.{sum_fits}
 
 -- ---- the parts of a cons
 
@@ -208,12 +209,12 @@ module _
         car = record {
           word = a;
           of_value = same_word spot_of_cons places v a first;
-          stands = ap (word_at arena_with_cons) (omega arith) ∙ begun_word 2 (a ∷ b ∷ []) 0 a r.arena room (omega arith) refl;
+          stands = begun_word 2 (a ∷ b ∷ []) y.arena.heap_to 0 a r.arena room (omega arith) (omega arith) refl;
         };
         cdr = record {
           word = b;
           of_value = same_word spot_of_cons places u b second;
-          stands = begun_word 2 (a ∷ b ∷ []) 1 b r.arena room (omega arith) refl;
+          stands = begun_word 2 (a ∷ b ∷ []) (y.arena.heap_to + 4) 1 b r.arena room (omega arith) (omega arith) refl;
         };
       }
 
@@ -234,15 +235,12 @@ module _
                 (and_then (store_in_heap refl refl (address_here y.arena.heap_to (omega (arith, low))) r.arena.aligned r.arena.heap (omega arith))
                 (and_then (store_in_heap refl refl (address_up y.arena.heap_to 4 (omega (arith, low))) (omega (arith, r.arena.aligned)) (omega (arith, r.arena.heap)) (omega arith))
                 (and_then constant_falls
-                (and_then (compute_known refl refl (pointer y.arena.heap_to low))
+                (and_then (compute_known refl refl (sum_fits y.arena.heap_to 1 (omega (arith, low))))
                 (and_ends tt (return_ends refl)))))));
             answers =
                 answers_made names program places z y r 2 0 (cons v u) z (record y { arena = arena_with_cons; cost = y.cost + 6 + 20 + 8 + 8 + 6 + 10 + 14 }) _
                 (alike_self z) (begun_grows 2 (a ∷ b ∷ []) r.arena room) refl refl refl refl (omega arith) (cons_stands room) tt (omega arith);
           }
-        where
-          pointer : (h : ℕ) → h ≤ 2 ^ 26 → sum32 h 1 ≡ h + 1
-          pointer h low = omega arith
 
 pub cons_does : IsPrimitive Cons (procedure_of Cons)
 cons_does = does_two Cons refl (λ v u a b names program places z y procedures below n r are units.

@@ -1,10 +1,9 @@
 -- A fresh symbol is made with the serial that comes next, as the meaning says.
-use Rattle.std.proofs.Common.{◌≡◌, ℕ, ◌+◌, ◌*◌, ◌/◌, ◌%◌, ◌^◌, ◌≤◌, List, [], ◌∷◌, length, Some, None, refl, ap, ◌∙◌, arith}
+use Rattle.std.proofs.Common.{◌≡◌, ℕ, ◌+◌, ◌*◌, ◌/◌, ◌%◌, ◌^◌, ◌≤◌, List, [], ◌∷◌, Some, None, refl, ◌∙◌, arith}
 use Rattle.std.specs.Prelude.{slice_get}
 use Rattle.std.proofs.Math.ListN.{length-set}
 use Rattle.isl_meaning.specs.declared.program.ProgramRows.{ProgramRows}
 use Rattle.isl_meaning.specs.declared.primitive.Primitive.TheVariants.{Gensym}
-use Rattle.isl_meaning.specs.Values.{Value}
 use Rattle.isl_meaning.specs.Objects.{Object, fresh_symbol}
 use Rattle.isl_meaning.specs.State as meaning
 use Rattle.isl_meaning.specs.Primitives.{makes_symbol, primitive}
@@ -14,7 +13,7 @@ use Rattle.isl_mid.specs.MidCode.{code_of}
 use Rattle.isl_mid.specs.State.{Registers, State, Outcome, returns, no_room, ends, first_registers}
 use Rattle.isl_mid.specs.Meaning.{Task, Context}
 use Rattle.isl_arena.specs.Tags.{object_tag, fresh_header}
-use Rattle.isl_arena.specs.Places.{Spot, Places, WordsOf, with_object}
+use Rattle.isl_arena.specs.Places.{Spot, Places, with_object}
 use Rattle.isl_arena.specs.FixedWords.{serial_address}
 use Rattle.isl_arena.specs.Layouts.{PairAt}
 use Rattle.isl_arena.specs.Represents.{Represents}
@@ -30,7 +29,7 @@ use Rattle.isl_arena.proofs.FixedChanges.{one_word, represents_serial, word_of_f
 use Rattle.isl_arena.proofs.Making.{Room, is_left, is_wanting, room_for, begun, begun_grows, begun_heap, begun_blocks, begun_word, changes_stored, fixed_below, answers_wanting, fixed_still_lent, stored_fixed}
 use Rattle.isl_arena.proofs.Making.{represents_new, pointer_made}
 use Rattle.isl_arena.proofs.Doing.{alike_self, Run, paid}
-use Rattle.isl_arena.proofs.Entering.{does_by_code}
+use Rattle.isl_arena.proofs.Taking.{does_none}
 
 -- the word of the serial that comes next, and that of the one behind it
 abbrev serial_word : meaning.State → ℕ
@@ -125,14 +124,14 @@ module _ (names : List (List ℕ)) (program : ProgramRows) (places : Places) (z 
       blocks : symbol_arena.blocks ≡ y.arena.blocks
       blocks = begun_blocks 2 (fresh_header ∷ serial_word z ∷ []) y.arena
 
-      stored : (i w : ℕ) → slice_get (fresh_header ∷ serial_word z ∷ []) i ≡ Some w → word_at symbol_arena (y.arena.heap_to + 4 * i) ≡ Some w
-      stored i w e = begun_word 2 (fresh_header ∷ serial_word z ∷ []) i w r.arena room (omega arith) e
+      stored : (x i w : ℕ) → x ≡ y.arena.heap_to + 4 * i → slice_get (fresh_header ∷ serial_word z ∷ []) i ≡ Some w → word_at symbol_arena x ≡ Some w
+      stored x i w same e = begun_word 2 (fresh_header ∷ serial_word z ∷ []) x i w r.arena room (omega arith) same e
 
       made : PairAt symbol_arena spot fresh_header (serial_word z)
       made = record {
         size = record { words = refl; tag = refl };
-        header = ap (word_at symbol_arena) (omega arith) ∙ stored 0 fresh_header refl;
-        word = stored 1 (serial_word z) refl;
+        header = stored y.arena.heap_to 0 fresh_header (omega arith) refl;
+        word = stored (y.arena.heap_to + 4) 1 (serial_word z) (omega arith) refl;
       }
 
       there : Represents names program after (meaning.stored one z) with_symbol
@@ -167,13 +166,4 @@ module _
         }
 
 pub gensym_does : IsPrimitive Gensym (procedure_of Gensym)
-gensym_does names program procedures below n places z y vs ws r are count units =
-    does_by_code names program places z y procedures below n Gensym vs ws r are count (λ y' r'. by y' r' vs ws are count)
-  where
-    by :
-        (y' : State) → Represents names program places z y' → (vs : List Value) (ws : List ℕ) → WordsOf places vs ws → length vs ≡ 0
-        → Run names program places z y' procedures below n (y'.cost + 130 + 244 * 0) (primitive names program Gensym vs z)
-        (code_of (code_of_primitive Gensym)) (first_registers 8 ws) y'.cost
-    by y' r' [] [] are count = gensym_run names program places z y' r' procedures below n
-    by y' r' [] (w ∷ ws) are count = absurd are
-    by y' r' (v ∷ vs) ws are count = absurd (omega (arith, count))
+gensym_does = does_none Gensym refl (λ names program places z y procedures below n r are units. gensym_run names program places z y r procedures below n)

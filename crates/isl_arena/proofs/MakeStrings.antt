@@ -13,7 +13,7 @@ use Rattle.isl_meaning.specs.Primitives.{domain_error, needs, a_character, lengt
 use Rattle.isl_mid.specs.declared.program.MidProcedure.{MidProcedure}
 use Rattle.isl_mid.specs.declared.operation.Arithmetic.TheVariants as which
 use Rattle.isl_mid.specs.declared.operation.Operation.TheVariants.{Move, Request}
-use Rattle.isl_mid.specs.Words.{sum32, shift_left}
+use Rattle.isl_mid.specs.Words.{sum32}
 use Rattle.isl_mid.specs.Arena.{Arena, left, word_at, with_word, with_heap}
 use Rattle.isl_mid.specs.MidCode.{MidStep, perform, return_word, code_of}
 use Rattle.isl_mid.specs.State.{State, Outcome, falls, returns, no_room, ends, first_registers}
@@ -28,7 +28,7 @@ use Rattle.isl_arena.specs.Codes.{procedure_of}
 use Rattle.isl_arena.specs.Steps as steps
 use Rattle.isl_arena.specs.Steps.{steps_of}
 use Rattle.isl_arena.specs.declared.line.Line.TheVariants as line
-use Rattle.isl_arena.proofs.WordFacts.{character_code}
+use Rattle.isl_arena.proofs.WordFacts.{character_code, four_times_count, sum_fits}
 use Rattle.isl_arena.proofs.ArithmeticBytes.{replicated_bytes, byte_words_is, full_word, last_word, packed_in_front, packed_last}
 use Rattle.isl_arena.proofs.Memory.{heap_below, stands_with_heap, grows_with_heap, grows_stored, grows_with_words, stored_in_heap, word_elsewhere, with_words, words_in_front, words_stand}
 use Rattle.isl_arena.proofs.Running.{RunsTo, StepsTo, turning, none_left, parts_then, and_then, and_ends, costing, constant_falls, compute_falls, compute_known, move_falls, store_in_heap}
@@ -186,7 +186,6 @@ beginning_falls y k count c stands room =
     let heap : ℕ = y.arena.heap_to in
     let words : ℕ = byte_words count in
     let high : heap + 4 * (2 + words) ≤ 2 ^ 26 = heap_below (stands_with_heap (2 + words) stands room) in
-    let four_times : shift_left words 2 ≡ 4 * words = omega arith in
     let end_is : sum32 (4 * words) heap ≡ heap + 4 * words = omega arith in
     costing
     (and_then (request_falls refl room)
@@ -197,7 +196,7 @@ beginning_falls y k count c stands room =
     (and_then constant_falls
     (and_then (compute_falls refl refl)
     (and_then constant_falls
-    (and_then (compute_known refl refl four_times)
+    (and_then (compute_known refl refl (four_times_count words (omega arith)))
     (and_then (compute_known refl refl end_is)
     (and_then (move_falls refl) none_left))))))))))) (omega arith)
 
@@ -231,7 +230,6 @@ ending_ends y k count c stands room =
     let heap : ℕ = y.arena.heap_to in
     let words : ℕ = byte_words count in
     let high : heap + 4 * (2 + words) ≤ 2 ^ 26 = heap_below (stands_with_heap (2 + words) stands room) in
-    let pointer : sum32 heap 2 ≡ heap + 2 = omega arith in
     costing
     (and_then constant_falls
     (and_then (compute_falls refl refl)
@@ -247,7 +245,7 @@ ending_ends y k count c stands room =
     (store_in_heap refl refl (address_above heap 4 (heap + 4) refl (omega arith)) (omega (arith, stands.aligned))
     (omega (arith, stands.heap, filled_from count c y.arena)) (omega (arith, filled_heap count c y.arena)))
     (and_then constant_falls
-    (and_then (compute_known refl refl pointer)
+    (and_then (compute_known refl refl (sum_fits heap 2 (omega arith)))
     (and_ends tt (return_ends refl))))))))))))) (omega arith)
 
 module _

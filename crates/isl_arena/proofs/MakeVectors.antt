@@ -108,9 +108,7 @@ module _ (names : List (List ℕ)) (program : ProgramRows) (places : Places) (z 
       where
         moved :
             (x i w : ℕ) → x ≡ y.arena.heap_to + 4 * i → slice_get all_words i ≡ Some w → word_at (begun (2 + count) all_words y.arena) x ≡ Some w
-        moved x i w same found =
-            ap (word_at (begun (2 + count) all_words y.arena)) same
-            ∙ begun_word (2 + count) all_words i w r.arena room (omega (arith, length-replicate count b)) found
+        moved x i w same found = begun_word (2 + count) all_words x i w r.arena room (omega (arith, length-replicate count b)) same found
 
   module _ (procedures : List MidProcedure) (below : Task → State → Outcome) where
     -- the vector is made, where its words are left

@@ -68,10 +68,11 @@ begun_grows {a} words ws h room = grows_with_words a.heap_to ws (grows_with_heap
 
 -- each word stands where it was stored
 pub begun_word :
-    {a : Arena} (words : ℕ) (ws : List ℕ) (i w : ℕ) → ArenaStands a → words ≤ left a → length ws ≤ words → slice_get ws i ≡ Some w
-    → word_at (begun words ws a) (a.heap_to + 4 * i) ≡ Some w
-begun_word {a} words ws i w h room some found =
-    words_stand a.heap_to ws (with_heap words a) i w (stands_with_heap words h room) h.aligned (omega (arith, h.heap)) (omega arith) found
+    {a : Arena} (words : ℕ) (ws : List ℕ) (x i w : ℕ) → ArenaStands a → words ≤ left a → length ws ≤ words → x ≡ a.heap_to + 4 * i → slice_get ws i ≡ Some w
+    → word_at (begun words ws a) x ≡ Some w
+begun_word {a} words ws x i w h room some same found =
+    ap (word_at (begun words ws a)) same
+    ∙ words_stand a.heap_to ws (with_heap words a) i w (stands_with_heap words h room) h.aligned (omega (arith, h.heap)) (omega arith) found
 
 -- a word that is stored in a spot changes at most that spot
 pub changes_stored : {a : Arena} (x w : ℕ) → ArenaStands a → x % 4 ≡ 0 → Changes (one_word x) a (with_word x w a)
@@ -212,11 +213,8 @@ module _ (names : List (List ℕ)) (program : ProgramRows) (places : Places) (z 
       all_words : length stored_words ≤ 3 + length vs
       all_words = omega (arith, length-append ws (nil_word ∷ []), as_many_words places vs ws are)
 
-      there : (i w : ℕ) → slice_get stored_words i ≡ Some w → word_at condition_arena (y.arena.heap_to + 4 * i) ≡ Some w
-      there i w found = begun_word (3 + length vs) stored_words i w r.arena room all_words found
-
       moved : (x i w : ℕ) → x ≡ y.arena.heap_to + 4 * i → slice_get stored_words i ≡ Some w → word_at condition_arena x ≡ Some w
-      moved x i w same found = ap (word_at condition_arena) same ∙ there i w found
+      moved x i w same found = begun_word (3 + length vs) stored_words x i w r.arena room all_words same found
 
       as_many : length (map (λ v. Some v) vs) ≡ length vs
       as_many = length-map vs (λ v. Some v)
