@@ -1,5 +1,5 @@
--- What the primitives of vectors and strings have in common: their arguments, the word of a length, the test of an index, and the return
--- from a state where an object was changed.
+-- What the primitives of vectors, strings and slots have in common: the tests of a length and of an index, and the return from a state where
+-- an object was changed.
 use Rattle.std.proofs.Common.{◌≡◌, ℕ, ◌+◌, ◌*◌, ◌/◌, ◌%◌, ◌^◌, ◌<◌, ◌≤◌, ℤ, pos, true, List, [], ◌∷◌, length, Option, Some, None, refl, ap, ◌∙◌, arith}
 use Rattle.std.specs.Prelude.{is_some, slice_get, slice_set}
 use Rattle.std.proofs.Math.ListN.{length-set}

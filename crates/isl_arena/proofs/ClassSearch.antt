@@ -1,5 +1,4 @@
--- The line that searches the precedence list of a class, beside the meaning's question whether a class is below another; and the primitives that
--- ask it, or give the name of a class.
+-- The line that searches the precedence list of a class, beside the meaning's question whether a class is below another.
 use Rattle.std.proofs.Common.{◌≡◌, ℕ, zero, suc, ◌+◌, ◌*◌, ◌^◌, ◌<◌, ◌≤◌, pos, Bool, true, false, List, [], ◌∷◌, ◌++◌, length, Some, refl, ap, ◌∙◌, arith}
 use Rattle.std.specs.Prelude.{◌==◌, nat_lt, slice_set, slice_index_or}
 use Rattle.std.proofs.lemmas.Bool.Decides.{nat_tests}

@@ -1,4 +1,5 @@
--- The loop that stores the same word again and again: with a turn for each word, it falls out where all were stored.
+-- The loop that stores the same word again and again: with a turn for each word, it falls out where all were stored. And the code that
+-- ends with it.
 use Rattle.std.proofs.Common.{◌≡◌, ℕ, zero, suc, ◌+◌, ◌*◌, ◌%◌, ◌^◌, ◌<◌, ◌≤◌, true, false, List, [], ◌∷◌, ◌++◌, replicate, Option, Some, refl, ap, ◌∙◌, arith}
 use Rattle.std.specs.Prelude.{pos, nat_lt}
 use Rattle.std.proofs.lemmas.Bool.Decides.{nat_tests}

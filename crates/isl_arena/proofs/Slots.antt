@@ -1,4 +1,4 @@
--- How many slots an instance has, what is in a slot, whether something is, and a slot that is set: the code does what the meaning says of them.
+-- How many slots an instance has, what is in a slot, and whether something is: the code does what the meaning says of them.
 use Rattle.std.proofs.Common.{◌≡◌, ℕ, ◌+◌, ◌*◌, ◌^◌, ◌<◌, ◌≤◌, ℤ, pos, true, false, List, [], ◌∷◌, ◌++◌, length, Option, Some, None, refl, ap, ◌∙◌, arith}
 use Rattle.std.specs.Prelude.{negsuc, ◌==◌, not, slice_get, slice_set, slice_index_or}
 use Rattle.std.proofs.lemmas.Bool.Decides.{nat_tests}

@@ -1,4 +1,4 @@
--- Facts about words: their tags and bytes, the words of integers, characters and pointers, and what tests on them tell.
+-- Facts about words: their tags and bytes, the words of integers and characters, headers, and what tests on them tell.
 use Rattle.std.proofs.Common.{◌≡◌, ℕ, suc, ◌+◌, ◌-◌, ◌*◌, ◌/◌, ◌%◌, ◌^◌, ◌<◌, ◌≤◌, ℤ, pos, Bool, true, false, Option, Some, None, refl, sym, ap, ◌∙◌, arith}
 use Rattle.std.specs.Prelude.{negsuc, ◌==◌, nat_lt, nat_le, int_lt, int_le, not, ◌&&◌, ◌||◌, ◌*ℤ◌, FitsSigned, is_some, if◌then◌else◌}
 use Rattle.std.specs.Int.{w32}
