@@ -13,7 +13,8 @@ use Rattle.isl_arena.specs.Tags.{nil_word, unbound_word, instance_header}
 use Rattle.isl_arena.specs.Standing.{ArenaStands}
 use Rattle.isl_arena.specs.Steps as steps
 use Rattle.isl_arena.proofs.WordFacts.{instance_header_made, four_times_count, sum_fits}
-use Rattle.isl_arena.proofs.Memory.{heap_below, stands_with_word, stands_with_heap, grows_with_heap, grows_stored, grows_with_words, with_words, words_stand, words_behind, stored_in_heap, stored_heap, stored_blocks}
+use Rattle.isl_arena.proofs.Memory.{heap_below, stands_with_word, stands_with_heap, grows_with_heap, grows_stored, grows_with_words}
+use Rattle.isl_arena.proofs.Memory.{with_words, words_stand, words_behind, stored_in_heap, stored_heap, stored_blocks}
 use Rattle.isl_arena.proofs.Running.{RunsTo, none_left, and_then, costing, constant_falls}
 use Rattle.isl_arena.proofs.Running.{compute_known, move_falls, store_in_heap, request_falls, address_here, address_above}
 use Rattle.isl_arena.proofs.Doing.{paid}

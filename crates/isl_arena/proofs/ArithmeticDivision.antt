@@ -11,7 +11,8 @@ use Rattle.isl_mid.specs.Words.{low_word, sum32, difference32, product32, high_s
 use Rattle.isl_meaning.specs.Values.{in_range, int_equal}
 use Rattle.isl_meaning.specs.Primitives.{floor_quotient, floor_remainder}
 use Rattle.isl_arena.specs.Tags.{integer_word}
-use Rattle.isl_arena.proofs.WordFacts.{four_times_below, is_negative, integer_word_of_pos, integer_word_of_negsuc, low_word_of_negsuc, low_word_of_pos, low_word_of_word, signed_low_word, signed_integer_word, integer_is_zero, four_fits, range_tells, in_range_is, above_range_is}
+use Rattle.isl_arena.proofs.WordFacts.{four_times_below, is_negative, integer_word_of_pos, integer_word_of_negsuc, low_word_of_negsuc, low_word_of_pos, low_word_of_word}
+use Rattle.isl_arena.proofs.WordFacts.{signed_low_word, signed_integer_word, integer_is_zero, four_fits, range_tells, in_range_is, above_range_is}
 use Rattle.isl_arena.proofs.ArithmeticWords.{sum_of_low_words, difference_of_low_words, product_of_low_words, high_of_low_words}
 use Rattle.isl_arena.proofs.ArithmeticSum.{bit_of}
 use Rattle.isl_arena.proofs.ArithmeticProduct.{four_times_factor}

@@ -123,20 +123,18 @@ cons_set places a s car cdr v w first_part arena stands word t names program = r
   car = record {
     word = w;
     of_value = word;
-    stands = ap (word_at (with_word (s.address + 4 * 0) w a)) (omega arith) ∙ stored_in_spot 0 w arena stands (omega (arith, t.size.words));
+    stands = stored_in_spot 0 w s.address arena stands (omega (arith, t.size.words)) (omega arith);
   };
-  cdr = record { word = t.cdr.word; of_value = t.cdr.of_value; stands = others_in_spot 0 1 w stands refl ∙ t.cdr.stands };
+  cdr = record { word = t.cdr.word; of_value = t.cdr.of_value; stands = others_in_spot 0 w (s.address + 4) stands (λ e. omega arith) ∙ t.cdr.stands };
 }
 cons_set places a s car cdr v w second_part arena stands word t names program = record {
   size = t.size;
   car = record {
     word = t.car.word;
     of_value = t.car.of_value;
-    stands =
-        ap (word_at (with_word (s.address + 4 * 1) w a)) (omega arith) ∙ others_in_spot 1 0 w stands refl
-        ∙ ap (word_at a) (omega arith) ∙ t.car.stands;
+    stands = others_in_spot 1 w s.address stands (λ e. omega arith) ∙ t.car.stands;
   };
-  cdr = record { word = w; of_value = word; stands = stored_in_spot 1 w arena stands (omega (arith, t.size.words)) };
+  cdr = record { word = w; of_value = word; stands = stored_in_spot 1 w (s.address + 4) arena stands (omega (arith, t.size.words)) (omega arith) };
 }
 
 part_below : (part : Part) → words_to part < 2

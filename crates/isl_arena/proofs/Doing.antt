@@ -13,7 +13,8 @@ use Rattle.isl_mid.specs.Meaning.{Task}
 use Rattle.isl_arena.specs.Places.{Places, word_of}
 use Rattle.isl_arena.specs.Represents.{Represents}
 use Rattle.isl_arena.specs.Answers.{Comes, done, no_words, Done, units_after}
-use Rattle.isl_arena.proofs.Running.{RunsTo, StepsTo, IsLast, turning, none_left, and_then, and_ends, return_ends, choose_first_falls, choose_second_falls, choose_first_ends, choose_second_ends, parts_then, parts_end}
+use Rattle.isl_arena.proofs.Running.{RunsTo, StepsTo, IsLast, turning, none_left, and_then, and_ends, return_ends, choose_first_falls}
+use Rattle.isl_arena.proofs.Running.{choose_second_falls, choose_first_ends, choose_second_ends, parts_then, parts_end}
 use Rattle.isl_arena.proofs.Growing.{grows_same}
 use Rattle.isl_arena.proofs.Representing.{kept_grown, represents_grown, represents_same}
 

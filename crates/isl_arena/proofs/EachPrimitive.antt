@@ -1,7 +1,12 @@
 -- Each primitive does what it has to.
 use Rattle.std.proofs.Common.{◌≡◌, true, refl}
 use Rattle.isl_meaning.specs.declared.primitive.Primitive.{Primitive}
-use Rattle.isl_meaning.specs.declared.primitive.Primitive.TheVariants.{Add, Subtract, Multiply, Divide, Modulo, NumberEqual, NumberNotEqual, NumberLess, NumberAtMost, NumberGreater, NumberAtLeast, Same, IsNull, IsCons, IsInteger, IsSymbol, IsCharacter, IsString, IsVector, IsFunction, IsGeneric, Cons, Car, Cdr, SetCar, SetCdr, MakeString, MakeVector, StringLength, VectorLength, CharAt, VectorRef, SetCharAt, SetVectorRef, CharCode, CodeChar, SymbolName, SymbolSerial, Gensym, ClassOf, ClassName, IsSubclass, IsInstance, Allocate, SlotCount, SlotPlace, SlotRef, SlotSet, SlotBound, SlotInitargs, SlotInitform, Continuable, StandardInput, StandardOutput, PutChar, IsFreshLine, GetByte, PeekByte}
+use Rattle.isl_meaning.specs.declared.primitive.Primitive.TheVariants.{Add, Subtract, Multiply, Divide, Modulo, NumberEqual, NumberNotEqual, NumberLess, NumberAtMost, NumberGreater}
+use Rattle.isl_meaning.specs.declared.primitive.Primitive.TheVariants.{NumberAtLeast, Same, IsNull, IsCons, IsInteger, IsSymbol, IsCharacter, IsString, IsVector, IsFunction, IsGeneric, Cons, Car}
+use Rattle.isl_meaning.specs.declared.primitive.Primitive.TheVariants.{Cdr, SetCar, SetCdr, MakeString, MakeVector, StringLength, VectorLength, CharAt, VectorRef, SetCharAt, SetVectorRef}
+use Rattle.isl_meaning.specs.declared.primitive.Primitive.TheVariants.{CharCode, CodeChar, SymbolName, SymbolSerial, Gensym, ClassOf, ClassName, IsSubclass, IsInstance, Allocate, SlotCount}
+use Rattle.isl_meaning.specs.declared.primitive.Primitive.TheVariants.{SlotPlace, SlotRef, SlotSet, SlotBound, SlotInitargs, SlotInitform, Continuable, StandardInput, StandardOutput, PutChar}
+use Rattle.isl_meaning.specs.declared.primitive.Primitive.TheVariants.{IsFreshLine, GetByte, PeekByte}
 use Rattle.isl_mid.specs.Checked.{is_checked}
 use Rattle.isl_arena.specs.Answers.{IsPrimitive}
 use Rattle.isl_arena.specs.Codes.{procedure_of}
@@ -13,7 +18,8 @@ use Rattle.isl_arena.proofs.ClassWords.{class_of_does}
 use Rattle.isl_arena.proofs.Conses.{cons_does, car_does, cdr_does, set_car_does, set_cdr_does}
 use Rattle.isl_arena.proofs.Division.{divide_does, modulo_does}
 use Rattle.isl_arena.proofs.FreshSymbols.{gensym_does}
-use Rattle.isl_arena.proofs.Integers.{add_does, subtract_does, multiply_does, number_equal_does, number_not_equal_does, number_less_does, number_at_most_does, number_greater_does, number_at_least_does}
+use Rattle.isl_arena.proofs.Integers.{add_does, subtract_does, multiply_does, number_equal_does, number_not_equal_does}
+use Rattle.isl_arena.proofs.Integers.{number_less_does, number_at_most_does, number_greater_does, number_at_least_does}
 use Rattle.isl_arena.proofs.MakeStrings.{make_string_does}
 use Rattle.isl_arena.proofs.MakeVectors.{make_vector_does}
 use Rattle.isl_arena.proofs.Predicates.{same_does, is_null_does, is_cons_does, is_integer_does, is_symbol_does, is_character_does, is_string_does, is_vector_does, is_function_does, is_generic_does}

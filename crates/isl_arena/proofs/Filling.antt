@@ -10,7 +10,8 @@ use Rattle.isl_mid.specs.State.{Registers, State, Outcome, falls, returns, ends}
 use Rattle.isl_mid.specs.Meaning.{Task, Context}
 use Rattle.isl_arena.specs.Steps as steps
 use Rattle.isl_arena.proofs.Memory.{with_words}
-use Rattle.isl_arena.proofs.Running.{StepsTo, turning, none_left, and_then, constant_falls, compute_known, store_in_heap, address_above, repeat_falls, repeat_turn, RunsTo, and_ends, costing, return_ends}
+use Rattle.isl_arena.proofs.Running.{StepsTo, turning, none_left, and_then, constant_falls, compute_known, store_in_heap}
+use Rattle.isl_arena.proofs.Running.{address_above, repeat_falls, repeat_turn, RunsTo, and_ends, costing, return_ends}
 use Rattle.isl_arena.proofs.WordFacts.{sum_fits}
 
 -- the step with the loop, and what is done in a turn

@@ -26,7 +26,8 @@ use Rattle.isl_arena.proofs.Running.{RunsTo, and_then, and_ends, costing, consta
 use Rattle.isl_arena.proofs.Running.{return_ends, address_above, address_here}
 use Rattle.isl_arena.proofs.Representing.{kept_both, kept_made, kept_grown, kept_fixed}
 use Rattle.isl_arena.proofs.FixedChanges.{one_word, represents_serial, word_of_fixed}
-use Rattle.isl_arena.proofs.Making.{Room, is_left, is_wanting, room_for, begun, begun_grows, begun_heap, begun_blocks, begun_word, changes_stored, fixed_below, answers_wanting, fixed_still_lent, stored_fixed}
+use Rattle.isl_arena.proofs.Making.{Room, is_left, is_wanting, room_for, begun, begun_grows, begun_heap, begun_blocks, begun_word}
+use Rattle.isl_arena.proofs.Making.{changes_stored, fixed_below, answers_wanting, fixed_still_lent, stored_fixed}
 use Rattle.isl_arena.proofs.Making.{represents_new, pointer_made}
 use Rattle.isl_arena.proofs.Doing.{alike_self, Run, paid}
 use Rattle.isl_arena.proofs.Taking.{does_none}
@@ -76,7 +77,9 @@ module _ (names : List (List ℕ)) (program : ProgramRows) (places : Places) (z 
       (and_then constant_falls
       (and_then (compute_known refl refl (next_serial z.symbols))
       (and_then constant_falls
-      (and_then (store_falls refl refl (address_above 0 serial_address serial_address refl (omega arith)) (fixed_still_lent names program places z y r symbol_arena grown serial_address refl (omega arith)))
+      (and_then
+      (store_falls refl refl (address_above 0 serial_address serial_address refl (omega arith))
+      (fixed_still_lent names program places z y r symbol_arena grown serial_address refl (omega arith)))
       (and_then constant_falls
       (and_then (compute_known refl refl (omega arith))
       (and_ends tt (return_ends refl))))))))))))))))))) (omega arith)

@@ -23,7 +23,8 @@ use Rattle.isl_arena.specs.FixedWords.{pending_address}
 use Rattle.isl_arena.specs.Layouts.{ObjectAt, InstanceAt}
 use Rattle.isl_arena.specs.Represents.{Represents}
 use Rattle.isl_arena.specs.Answers.{Enlarged, Returned, Pending, Signalled, RoomWanting, done, no_words, words_asked, units_after}
-use Rattle.isl_arena.proofs.Memory.{in_spot_lent, in_spot_there, word_here, word_elsewhere, stands_with_word, stands_with_heap, grows_with_heap, with_words, grows_with_words, stored_heap, stored_blocks}
+use Rattle.isl_arena.proofs.Memory.{in_spot_lent, in_spot_there, word_here, word_elsewhere, stands_with_word, stands_with_heap}
+use Rattle.isl_arena.proofs.Memory.{grows_with_heap, with_words, grows_with_words, stored_heap, stored_blocks}
 use Rattle.isl_arena.proofs.Memory.{words_stand}
 use Rattle.isl_arena.proofs.Keeping.{same_word, words_extended, words_of_condition, words_at_least, extends_one, as_many_words, tag_low}
 use Rattle.isl_arena.proofs.Growing.{Grows, grows_same, Changes, spot_below, spot_grown}

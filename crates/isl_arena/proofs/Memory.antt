@@ -3,7 +3,8 @@ use Rattle.std.proofs.Common.{◌≡◌, ℕ, zero, suc, ◌+◌, ◌*◌, ◌/�
 use Rattle.std.specs.Prelude.{◌==◌, ◌&&◌, ◌||◌, if◌then◌else◌, slice_get, slice_set}
 use Rattle.std.proofs.lemmas.Bool.Decides.{nat_tests}
 use Rattle.std.proofs.Math.ListN.{length-set}
-use Rattle.isl_mid.specs.Arena.{Block, is_record, Arena, words_of, begin_of, lent_from, stack_from, left, is_within, is_in_record, is_lent, word_in, word_at, with_word, emptied, with_heap, with_blocks, with_new_block}
+use Rattle.isl_mid.specs.Arena.{Block, is_record, Arena, words_of, begin_of, lent_from, stack_from, left, is_within, is_in_record}
+use Rattle.isl_mid.specs.Arena.{is_lent, word_in, word_at, with_word, emptied, with_heap, with_blocks, with_new_block}
 use Rattle.isl_mid.proofs.Growth.{length-emptied}
 use Rattle.isl_arena.specs.Places.{Spot, end_of}
 use Rattle.isl_arena.specs.Standing.{ArenaStands, IsLentPart, of_laid, of_heap, SpotStands}
@@ -265,14 +266,14 @@ grows_stored {a} {b} x w g e above = record {
 
 -- the words of a spot by their numbers: one is stored, the others are as before
 
-pub stored_in_spot : {a : Arena} {s : Spot} (i w : ℕ) → ArenaStands a → SpotStands a s → i < s.words → word_at (with_word (s.address + 4 * i) w a) (s.address + 4 * i) ≡ Some w
-stored_in_spot {a} {s} i w arena stands h = word_here a (s.address + 4 * i) w (part_lent i stands h) (part_there i arena stands h)
+pub stored_in_spot :
+    {a : Arena} {s : Spot} (i w x : ℕ) → ArenaStands a → SpotStands a s → i < s.words → x ≡ s.address + 4 * i → word_at (with_word (s.address + 4 * i) w a) x ≡ Some w
+stored_in_spot {a} {s} i w x arena stands h same =
+    ap (word_at (with_word (s.address + 4 * i) w a)) same ∙ word_here a (s.address + 4 * i) w (part_lent i stands h) (part_there i arena stands h)
 
 pub others_in_spot :
-    {a : Arena} {s : Spot} (i j w : ℕ) → SpotStands a s → (i == j) ≡ false
-    → word_at (with_word (s.address + 4 * i) w a) (s.address + 4 * j) ≡ word_at a (s.address + 4 * j)
-others_in_spot {a} {s} i j w stands h =
-    word_elsewhere a (s.address + 4 * i) w (s.address + 4 * j) (omega (arith, stands.aligned)) (grind (arith, nat_tests))
+    {a : Arena} {s : Spot} (i w x : ℕ) → SpotStands a s → (s.address + 4 * i ≡ x → ⊥) → word_at (with_word (s.address + 4 * i) w a) x ≡ word_at a x
+others_in_spot {a} {s} i w x stands other = word_elsewhere a (s.address + 4 * i) w x (omega (arith, stands.aligned)) (ne_eqb (s.address + 4 * i) x other)
 
 -- words that are stored one after another from an address on
 abbrev pub with_words : ℕ → List ℕ → Arena → Arena

@@ -25,7 +25,8 @@ use Rattle.isl_arena.proofs.WordFacts.{tag_tested, low_four_bits_tested, equal_b
 use Rattle.isl_arena.proofs.HeaderKinds.{instance_of, stream_of}
 use Rattle.isl_arena.proofs.Telling.{FoundByHeader, found_kind, found_other_kind, found_other_tag, string_told, vector_told, class_told, instance_told, stream_told}
 use Rattle.isl_arena.proofs.Doing.{Run, goes_on, second_answers, part_then, part_answers, paid}
-use Rattle.isl_arena.proofs.Checking.{tag_registers, header_registers, instance_registers, errs, tag_scratched, tag_passes, tag_errs, header_loaded, header_passes, header_errs, header_errs_by_tag, header_bounded}
+use Rattle.isl_arena.proofs.Checking.{tag_registers, header_registers, instance_registers, errs, tag_scratched, tag_passes, tag_errs}
+use Rattle.isl_arena.proofs.Checking.{header_loaded, header_passes, header_errs, header_errs_by_tag, header_bounded}
 use Rattle.isl_arena.proofs.Running.{RunsTo, turning, none_left, and_then, parts_then, constant_falls, compute_falls, choose_first_falls}
 use Rattle.isl_arena.proofs.Registers.{Scratched, scratched_seven, scratched_six, seven_behind_six, six_here}
 
@@ -34,35 +35,38 @@ module _
     (procedures : List MidProcedure) (below : Task → State → Outcome)
   where
     -- An object that the header decides. It costs 80 to find it.
-    module _ {X : Type 0} (part : Option Object → Option X) (make : X → Object) (is_kind : ℕ → Bool) (header count expected : ℕ) (tested : (h : ℕ) → h < 2 ^ 32 → nat_lt (difference32 h header) count ≡ is_kind h) (class : expected < 34) where
-      kind_needed :
-          (n budget k of w : ℕ) (v : Value) (next : X → Answer) (rest : List MidStep) (rs : Registers) → of < 3 → length rs ≡ 8 → register of rs ≡ Some w
-          → word_of places v ≡ Some w → FoundByHeader part make is_kind y.arena (fetch z v) w → k + 250 + 250 * z.units ≤ budget + 250 * (z.units + 5)
-          → ((x : X) → fetch z v ≡ Some (make x) → word_at y.arena (w - 2) ≡ Some (header_of (make x))
-          → Run names program places z y procedures below n budget (next x) (code_of rest) (header_registers w (header_of (make x)) header count rs)
-          (k + 6 + 10 + 6 + 12 + 2 + 8 + 6 + 10 + 6 + 12 + 2))
-          → Run names program places z y procedures below n budget (needs (part (fetch z v)) (domain_error v expected z) next)
-          (code_of (steps.need_header of header count (pos (class_address expected)) ++ rest)) rs k
-      kind_needed n budget k of w v next rest rs low size held word told cost more = by told
-        where
-          by :
-              FoundByHeader part make is_kind y.arena (fetch z v) w
-              → Run names program places z y procedures below n budget (needs (part (fetch z v)) (domain_error v expected z) next)
-              (code_of (steps.need_header of header count (pos (class_address expected)) ++ rest)) rs k
-          by (found_kind x same found tag at kind) =
-              rw found
-              (part_then names program places z y procedures below (steps.need_header of header count (pos (class_address expected))) rest
-              (header_passes names program places z y r procedures below n of w expected v rs low size held word class (header_of (make x)) header count k tag at
-              (tested (header_of (make x)) (header_bounded names program places z y r procedures below v w (header_of (make x)) word tag at) ∙ kind)) (more x same at))
-          by (found_other_kind h none tag at kind) =
-              rw none
-              (part_answers names program places z y procedures below (steps.need_header of header count (pos (class_address expected))) rest
-              (header_errs names program places z y r procedures below n of w expected v rs low size held word class h header count k tag at budget
-              (tested h (header_bounded names program places z y r procedures below v w h word tag at) ∙ kind) cost))
-          by (found_other_tag none tag) =
-              rw none
-              (part_answers names program places z y procedures below (steps.need_header of header count (pos (class_address expected))) rest
-              (header_errs_by_tag names program places z y r procedures below n of w expected v rs low size held word class header count budget k tag (omega (arith, cost))))
+    module _
+        {X : Type 0} (part : Option Object → Option X) (make : X → Object) (is_kind : ℕ → Bool) (header count expected : ℕ)
+        (tested : (h : ℕ) → h < 2 ^ 32 → nat_lt (difference32 h header) count ≡ is_kind h) (class : expected < 34)
+      where
+        kind_needed :
+            (n budget k of w : ℕ) (v : Value) (next : X → Answer) (rest : List MidStep) (rs : Registers) → of < 3 → length rs ≡ 8 → register of rs ≡ Some w
+            → word_of places v ≡ Some w → FoundByHeader part make is_kind y.arena (fetch z v) w → k + 250 + 250 * z.units ≤ budget + 250 * (z.units + 5)
+            → ((x : X) → fetch z v ≡ Some (make x) → word_at y.arena (w - 2) ≡ Some (header_of (make x))
+            → Run names program places z y procedures below n budget (next x) (code_of rest) (header_registers w (header_of (make x)) header count rs)
+            (k + 6 + 10 + 6 + 12 + 2 + 8 + 6 + 10 + 6 + 12 + 2))
+            → Run names program places z y procedures below n budget (needs (part (fetch z v)) (domain_error v expected z) next)
+            (code_of (steps.need_header of header count (pos (class_address expected)) ++ rest)) rs k
+        kind_needed n budget k of w v next rest rs low size held word told cost more = by told
+          where
+            by :
+                FoundByHeader part make is_kind y.arena (fetch z v) w
+                → Run names program places z y procedures below n budget (needs (part (fetch z v)) (domain_error v expected z) next)
+                (code_of (steps.need_header of header count (pos (class_address expected)) ++ rest)) rs k
+            by (found_kind x same found tag at kind) =
+                rw found
+                (part_then names program places z y procedures below (steps.need_header of header count (pos (class_address expected))) rest
+                (header_passes names program places z y r procedures below n of w expected v rs low size held word class (header_of (make x)) header count k tag at
+                (tested (header_of (make x)) (header_bounded names program places z y r procedures below v w (header_of (make x)) word tag at) ∙ kind)) (more x same at))
+            by (found_other_kind h none tag at kind) =
+                rw none
+                (part_answers names program places z y procedures below (steps.need_header of header count (pos (class_address expected))) rest
+                (header_errs names program places z y r procedures below n of w expected v rs low size held word class h header count k tag at budget
+                (tested h (header_bounded names program places z y r procedures below v w h word tag at) ∙ kind) cost))
+            by (found_other_tag none tag) =
+                rw none
+                (part_answers names program places z y procedures below (steps.need_header of header count (pos (class_address expected))) rest
+                (header_errs_by_tag names program places z y r procedures below n of w expected v rs low size held word class header count budget k tag (omega (arith, cost))))
 
     pub string_needed :
         (n budget k of w : ℕ) (v : Value) (next : List ℕ → Answer) (rest : List MidStep) (rs : Registers) → of < 3 → length rs ≡ 8 → register of rs ≡ Some w
@@ -139,7 +143,10 @@ module _
               (tag_passes names program places z y r procedures below n of w expected v rs low size held word class (2 ^ 31) k (tag_tested w 2 ∙ tag))
               (and_then (header_loaded names program places z y r procedures below n of w expected v rs low size held word class h (k + 6 + 10 + 6 + 12 + 2) tag at)
               (and_then constant_falls
-              (and_then (compute_falls (seven_behind_six (tag_registers w (2 ^ 31) rs) h 28 (tag_scratched names program places z y r procedures below n of w expected v rs low size held word class (2 ^ 31)).size) (six_here _ 28 loaded.size))
+              (and_then
+              (compute_falls
+              (seven_behind_six (tag_registers w (2 ^ 31) rs) h 28 (tag_scratched names program places z y r procedures below n of w expected v rs low size held word class (2 ^ 31)).size)
+              (six_here _ 28 loaded.size))
               (and_then constant_falls
               (and_then (choose_first_falls (seven_behind_six _ (shift_left h 28) (3 * 2 ^ 28) put.size) (six_here _ (3 * 2 ^ 28) shifted.size) (low_four_bits_tested h 3 ∙ e) none_left) none_left)))))
 
@@ -153,7 +160,9 @@ module _
               (header_loaded names program places z y r procedures below n of w expected v rs low size held word class h (k + 6 + 10 + 6 + 12 + 2) tag at)
               (goes_on names program places z y procedures below constant_falls
               (goes_on names program places z y procedures below
-              (compute_falls (seven_behind_six (tag_registers w (2 ^ 31) rs) h 28 (tag_scratched names program places z y r procedures below n of w expected v rs low size held word class (2 ^ 31)).size) (six_here _ 28 loaded.size))
+              (compute_falls
+              (seven_behind_six (tag_registers w (2 ^ 31) rs) h 28 (tag_scratched names program places z y r procedures below n of w expected v rs low size held word class (2 ^ 31)).size)
+              (six_here _ 28 loaded.size))
               (goes_on names program places z y procedures below constant_falls
               (second_answers names program places z y procedures below (seven_behind_six _ (shift_left h 28) (3 * 2 ^ 28) put.size) (six_here _ (3 * 2 ^ 28) shifted.size)
               (low_four_bits_tested h 3 ∙ e)

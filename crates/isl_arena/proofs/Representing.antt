@@ -14,7 +14,8 @@ use Rattle.isl_mid.specs.State.{State}
 use Rattle.isl_arena.specs.Tags.{symbol_header}
 use Rattle.isl_arena.specs.Places.{Spot, end_of, Places, Owner, same_owner, of_object, of_symbol, of_other, spot_of, with_object}
 use Rattle.isl_arena.specs.Standing.{of_heap, SpotStands, Apart, in_front, behind, SameWords, ValueAt}
-use Rattle.isl_arena.specs.FixedWords.{fixed_words, nil_text, class_address, input_address, output_address, true_address, serial_address, line_address, peeked_address, InputIs, untouched, looked_at, FixedStand}
+use Rattle.isl_arena.specs.FixedWords.{fixed_words, nil_text, class_address, input_address, output_address, true_address, serial_address}
+use Rattle.isl_arena.specs.FixedWords.{line_address, peeked_address, InputIs, untouched, looked_at, FixedStand}
 use Rattle.isl_arena.specs.Layouts.{AreBytes, ObjectAt}
 use Rattle.isl_arena.specs.Represents.{Represents}
 use Rattle.isl_arena.specs.Answers.{Kept}

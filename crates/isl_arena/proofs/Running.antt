@@ -12,7 +12,8 @@ use Rattle.isl_mid.specs.Words.{computed, compares, low_word, address}
 use Rattle.isl_mid.specs.MidCode.{MidStep, perform, choose, repeat, return_word, MidCode, no_step, step_and, code_of}
 use Rattle.isl_mid.specs.Arena.{Block, activation_frame, left, is_lent, word_at, with_word, with_heap, with_new_block}
 use Rattle.isl_mid.specs.Costs.{operation_cost, test_cost, jump_cost, return_cost, entry_cost}
-use Rattle.isl_mid.specs.State.{Registers, first_registers, State, End, falls, returns, cuts, no_room, no_level, no_turn, halts, unhandled, exhausted, stuck, Outcome, Next, ends, charged, with_arena, gives, go_on, with_some, choose_by, register, jumped}
+use Rattle.isl_mid.specs.State.{Registers, first_registers, State, End, falls, returns, cuts, no_room, no_level, no_turn, halts, unhandled, exhausted}
+use Rattle.isl_mid.specs.State.{stuck, Outcome, Next, ends, charged, with_arena, gives, go_on, with_some, choose_by, register, jumped}
 use Rattle.isl_mid.specs.Meaning.{store, get_from, test, count, Task, enter, again, Context, context_of, leaves, exec, exec_step, turns}
 use Rattle.isl_arena.specs.Places.{Spot, end_of}
 use Rattle.isl_arena.specs.Standing.{SpotStands}

@@ -1,7 +1,6 @@
 -- A slot of an instance that is set: the code does what the meaning says of it.
 use Rattle.std.proofs.Common.{◌≡◌, ℕ, ◌+◌, ◌*◌, ◌<◌, ◌≤◌, pos, List, [], ◌∷◌, length, Option, Some, None, ⊎_elim, refl, sym, ap, ◌∙◌, arith}
 use Rattle.std.specs.Prelude.{slice_set, slice_index_or, ◌≢◌}
-use Rattle.std.proofs.lemmas.Bool.Decides.{nat_tests}
 use Rattle.std.proofs.lemmas.Bool.{cases_eq}
 use Rattle.std.proofs.lemmas.List.{get_or-set_same, get_or-set_other}
 use Rattle.std.proofs.Math.ListN.{length-set}
@@ -27,7 +26,7 @@ use Rattle.isl_arena.specs.Codes.{procedure_of}
 use Rattle.isl_arena.specs.Steps as steps
 use Rattle.isl_arena.specs.Steps.{steps_of}
 use Rattle.isl_arena.proofs.Running.{compute_known, address_above}
-use Rattle.isl_arena.proofs.Memory.{word_elsewhere, stored_in_spot}
+use Rattle.isl_arena.proofs.Memory.{stored_in_spot, others_in_spot}
 use Rattle.isl_arena.proofs.Keeping.{words_at_least}
 use Rattle.isl_arena.proofs.Arguments.{ObjectFound}
 use Rattle.isl_arena.proofs.Doing.{Run, goes_on}
@@ -54,7 +53,7 @@ instance_set names program places a s c values mark i w v arena stands low word 
     same = length-set values i (Some v)
 
     elsewhere : (x : ℕ) → s.address + 4 * (2 + i) ≢ x → word_at (with_word (s.address + 4 * (2 + i)) w a) x ≡ word_at a x
-    elsewhere x other = word_elsewhere a (s.address + 4 * (2 + i)) w x (omega (arith, stands.aligned)) (grind (arith, nat_tests))
+    elsewhere x other = others_in_spot (2 + i) w x stands other
 
     mark_there : ValueAt places a (s.address + 8 + 4 * length values) mark
         → ValueAt places (with_word (s.address + 4 * (2 + i)) w a) (s.address + 8 + 4 * length (slice_set values i (Some v))) mark
@@ -72,9 +71,7 @@ instance_set names program places a s c values mark i w v arena stands low word 
         rw is (record {
           word = w;
           of_value = word;
-          stands =
-              ap (word_at (with_word (s.address + 4 * (2 + i)) w a)) (omega arith)
-              ∙ stored_in_spot (2 + i) w arena stands (omega (arith, t.size.words, words_at_least program c (length values)));
+          stands = stored_in_spot (2 + i) w (s.address + 8 + 4 * j) arena stands (omega (arith, t.size.words, words_at_least program c (length values))) (omega arith);
         })
 
     beside :

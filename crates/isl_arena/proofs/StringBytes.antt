@@ -1,7 +1,6 @@
 -- The length of a string, a character of it, and a character that is set do what the meaning says of them.
 use Rattle.std.proofs.Common.{◌≡◌, Option, ℕ, ◌+◌, ◌*◌, ◌/◌, ◌%◌, ◌^◌, ◌<◌, ◌≤◌, pos, List, [], ◌∷◌, ◌++◌, length, Some, ⊎_elim, refl, sym, ap, ◌∙◌, arith}
 use Rattle.std.specs.Prelude.{slice_set, slice_index_or, ◌≢◌}
-use Rattle.std.proofs.lemmas.Bool.Decides.{nat_tests}
 use Rattle.std.proofs.lemmas.Bool.{cases_eq}
 use Rattle.std.proofs.Math.ListN.{length-set}
 use Rattle.isl_meaning.specs.declared.program.ProgramRows.{ProgramRows}
@@ -31,7 +30,7 @@ use Rattle.isl_arena.proofs.WordFacts.{character_code}
 use Rattle.isl_arena.proofs.ArithmeticBytes.{byte_below, changed_bytes, byte_offset, byte_shift, byte_in, word_changed, byte_in_is, character_in_is, word_changed_is, other_packed}
 use Rattle.isl_arena.proofs.ArithmeticBytes.{byte_offset_is, byte_shift_is, word_of_byte_there}
 use Rattle.isl_arena.proofs.Running.{RunsTo, and_then, none_left, costing, constant_falls, compute_falls, load_falls, compute_known, address_above}
-use Rattle.isl_arena.proofs.Memory.{word_elsewhere, stored_in_spot, spot_low}
+use Rattle.isl_arena.proofs.Memory.{stored_in_spot, spot_low, others_in_spot}
 use Rattle.isl_arena.proofs.Arguments.{ObjectFound, object_found, character_word_there, length_word_is}
 use Rattle.isl_arena.proofs.Doing.{alike_self, paid, Run, goes_on, returns_value, part_then}
 use Rattle.isl_arena.proofs.Checking.{integer_needed, character_needed}
@@ -39,7 +38,6 @@ use Rattle.isl_arena.proofs.Needing.{string_needed}
 use Rattle.isl_arena.proofs.Arrays.{index_test, index_needed, stores_changed}
 use Rattle.isl_arena.proofs.Taking.{does_one, does_two, does_three}
 
--- the word of a character
 -- a string in whose spot the word with a byte was changed
 pub string_set :
     (a : Arena) (s : Spot) (bytes : List ℕ) (i c : ℕ) → ArenaStands a → SpotStands a s → i < length bytes → c < 256 → TextAt a s string_header bytes
@@ -58,12 +56,11 @@ string_set a s bytes i c arena stands low small t =
     now = packed (slice_set bytes i c) (4 * (i / 4))
 
     elsewhere : (x : ℕ) → s.address + 4 * (2 + i / 4) ≢ x → word_at (with_word (s.address + 4 * (2 + i / 4)) now a) x ≡ word_at a x
-    elsewhere x other = word_elsewhere a (s.address + 4 * (2 + i / 4)) now x (omega (arith, stands.aligned)) (grind (arith, nat_tests))
+    elsewhere x other = others_in_spot (2 + i / 4) now x stands other
 
     here : (j : ℕ) → j ≡ i / 4 → word_at (with_word (s.address + 4 * (2 + i / 4)) now a) (s.address + 8 + 4 * j) ≡ Some (packed (slice_set bytes i c) (4 * j))
     here j e =
-        ap (word_at (with_word (s.address + 4 * (2 + i / 4)) now a)) (omega arith)
-        ∙ stored_in_spot (2 + i / 4) now arena stands (omega (arith, t.size.words, word_of_byte_there (length bytes) i low))
+        stored_in_spot (2 + i / 4) now (s.address + 8 + 4 * j) arena stands (omega (arith, t.size.words, word_of_byte_there (length bytes) i low)) (omega arith)
         ∙ ap (λ k. Some (packed (slice_set bytes i c) (4 * k))) (sym e)
 
     beside :

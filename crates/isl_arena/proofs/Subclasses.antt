@@ -1,13 +1,12 @@
 -- The primitives that give the name of a class, and that ask whether a class is below another, or a value an instance of a class.
 use Rattle.std.proofs.Common.{◌≡◌, ℕ, ◌+◌, ◌*◌, ◌^◌, ◌<◌, ◌≤◌, pos, Bool, true, false, List, [], ◌∷◌, ◌++◌, length, Option, Some, refl, arith}
 use Rattle.std.specs.Prelude.{◌==◌, nat_le, slice_get, if◌then◌else◌}
-use Rattle.std.proofs.lemmas.Option.{slice_get_within}
 use Rattle.isl_meaning.specs.declared.program.ProgramRows.{ProgramRows}
 use Rattle.isl_meaning.specs.declared.primitive.Primitive.TheVariants.{ClassName, IsSubclass, IsInstance}
 use Rattle.isl_meaning.specs.BuiltIn.{built_in_precedence, built_in_slots}
 use Rattle.isl_meaning.specs.Facts.{begins_with_built_in}
 use Rattle.isl_meaning.specs.Values.{Value, integer, character, symbol, nil, object, named}
-use Rattle.isl_meaning.specs.Objects.{Object, instance, class_object, built_in_classes, character_class, symbol_class, null_class, integer_class, built_in_class_class, standard_class_class}
+use Rattle.isl_meaning.specs.Objects.{Object, instance, class_object, character_class, symbol_class, null_class, integer_class, built_in_class_class, standard_class_class}
 use Rattle.isl_meaning.specs.State as meaning
 use Rattle.isl_meaning.specs.Lookup.{passed}
 use Rattle.isl_meaning.specs.Classes.{class_of, class_of_object, fetch, precedence, is_below}
@@ -26,7 +25,7 @@ use Rattle.isl_arena.specs.Codes.{code_of_primitive, procedure_of}
 use Rattle.isl_arena.specs.Steps as steps
 use Rattle.isl_arena.specs.Steps.{class_word}
 use Rattle.isl_arena.proofs.Running.{load_falls, address_above}
-use Rattle.isl_arena.proofs.BuiltInFacts.{built_in_row}
+use Rattle.isl_arena.proofs.BuiltInFacts.{built_in_known}
 use Rattle.isl_arena.proofs.Arguments.{object_found}
 use Rattle.isl_arena.proofs.Doing.{alike_self, Run, goes_on, returns_value, part_then}
 use Rattle.isl_arena.proofs.Checking.{header_registers}
@@ -91,23 +90,20 @@ class_known :
     → ClassesThere names program z → (v : Value) → class_of z v < length program.classes
 class_known names program z built_in there v = by v
   where
-    known : (c : ℕ) → c < built_in_classes → c < length program.classes
-    known c h = let row = built_in_row program built_in c h in slice_get_within program.classes c row.row row.found
-
     of_stored : (i : ℕ) (o : Option Object) → slice_get z.store i ≡ o → class_of_object o < length program.classes
     of_stored i (Some (instance c values mark)) e = there.instances i c values mark e
     of_stored i (Some (class_object c)) e = of_class (nat_le c 16)
       where
         of_class : (b : Bool) → (if b then built_in_class_class else standard_class_class) < length program.classes
-        of_class true = known built_in_class_class (omega arith)
-        of_class false = known standard_class_class (omega arith)
-    of_stored i o e = known (class_of_object o) (omega arith)
+        of_class true = built_in_known program built_in built_in_class_class (omega arith)
+        of_class false = built_in_known program built_in standard_class_class (omega arith)
+    of_stored i o e = built_in_known program built_in (class_of_object o) (omega arith)
 
     by : (v : Value) → class_of z v < length program.classes
-    by (integer n) = known integer_class (omega arith)
-    by (character c) = known character_class (omega arith)
-    by (symbol s) = known symbol_class (omega arith)
-    by nil = known null_class (omega arith)
+    by (integer n) = built_in_known program built_in integer_class (omega arith)
+    by (character c) = built_in_known program built_in character_class (omega arith)
+    by (symbol s) = built_in_known program built_in symbol_class (omega arith)
+    by nil = built_in_known program built_in null_class (omega arith)
     by (object i) = of_stored i (slice_get z.store i) refl
 
 -- In a state where the class objects are there, the code of the primitive comes to its answer.

@@ -27,7 +27,8 @@ use Rattle.isl_arena.specs.Codes.{procedure_of}
 use Rattle.isl_arena.specs.Steps as steps
 use Rattle.isl_arena.proofs.Memory.{heap_below}
 use Rattle.isl_arena.proofs.Arguments.{word_told, symbol_there}
-use Rattle.isl_arena.proofs.Running.{RunsTo, turning, none_left, and_then, and_ends, costing, move_falls, constant_falls, compute_known, load_falls, store_in_heap, request_falls, request_wanting, compute_falls}
+use Rattle.isl_arena.proofs.Running.{RunsTo, turning, none_left, and_then, and_ends, costing, move_falls, constant_falls, compute_known}
+use Rattle.isl_arena.proofs.Running.{load_falls, store_in_heap, request_falls, request_wanting, compute_falls}
 use Rattle.isl_arena.proofs.Running.{return_ends, choose_first_falls, address_above, address_below, address_here}
 use Rattle.isl_arena.proofs.Making.{Room, is_left, is_wanting, room_for, begun, begun_grows, begun_heap, begun_blocks, fixed_below, answers_wanting, answers_made}
 use Rattle.isl_arena.proofs.Doing.{alike_self, Run, goes_on, test_fails, paid}

@@ -1,7 +1,6 @@
 -- The length of a vector, an element of it, and an element that is set do what the meaning says of them.
 use Rattle.std.proofs.Common.{◌≡◌, ℕ, ◌+◌, ◌*◌, ◌^◌, ◌<◌, pos, List, [], ◌∷◌, ◌++◌, length, Some, ⊎_elim, refl, sym, ap, ◌∙◌, arith}
 use Rattle.std.specs.Prelude.{slice_set, slice_index_or, ◌≢◌}
-use Rattle.std.proofs.lemmas.Bool.Decides.{nat_tests}
 use Rattle.std.proofs.lemmas.Bool.{cases_eq}
 use Rattle.std.proofs.lemmas.List.{get_or-set_same, get_or-set_other}
 use Rattle.std.proofs.Math.ListN.{length-set}
@@ -25,7 +24,7 @@ use Rattle.isl_arena.specs.Answers.{IsPrimitive}
 use Rattle.isl_arena.specs.Codes.{procedure_of}
 use Rattle.isl_arena.specs.Steps as steps
 use Rattle.isl_arena.proofs.Running.{load_falls, compute_known, address_above}
-use Rattle.isl_arena.proofs.Memory.{word_elsewhere, stored_in_spot, spot_low}
+use Rattle.isl_arena.proofs.Memory.{stored_in_spot, spot_low, others_in_spot}
 use Rattle.isl_arena.proofs.Arguments.{ObjectFound, object_found, length_word_is}
 use Rattle.isl_arena.proofs.Doing.{alike_self, goes_on, returns_value}
 use Rattle.isl_arena.proofs.Checking.{integer_needed}
@@ -47,15 +46,13 @@ vector_set places a s vs i w v arena stands low word t =
     }
   where
     elsewhere : (x : ℕ) → s.address + 4 * (2 + i) ≢ x → word_at (with_word (s.address + 4 * (2 + i)) w a) x ≡ word_at a x
-    elsewhere x other = word_elsewhere a (s.address + 4 * (2 + i)) w x (omega (arith, stands.aligned)) (grind (arith, nat_tests))
+    elsewhere x other = others_in_spot (2 + i) w x stands other
 
     here : (j : ℕ) → j ≡ i → ValueAt places (with_word (s.address + 4 * (2 + i)) w a) (s.address + 8 + 4 * j) (slice_index_or (slice_set vs i v) j nil)
     here j e = record {
       word = w;
       of_value = ap (λ k. word_of places (slice_index_or (slice_set vs i v) k nil)) e ∙ ap (word_of places) (get_or-set_same vs i v nil low) ∙ word;
-      stands =
-          ap (word_at (with_word (s.address + 4 * (2 + i)) w a)) (omega arith)
-          ∙ stored_in_spot (2 + i) w arena stands (omega (arith, t.size.words));
+      stands = stored_in_spot (2 + i) w (s.address + 8 + 4 * j) arena stands (omega (arith, t.size.words)) (omega arith);
     }
 
     beside :
