@@ -1,5 +1,6 @@
 -- What a represented program says of its classes that are built in: their rows, which of them are conditions, and how many words their instances have.
 use Rattle.std.proofs.Common.{◌≡◌, ℕ, zero, suc, ◌+◌, ◌<◌, Bool, true, false, List, [], ◌∷◌, length, Some, refl, sym, ap, ◌∙◌, arith}
+use Rattle.std.proofs.lemmas.Option.{slice_get_within}
 use Rattle.std.specs.Prelude.{◌==◌, ◌&&◌, not, nat_le, slice_get, slice_index_or, if◌then◌else◌}
 use Rattle.std.specs.List.{list_all}
 use Rattle.std.specs.Str.{bytes_eq}
@@ -92,6 +93,9 @@ module _ (program : ProgramRows) (built_in : begins_with_built_in program.classe
   built_in_row c h =
       row_at program.classes built_in_precedence built_in_slots c (slice_index_or built_in_precedence c []) (slice_index_or built_in_slots c 0) built_in
       (slice_get-get_or built_in_precedence c [] h) (slice_get-get_or built_in_slots c 0 h)
+
+  pub built_in_known : (c : ℕ) → c < built_in_classes → c < length program.classes
+  built_in_known c h = let at = built_in_row c h in slice_get_within program.classes c at.row at.found
 
   pub precedence_is : (c : ℕ) → c < built_in_classes → precedence program c ≡ slice_index_or built_in_precedence c []
   precedence_is c h = let r = built_in_row c h in ap precedence_of r.found ∙ r.precedence

@@ -1,22 +1,19 @@
 -- The lines that test an argument, beside the meaning's tests of it.
-use Rattle.std.proofs.Common.{◌≡◌, ℕ, zero, suc, ◌+◌, ◌-◌, ◌*◌, ◌%◌, ◌^◌, ◌<◌, ◌≤◌, ℤ, pos, Bool, true, false, List, [], ◌∷◌, ◌++◌, length, Option, Some, None, refl, sym, ap, ◌∙◌, arith}
-use Rattle.std.specs.Prelude.{negsuc, ◌==◌, nat_lt, slice_get, slice_set}
+use Rattle.std.proofs.Common.{◌≡◌, ℕ, zero, suc, ◌+◌, ◌-◌, ◌*◌, ◌%◌, ◌^◌, ◌<◌, ◌≤◌, ℤ, pos, true, false, List, [], ◌∷◌, ◌++◌, length, Option, Some, refl, sym, ap, ◌∙◌, arith}
+use Rattle.std.specs.Prelude.{negsuc, ◌==◌, nat_lt, slice_set}
 use Rattle.std.proofs.lemmas.Bool.Decides.{nat_tests}
 use Rattle.std.proofs.Math.ListN.{length-set}
 use Rattle.isl_meaning.specs.declared.program.ProgramRows.{ProgramRows}
 use Rattle.isl_meaning.specs.Values.{Value, integer, character, symbol, nil, object, named, unnamed, in_range}
-use Rattle.isl_meaning.specs.Objects.{Object, cons, string, vector, instance, class_object, integer_class, character_class, cons_class}
+use Rattle.isl_meaning.specs.Objects.{Object, cons, instance, integer_class, character_class, cons_class}
 use Rattle.isl_meaning.specs.State as meaning
 use Rattle.isl_meaning.specs.Classes.{fetch}
-use Rattle.isl_meaning.specs.Primitives.{Answer, domain_error, as_integer, as_character, as_cons, an_integer, a_character, a_cons}
+use Rattle.isl_meaning.specs.Primitives.{Answer, domain_error, an_integer, a_character, a_cons}
 use Rattle.isl_mid.specs.declared.program.MidProcedure.{MidProcedure}
-use Rattle.isl_mid.specs.declared.operation.Arithmetic.TheVariants as which
-use Rattle.isl_mid.specs.declared.operation.Comparison.TheVariants.{Equal, LessUnsigned}
-use Rattle.isl_mid.specs.declared.operation.Test.{Test}
 use Rattle.isl_mid.specs.Arena.{word_at}
-use Rattle.isl_mid.specs.Words.{computed, compares, shift_left, difference32}
-use Rattle.isl_mid.specs.MidCode.{MidStep, choose, MidCode, no_step, step_and, code_of}
-use Rattle.isl_mid.specs.State.{Registers, State, Outcome, falls, ends, charged, register}
+use Rattle.isl_mid.specs.Words.{shift_left, difference32}
+use Rattle.isl_mid.specs.MidCode.{MidStep, code_of}
+use Rattle.isl_mid.specs.State.{Registers, State, Outcome, falls, ends, register}
 use Rattle.isl_mid.specs.Meaning.{Task}
 use Rattle.isl_arena.specs.Tags.{object_tag, integer_word, character_word}
 use Rattle.isl_arena.specs.Places.{Spot, Places, word_of}
@@ -29,11 +26,11 @@ use Rattle.isl_arena.specs.Represents.{Represents}
 use Rattle.isl_arena.specs.Steps as steps
 use Rattle.isl_arena.specs.Steps.{need_header, steps_of}
 use Rattle.isl_arena.specs.declared.line.Line.TheVariants as line
-use Rattle.isl_arena.proofs.Running.{RunsTo, StepsTo, turning, none_left, and_then, parts_then, constant_falls, compute_falls, load_falls, choose_first_falls, choose_second_falls, address_below}
-use Rattle.isl_arena.proofs.WordFacts.{tag_up, tag_tested, low_byte_up, low_byte_tested}
+use Rattle.isl_arena.proofs.Running.{RunsTo, StepsTo, turning, none_left, and_then, parts_then, constant_falls, compute_falls, load_falls, choose_first_falls, address_below}
+use Rattle.isl_arena.proofs.WordFacts.{tag_tested, low_byte_tested}
 use Rattle.isl_arena.proofs.Arguments.{value_tag, value_header, tag_told, header_told, object_there, word_told}
 use Rattle.isl_arena.proofs.Telling.{integer_told, character_told, cons_told, IntegerTold, CharacterTold, ConsTold, integer_found, no_integer, character_found, no_character, cons_found, no_cons}
-use Rattle.isl_arena.proofs.Doing.{Alike, alike_self, Run, goes_on, test_passes, second_answers, part_then, part_answers, paid}
+use Rattle.isl_arena.proofs.Doing.{alike_self, Run, goes_on, test_passes, second_answers, part_then, part_answers, paid}
 use Rattle.isl_arena.proofs.Conditions.{domain_error_run}
 
 -- a register that was set, and one beside it
@@ -103,104 +100,104 @@ module _ (names : List (List ℕ)) (program : ProgramRows) (places : Places) (z 
   module _
       (n of w expected : ℕ) (v : Value) (rs : Registers) (low : of < 3) (size : length rs ≡ 8) (held : register of rs ≡ Some w)
       (word : word_of places v ≡ Some w) (class : expected < 34)
-      where
-    -- a domain error of the argument
-    pub errs :
-        (budget k : ℕ) (rs' : Registers) → Scratched rs rs' → k + 160 + 250 * z.units ≤ budget + 250 * (z.units + 5)
-        → Run names program places z y procedures below n budget (domain_error v expected z) (code_of (steps.domain_error of (pos (class_address expected)))) rs' k
-    errs budget k rs' s cost =
-        domain_error_run names program places z y r procedures below n budget k of w expected v z rs' low s.size
-        (s.others of (omega arith) ∙ held) word class (alike_self z) cost
+    where
+      -- a domain error of the argument
+      pub errs :
+          (budget k : ℕ) (rs' : Registers) → Scratched rs rs' → k + 160 + 250 * z.units ≤ budget + 250 * (z.units + 5)
+          → Run names program places z y procedures below n budget (domain_error v expected z) (code_of (steps.domain_error of (pos (class_address expected)))) rs' k
+      errs budget k rs' s cost =
+          domain_error_run names program places z y r procedures below n budget k of w expected v z rs' low s.size
+          (s.others of (omega arith) ∙ held) word class (alike_self z) cost
 
-    -- the registers where the tag is tested
-    pub tag_scratched : (bits : ℕ) → Scratched rs (tag_registers w bits rs)
-    tag_scratched bits = scratched_six _ _ _ (scratched_seven _ _ _ (scratched_six _ _ _ (not_scratched rs size)))
+      -- the registers where the tag is tested
+      pub tag_scratched : (bits : ℕ) → Scratched rs (tag_registers w bits rs)
+      tag_scratched bits = scratched_six _ _ _ (scratched_seven _ _ _ (scratched_six _ _ _ (not_scratched rs size)))
 
-    -- the tag is that one
-    pub tag_passes :
-        (bits k : ℕ) → (shift_left w 30 == bits) ≡ true
-        → RunsTo (turning procedures below n) (code_of (steps.need_tag of bits (pos (class_address expected)))) rs (paid y k)
-        (ends falls (tag_registers w bits rs) (paid y (k + 6 + 10 + 6 + 12 + 2)))
-    tag_passes bits k e =
-        let first : Scratched rs (slice_set rs 6 (Some 30)) = scratched_six _ _ _ (not_scratched rs size) in
-        let second : Scratched rs (slice_set (slice_set rs 6 (Some 30)) 7 (Some (shift_left w 30))) = scratched_seven _ _ _ first in
-        and_then constant_falls
-        (and_then (compute_falls (first.others of (omega arith) ∙ held) (six_here rs 30 size))
-        (and_then constant_falls
-        (and_then (choose_first_falls (seven_behind_six (slice_set rs 6 (Some 30)) (shift_left w 30) bits first.size) (six_here _ bits second.size) e none_left) none_left)))
-
-    -- it is not
-    pub tag_errs :
-        (bits budget k : ℕ) → (shift_left w 30 == bits) ≡ false → k + 210 + 250 * z.units ≤ budget + 250 * (z.units + 5)
-        → Run names program places z y procedures below n budget (domain_error v expected z) (code_of (steps.need_tag of bits (pos (class_address expected)))) rs k
-    tag_errs bits budget k e cost =
-        let first : Scratched rs (slice_set rs 6 (Some 30)) = scratched_six _ _ _ (not_scratched rs size) in
-        let second : Scratched rs (slice_set (slice_set rs 6 (Some 30)) 7 (Some (shift_left w 30))) = scratched_seven _ _ _ first in
-        goes_on names program places z y procedures below constant_falls
-        (goes_on names program places z y procedures below (compute_falls (first.others of (omega arith) ∙ held) (six_here rs 30 size))
-        (goes_on names program places z y procedures below constant_falls
-        (second_answers names program places z y procedures below (seven_behind_six (slice_set rs 6 (Some 30)) (shift_left w 30) bits first.size)
-        (six_here _ bits second.size) e
-        (errs budget (k + 6 + 10 + 6 + 12) (tag_registers w bits rs) (tag_scratched bits) (omega (arith, cost))))))
-
-    -- the header of what has the tag of objects is loaded
-    pub header_loaded :
-        (h k : ℕ) → (w % 4 == 2) ≡ true → word_at y.arena (w - 2) ≡ Some h
-        → StepsTo (turning procedures below n) (steps.load 7 of (negsuc 1)) (tag_registers w (2 ^ 31) rs) (paid y k)
-        (ends falls (slice_set (tag_registers w (2 ^ 31) rs) 7 (Some h)) (paid y (k + 8)))
-    header_loaded h k tag at =
-        let tag_is : w % 4 ≡ 2 = grind (arith, nat_tests) in
-        load_falls ((tag_scratched (2 ^ 31)).others of (omega arith) ∙ held)
-        (address_below w 1 (w - 2) (omega arith) (word_told names program places z y r v w word)) at
-
-    -- it is among so many headers from that one on
-    module _ (h header count k : ℕ) (tag : (w % 4 == 2) ≡ true) (at : word_at y.arena (w - 2) ≡ Some h) where
-      loaded : Scratched rs (slice_set (tag_registers w (2 ^ 31) rs) 7 (Some h))
-      loaded = scratched_seven _ _ _ (tag_scratched (2 ^ 31))
-
-      header_put : Scratched rs (slice_set (slice_set (tag_registers w (2 ^ 31) rs) 7 (Some h)) 6 (Some header))
-      header_put = scratched_six _ _ _ loaded
-
-      differing : Scratched rs (slice_set (slice_set (slice_set (tag_registers w (2 ^ 31) rs) 7 (Some h)) 6 (Some header)) 7 (Some (difference32 h header)))
-      differing = scratched_seven _ _ _ header_put
-
-      pub header_passes :
-          nat_lt (difference32 h header) count ≡ true
-          → RunsTo (turning procedures below n) (code_of (steps.need_header of header count (pos (class_address expected)))) rs (paid y k)
-          (ends falls (header_registers w h header count rs) (paid y (k + 6 + 10 + 6 + 12 + 2 + 8 + 6 + 10 + 6 + 12 + 2)))
-      unfolding need_header
-      header_passes e =
-          parts_then (steps.need_tag of (2 ^ 31) (pos (class_address expected))) (steps.need_header_of of header count (pos (class_address expected)))
-          (tag_passes (2 ^ 31) k (tag_tested w 2 ∙ tag))
-          (and_then (header_loaded h (k + 6 + 10 + 6 + 12 + 2) tag at)
+      -- the tag is that one
+      pub tag_passes :
+          (bits k : ℕ) → (shift_left w 30 == bits) ≡ true
+          → RunsTo (turning procedures below n) (code_of (steps.need_tag of bits (pos (class_address expected)))) rs (paid y k)
+          (ends falls (tag_registers w bits rs) (paid y (k + 6 + 10 + 6 + 12 + 2)))
+      tag_passes bits k e =
+          let first : Scratched rs (slice_set rs 6 (Some 30)) = scratched_six _ _ _ (not_scratched rs size) in
+          let second : Scratched rs (slice_set (slice_set rs 6 (Some 30)) 7 (Some (shift_left w 30))) = scratched_seven _ _ _ first in
+          and_then constant_falls
+          (and_then (compute_falls (first.others of (omega arith) ∙ held) (six_here rs 30 size))
           (and_then constant_falls
-          (and_then (compute_falls (seven_behind_six (tag_registers w (2 ^ 31) rs) h header (tag_scratched (2 ^ 31)).size) (six_here _ header loaded.size))
-          (and_then constant_falls
-          (and_then (choose_first_falls (seven_behind_six _ (difference32 h header) count header_put.size) (six_here _ count differing.size) e none_left) none_left)))))
+          (and_then (choose_first_falls (seven_behind_six (slice_set rs 6 (Some 30)) (shift_left w 30) bits first.size) (six_here _ bits second.size) e none_left) none_left)))
 
-      pub header_errs :
-          (budget : ℕ) → nat_lt (difference32 h header) count ≡ false → k + 250 + 250 * z.units ≤ budget + 250 * (z.units + 5)
+      -- it is not
+      pub tag_errs :
+          (bits budget k : ℕ) → (shift_left w 30 == bits) ≡ false → k + 210 + 250 * z.units ≤ budget + 250 * (z.units + 5)
+          → Run names program places z y procedures below n budget (domain_error v expected z) (code_of (steps.need_tag of bits (pos (class_address expected)))) rs k
+      tag_errs bits budget k e cost =
+          let first : Scratched rs (slice_set rs 6 (Some 30)) = scratched_six _ _ _ (not_scratched rs size) in
+          let second : Scratched rs (slice_set (slice_set rs 6 (Some 30)) 7 (Some (shift_left w 30))) = scratched_seven _ _ _ first in
+          goes_on names program places z y procedures below constant_falls
+          (goes_on names program places z y procedures below (compute_falls (first.others of (omega arith) ∙ held) (six_here rs 30 size))
+          (goes_on names program places z y procedures below constant_falls
+          (second_answers names program places z y procedures below (seven_behind_six (slice_set rs 6 (Some 30)) (shift_left w 30) bits first.size)
+          (six_here _ bits second.size) e
+          (errs budget (k + 6 + 10 + 6 + 12) (tag_registers w bits rs) (tag_scratched bits) (omega (arith, cost))))))
+
+      -- the header of what has the tag of objects is loaded
+      pub header_loaded :
+          (h k : ℕ) → (w % 4 == 2) ≡ true → word_at y.arena (w - 2) ≡ Some h
+          → StepsTo (turning procedures below n) (steps.load 7 of (negsuc 1)) (tag_registers w (2 ^ 31) rs) (paid y k)
+          (ends falls (slice_set (tag_registers w (2 ^ 31) rs) 7 (Some h)) (paid y (k + 8)))
+      header_loaded h k tag at =
+          let tag_is : w % 4 ≡ 2 = grind (arith, nat_tests) in
+          load_falls ((tag_scratched (2 ^ 31)).others of (omega arith) ∙ held)
+          (address_below w 1 (w - 2) (omega arith) (word_told names program places z y r v w word)) at
+
+      -- it is among so many headers from that one on
+      module _ (h header count k : ℕ) (tag : (w % 4 == 2) ≡ true) (at : word_at y.arena (w - 2) ≡ Some h) where
+        loaded : Scratched rs (slice_set (tag_registers w (2 ^ 31) rs) 7 (Some h))
+        loaded = scratched_seven _ _ _ (tag_scratched (2 ^ 31))
+
+        header_put : Scratched rs (slice_set (slice_set (tag_registers w (2 ^ 31) rs) 7 (Some h)) 6 (Some header))
+        header_put = scratched_six _ _ _ loaded
+
+        differing : Scratched rs (slice_set (slice_set (slice_set (tag_registers w (2 ^ 31) rs) 7 (Some h)) 6 (Some header)) 7 (Some (difference32 h header)))
+        differing = scratched_seven _ _ _ header_put
+
+        pub header_passes :
+            nat_lt (difference32 h header) count ≡ true
+            → RunsTo (turning procedures below n) (code_of (steps.need_header of header count (pos (class_address expected)))) rs (paid y k)
+            (ends falls (header_registers w h header count rs) (paid y (k + 6 + 10 + 6 + 12 + 2 + 8 + 6 + 10 + 6 + 12 + 2)))
+        unfolding need_header
+        header_passes e =
+            parts_then (steps.need_tag of (2 ^ 31) (pos (class_address expected))) (steps.need_header_of of header count (pos (class_address expected)))
+            (tag_passes (2 ^ 31) k (tag_tested w 2 ∙ tag))
+            (and_then (header_loaded h (k + 6 + 10 + 6 + 12 + 2) tag at)
+            (and_then constant_falls
+            (and_then (compute_falls (seven_behind_six (tag_registers w (2 ^ 31) rs) h header (tag_scratched (2 ^ 31)).size) (six_here _ header loaded.size))
+            (and_then constant_falls
+            (and_then (choose_first_falls (seven_behind_six _ (difference32 h header) count header_put.size) (six_here _ count differing.size) e none_left) none_left)))))
+
+        pub header_errs :
+            (budget : ℕ) → nat_lt (difference32 h header) count ≡ false → k + 250 + 250 * z.units ≤ budget + 250 * (z.units + 5)
+            → Run names program places z y procedures below n budget (domain_error v expected z) (code_of (steps.need_header of header count (pos (class_address expected)))) rs k
+        unfolding need_header
+        header_errs budget e cost =
+            part_then names program places z y procedures below (steps.need_tag of (2 ^ 31) (pos (class_address expected)))
+            (steps.need_header_of of header count (pos (class_address expected))) (tag_passes (2 ^ 31) k (tag_tested w 2 ∙ tag))
+            (goes_on names program places z y procedures below (header_loaded h (k + 6 + 10 + 6 + 12 + 2) tag at)
+            (goes_on names program places z y procedures below constant_falls
+            (goes_on names program places z y procedures below
+            (compute_falls (seven_behind_six (tag_registers w (2 ^ 31) rs) h header (tag_scratched (2 ^ 31)).size) (six_here _ header loaded.size))
+            (goes_on names program places z y procedures below constant_falls
+            (second_answers names program places z y procedures below (seven_behind_six _ (difference32 h header) count header_put.size) (six_here _ count differing.size) e
+            (errs budget _ (header_registers w h header count rs) (scratched_six _ _ _ differing) (omega (arith, cost))))))))
+
+      -- the tag is not that of objects
+      pub header_errs_by_tag :
+          (header count budget k : ℕ) → (w % 4 == 2) ≡ false → k + 210 + 250 * z.units ≤ budget + 250 * (z.units + 5)
           → Run names program places z y procedures below n budget (domain_error v expected z) (code_of (steps.need_header of header count (pos (class_address expected)))) rs k
       unfolding need_header
-      header_errs budget e cost =
-          part_then names program places z y procedures below (steps.need_tag of (2 ^ 31) (pos (class_address expected)))
-          (steps.need_header_of of header count (pos (class_address expected))) (tag_passes (2 ^ 31) k (tag_tested w 2 ∙ tag))
-          (goes_on names program places z y procedures below (header_loaded h (k + 6 + 10 + 6 + 12 + 2) tag at)
-          (goes_on names program places z y procedures below constant_falls
-          (goes_on names program places z y procedures below
-          (compute_falls (seven_behind_six (tag_registers w (2 ^ 31) rs) h header (tag_scratched (2 ^ 31)).size) (six_here _ header loaded.size))
-          (goes_on names program places z y procedures below constant_falls
-          (second_answers names program places z y procedures below (seven_behind_six _ (difference32 h header) count header_put.size) (six_here _ count differing.size) e
-          (errs budget _ (header_registers w h header count rs) (scratched_six _ _ _ differing) (omega (arith, cost))))))))
-
-    -- the tag is not that of objects
-    pub header_errs_by_tag :
-        (header count budget k : ℕ) → (w % 4 == 2) ≡ false → k + 210 + 250 * z.units ≤ budget + 250 * (z.units + 5)
-        → Run names program places z y procedures below n budget (domain_error v expected z) (code_of (steps.need_header of header count (pos (class_address expected)))) rs k
-    unfolding need_header
-    header_errs_by_tag header count budget k e cost =
-        part_answers names program places z y procedures below (steps.need_tag of (2 ^ 31) (pos (class_address expected)))
-        (steps.need_header_of of header count (pos (class_address expected))) (tag_errs (2 ^ 31) budget k (tag_tested w 2 ∙ e) cost)
+      header_errs_by_tag header count budget k e cost =
+          part_answers names program places z y procedures below (steps.need_tag of (2 ^ 31) (pos (class_address expected)))
+          (steps.need_header_of of header count (pos (class_address expected))) (tag_errs (2 ^ 31) budget k (tag_tested w 2 ∙ e) cost)
 
   -- the header behind a word with the tag of objects is a word
   pub header_bounded : (v : Value) (w h : ℕ) → word_of places v ≡ Some w → (w % 4 == 2) ≡ true → word_at y.arena (w - 2) ≡ Some h → h < 2 ^ 32

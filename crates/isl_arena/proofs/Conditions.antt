@@ -1,5 +1,5 @@
 -- The code that makes a condition and hands it over.
-use Rattle.std.proofs.Common.{◌≡◌, ℕ, zero, suc, ◌+◌, ◌-◌, ◌*◌, ◌^◌, ◌<◌, ◌≤◌, true, List, [], ◌∷◌, ◌++◌, length, Option, Some, refl, sym, ◌∙◌, arith}
+use Rattle.std.proofs.Common.{◌≡◌, ℕ, zero, suc, ◌+◌, ◌*◌, ◌^◌, ◌<◌, ◌≤◌, true, List, [], ◌∷◌, ◌++◌, length, Option, Some, refl, sym, ◌∙◌, arith}
 use Rattle.std.specs.Prelude.{pos, slice_index_or}
 use Rattle.isl_meaning.specs.declared.program.ProgramRows.{ProgramRows}
 use Rattle.isl_meaning.specs.BuiltIn.{built_in_slots}
@@ -25,7 +25,7 @@ use Rattle.isl_arena.proofs.Memory.{Facts, heap_below, in_spot_lent, spot_still_
 use Rattle.isl_arena.proofs.Running.{RunsTo, and_then, and_ends, none_left, costing, parts_then, constant_falls, compute_known, load_falls, store_falls, store_in_heap, request_falls}
 use Rattle.isl_arena.proofs.Running.{request_wanting, return_ends, address_above, address_here}
 use Rattle.isl_arena.proofs.Representing.{fixed_spot, fixed_stands}
-use Rattle.isl_arena.proofs.BuiltInFacts.{is_condition_class, slot_count_is, condition_words}
+use Rattle.isl_arena.proofs.BuiltInFacts.{built_in_known, is_condition_class, slot_count_is, condition_words}
 use Rattle.isl_arena.proofs.Making.{Room, is_left, is_wanting, room_for, begun, begun_facts, begun_heap, begun_blocks, fixed_below, answers_wanting, condition_at, signalled_new}
 use Rattle.isl_arena.proofs.Doing.{Alike, Run, paid}
 
@@ -200,6 +200,7 @@ module _ (names : List (List ℕ)) (program : ProgramRows) (places : Places) (z 
       (sym (condition_words program r.built_in class (length vs) low high))
       (begun_facts (3 + length vs) stored r.arena room) (begun_heap (3 + length vs) stored y.arena) (begun_blocks (3 + length vs) stored y.arena) refl refl
       (condition_at names program places z y r class named.word vs ws (is_condition_class program r.built_in class low high) count named.of_value are room)
+      (built_in_known program r.built_in class high)
 
 module _ (names : List (List ℕ)) (program : ProgramRows) (places : Places) (z : meaning.State) (y : State) (r : Represents names program places z y)
     (procedures : List MidProcedure) (below : Task → State → Outcome) where

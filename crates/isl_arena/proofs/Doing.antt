@@ -1,6 +1,5 @@
 -- A run of the code of a primitive beside the answer of the meaning: how a run goes on, and how it ends with a value.
-use Rattle.std.proofs.Common.{◌≡◌, ℕ, zero, suc, ◌+◌, ◌-◌, ◌*◌, ◌^◌, ◌<◌, ◌≤◌, Bool, true, false, List, [], ◌∷◌, ◌++◌, length, Option, Some, None, refl, sym, ap, ◌∙◌, arith}
-use Rattle.std.specs.Prelude.{slice_set}
+use Rattle.std.proofs.Common.{◌≡◌, ℕ, ◌+◌, ◌*◌, ◌≤◌, true, false, List, ◌++◌, Some, refl, arith}
 use Rattle.isl_meaning.specs.declared.program.ProgramRows.{ProgramRows}
 use Rattle.isl_meaning.specs.Values.{Value}
 use Rattle.isl_meaning.specs.State as meaning
@@ -9,11 +8,11 @@ use Rattle.isl_mid.specs.declared.program.MidProcedure.{MidProcedure}
 use Rattle.isl_mid.specs.declared.operation.Test.{Test}
 use Rattle.isl_mid.specs.Words.{compares}
 use Rattle.isl_mid.specs.MidCode.{MidStep, choose, return_word, MidCode, no_step, step_and, code_of}
-use Rattle.isl_mid.specs.State.{Registers, State, Outcome, End, falls, returns, cuts, no_room, no_level, no_turn, halts, unhandled, exhausted, stuck, ends, charged, register}
+use Rattle.isl_mid.specs.State.{Registers, State, Outcome, falls, returns, ends, register}
 use Rattle.isl_mid.specs.Meaning.{Task}
 use Rattle.isl_arena.specs.Places.{Places, word_of}
 use Rattle.isl_arena.specs.Represents.{Represents}
-use Rattle.isl_arena.specs.Answers.{Comes, done, no_words, Done, Returned, units_after}
+use Rattle.isl_arena.specs.Answers.{Comes, done, no_words, Done, units_after}
 use Rattle.isl_arena.proofs.Running.{RunsTo, StepsTo, IsLast, turning, none_left, and_then, and_ends, return_ends, choose_first_falls, choose_second_falls, choose_first_ends, choose_second_ends, parts_then, parts_end}
 use Rattle.isl_arena.proofs.Growing.{grows_same}
 use Rattle.isl_arena.proofs.Representing.{kept_grown, represents_grown, represents_same}

@@ -1,6 +1,6 @@
 -- A new object at the end of the heap, whose words were requested and stored one after another: what the arena is then, that it represents
 -- the state with the object, and how a run ends that returns it. And the store of a condition that is to be signalled.
-use Rattle.std.proofs.Common.{◌≡◌, ℕ, zero, suc, ◌+◌, ◌-◌, ◌*◌, ◌/◌, ◌%◌, ◌<◌, ◌≤◌, Bool, true, false, List, [], ◌∷◌, ◌++◌, length, Some, None, refl, sym, ap, subst, ◌∙◌, arith}
+use Rattle.std.proofs.Common.{◌≡◌, ℕ, zero, suc, ◌+◌, ◌*◌, ◌/◌, ◌%◌, ◌<◌, ◌≤◌, Bool, true, false, List, [], ◌∷◌, ◌++◌, length, Some, None, refl, sym, ap, subst, ◌∙◌, arith}
 use Rattle.std.specs.Prelude.{◌==◌, nat_le, map, slice_get, slice_index_or}
 use Rattle.std.proofs.lemmas.Bool.Decides.{nat_tests}
 use Rattle.std.proofs.lemmas.List.{length-map}
@@ -28,6 +28,7 @@ use Rattle.isl_arena.proofs.Memory.{words_stand}
 use Rattle.isl_arena.proofs.Keeping.{same_word, words_extended, words_of_condition, words_at_least, extends_one}
 use Rattle.isl_arena.proofs.Growing.{Grows, grows_same, Changes, spot_below}
 use Rattle.isl_arena.proofs.Owners.{new_spot_found}
+use Rattle.isl_arena.proofs.ClassesKept.{IsMade}
 use Rattle.isl_arena.proofs.Representing.{fixed_spot, fixed_stands, represents_same, represents_grown, represents_made, kept_both, kept_same, kept_made, kept_grown, kept_fixed}
 use Rattle.isl_arena.proofs.FixedChanges.{one_word, represents_pending, word_of_fixed}
 use Rattle.isl_arena.proofs.Doing.{Alike, Answers, paid}
@@ -206,12 +207,12 @@ module _ (names : List (List ℕ)) (program : ProgramRows) (places : Places) (z 
       abbrev pub places_made : Places
       places_made = with_object spot_made places
 
-      module _ (z' : meaning.State) (alike : Alike z z') (made : ObjectAt names program places_made y'.arena spot_made o) where
+      module _ (z' : meaning.State) (alike : Alike z z') (made : ObjectAt names program places_made y'.arena spot_made o) (is_made : IsMade program o) where
         -- it is represented
         pub represents_new : Represents names program places_made (meaning.stored o z') y'
         represents_new =
             represents_made names program places z' y (represents_same names program places z z' y alike.store alike.symbols alike.printed alike.input r) y' (grows_by g) printed input
-            spot_made o refl (omega (arith, to)) some small made
+            spot_made o refl (omega (arith, to)) some small made is_made
 
         -- and it is the value of its pointer
         pub pointer_made : word_of places_made (object (length z'.store)) ≡ Some (y.arena.heap_to + tag)
@@ -237,10 +238,10 @@ module _ (names : List (List ℕ)) (program : ProgramRows) (places : Places) (z 
       → y'.arena.heap_to ≡ y.arena.heap_to + 4 * size → y'.arena.blocks ≡ y.arena.blocks → y'.printed ≡ y.printed → y'.input ≡ y.input → 1 ≤ size
       → ObjectAt names program (with_object (record { address = y.arena.heap_to; words = size; tag = tag_of o }) places) y'.arena
       (record { address = y.arena.heap_to; words = size; tag = tag_of o }) o
-      → y'.cost + 250 * z.units ≤ budget + 250 * (z'.units + size + besides)
+      → IsMade program o → y'.cost + 250 * z.units ≤ budget + 250 * (z'.units + size + besides)
       → Answers names program places z y budget (makes size besides o z') (ends (returns (y.arena.heap_to + tag_of o)) rs y')
-  answers_made size besides o z' y' rs alike g to blocks printed input some made cost = record {
-    comes = done (returned_new size (tag_of o) o y' g to blocks printed input some (tag_small o) z' alike made rs);
+  answers_made size besides o z' y' rs alike g to blocks printed input some made is_made cost = record {
+    comes = done (returned_new size (tag_of o) o y' g to blocks printed input some (tag_small o) z' alike made is_made rs);
     cost = cost;
   }
 
@@ -308,9 +309,9 @@ module _ (names : List (List ℕ)) (program : ProgramRows) (places : Places) (z 
       → y'.arena.blocks ≡ y.arena.blocks → y'.printed ≡ y.printed → y'.input ≡ y.input
       → InstanceAt names program (with_object (record { address = y.arena.heap_to; words = words; tag = object_tag }) places) y'.arena
       (record { address = y.arena.heap_to; words = words; tag = object_tag }) class (map (λ v. Some v) vs) nil
-      → Signalled names program places z y class vs z'
+      → class < length program.classes → Signalled names program places z y class vs z'
       (ends (returns signal_word) rs (record y' { arena = with_word pending_address (y.arena.heap_to + object_tag) y'.arena; cost = k }))
-  signalled_new class vs words z' y' rs k alike size g to blocks printed input made =
+  signalled_new class vs words z' y' rs k alike size g to blocks printed input made known =
       subst (λ n. Pending names program places z y (with_object (record { address = y.arena.heap_to; words = n; tag = object_tag }) places) class vs z' n ended) size pending
     where
       word : ℕ
@@ -335,7 +336,7 @@ module _ (names : List (List ℕ)) (program : ProgramRows) (places : Places) (z 
       some = omega (arith, size, words_at_least program class (length vs))
 
       there : Represents names program after (meaning.stored condition z') y'
-      there = represents_new words object_tag condition y' g to blocks printed input some (omega arith) z' alike made
+      there = represents_new words object_tag condition y' g to blocks printed input some (omega arith) z' alike made known
 
       stored : Changes (one_word pending_address) y'.arena pending_state.arena
       stored = changes_stored pending_address word g.stands refl
@@ -346,7 +347,7 @@ module _ (names : List (List ℕ)) (program : ProgramRows) (places : Places) (z 
         represents = represents_pending names program after (meaning.stored condition z') y' there pending_state stored refl refl;
         pending = record {
           word = word;
-          of_value = pointer_made words object_tag condition y' g to blocks printed input some (omega arith) z' alike made;
+          of_value = pointer_made words object_tag condition y' g to blocks printed input some (omega arith) z' alike made known;
           stands =
               word_here y'.arena pending_address word (fixed_lent names program after (meaning.stored condition z') y' there pending_address refl (omega arith))
               (in_spot_there {s = fixed_spot} pending_address g.stands (fixed_stands names program after (meaning.stored condition z') y' there) (omega arith));

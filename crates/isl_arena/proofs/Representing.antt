@@ -18,6 +18,7 @@ use Rattle.isl_arena.specs.FixedWords.{fixed_words, nil_text, class_address, inp
 use Rattle.isl_arena.specs.Layouts.{AreBytes, ObjectAt}
 use Rattle.isl_arena.specs.Represents.{Represents}
 use Rattle.isl_arena.specs.Answers.{Kept}
+use Rattle.isl_arena.proofs.ClassesKept.{IsMade, classes_same, classes_stored, classes_changed}
 use Rattle.isl_arena.proofs.Keeping.{Extends, extends_same, extends_one, old_spot, text_kept, value_kept, symbol_kept, object_kept}
 use Rattle.isl_arena.proofs.Growing.{Grows, Changes, spot_below, spot_grown, words_grown, spot_changed, words_apart}
 use Rattle.isl_arena.proofs.Owners.{after_zero, FrontOrEnd, at_front, at_end, front_or_end, OldOrNew, of_old}
@@ -65,6 +66,7 @@ represents_same names program places z z' y store symbols printed input r = reco
   spots = r.spots;
   apart = r.apart;
   count = rw store r.count;
+  classes = classes_same names program z r.classes z' store;
   objects = λ i o s found e. r.objects i o s (cc found) e;
   symbols = r.symbols;
   no_nil = r.no_nil;
@@ -83,6 +85,7 @@ represents_state names program places z y y' arena printed input r = record {
   spots = λ p s e. rw arena (r.spots p s e);
   apart = r.apart;
   count = r.count;
+  classes = r.classes;
   objects = λ i o s found e. rw arena (r.objects i o s found e);
   symbols = λ v s e. rw arena (r.symbols v s e);
   no_nil = r.no_nil;
@@ -150,6 +153,7 @@ module _ (names : List (List ℕ)) (program : ProgramRows) (places : Places) (z 
       spots = λ p s e. spot_grown y.arena y'.arena s g (r.spots p s e);
       apart = r.apart;
       count = r.count;
+      classes = r.classes;
       objects = λ i o s found e.
           object_kept y.arena y'.arena s (owned_grown y'.arena g (of_object i) s e) places places (extends_same places) names program o
           (r.objects i o s found e);
@@ -165,7 +169,7 @@ module _ (names : List (List ℕ)) (program : ProgramRows) (places : Places) (z 
     -- an object more, at the end of the heap
     module _
         (s : Spot) (o : Object) (address : s.address ≡ y.arena.heap_to) (high : end_of s ≤ y'.arena.heap_to) (some : 1 ≤ s.words) (tag : s.tag < 4)
-        (made : ObjectAt names program (with_object s places) y'.arena s o)
+        (made : ObjectAt names program (with_object s places) y'.arena s o) (is_made : IsMade program o)
       where
         pub new_stands : SpotStands y'.arena s
         new_stands = record {
@@ -212,6 +216,7 @@ module _ (names : List (List ℕ)) (program : ProgramRows) (places : Places) (z 
           apart = λ p q first second different d e. made_apart p q first second different (old_or_new s places p first d) (old_or_new s places q second e);
           count =
               length-append places.objects (Some s ∷ []) ∙ ap (λ n. n + 1) r.count ∙ sym (length-append z.store (o ∷ []));
+          classes = classes_stored names program z r.classes o is_made;
           objects = λ i one found d e. made_object i one found (front_or_end z.store o i one d) (old_or_new s places (of_object i) found e);
           symbols = λ v found e. symbol_kept y.arena y'.arena found (owned_grown y'.arena g (of_symbol v) found e) v (r.symbols v found e);
           no_nil = r.no_nil;
@@ -257,15 +262,16 @@ module _ (names : List (List ℕ)) (program : ProgramRows) (places : Places) (z 
         (r.objects j o one stored found)
 
   pub represents_changed :
-      (i : ℕ) (s : Spot) (now : Object) (y' : State) → spot_of places (of_object i) ≡ Some s → Changes s y.arena y'.arena
-      → ObjectAt names program places y'.arena s now → y'.printed ≡ y.printed → y'.input ≡ y.input
-      → Represents names program places (meaning.changed i now z) y'
-  represents_changed i s now y' at c made printed input = record {
+      (i : ℕ) (s : Spot) (old now : Object) (y' : State) → slice_get z.store i ≡ Some old → IsMade program old → IsMade program now
+      → spot_of places (of_object i) ≡ Some s → Changes s y.arena y'.arena → ObjectAt names program places y'.arena s now
+      → y'.printed ≡ y.printed → y'.input ≡ y.input → Represents names program places (meaning.changed i now z) y'
+  represents_changed i s old now y' stored was is_made at c made printed input = record {
     built_in = r.built_in;
     arena = c.stands;
     spots = λ p one e. spot_changed y.arena y'.arena s one c (r.spots p one e);
     apart = r.apart;
     count = r.count ∙ sym (length-set z.store i now);
+    classes = classes_changed names program z r.classes i old now stored was is_made;
     objects = λ j o one stored found. changed_object i s at y'.arena c now made j o one (set_or_not z.store i now j o stored) found;
     symbols = λ v one e. symbol_kept y.arena y'.arena one (other_kept i s at y'.arena c (of_symbol v) one refl e) v (r.symbols v one e);
     no_nil = r.no_nil;
@@ -298,6 +304,7 @@ module _ (names : List (List ℕ)) (program : ProgramRows) (places : Places) (z 
     spots = λ p s e. spot_changed y.arena y'.arena fixed_spot s c (r.spots p s e);
     apart = r.apart;
     count = r.count ∙ ap (λ os. length os) (sym store);
+    classes = classes_same names program z r.classes z' store;
     objects = λ i o s found e.
         object_kept y.arena y'.arena s (not_fixed_kept y'.arena c (of_object i) s refl e) places places (extends_same places) names program o
         (r.objects i o s (sym (ap (λ os. slice_get os i) store) ∙ found) e);

@@ -1,10 +1,10 @@
 -- What the run of a primitive comes to, set beside the answer of the meaning.
-use Rattle.std.specs.Prelude.{◌≡◌, ℕ, suc, ◌+◌, ◌*◌, ◌<◌, ◌≤◌, List, [], ◌∷◌, length, map, Option, Some, slice_get}
+use Rattle.std.specs.Prelude.{◌≡◌, ℕ, suc, ◌+◌, ◌*◌, ◌<◌, ◌≤◌, List, [], ◌∷◌, length, map, Some, slice_get}
 use Rattle.isl_meaning.specs.declared.program.ProgramRows.{ProgramRows}
 use Rattle.isl_meaning.specs.declared.primitive.Primitive.{Primitive}
 use Rattle.isl_meaning.specs.Arity.{arity}
 use Rattle.isl_meaning.specs.Values.{Value, nil, object}
-use Rattle.isl_meaning.specs.Objects.{Object, instance, function, fresh_symbol, domain_error_class}
+use Rattle.isl_meaning.specs.Objects.{instance, function, fresh_symbol, domain_error_class}
 use Rattle.isl_meaning.specs.State.{stored}
 use Rattle.isl_meaning.specs.State as meaning
 use Rattle.isl_meaning.specs.Layout.{class_value}

@@ -1,14 +1,14 @@
 -- The words at fixed addresses, from 0 on: what primitives find without a search, and what stands for the counters and flags of a
 -- state.
-use Rattle.std.specs.Prelude.{◌≡◌, ℕ, ◌+◌, ◌*◌, ◌%◌, ◌^◌, ◌<◌, ◌≤◌, pos, List, [], ◌∷◌, Some, slice_get}
+use Rattle.std.specs.Prelude.{◌≡◌, ℕ, ◌*◌, ◌%◌, ◌^◌, ◌<◌, pos, List, [], ◌∷◌, Some, slice_get}
 use Rattle.isl_meaning.specs.declared.program.ProgramRows.{ProgramRows}
-use Rattle.isl_meaning.specs.Values.{Value, t, truth}
+use Rattle.isl_meaning.specs.Values.{t, truth}
 use Rattle.isl_meaning.specs.Objects.{built_in_classes}
 use Rattle.isl_meaning.specs.Layout.{class_value, standard_input, standard_output}
 use Rattle.isl_meaning.specs.Primitives.{is_fresh_line}
 use Rattle.isl_mid.specs.Arena.{Arena, word_at}
 use Rattle.isl_arena.specs.Tags.{integer_word, nil_word, object_tag, symbol_header}
-use Rattle.isl_arena.specs.Places.{Spot, Places}
+use Rattle.isl_arena.specs.Places.{Places}
 use Rattle.isl_arena.specs.Standing.{ValueAt}
 use Rattle.isl_arena.specs.Layouts.{TextAt}
 

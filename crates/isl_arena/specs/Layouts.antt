@@ -1,8 +1,8 @@
 -- What the words of an object are, and of a symbol.
-use Rattle.std.specs.Prelude.{◌≡◌, ℕ, ◌+◌, ◌*◌, ◌/◌, ◌%◌, ◌^◌, ◌<◌, ◌≤◌, Bool, true, false, List, [], ◌∷◌, length, Option, Some, None, slice_get, slice_index_or, if◌then◌else◌}
+use Rattle.std.specs.Prelude.{◌≡◌, ℕ, ◌+◌, ◌*◌, ◌/◌, ◌%◌, ◌^◌, ◌<◌, ◌≤◌, true, List, length, Option, Some, slice_get, slice_index_or}
 use Rattle.isl_meaning.specs.declared.program.ProgramRows.{ProgramRows}
 use Rattle.isl_meaning.specs.declared.program.SlotRow.{SlotRow}
-use Rattle.isl_meaning.specs.Values.{SymbolValue, named, unnamed, Value, symbol, nil, truth}
+use Rattle.isl_meaning.specs.Values.{SymbolValue, named, unnamed, Value, symbol, truth}
 use Rattle.isl_meaning.specs.Objects.{Object, cons, string, vector, instance, function, closure, generic_function, class_object, input_stream, output_stream, fresh_symbol, serious_condition_class}
 use Rattle.isl_meaning.specs.Lookup.{text}
 use Rattle.isl_meaning.specs.Classes.{precedence, slots, is_below}

@@ -3,7 +3,9 @@ pub mod Places
 pub mod Standing
 pub mod FixedWords
 pub mod Layouts
+pub mod ClassesThere
 pub mod Represents
 pub mod Answers
 pub mod Steps
+pub mod CodeCosts
 pub mod Codes

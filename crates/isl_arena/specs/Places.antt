@@ -1,8 +1,7 @@
 -- Where things stand in the arena, and the word of a value there.
-use Rattle.std.specs.Prelude.{◌≡◌, ℕ, ◌+◌, ◌*◌, ◌==◌, Bool, true, false, nat_le, List, [], ◌∷◌, ◌++◌, Option, Some, None, slice_get, if◌then◌else◌}
+use Rattle.std.specs.Prelude.{◌≡◌, ℕ, ◌+◌, ◌*◌, ◌==◌, Bool, false, nat_le, List, [], ◌∷◌, ◌++◌, Option, Some, None, slice_get, if◌then◌else◌}
 use Rattle.isl_meaning.specs.Values.{SymbolValue, same_symbol, Value, integer, character, symbol, nil, object, in_range}
-use Rattle.isl_mid.specs.Arena.{Arena, word_at}
-use Rattle.isl_arena.specs.Tags.{integer_word, nil_word, character_word, object_tag}
+use Rattle.isl_arena.specs.Tags.{integer_word, nil_word, character_word}
 
 -- so many words from an address on; a pointer to them is the address with a tag
 pub record Spot : Type 0 where

@@ -1,5 +1,5 @@
 -- When an arena represents a state of the meaning: each object, symbol and counter stands where it is said to stand.
-use Rattle.std.specs.Prelude.{◌≡◌, ℕ, ◌<◌, true, List, [], ◌∷◌, length, Option, Some, None, slice_get}
+use Rattle.std.specs.Prelude.{◌≡◌, ℕ, true, List, length, Some, None, slice_get}
 use Rattle.isl_meaning.specs.declared.program.ProgramRows.{ProgramRows}
 use Rattle.isl_meaning.specs.BuiltIn.{built_in_precedence, built_in_slots}
 use Rattle.isl_meaning.specs.Facts.{begins_with_built_in}
@@ -9,6 +9,7 @@ use Rattle.isl_meaning.specs.State as meaning
 use Rattle.isl_mid.specs.State.{State}
 use Rattle.isl_arena.specs.Places.{Spot, Places, Owner, of_object, of_symbol, spot_of}
 use Rattle.isl_arena.specs.Standing.{ArenaStands, SpotStands, AllApart}
+use Rattle.isl_arena.specs.ClassesThere.{ClassesThere}
 use Rattle.isl_arena.specs.FixedWords.{nil_text, FixedStand}
 use Rattle.isl_arena.specs.Layouts.{AreBytes, ObjectAt, SymbolAt}
 
@@ -18,6 +19,7 @@ pub record Represents (names : List (List ℕ)) (program : ProgramRows) (places 
   pub spots : (p : Owner) (s : Spot) → spot_of places p ≡ Some s → SpotStands y.arena s
   pub apart : AllApart places
   pub count : length places.objects ≡ length z.store
+  pub classes : ClassesThere names program z
   pub objects :
       (i : ℕ) (o : Object) (s : Spot) → slice_get z.store i ≡ Some o → spot_of places (of_object i) ≡ Some s
       → ObjectAt names program places y.arena s o

@@ -1,5 +1,5 @@
 -- Spots that stand in an arena apart from one another, and what the words there are.
-use Rattle.std.specs.Prelude.{◌≡◌, ℕ, ◌+◌, ◌*◌, ◌%◌, ◌^◌, ◌<◌, ◌≤◌, ◌==◌, false, Bool, List, length, Option, Some, None, slice_index_or}
+use Rattle.std.specs.Prelude.{◌≡◌, ℕ, ◌+◌, ◌*◌, ◌%◌, ◌^◌, ◌<◌, ◌≤◌, false, List, length, Option, Some, None, slice_index_or}
 use Rattle.isl_meaning.specs.Values.{Value, nil}
 use Rattle.isl_mid.specs.Arena.{Arena, words_of, stack_from, word_at}
 use Rattle.isl_arena.specs.Tags.{unbound_word}

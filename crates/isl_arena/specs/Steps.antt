@@ -1,17 +1,17 @@
 -- The steps of each line of the code of primitives.
-use Rattle.std.specs.Prelude.{ℕ, ◌+◌, ◌*◌, ◌^◌, ℤ, pos, negsuc, List, [], ◌∷◌, ◌++◌}
+use Rattle.std.specs.Prelude.{ℕ, ◌*◌, ◌^◌, ℤ, pos, negsuc, List, [], ◌∷◌, ◌++◌}
 use Rattle.isl_meaning.specs.Objects.{character_class, symbol_class, string_class, vector_class, function_class, generic_function_class, cons_class, null_class, integer_class, stream_class, built_in_class_class, standard_class_class, domain_error_class}
 use Rattle.isl_mid.specs.declared.operation.Arithmetic.{Arithmetic}
 use Rattle.isl_mid.specs.declared.operation.Arithmetic.TheVariants as which
 use Rattle.isl_mid.specs.declared.operation.Comparison.{Comparison}
-use Rattle.isl_mid.specs.declared.operation.Comparison.TheVariants.{Equal, Different, LessUnsigned}
+use Rattle.isl_mid.specs.declared.operation.Comparison.TheVariants.{Equal, LessUnsigned}
 use Rattle.isl_mid.specs.declared.operation.Counted.TheVariants.{Turn}
 use Rattle.isl_mid.specs.declared.operation.Operation.TheVariants as operation
 use Rattle.isl_mid.specs.declared.operation.Test.{Test}
-use Rattle.isl_mid.specs.MidCode.{MidStep, perform, choose, repeat, return_word, MidCode, no_step, code_of}
+use Rattle.isl_mid.specs.MidCode.{MidStep, perform, choose, repeat, return_word, no_step, code_of}
 use Rattle.isl_arena.specs.declared.line.Line.{Line}
 use Rattle.isl_arena.specs.declared.line.Line.TheVariants as line
-use Rattle.isl_arena.specs.Tags.{nil_word, signal_word, instance_header, class_header, symbol_header, string_header, vector_header, function_header, generic_header, input_header}
+use Rattle.isl_arena.specs.Tags.{nil_word, signal_word, instance_header, class_header, symbol_header, string_header, vector_header, function_header, generic_header}
 use Rattle.isl_arena.specs.FixedWords.{class_address, true_address, pending_address}
 
 -- single steps

@@ -18,3 +18,4 @@ pub mod words;
 pub mod writing;
 
 pub use line::Line;
+pub use writing::primitive;

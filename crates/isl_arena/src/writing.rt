@@ -3,6 +3,12 @@
 ghost use Rattle.std.specs.Prelude.{◌≡◌, ◌++◌, [], ◌∷◌, OnOk, IfOk};
 ghost use Rattle.isl_mid.specs.MidCode.{perform};
 ghost use Rattle.isl_arena.specs.Steps.{steps_of};
+ghost use Rattle.std.specs.Prelude.{true};
+ghost use Rattle.isl_meaning.specs.Arity.{arity};
+ghost use Rattle.isl_mid.specs.Checked.{is_checked};
+ghost use Rattle.isl_mid.specs.declared.operation.Counted.TheVariants.{Turn};
+ghost use Rattle.isl_arena.specs.Answers.{IsPrimitive};
+ghost use Rattle.isl_arena.specs.CodeCosts.{cost_of, procedure_cost};
 ghost use Rattle.isl_arena.specs.Codes.{procedure_of};
 
 use crate::class_words::class_word;
@@ -102,10 +108,23 @@ fn write(code: &mut Code, alloc: Global, line: Line) -> Result<(), NoMemory>
     }
 }
 
-/// The procedure of a primitive: entered with the words of its arguments, it comes to what the primitive answers. It returns the word of a value; or
-/// `SIGNAL`, where it made a condition, whose word then stands at the address `PENDING_AT`.
+/// The procedure of a primitive. Entered with the words of its arguments in an arena that represents a state of the meaning, it comes to what the
+/// primitive answers there, within its cost: it returns the word of a value, or `SIGNAL` where it made a condition, whose word then stands at the address `PENDING_AT`; or the
+/// words that an object, or its frame, takes are not left, and then nothing has changed. Its code is in form, and costs what
+/// docs/COSTS.md says. Fails only for want of memory.
 pub fn primitive(alloc: Global, which: Primitive) -> Result<MidProcedure, NoMemory>
-    ensures written { IfOk result (λ p. p ≡ procedure_of which) }
+    ensures does { IfOk result (λ p. IsPrimitive which p) }
+    ensures counted { IfOk result (λ p. p.counted ≡ Turn) }
+    ensures parameters { IfOk result (λ p. p.parameters ≡ arity which) }
+    ensures checked { IfOk result (λ p. is_checked p ≡ true) }
+    ensures costs { IfOk result (λ p. procedure_cost p ≡ cost_of which) }
+{
+    written(alloc, which)
+}
+
+// Its lines written as steps.
+fn written(alloc: Global, which: Primitive) -> Result<MidProcedure, NoMemory>
+    ensures { IfOk result (λ p. p ≡ procedure_of which) }
 {
     let mut body = Code::new(alloc);
     for line in lines(which) {

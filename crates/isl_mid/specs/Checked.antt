@@ -1,6 +1,6 @@
 -- When middle code is in form: registers that are there, constants that are words, offsets that an instruction holds, blocks that are
 -- not too large, and calls of procedures that are there with as many arguments as they take.
-use Rattle.std.specs.Prelude.{ℕ, ◌^◌, ◌%◌, ◌==◌, Bool, true, false, ◌&&◌, nat_lt, nat_le, ℤ, pos, negsuc, int_le, unsigned_abs, List, length, slice_get, Option, Some, None}
+use Rattle.std.specs.Prelude.{ℕ, ◌^◌, ◌==◌, Bool, true, false, ◌&&◌, nat_lt, nat_le, ℤ, pos, negsuc, int_le, List, length, slice_get, Option, Some, None}
 use Rattle.std.specs.List.{list_all}
 use Rattle.isl_mid.specs.declared.operation.Callee.{Callee}
 use Rattle.isl_mid.specs.declared.operation.Callee.TheVariants.{Procedure, Word}
@@ -23,9 +23,9 @@ is_constant word = nat_lt word (2 ^ 32)
 abbrev pub is_block_size : ℕ → Bool
 is_block_size words = nat_lt words (2 ^ 24)
 
--- a multiple of 4 of 12 bits
+-- a number of 12 bits
 abbrev pub is_offset : ℤ → Bool
-is_offset offset = int_le (negsuc 2047) offset && int_le offset (pos 2047) && (unsigned_abs offset % 4 == 0)
+is_offset offset = int_le (negsuc 2047) offset && int_le offset (pos 2047)
 
 abbrev pub callee_fits : ℕ → Callee → Bool
 callee_fits count (Procedure n) = true

@@ -13,7 +13,7 @@ use crate::program::{MidProcedure, MidProgram, ProcedureList};
 
 impl MidProcedure {
     /// Whether its parameters are among its registers, and in all its code each register is one of them, each constant is
-    /// a word, each offset a multiple of 4 from -2,048 to 2,047, and each block, as its frame, has fewer than 16,777,216
+    /// a word, each offset a number from -2,048 to 2,047, and each block, as its frame, has fewer than 16,777,216
     /// words. Takes no memory.
     pub fn check(&self) -> bool
         ensures { result ≡ is_checked self.now }

@@ -140,5 +140,5 @@ pub fn is_block_size(words: u32) -> bool
 fn is_offset(offset: i32) -> bool
     ensures { result ≡ is_offset offset }
 {
-    -2048 <= offset && offset <= 2047 && offset.unsigned_abs() % 4 == 0
+    -2048 <= offset && offset <= 2047
 }

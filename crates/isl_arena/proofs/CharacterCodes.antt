@@ -1,0 +1,103 @@
+-- The integer of a character, and back, do what the meaning says of them.
+use Rattle.std.proofs.Common.{◌≡◌, ℕ, ◌+◌, ◌*◌, ◌≤◌, ℤ, pos, true, List, [], ◌∷◌, Option, Some, None, refl, ap, ◌∙◌, arith}
+use Rattle.std.specs.Prelude.{nat_le, is_some}
+use Rattle.std.proofs.lemmas.Bool.Decides.{nat_tests}
+use Rattle.isl_meaning.specs.declared.program.ProgramRows.{ProgramRows}
+use Rattle.isl_meaning.specs.declared.primitive.Primitive.TheVariants.{CharCode, CodeChar}
+use Rattle.isl_meaning.specs.Values.{Value, integer, character, in_range}
+use Rattle.isl_meaning.specs.Objects.{integer_class}
+use Rattle.isl_meaning.specs.State as meaning
+use Rattle.isl_meaning.specs.Primitives.{result, domain_error, needs, byte_of}
+use Rattle.isl_mid.specs.declared.program.MidProcedure.{MidProcedure}
+use Rattle.isl_mid.specs.declared.operation.Arithmetic.TheVariants as which
+use Rattle.isl_mid.specs.declared.operation.Comparison.TheVariants as comparison
+use Rattle.isl_mid.specs.Words.{compares, shift_left, shift_right, sum32}
+use Rattle.isl_mid.specs.MidCode.{MidStep, return_word, code_of}
+use Rattle.isl_mid.specs.State.{State, Outcome}
+use Rattle.isl_mid.specs.Meaning.{Task}
+use Rattle.isl_arena.specs.Tags.{integer_word, character_word}
+use Rattle.isl_arena.specs.Places.{Places, word_of}
+use Rattle.isl_arena.specs.FixedWords.{class_address}
+use Rattle.isl_arena.specs.Represents.{Represents}
+use Rattle.isl_arena.specs.Answers.{IsPrimitive}
+use Rattle.isl_arena.specs.Codes.{procedure_of}
+use Rattle.isl_arena.specs.Steps as steps
+use Rattle.isl_arena.proofs.WordFacts.{in_range_is, byte_tested, byte_word, character_integer, character_of_integer}
+use Rattle.isl_arena.proofs.Running.{constant_falls, compute_falls}
+use Rattle.isl_arena.proofs.Doing.{alike_self, Run, goes_on, returns_value, test_passes, second_answers}
+use Rattle.isl_arena.proofs.Conditions.{domain_error_run}
+use Rattle.isl_arena.proofs.Checking.{tag_registers, integer_needed, character_needed}
+use Rattle.isl_arena.proofs.Integers.{returns_integer}
+use Rattle.isl_arena.proofs.Taking.{one_register, does_one}
+
+-- the lines behind the test of the argument
+abbrev coding : List MidStep
+coding =
+    steps.constant 6 8 ∷ steps.compute 5 which.ShiftRight 0 6 ∷ steps.constant 6 2 ∷ steps.compute 5 which.ShiftLeft 5 6 ∷ return_word 5 ∷ []
+
+abbrev decoding : List MidStep
+decoding =
+    steps.constant 6 6 ∷ steps.compute 5 which.ShiftLeft 0 6 ∷ steps.constant 6 15 ∷ steps.compute 5 which.Add 5 6 ∷ return_word 5 ∷ []
+
+-- with the test that the integer is a byte
+abbrev testing : List MidStep
+testing =
+    steps.constant 6 1024 ∷ steps.either (steps.comparing comparison.LessUnsigned 0 6) [] (steps.domain_error 0 (pos (class_address integer_class))) ∷ decoding
+
+pub character_word_there : (places : Places) (c : ℕ) → c ≤ 255 → word_of places (character c) ≡ Some (character_word c)
+character_word_there places c small = let is : nat_le c 255 ≡ true = grind (arith, nat_tests) in rw is refl
+
+pub char_code_does : IsPrimitive CharCode (procedure_of CharCode)
+char_code_does = does_one CharCode refl (λ names program places z y procedures below n v a r word.
+    character_needed names program places z y r procedures below n (y.cost + 130 + 244 * 1) y.cost 0 a v (λ c. result (integer (pos c)) z) coding (one_register a)
+    (omega arith) refl refl word (omega arith)
+    (λ c is small at.
+    goes_on names program places z y procedures below constant_falls
+    (goes_on names program places z y procedures below (compute_falls refl refl)
+    (goes_on names program places z y procedures below constant_falls
+    (goes_on names program places z y procedures below (compute_falls refl refl)
+    (returns_integer names program places z y r procedures below n _ _ 5 _ (pos c) _ refl (ap (λ x. shift_left (shift_right x 8) 2) at ∙ character_integer c small)
+    (in_range_is (pos c) (omega arith) (omega arith)) (omega arith)))))))
+
+module _
+    (names : List (List ℕ)) (program : ProgramRows) (places : Places) (z : meaning.State) (y : State) (r : Represents names program places z y)
+    (procedures : List MidProcedure) (below : Task → State → Outcome)
+  where
+    -- the integer in register 0 is tested to be a byte, and the character of it is returned
+    testing_run :
+        (n budget k a : ℕ) (i : ℤ) (v : Value) → word_of places v ≡ Some a → a ≡ integer_word i → in_range i ≡ true → k + 180 ≤ budget
+        → Run names program places z y procedures below n budget (needs (byte_of i) (domain_error v integer_class z) (λ c. result (character c) z))
+        (code_of testing) (tag_registers a 0 (one_register a)) k
+    testing_run n budget k a i v word at range cost = by (byte_of i) refl
+      where
+        tested : compares comparison.LessUnsigned a 1024 ≡ is_some (byte_of i)
+        tested = ap (λ x. compares comparison.LessUnsigned x 1024) at ∙ byte_tested i range
+
+        by :
+            (o : Option ℕ) → byte_of i ≡ o
+            → Run names program places z y procedures below n budget (needs (byte_of i) (domain_error v integer_class z) (λ c. result (character c) z))
+            (code_of testing) (tag_registers a 0 (one_register a)) k
+        by None e =
+            rw e
+            (goes_on names program places z y procedures below constant_falls
+            (second_answers names program places z y procedures below refl refl (tested ∙ ap (λ o. is_some o) e)
+            (domain_error_run names program places z y r procedures below n budget _ 0 a integer_class v z _ (omega arith) refl refl word (omega arith) (alike_self z) (omega (arith, cost)))))
+        by (Some c) e =
+            let is = byte_word i c e in
+            let found : sum32 (shift_left a 6) 15 ≡ character_word c = ap (λ x. sum32 (shift_left x 6) 15) (at ∙ ap integer_word is.0) ∙ character_of_integer c is.1 in
+            rw e
+            (goes_on names program places z y procedures below constant_falls
+            (test_passes names program places z y procedures below refl refl (tested ∙ ap (λ o. is_some o) e)
+            (goes_on names program places z y procedures below constant_falls
+            (goes_on names program places z y procedures below (compute_falls refl refl)
+            (goes_on names program places z y procedures below constant_falls
+            (goes_on names program places z y procedures below (compute_falls refl refl)
+            (returns_value names program places z y procedures below r (ap (λ x. Some x) found) (character_word_there places c is.1) (alike_self z)
+            (omega (arith, cost)))))))))
+
+pub code_char_does : IsPrimitive CodeChar (procedure_of CodeChar)
+code_char_does = does_one CodeChar refl (λ names program places z y procedures below n v a r word.
+    integer_needed names program places z y r procedures below n (y.cost + 130 + 244 * 1) y.cost 0 a v
+    (λ i. needs (byte_of i) (domain_error v integer_class z) (λ c. result (character c) z)) testing (one_register a)
+    (omega arith) refl refl word (omega arith)
+    (λ i is range at. testing_run names program places z y r procedures below n _ _ a i v word at range (omega arith)))

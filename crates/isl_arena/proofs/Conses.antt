@@ -1,0 +1,274 @@
+-- A cons that is made, its two parts, and a part that is set do what the meaning says of them.
+use Rattle.std.proofs.Common.{◌≡◌, ℕ, ◌+◌, ◌*◌, ◌^◌, ◌<◌, ◌≤◌, ℤ, pos, List, [], ◌∷◌, ◌++◌, Some, refl, ap, ◌∙◌, arith}
+use Rattle.std.specs.Prelude.{negsuc, slice_set}
+use Rattle.std.proofs.Math.ListN.{length-set}
+use Rattle.isl_meaning.specs.declared.program.ProgramRows.{ProgramRows}
+use Rattle.isl_meaning.specs.declared.primitive.Primitive.TheVariants.{Cons, Car, Cdr, SetCar, SetCdr}
+use Rattle.isl_meaning.specs.Values.{Value}
+use Rattle.isl_meaning.specs.Objects.{Object, cons, cons_class}
+use Rattle.isl_meaning.specs.State as meaning
+use Rattle.isl_meaning.specs.Classes.{fetch}
+use Rattle.isl_meaning.specs.Primitives.{result, makes, a_cons, change}
+use Rattle.isl_mid.specs.declared.program.MidProcedure.{MidProcedure}
+use Rattle.isl_mid.specs.declared.operation.Arithmetic.TheVariants as which
+use Rattle.isl_mid.specs.declared.operation.Operation.TheVariants as operation
+use Rattle.isl_mid.specs.Words.{sum32, address}
+use Rattle.isl_mid.specs.Arena.{Arena, left, word_at, with_word}
+use Rattle.isl_mid.specs.MidCode.{MidStep, perform, return_word, code_of}
+use Rattle.isl_mid.specs.State.{Registers, State, Outcome, returns, no_room, ends, register, first_registers}
+use Rattle.isl_mid.specs.Meaning.{Task}
+use Rattle.isl_arena.specs.Tags.{cons_tag}
+use Rattle.isl_arena.specs.Places.{Spot, Places, with_object, word_of}
+use Rattle.isl_arena.specs.Standing.{ArenaStands, SpotStands, ValueAt}
+use Rattle.isl_arena.specs.FixedWords.{class_address}
+use Rattle.isl_arena.specs.Layouts.{ConsAt, ObjectAt}
+use Rattle.isl_arena.specs.Represents.{Represents}
+use Rattle.isl_arena.specs.Answers.{IsPrimitive}
+use Rattle.isl_arena.specs.Codes.{procedure_of}
+use Rattle.isl_arena.specs.Steps as steps
+use Rattle.isl_arena.proofs.Running.{constant_falls, compute_known, load_falls, store_in_heap, store_in_spot, request_falls, request_wanting}
+use Rattle.isl_arena.proofs.Running.{and_then, and_ends, return_ends, address_here, address_up, address_above, address_below}
+use Rattle.isl_arena.proofs.Memory.{heap_below, stored_in_spot, others_in_spot}
+use Rattle.isl_arena.proofs.Keeping.{same_word}
+use Rattle.isl_arena.proofs.Growing.{changes_part, spot_below}
+use Rattle.isl_arena.proofs.FixedChanges.{one_word}
+use Rattle.isl_arena.proofs.Making.{Room, is_left, is_wanting, room_for, begun, begun_facts, begun_word, changes_stored, answers_wanting, answers_made}
+use Rattle.isl_arena.proofs.Arguments.{ObjectFound, object_found}
+use Rattle.isl_arena.proofs.ClassesKept.{IsMade}
+use Rattle.isl_arena.proofs.Doing.{alike_self, paid, Run, goes_on, returns_value}
+use Rattle.isl_arena.proofs.Checking.{tag_registers, cons_needed}
+use Rattle.isl_arena.proofs.Arrays.{returns_changed}
+use Rattle.isl_arena.proofs.Taking.{does_one, does_two}
+
+-- ---- the parts of a cons
+
+-- the two parts, where they are from the word of a cons on, and which value each is
+data Part : Type 0 where
+  first_part : Part
+  second_part : Part
+
+abbrev offset_of : Part → ℤ
+offset_of first_part = negsuc 0
+offset_of second_part = pos 3
+
+abbrev words_behind : Part → ℕ
+words_behind first_part = 0
+words_behind second_part = 1
+
+abbrev part_of : Part → Value × Value → Value
+part_of first_part c = c.0
+part_of second_part c = c.1
+
+-- the cons with another value for a part
+abbrev with_part : Part → Value → Value × Value → Object
+with_part first_part v c = cons v c.1
+with_part second_part v c = cons c.0 v
+
+part_made : (program : ProgramRows) (part : Part) (v : Value) (c : Value × Value) → IsMade program (with_part part v c)
+part_made program first_part v c = tt
+part_made program second_part v c = tt
+
+-- the line that the argument has to be a cons
+abbrev need_cons : (of : ℕ) → List MidStep → List MidStep
+need_cons of rest = steps.need_tag of (2 ^ 30) (pos (class_address cons_class)) ++ rest
+
+module _
+    (names : List (List ℕ)) (program : ProgramRows) (places : Places) (z : meaning.State) (y : State) (r : Represents names program places z y)
+    (procedures : List MidProcedure) (below : Task → State → Outcome)
+  where
+    -- a part stands at its offset
+    part_address :
+        (part : Part) (v : Value) (w : ℕ) (car cdr : Value) (it : ObjectFound names program places z y r v w (cons car cdr))
+        → address w (offset_of part) ≡ it.spot.address + 4 * words_behind part
+    part_address first_part v w car cdr it =
+        let high = spot_below y.arena it.spot r.arena it.spot_stands in
+        address_below w 0 (it.spot.address + 4 * 0) (omega (arith, it.word)) (omega (arith, it.word, it.stands.size.words, high, r.arena.room, r.arena.size))
+    part_address second_part v w car cdr it =
+        let high = spot_below y.arena it.spot r.arena it.spot_stands in
+        address_above w 3 (it.spot.address + 4 * 1) (omega (arith, it.word)) (omega (arith, it.stands.size.words, high, r.arena.room, r.arena.size))
+
+    part_stands : (part : Part) (s : Spot) (car cdr : Value) → ConsAt places y.arena s car cdr → ValueAt places y.arena (s.address + 4 * words_behind part) (part_of part (car, cdr))
+    part_stands first_part s car cdr t = record { word = t.car.word; of_value = t.car.of_value; stands = ap (word_at y.arena) (omega arith) ∙ t.car.stands }
+    part_stands second_part s car cdr t = t.cdr
+
+    -- the argument is a cons, and its part is returned
+    takes_part :
+        (n w : ℕ) (v : Value) (part : Part) → word_of places v ≡ Some w
+        → Run names program places z y procedures below n (y.cost + 130 + 244) (a_cons v z (λ c. result (part_of part c) z))
+        (code_of (need_cons 0 (steps.load 7 0 (offset_of part) ∷ return_word 7 ∷ []))) (first_registers 8 (w ∷ [])) y.cost
+    takes_part n w v part word =
+        cons_needed names program places z y r procedures below n (y.cost + 130 + 244) y.cost 0 w v (λ c. result (part_of part c) z)
+        (steps.load 7 0 (offset_of part) ∷ return_word 7 ∷ []) (first_registers 8 (w ∷ [])) (omega arith) refl refl word (omega arith)
+        (λ car cdr found.
+        let it = object_found names program places z y r v w (cons car cdr) word found in
+        let at = part_stands part it.spot car cdr it.stands in
+        goes_on names program places z y procedures below (load_falls refl (part_address part v w car cdr it) at.stands)
+        (returns_value names program places z y procedures below r refl at.of_value (alike_self z) (omega arith)))
+
+pub car_does : IsPrimitive Car (procedure_of Car)
+car_does = does_one Car refl (λ names program places z y procedures below n v w r.
+    takes_part names program places z y r procedures below n w v first_part)
+
+pub cdr_does : IsPrimitive Cdr (procedure_of Cdr)
+cdr_does = does_one Cdr refl (λ names program places z y procedures below n v w r.
+    takes_part names program places z y r procedures below n w v second_part)
+
+-- ---- a part is set
+
+-- a cons in whose spot the word of a part was stored
+cons_set :
+    (places : Places) (a : Arena) (s : Spot) (car cdr v : Value) (w : ℕ) (part : Part) → ArenaStands a → SpotStands a s → word_of places v ≡ Some w
+    → ConsAt places a s car cdr → (names : List (List ℕ)) (program : ProgramRows)
+    → ObjectAt names program places (with_word (s.address + 4 * words_behind part) w a) s (with_part part v (car, cdr))
+cons_set places a s car cdr v w first_part arena stands word t names program = record {
+  size = t.size;
+  car = record {
+    word = w;
+    of_value = word;
+    stands = ap (word_at (with_word (s.address + 4 * 0) w a)) (omega arith) ∙ stored_in_spot 0 w arena stands (omega (arith, t.size.words));
+  };
+  cdr = record { word = t.cdr.word; of_value = t.cdr.of_value; stands = others_in_spot 0 1 w stands refl ∙ t.cdr.stands };
+}
+cons_set places a s car cdr v w second_part arena stands word t names program = record {
+  size = t.size;
+  car = record {
+    word = t.car.word;
+    of_value = t.car.of_value;
+    stands =
+        ap (word_at (with_word (s.address + 4 * 1) w a)) (omega arith) ∙ others_in_spot 1 0 w stands refl
+        ∙ ap (word_at a) (omega arith) ∙ t.car.stands;
+  };
+  cdr = record { word = w; of_value = word; stands = stored_in_spot 1 w arena stands (omega (arith, t.size.words)) };
+}
+
+part_below : (part : Part) → words_behind part < 2
+part_below first_part = omega arith
+part_below second_part = omega arith
+
+module _
+    (names : List (List ℕ)) (program : ProgramRows) (places : Places) (z : meaning.State) (y : State) (r : Represents names program places z y)
+    (procedures : List MidProcedure) (below : Task → State → Outcome)
+  where
+    -- the argument was found to be a cons, the first word is stored in its part, and returned
+    stores_part :
+        (n budget k a w : ℕ) (v u car cdr : Value) (part : Part) (rs : Registers) → word_of places v ≡ Some a → word_of places u ≡ Some w
+        → fetch z u ≡ Some (cons car cdr) → register 0 rs ≡ Some a → register 1 rs ≡ Some w → k + 22 ≤ budget
+        → Run names program places z y procedures below n budget (result v (change u (with_part part v (car, cdr)) z))
+        (code_of (steps.store 0 1 (offset_of part) ∷ return_word 0 ∷ [])) rs k
+    stores_part n budget k a w v u car cdr part rs first second found held held_cons cost =
+        rw it.value
+        (record {
+          outcome = ends (returns a) rs (record y { arena = later; cost = k + 8 + 14 });
+          runs =
+              and_then
+              (store_in_spot it.spot_stands held held_cons (part_address names program places z y r procedures below part u w car cdr it)
+              (omega (arith, it.spot_stands.aligned)) (omega arith) (omega (arith, low, it.stands.size.words)))
+              (and_ends tt (return_ends held));
+          answers =
+              returns_changed names program places z y r procedures below budget (k + 8 + 14) it.number a it.spot (cons car cdr) (with_part part v (car, cdr)) v later rs
+              it.stored tt (part_made program part v (car, cdr)) (λ p e. absurd (cc e)) it.found
+              (changes_part it.spot (one_word at) y.arena later (omega arith) (omega (arith, low, it.stands.size.words))
+              (changes_stored at a r.arena (omega (arith, it.spot_stands.aligned))))
+              (cons_set places y.arena it.spot car cdr v a part r.arena it.spot_stands first it.stands names program) first
+              (length-set y.arena.memory _ (Some a)) refl refl (omega (arith, cost));
+        })
+      where
+        it : ObjectFound names program places z y r u w (cons car cdr)
+        it = object_found names program places z y r u w (cons car cdr) second found
+
+        low : words_behind part < 2
+        low = part_below part
+
+        at : ℕ
+        at = it.spot.address + 4 * words_behind part
+
+        later : Arena
+        later = with_word at a y.arena
+
+    sets_part :
+        (n a w : ℕ) (v u : Value) (part : Part) → word_of places v ≡ Some a → word_of places u ≡ Some w
+        → Run names program places z y procedures below n (y.cost + 130 + 244 * 2) (a_cons u z (λ c. result v (change u (with_part part v c) z)))
+        (code_of (need_cons 1 (steps.store 0 1 (offset_of part) ∷ return_word 0 ∷ []))) (first_registers 8 (a ∷ w ∷ [])) y.cost
+    sets_part n a w v u part first second =
+        cons_needed names program places z y r procedures below n (y.cost + 130 + 244 * 2) y.cost 1 w u (λ c. result v (change u (with_part part v c) z))
+        (steps.store 0 1 (offset_of part) ∷ return_word 0 ∷ []) (first_registers 8 (a ∷ w ∷ [])) (omega arith) refl refl second (omega arith)
+        (λ car cdr found.
+        stores_part n (y.cost + 130 + 244 * 2) (y.cost + 6 + 10 + 6 + 12 + 2) a w v u car cdr part (tag_registers w (2 ^ 30) (first_registers 8 (a ∷ w ∷ [])))
+        first second found refl refl (omega arith))
+
+pub set_car_does : IsPrimitive SetCar (procedure_of SetCar)
+set_car_does = does_two SetCar refl (λ names program places z y procedures below n v u a w r.
+    sets_part names program places z y r procedures below n a w v u first_part)
+
+pub set_cdr_does : IsPrimitive SetCdr (procedure_of SetCdr)
+set_cdr_does = does_two SetCdr refl (λ names program places z y procedures below n v u a w r.
+    sets_part names program places z y r procedures below n a w v u second_part)
+
+-- ---- a cons is made
+
+abbrev making : List MidStep
+making =
+    steps.constant 3 2 ∷ perform (operation.Request 3 3) ∷ steps.store 0 3 (pos 0) ∷ steps.store 1 3 (pos 4)
+    ∷ steps.compute_by 3 which.Add 3 cons_tag ++ return_word 3 ∷ []
+
+module _
+    (names : List (List ℕ)) (program : ProgramRows) (places : Places) (z : meaning.State) (y : State) (r : Represents names program places z y)
+    (procedures : List MidProcedure) (below : Task → State → Outcome)
+  where
+    module _ (n a b : ℕ) (v u : Value) (first : word_of places v ≡ Some a) (second : word_of places u ≡ Some b) where
+      -- the registers, with that word in the fourth one
+      abbrev fourth : ℕ → Registers
+      fourth w = slice_set (first_registers 8 (a ∷ b ∷ [])) 3 (Some w)
+
+      abbrev spot_of_cons : Spot
+      spot_of_cons = record { address = y.arena.heap_to; words = 2; tag = cons_tag }
+
+      -- both words were stored behind the end of the heap
+      abbrev arena_with_cons : Arena
+      arena_with_cons = begun 2 (a ∷ b ∷ []) y.arena
+
+      cons_stands : 2 ≤ left y.arena → ConsAt (with_object spot_of_cons places) arena_with_cons spot_of_cons v u
+      cons_stands room = record {
+        size = record { words = refl; tag = refl };
+        car = record {
+          word = a;
+          of_value = same_word spot_of_cons places v a first;
+          stands = ap (word_at arena_with_cons) (omega arith) ∙ begun_word 2 (a ∷ b ∷ []) 0 a r.arena room (omega arith) refl;
+        };
+        cdr = record {
+          word = b;
+          of_value = same_word spot_of_cons places u b second;
+          stands = begun_word 2 (a ∷ b ∷ []) 1 b r.arena room (omega arith) refl;
+        };
+      }
+
+      makes_cons :
+          Room 2 y.arena → Run names program places z y procedures below n (y.cost + 130 + 244 * 2) (makes 2 0 (cons v u) z) (code_of making) (first_registers 8 (a ∷ b ∷ [])) y.cost
+      makes_cons (is_wanting lacking) = record {
+        outcome = ends (no_room 2 (left y.arena)) (fourth 2) (paid y (y.cost + 6 + 20));
+        runs = and_then constant_falls (and_ends tt (request_wanting refl lacking));
+        answers = answers_wanting names program places z y r 2 (fourth 2) (y.cost + 6 + 20) lacking refl (omega arith);
+      }
+      makes_cons (is_left room) =
+          let low = heap_below r.arena in
+          record {
+            outcome = ends (returns (y.arena.heap_to + 1)) _ (record y { arena = arena_with_cons; cost = y.cost + 6 + 20 + 8 + 8 + 6 + 10 + 14 });
+            runs =
+                and_then constant_falls
+                (and_then (request_falls refl room)
+                (and_then (store_in_heap refl refl (address_here y.arena.heap_to (omega (arith, low))) r.arena.aligned r.arena.heap (omega arith))
+                (and_then (store_in_heap refl refl (address_up y.arena.heap_to 4 (omega (arith, low))) (omega (arith, r.arena.aligned)) (omega (arith, r.arena.heap)) (omega arith))
+                (and_then constant_falls
+                (and_then (compute_known refl refl (pointer y.arena.heap_to low))
+                (and_ends tt (return_ends refl)))))));
+            answers =
+                answers_made names program places z y r 2 0 (cons v u) z (record y { arena = arena_with_cons; cost = y.cost + 6 + 20 + 8 + 8 + 6 + 10 + 14 }) _
+                (alike_self z) (begun_facts 2 (a ∷ b ∷ []) r.arena room) refl refl refl refl (omega arith) (cons_stands room) tt (omega arith);
+          }
+        where
+          pointer : (h : ℕ) → h ≤ 2 ^ 26 → sum32 h 1 ≡ h + 1
+          pointer h low = omega arith
+
+pub cons_does : IsPrimitive Cons (procedure_of Cons)
+cons_does = does_two Cons refl (λ names program places z y procedures below n v u a b r first second.
+    makes_cons names program places z y r procedures below n a b v u first second (room_for 2 y.arena))

@@ -1,0 +1,214 @@
+-- Each primitive does what it has to.
+use Rattle.std.proofs.Common.{◌≡◌, true, refl}
+use Rattle.isl_meaning.specs.declared.primitive.Primitive.{Primitive}
+use Rattle.isl_meaning.specs.declared.primitive.Primitive.TheVariants.{Add, Subtract, Multiply, Divide, Modulo, NumberEqual, NumberNotEqual, NumberLess, NumberAtMost, NumberGreater, NumberAtLeast, Same, IsNull, IsCons, IsInteger, IsSymbol, IsCharacter, IsString, IsVector, IsFunction, IsGeneric, Cons, Car, Cdr, SetCar, SetCdr, MakeString, MakeVector, StringLength, VectorLength, CharAt, VectorRef, SetCharAt, SetVectorRef, CharCode, CodeChar, SymbolName, SymbolSerial, Gensym, ClassOf, ClassName, IsSubclass, IsInstance, Allocate, SlotCount, SlotPlace, SlotRef, SlotSet, SlotBound, SlotInitargs, SlotInitform, Continuable, StandardInput, StandardOutput, PutChar, IsFreshLine, GetByte, PeekByte}
+use Rattle.isl_mid.specs.Checked.{is_checked}
+use Rattle.isl_arena.specs.Answers.{IsPrimitive}
+use Rattle.isl_arena.specs.Codes.{procedure_of}
+use Rattle.isl_arena.specs.CodeCosts.{procedure_cost, cost_of}
+use Rattle.isl_arena.specs.Steps.{hand_over, signal, domain_error, need_header, class_by_header, class_of_object, class_word}
+use Rattle.isl_arena.proofs.Allocating.{allocate_does}
+use Rattle.isl_arena.proofs.CharacterCodes.{char_code_does, code_char_does}
+use Rattle.isl_arena.proofs.ClassWords.{class_of_does}
+use Rattle.isl_arena.proofs.Conses.{cons_does, car_does, cdr_does, set_car_does, set_cdr_does}
+use Rattle.isl_arena.proofs.Division.{divide_does, modulo_does}
+use Rattle.isl_arena.proofs.FreshSymbols.{gensym_does}
+use Rattle.isl_arena.proofs.Integers.{add_does, subtract_does, multiply_does, number_equal_does, number_not_equal_does, number_less_does, number_at_most_does, number_greater_does, number_at_least_does}
+use Rattle.isl_arena.proofs.MakeStrings.{make_string_does}
+use Rattle.isl_arena.proofs.MakeVectors.{make_vector_does}
+use Rattle.isl_arena.proofs.Predicates.{same_does, is_null_does, is_cons_does, is_integer_does, is_symbol_does, is_character_does, is_string_does, is_vector_does, is_function_does, is_generic_does}
+use Rattle.isl_arena.proofs.Printing.{put_char_does}
+use Rattle.isl_arena.proofs.SlotPlaces.{slot_place_does}
+use Rattle.isl_arena.proofs.SlotRows.{slot_initargs_does, slot_initform_does, continuable_does}
+use Rattle.isl_arena.proofs.SlotSetting.{slot_set_does}
+use Rattle.isl_arena.proofs.Slots.{slot_count_does, slot_ref_does, slot_bound_does}
+use Rattle.isl_arena.proofs.Streams.{standard_input_does, standard_output_does, is_fresh_line_does, get_byte_does, peek_byte_does}
+use Rattle.isl_arena.proofs.StringBytes.{string_length_does, char_at_does, set_char_at_does}
+use Rattle.isl_arena.proofs.Subclasses.{class_name_does, is_subclass_does, is_instance_does}
+use Rattle.isl_arena.proofs.SymbolNames.{symbol_name_does}
+use Rattle.isl_arena.proofs.SymbolSerials.{symbol_serial_does}
+use Rattle.isl_arena.proofs.VectorElements.{vector_length_does, vector_ref_does, set_vector_ref_does}
+
+pub each_does : (which : Primitive) → IsPrimitive which (procedure_of which)
+each_does Add = add_does
+each_does Subtract = subtract_does
+each_does Multiply = multiply_does
+each_does Divide = divide_does
+each_does Modulo = modulo_does
+each_does NumberEqual = number_equal_does
+each_does NumberNotEqual = number_not_equal_does
+each_does NumberLess = number_less_does
+each_does NumberAtMost = number_at_most_does
+each_does NumberGreater = number_greater_does
+each_does NumberAtLeast = number_at_least_does
+each_does Same = same_does
+each_does IsNull = is_null_does
+each_does IsCons = is_cons_does
+each_does IsInteger = is_integer_does
+each_does IsSymbol = is_symbol_does
+each_does IsCharacter = is_character_does
+each_does IsString = is_string_does
+each_does IsVector = is_vector_does
+each_does IsFunction = is_function_does
+each_does IsGeneric = is_generic_does
+each_does Cons = cons_does
+each_does Car = car_does
+each_does Cdr = cdr_does
+each_does SetCar = set_car_does
+each_does SetCdr = set_cdr_does
+each_does MakeString = make_string_does
+each_does MakeVector = make_vector_does
+each_does StringLength = string_length_does
+each_does VectorLength = vector_length_does
+each_does CharAt = char_at_does
+each_does VectorRef = vector_ref_does
+each_does SetCharAt = set_char_at_does
+each_does SetVectorRef = set_vector_ref_does
+each_does CharCode = char_code_does
+each_does CodeChar = code_char_does
+each_does SymbolName = symbol_name_does
+each_does SymbolSerial = symbol_serial_does
+each_does Gensym = gensym_does
+each_does ClassOf = class_of_does
+each_does ClassName = class_name_does
+each_does IsSubclass = is_subclass_does
+each_does IsInstance = is_instance_does
+each_does Allocate = allocate_does
+each_does SlotCount = slot_count_does
+each_does SlotPlace = slot_place_does
+each_does SlotRef = slot_ref_does
+each_does SlotSet = slot_set_does
+each_does SlotBound = slot_bound_does
+each_does SlotInitargs = slot_initargs_does
+each_does SlotInitform = slot_initform_does
+each_does Continuable = continuable_does
+each_does StandardInput = standard_input_does
+each_does StandardOutput = standard_output_does
+each_does PutChar = put_char_does
+each_does IsFreshLine = is_fresh_line_does
+each_does GetByte = get_byte_does
+each_does PeekByte = peek_byte_does
+
+-- the code of each is in form
+pub each_checked : (which : Primitive) → is_checked (procedure_of which) ≡ true
+unfolding hand_over signal domain_error need_header class_by_header class_of_object class_word
+each_checked Add = refl
+each_checked Subtract = refl
+each_checked Multiply = refl
+each_checked Divide = refl
+each_checked Modulo = refl
+each_checked NumberEqual = refl
+each_checked NumberNotEqual = refl
+each_checked NumberLess = refl
+each_checked NumberAtMost = refl
+each_checked NumberGreater = refl
+each_checked NumberAtLeast = refl
+each_checked Same = refl
+each_checked IsNull = refl
+each_checked IsCons = refl
+each_checked IsInteger = refl
+each_checked IsSymbol = refl
+each_checked IsCharacter = refl
+each_checked IsString = refl
+each_checked IsVector = refl
+each_checked IsFunction = refl
+each_checked IsGeneric = refl
+each_checked Cons = refl
+each_checked Car = refl
+each_checked Cdr = refl
+each_checked SetCar = refl
+each_checked SetCdr = refl
+each_checked MakeString = refl
+each_checked MakeVector = refl
+each_checked StringLength = refl
+each_checked VectorLength = refl
+each_checked CharAt = refl
+each_checked VectorRef = refl
+each_checked SetCharAt = refl
+each_checked SetVectorRef = refl
+each_checked CharCode = refl
+each_checked CodeChar = refl
+each_checked SymbolName = refl
+each_checked SymbolSerial = refl
+each_checked Gensym = refl
+each_checked ClassOf = refl
+each_checked ClassName = refl
+each_checked IsSubclass = refl
+each_checked IsInstance = refl
+each_checked Allocate = refl
+each_checked SlotCount = refl
+each_checked SlotPlace = refl
+each_checked SlotRef = refl
+each_checked SlotSet = refl
+each_checked SlotBound = refl
+each_checked SlotInitargs = refl
+each_checked SlotInitform = refl
+each_checked Continuable = refl
+each_checked StandardInput = refl
+each_checked StandardOutput = refl
+each_checked PutChar = refl
+each_checked IsFreshLine = refl
+each_checked GetByte = refl
+each_checked PeekByte = refl
+
+-- and costs what the table says
+pub each_costs : (which : Primitive) → procedure_cost (procedure_of which) ≡ cost_of which
+unfolding hand_over signal domain_error need_header class_by_header class_of_object class_word
+each_costs Add = refl
+each_costs Subtract = refl
+each_costs Multiply = refl
+each_costs Divide = refl
+each_costs Modulo = refl
+each_costs NumberEqual = refl
+each_costs NumberNotEqual = refl
+each_costs NumberLess = refl
+each_costs NumberAtMost = refl
+each_costs NumberGreater = refl
+each_costs NumberAtLeast = refl
+each_costs Same = refl
+each_costs IsNull = refl
+each_costs IsCons = refl
+each_costs IsInteger = refl
+each_costs IsSymbol = refl
+each_costs IsCharacter = refl
+each_costs IsString = refl
+each_costs IsVector = refl
+each_costs IsFunction = refl
+each_costs IsGeneric = refl
+each_costs Cons = refl
+each_costs Car = refl
+each_costs Cdr = refl
+each_costs SetCar = refl
+each_costs SetCdr = refl
+each_costs MakeString = refl
+each_costs MakeVector = refl
+each_costs StringLength = refl
+each_costs VectorLength = refl
+each_costs CharAt = refl
+each_costs VectorRef = refl
+each_costs SetCharAt = refl
+each_costs SetVectorRef = refl
+each_costs CharCode = refl
+each_costs CodeChar = refl
+each_costs SymbolName = refl
+each_costs SymbolSerial = refl
+each_costs Gensym = refl
+each_costs ClassOf = refl
+each_costs ClassName = refl
+each_costs IsSubclass = refl
+each_costs IsInstance = refl
+each_costs Allocate = refl
+each_costs SlotCount = refl
+each_costs SlotPlace = refl
+each_costs SlotRef = refl
+each_costs SlotSet = refl
+each_costs SlotBound = refl
+each_costs SlotInitargs = refl
+each_costs SlotInitform = refl
+each_costs Continuable = refl
+each_costs StandardInput = refl
+each_costs StandardOutput = refl
+each_costs PutChar = refl
+each_costs IsFreshLine = refl
+each_costs GetByte = refl
+each_costs PeekByte = refl

@@ -1,0 +1,151 @@
+-- A slot of an instance that is set: the code does what the meaning says of it.
+use Rattle.std.proofs.Common.{◌≡◌, ℕ, ◌+◌, ◌*◌, ◌/◌, ◌<◌, ◌≤◌, pos, List, [], ◌∷◌, length, Option, Some, None, ⊎_elim, refl, sym, ap, ◌∙◌, arith}
+use Rattle.std.specs.Prelude.{slice_set, slice_index_or, ◌≢◌}
+use Rattle.std.proofs.lemmas.Bool.Decides.{nat_tests}
+use Rattle.std.proofs.lemmas.Bool.{cases_eq}
+use Rattle.std.proofs.lemmas.List.{get_or-set_same, get_or-set_other}
+use Rattle.std.proofs.Math.ListN.{length-set}
+use Rattle.isl_meaning.specs.declared.program.ProgramRows.{ProgramRows}
+use Rattle.isl_meaning.specs.declared.primitive.Primitive.TheVariants.{SlotSet}
+use Rattle.isl_meaning.specs.Values.{Value}
+use Rattle.isl_meaning.specs.Objects.{Object, instance}
+use Rattle.isl_meaning.specs.State as meaning
+use Rattle.isl_meaning.specs.Primitives.{result, change, instance_words}
+use Rattle.isl_mid.specs.declared.program.MidProcedure.{MidProcedure}
+use Rattle.isl_mid.specs.declared.operation.Arithmetic.TheVariants as which
+use Rattle.isl_mid.specs.Arena.{Arena, word_at, with_word}
+use Rattle.isl_mid.specs.MidCode.{MidStep, return_word, code_of}
+use Rattle.isl_mid.specs.State.{Registers, State, Outcome, returns, ends, first_registers}
+use Rattle.isl_mid.specs.Meaning.{Task}
+use Rattle.isl_arena.specs.Tags.{instance_header}
+use Rattle.isl_arena.specs.Places.{Spot, end_of, Places, word_of}
+use Rattle.isl_arena.specs.Standing.{ArenaStands, SpotStands, ValueAt, SlotAt}
+use Rattle.isl_arena.specs.Layouts.{InstanceAt}
+use Rattle.isl_arena.specs.Represents.{Represents}
+use Rattle.isl_arena.specs.Answers.{IsPrimitive}
+use Rattle.isl_arena.specs.Codes.{procedure_of}
+use Rattle.isl_arena.specs.Steps as steps
+use Rattle.isl_arena.specs.Steps.{steps_of}
+use Rattle.isl_arena.proofs.Running.{compute_known, address_above, store_in_spot, and_then, and_ends, return_ends}
+use Rattle.isl_arena.proofs.Memory.{word_elsewhere, stored_in_spot}
+use Rattle.isl_arena.proofs.Keeping.{words_at_least}
+use Rattle.isl_arena.proofs.Growing.{Changes, changes_part}
+use Rattle.isl_arena.proofs.Making.{changes_stored}
+use Rattle.isl_arena.proofs.FixedChanges.{one_word}
+use Rattle.isl_arena.proofs.Arguments.{ObjectFound}
+use Rattle.isl_arena.proofs.Doing.{Run}
+use Rattle.isl_arena.proofs.Arrays.{does_three, returns_changed}
+use Rattle.isl_arena.proofs.Slots.{slot_registers, instance_low, slot_needed, slot_sum}
+
+-- an instance in whose spot one slot was set
+pub instance_set :
+    (names : List (List ℕ)) (program : ProgramRows) (places : Places) (a : Arena) (s : Spot) (c : ℕ) (values : List (Option Value)) (mark : Value) (i w : ℕ) (v : Value)
+    → ArenaStands a → SpotStands a s → i < length values → word_of places v ≡ Some w → InstanceAt names program places a s c values mark
+    → InstanceAt names program places (with_word (s.address + 4 * (2 + i)) w a) s c (slice_set values i (Some v)) mark
+instance_set names program places a s c values mark i w v arena stands low word t =
+    record {
+      size = record { words = t.size.words ∙ ap (instance_words program c) (sym same); tag = t.size.tag };
+      count = same ∙ t.count;
+      header = elsewhere s.address (λ e. omega arith) ∙ t.header ∙ ap (λ n. Some (instance_header n)) (sym same);
+      class = record { word = t.class.word; of_value = t.class.of_value; stands = elsewhere (s.address + 4) (λ e. omega arith) ∙ t.class.stands };
+      values_there = λ j h. ⊎_elim (here j) (beside j (omega (arith, same))) (cases_eq j i);
+      mark = λ e. mark_there (t.mark e);
+    }
+  where
+    same : length (slice_set values i (Some v)) ≡ length values
+    same = length-set values i (Some v)
+
+    elsewhere : (x : ℕ) → s.address + 4 * (2 + i) ≢ x → word_at (with_word (s.address + 4 * (2 + i)) w a) x ≡ word_at a x
+    elsewhere x other = word_elsewhere a (s.address + 4 * (2 + i)) w x (omega (arith, stands.aligned)) (grind (arith, nat_tests))
+
+    mark_there : ValueAt places a (s.address + 8 + 4 * length values) mark
+        → ValueAt places (with_word (s.address + 4 * (2 + i)) w a) (s.address + 8 + 4 * length (slice_set values i (Some v))) mark
+    mark_there at = record {
+      word = at.word;
+      of_value = at.of_value;
+      stands = elsewhere (s.address + 8 + 4 * length (slice_set values i (Some v))) (λ e. omega (arith, same)) ∙ ap (λ n. word_at a (s.address + 8 + 4 * n)) same ∙ at.stands;
+    }
+
+    here : (j : ℕ) → j ≡ i → SlotAt places (with_word (s.address + 4 * (2 + i)) w a) (s.address + 8 + 4 * j) (slice_index_or (slice_set values i (Some v)) j None)
+    here j e =
+        let is : slice_index_or (slice_set values i (Some v)) j None ≡ Some v =
+        ap (λ k. slice_index_or (slice_set values i (Some v)) k None) e ∙ get_or-set_same values i (Some v) None low
+        in
+        rw is (record {
+          word = w;
+          of_value = word;
+          stands =
+              ap (word_at (with_word (s.address + 4 * (2 + i)) w a)) (omega arith)
+              ∙ stored_in_spot (2 + i) w arena stands (omega (arith, t.size.words, words_at_least program c (length values)));
+        })
+
+    beside :
+        (j : ℕ) → j < length values → j ≢ i
+        → SlotAt places (with_word (s.address + 4 * (2 + i)) w a) (s.address + 8 + 4 * j) (slice_index_or (slice_set values i (Some v)) j None)
+    beside j h other =
+        rw (get_or-set_other values i j (Some v) None other) (moved (slice_index_or values j None) (t.values_there j h))
+      where
+        moved : (o : Option Value) → SlotAt places a (s.address + 8 + 4 * j) o → SlotAt places (with_word (s.address + 4 * (2 + i)) w a) (s.address + 8 + 4 * j) o
+        moved None at = elsewhere (s.address + 8 + 4 * j) (λ e. other (omega arith)) ∙ at
+        moved (Some u) at = record {
+          word = at.word;
+          of_value = at.of_value;
+          stands = elsewhere (s.address + 8 + 4 * j) (λ e. other (omega arith)) ∙ at.stands;
+        }
+
+-- the lines behind the test of a place
+abbrev setting : List MidStep
+setting = steps.compute 5 which.Add 1 2 ∷ steps.store 0 5 (pos 6) ∷ return_word 0 ∷ []
+
+module _
+    (names : List (List ℕ)) (program : ProgramRows) (places : Places) (z : meaning.State) (y : State) (r : Represents names program places z y)
+    (w x c : ℕ) (v : Value) (values : List (Option Value)) (mark : Value) (j : ℕ)
+    (it : ObjectFound names program places z y r v w (instance c values mark)) (inside : j < length values) (place : x ≡ 4 * j)
+    (u : Value) (word : ℕ) (of_value : word_of places u ≡ Some word)
+  where
+    -- the arena where the slot was set, and the object
+    abbrev slot_stored : Arena
+    slot_stored = with_word (it.spot.address + 4 * (2 + j)) word y.arena
+
+    abbrev now : Object
+    now = instance c (slice_set values j (Some u)) mark
+
+    slot_within : it.spot.address + 4 * (2 + j) + 4 ≤ end_of it.spot
+    slot_within = omega (arith, it.stands.size.words, words_at_least program c (length values))
+
+    slot_changes : Changes it.spot y.arena slot_stored
+    slot_changes =
+        changes_part it.spot (one_word (it.spot.address + 4 * (2 + j))) y.arena slot_stored (omega arith) slot_within
+        (changes_stored (it.spot.address + 4 * (2 + j)) word r.arena (omega (arith, it.spot_stands.aligned)))
+
+    set_run :
+        (procedures : List MidProcedure) (below : Task → State → Outcome) (n budget k : ℕ) → k + 32 ≤ budget
+        → Run names program places z y procedures below n budget (result u (change v now z)) (code_of setting)
+        (slot_registers w x (length values) (first_registers 8 (word ∷ w ∷ x ∷ []))) k
+    set_run procedures below n budget k cost =
+        let low = instance_low names program places z y r v w c values mark it in
+        let known : c < length program.classes = r.classes.instances it.number c values mark it.stored in
+        let registers : Registers = slice_set (slot_registers w x (length values) (first_registers 8 (word ∷ w ∷ x ∷ []))) 5 (Some (w + x)) in
+        rw it.value (record {
+          outcome = ends (returns word) registers (record y { arena = slot_stored; cost = k + 10 + 8 + 14 });
+          runs =
+              and_then (compute_known refl refl (slot_sum names program places z y r w x c v values mark j it inside place))
+              (and_then
+              (store_in_spot it.spot_stands refl refl
+              (address_above (w + x) 6 (it.spot.address + 4 * (2 + j)) (omega (arith, it.word)) (omega (arith, it.word, low)))
+              (omega (arith, it.spot_stands.aligned)) (omega arith) (omega (arith, slot_within)))
+              (and_ends tt (return_ends refl)));
+          answers =
+              returns_changed names program places z y r procedures below budget (k + 10 + 8 + 14) it.number word it.spot (instance c values mark) now u slot_stored registers
+              it.stored known known (λ p e. absurd (cc e)) it.found slot_changes
+              (instance_set names program places y.arena it.spot c values mark j word u r.arena it.spot_stands inside of_value it.stands)
+              of_value (length-set y.arena.memory ((it.spot.address + 4 * (2 + j)) / 4) (Some word)) refl refl (omega (arith, cost));
+        })
+
+pub slot_set_does : IsPrimitive SlotSet (procedure_of SlotSet)
+slot_set_does = does_three SlotSet refl (λ u v p word w x names program places z y procedures below n r are units.
+    slot_needed names program places z y r procedures below n (y.cost + 130 + 244 * 3) y.cost 1 2 w x v p
+    (λ i at. result u (change v (instance i.0 (slice_set i.1 at (Some u)) i.2) z))
+    setting (first_registers 8 (word ∷ w ∷ x ∷ [])) (omega arith) (omega arith) refl refl refl are.1.0 are.1.1.0 (omega arith)
+    (λ c values mark j it inside place.
+    set_run names program places z y r w x c v values mark j it inside place u word are.0 procedures below n _ _ (omega arith)))

@@ -1,0 +1,10 @@
+pub mod Lists
+pub mod SymbolLists
+pub mod LaidWords
+pub mod Joining
+pub mod Made
+pub mod MadeSymbols
+pub mod Data
+pub mod Parts
+pub mod Atoms
+pub mod Beginning

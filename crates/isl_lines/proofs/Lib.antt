@@ -1,0 +1,10 @@
+pub mod Examples
+pub mod Conjunctions
+pub mod Lying
+pub mod Coming
+pub mod Following
+pub mod Growing
+pub mod LineLaws
+pub mod Stacking
+pub mod Appending
+pub mod Checking

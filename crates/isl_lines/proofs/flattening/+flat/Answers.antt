@@ -1,0 +1,27 @@
+use Rattle.isl_mid.specs.MidCode.{code_of}
+use Rattle.isl_lines.proofs.Appending.{appended_more, choice_written, loop_written, record_written}
+use Rattle.isl_lines.proofs.flattening.+flat.Goals as goal
+
+pub append_code-loop-step-preserved : goal.append_code-loop-step-preserved
+append_code-loop-step-preserved t c =
+    appended_more _ _ _ _ _ _ _ c.as_slice-step-items.ensures c.loop-step-test.true c.step-item.is c.in_ok-append_step.ensures c.loop-step.invariant
+
+pub append_choice-returns : goal.append_choice-returns
+append_choice-returns t c =
+    choice_written (code_of c.args.first.now) (code_of c.args.second.now) c.args.test _ _ _ _ _ _ _ _ _ _ _ _ _ _ _ _ _
+    c.len-branch_at.ensures c.in_ok-push.ensures.ok c.in_ok-append_code.ensures c.len-jump_at.ensures c.in_ok-push-2.ensures.ok
+    c.len-otherwise.ensures c.in_ok-append_code-2.ensures c.len-last_at.ensures c.in_ok-push-3.ensures.ok c.len-end.ensures
+    c.replace.ensures.now c.replace-2.ensures.now c.replace-3.ensures.now
+
+pub append_loop-returns : goal.append_loop-returns
+append_loop-returns t c =
+    loop_written c.args.counted (code_of c.args.head.now) (code_of c.args.body.now) c.args.test _ _ _ _ _ _ _ _ _ _
+    c.len-start.ensures c.in_ok-append_code.ensures c.len-branch_at.ensures c.in_ok-push.ensures.ok c.in_ok-append_code-2.ensures
+    c.in_ok-push-2.ensures.ok c.len-otherwise.ensures c.replace.ensures.now
+
+pub append_record-returns : goal.append_record-returns
+append_record-returns t c =
+    record_written c.args.block c.args.words c.args.word (code_of c.args.inside.now) (code_of c.args.landing.now) _ _ _ _ _ _ _ _ _ _ _ _ _ _ _ _
+    c.len-lay_at.ensures c.in_ok-push.ensures.ok c.in_ok-append_code.ensures c.in_ok-push-2.ensures.ok c.len-jump_at.ensures
+    c.in_ok-push-3.ensures.ok c.len-landing_at.ensures c.in_ok-push-4.ensures.ok c.in_ok-append_code-2.ensures c.in_ok-push-5.ensures.ok c.len-end.ensures
+    c.replace.ensures.now c.replace-2.ensures.now
