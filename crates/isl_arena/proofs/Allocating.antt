@@ -36,12 +36,15 @@ use Rattle.isl_arena.proofs.Making.{Room, is_left, is_wanting, room_for, answers
 use Rattle.isl_arena.proofs.Doing.{alike_self, Run, goes_on, test_passes, second_answers, paid}
 use Rattle.isl_arena.proofs.Conditions.{program_error as of_program, signal_run}
 use Rattle.isl_arena.proofs.Needing.{class_needed}
-use Rattle.isl_arena.proofs.Filling.{replicated}
-use Rattle.isl_arena.proofs.Arrays.{does_one}
 use Rattle.isl_arena.specs.ClassesThere.{ClassesThere}
-use Rattle.isl_arena.proofs.SlotRows.{class_low, truth_told}
-use Rattle.isl_arena.proofs.Allotting.{allotted, allotted_facts, allotted_heap, allotted_blocks, allotted_word, allotted_mark}
-use Rattle.isl_arena.proofs.Allotting.{asking_code, beginning_code, filling_code, allocating_code, mark_address, beginning_falls, filling_ends}
+use Rattle.isl_arena.proofs.SlotRows.{class_low}
+use Rattle.isl_arena.proofs.Allotting.{allotted, allotted_grows, allotted_heap, allotted_blocks, allotted_word, allotted_mark}
+use Rattle.isl_arena.proofs.Allotting.{asking_code, beginning_code, allocating_code, mark_address, beginning_falls}
+use Rattle.isl_arena.proofs.Taking.{does_one}
+use Rattle.isl_arena.proofs.Lists.{replicated}
+use Rattle.isl_arena.proofs.Filling.{filling_code, filling_ends}
+use Rattle.isl_arena.proofs.Memory.{heap_below, stands_with_heap}
+use Rattle.isl_arena.proofs.Telling.{truth_told}
 
 module _ (names : List (List ℕ)) (program : ProgramRows) (places : Places) (z : meaning.State) (y : State) (r : Represents names program places z y) where
   -- the bit of a condition
@@ -178,10 +181,12 @@ module _ (names : List (List ℕ)) (program : ProgramRows) (places : Places) (z 
               runs =
                   parts_then asking_code (beginning_code ++ filling_code) (asking_falls k)
                   (parts_then beginning_code filling_code (beginning_falls y (k + 90) w count bit r.arena bit_small room)
-                  (filling_ends procedures below n y (k + 90 + 140) w count bit r.arena room turns));
+                  (filling_ends procedures below n count y.arena.heap_to unbound_word (k + 90 + 140)
+                  (record y { arena = allotted (2 + count + bit) (mark_address y.arena.heap_to count bit) (instance_header count ∷ w ∷ []) y.arena }) turns
+                  r.arena.aligned r.arena.heap (omega arith) (heap_below (stands_with_heap (2 + count + bit) r.arena room))));
               answers =
                   answers_made names program places z y r (2 + count + bit) 0 made z now _ (alike_self z)
-                  (allotted_facts y.arena (2 + count + bit) mark all r.arena room few (omega (arith, r.arena.aligned)) (omega arith))
+                  (allotted_grows y.arena (2 + count + bit) mark all r.arena room few (omega (arith, r.arena.aligned)) (omega arith))
                   (allotted_heap y.arena (2 + count + bit) mark all r.arena room few (omega (arith, r.arena.aligned)) (omega arith))
                   (allotted_blocks y.arena (2 + count + bit) mark all r.arena room few (omega (arith, r.arena.aligned)) (omega arith))
                   refl refl (omega arith) (instance_stands room) known (omega (arith, cost));

@@ -1,24 +1,24 @@
 -- The code that makes an instance, and the arena where its words were stored.
-use Rattle.std.proofs.Common.{◌≡◌, ℕ, ◌+◌, ◌*◌, ◌%◌, ◌^◌, ◌<◌, ◌≤◌, pos, List, [], ◌∷◌, ◌++◌, length, replicate, Option, Some, refl, ap, ◌∙◌, arith}
+use Rattle.std.proofs.Common.{◌≡◌, ℕ, ◌+◌, ◌*◌, ◌%◌, ◌^◌, ◌<◌, ◌≤◌, pos, List, [], ◌∷◌, ◌++◌, length, Option, Some, refl, ap, ◌∙◌, arith}
 use Rattle.std.specs.Prelude.{slice_get}
 use Rattle.isl_meaning.specs.Values.{same}
-use Rattle.isl_mid.specs.declared.program.MidProcedure.{MidProcedure}
 use Rattle.isl_mid.specs.declared.operation.Arithmetic.TheVariants as which
 use Rattle.isl_mid.specs.declared.operation.Operation.TheVariants.{Move, Request}
-use Rattle.isl_mid.specs.Words.{sum32, shift_left}
+use Rattle.isl_mid.specs.Words.{sum32}
 use Rattle.isl_mid.specs.Arena.{Arena, left, word_at, with_word, with_heap}
-use Rattle.isl_mid.specs.MidCode.{MidStep, perform, return_word, code_of}
-use Rattle.isl_mid.specs.State.{State, Outcome, falls, returns, ends}
-use Rattle.isl_mid.specs.Meaning.{Task, Context}
+use Rattle.isl_mid.specs.MidCode.{MidStep, perform, code_of}
+use Rattle.isl_mid.specs.State.{State, falls, ends}
+use Rattle.isl_mid.specs.Meaning.{Context}
 use Rattle.isl_arena.specs.Tags.{nil_word, unbound_word, instance_header}
 use Rattle.isl_arena.specs.Standing.{ArenaStands}
 use Rattle.isl_arena.specs.Steps as steps
-use Rattle.isl_arena.proofs.WordFacts.{instance_header_made}
-use Rattle.isl_arena.proofs.Memory.{Facts, heap_below, stands_with_word, stands_with_heap, facts_with_heap, facts_stored, facts_with_words, with_words, words_stand, words_behind, stored_in_heap}
-use Rattle.isl_arena.proofs.Running.{RunsTo, turning, none_left, and_then, and_ends, costing, constant_falls}
-use Rattle.isl_arena.proofs.Running.{compute_known, move_falls, store_in_heap, request_falls, return_ends, address_here, address_above}
+use Rattle.isl_arena.proofs.WordFacts.{instance_header_made, four_times_count, sum_fits}
+use Rattle.isl_arena.proofs.Memory.{heap_below, stands_with_word, stands_with_heap, grows_with_heap, grows_stored, grows_with_words, with_words, words_stand, words_behind, stored_in_heap, stored_heap, stored_blocks}
+use Rattle.isl_arena.proofs.Running.{RunsTo, none_left, and_then, costing, constant_falls}
+use Rattle.isl_arena.proofs.Running.{compute_known, move_falls, store_in_heap, request_falls, address_here, address_above}
 use Rattle.isl_arena.proofs.Doing.{paid}
-use Rattle.isl_arena.proofs.Filling.{fill, fill_falls}
+use Rattle.isl_arena.proofs.Growing.{Grows}
+use Rattle.isl_arena.proofs.Filling.{filling_code}
 
 -- ---- the arena
 
@@ -26,17 +26,9 @@ use Rattle.isl_arena.proofs.Filling.{fill, fill_falls}
 abbrev pub allotted : (words mark : ℕ) → List ℕ → Arena → Arena
 allotted words mark ws a = with_words a.heap_to ws (with_word mark nil_word (with_heap words a))
 
-stored_heap : (x : ℕ) (ws : List ℕ) (a : Arena) → (with_words x ws a).heap_to ≡ a.heap_to
-stored_heap x [] a = refl
-stored_heap x (w ∷ ws) a = stored_heap (x + 4) ws (with_word x w a)
-
-stored_blocks : (x : ℕ) (ws : List ℕ) (a : Arena) → (with_words x ws a).blocks ≡ a.blocks
-stored_blocks x [] a = refl
-stored_blocks x (w ∷ ws) a = stored_blocks (x + 4) ws (with_word x w a)
-
 module _ (a : Arena) (words mark : ℕ) (ws : List ℕ) (stands : ArenaStands a) (room : words ≤ left a) (few : length ws ≤ words) (aligned : mark % 4 ≡ 0) (behind : a.heap_to ≤ mark) where
-  pub allotted_facts : Facts a (allotted words mark ws a)
-  allotted_facts = facts_with_words a.heap_to ws (facts_stored mark nil_word (facts_with_heap words stands room) aligned behind) stands.aligned (omega arith)
+  pub allotted_grows : Grows a (allotted words mark ws a)
+  allotted_grows = grows_with_words a.heap_to ws (grows_stored mark nil_word (grows_with_heap words stands room) aligned behind) stands.aligned (omega arith)
 
   pub allotted_heap : (allotted words mark ws a).heap_to ≡ a.heap_to + 4 * words
   allotted_heap = stored_heap a.heap_to ws (with_word mark nil_word (with_heap words a))
@@ -71,10 +63,7 @@ beginning_code =
     ∷ steps.store 6 4 (pos 4) ∷ steps.compute_by 7 which.ShiftLeft 5 2 ++ steps.compute_by 7 which.Add 7 3 ++ steps.store 7 3 (pos 0) ∷ steps.store 0 3 (pos 4)
     ∷ steps.compute 5 which.Add 5 3 ∷ perform (Move 7 3) ∷ steps.constant 4 unbound_word ∷ []
 
--- the slots are filled, and the pointer is returned
-abbrev pub filling_code : List MidStep
-filling_code = fill ∷ steps.compute_by 3 which.Add 3 2 ++ return_word 3 ∷ []
-
+-- then the slots are filled, and the pointer is returned
 abbrev pub allocating_code : List MidStep
 allocating_code = asking_code ++ (beginning_code ++ filling_code)
 
@@ -90,15 +79,13 @@ pub beginning_falls :
 beginning_falls y k w count bit stands small room =
     let heap : ℕ = y.arena.heap_to in
     let high : heap + 4 * (2 + count + bit) ≤ 2 ^ 26 = heap_below (stands_with_heap (2 + count + bit) stands room) in
-    let four_bits : shift_left bit 2 ≡ 4 * bit = omega arith in
-    let behind_slots : sum32 (4 * bit) (4 * count) ≡ 4 * bit + 4 * count = omega arith in
     let behind_heap : sum32 (4 * bit + 4 * count) heap ≡ heap + 4 * (count + bit) = omega arith in
     let end_is : sum32 (4 * count) heap ≡ heap + 4 * count = omega arith in
     costing
     (and_then (request_falls refl room)
     (and_then constant_falls
-    (and_then (compute_known refl refl four_bits)
-    (and_then (compute_known refl refl behind_slots)
+    (and_then (compute_known refl refl (four_times_count bit (omega arith)))
+    (and_then (compute_known refl refl (sum_fits (4 * bit) (4 * count) (omega arith)))
     (and_then (compute_known refl refl behind_heap)
     (and_then constant_falls
     (and_then
@@ -113,27 +100,3 @@ beginning_falls y k w count bit stands small room =
     (and_then (compute_known refl refl end_is)
     (and_then (move_falls refl)
     (and_then constant_falls none_left)))))))))))))))) (omega arith)
-
-pub filling_ends :
-    {r0 r1 r2 r6 : Option ℕ} (procedures : List MidProcedure) (below : Task → State → Outcome) (n : ℕ) (y : State) (k w count bit : ℕ) → ArenaStands y.arena
-    → 2 + count + bit ≤ left y.arena → count ≤ n
-    → RunsTo (turning procedures below n) (code_of filling_code)
-    (r0 ∷ r1 ∷ r2 ∷ Some y.arena.heap_to ∷ Some unbound_word ∷ Some (y.arena.heap_to + 4 * count) ∷ r6 ∷ Some y.arena.heap_to ∷ [])
-    (record y { arena = allotted (2 + count + bit) (mark_address y.arena.heap_to count bit) (instance_header count ∷ w ∷ []) y.arena; cost = k })
-    (ends (returns (y.arena.heap_to + 2))
-    (r0 ∷ r1 ∷ r2 ∷ Some (y.arena.heap_to + 2) ∷ Some unbound_word ∷ Some (y.arena.heap_to + 4 * count) ∷ Some 2 ∷ Some (y.arena.heap_to + 4 * count) ∷ [])
-    (record y {
-      arena = allotted (2 + count + bit) (mark_address y.arena.heap_to count bit) (instance_header count ∷ w ∷ replicate count unbound_word) y.arena;
-      cost = k + 42 + 38 * count;
-    }))
-filling_ends procedures below n y k w count bit stands room turns =
-    let heap : ℕ = y.arena.heap_to in
-    let high : heap + 4 * (2 + count + bit) ≤ 2 ^ 26 = heap_below (stands_with_heap (2 + count + bit) stands room) in
-    let pointer : sum32 heap 2 ≡ heap + 2 = omega arith in
-    costing
-    (and_then
-    (fill_falls procedures below count n heap (heap + 4 + 4) (heap + 4 * count) _ _ _ _ _ _ _ turns (omega arith) refl (omega (arith, stands.aligned))
-    (omega (arith, stands.heap)) (omega arith) (omega arith))
-    (and_then constant_falls
-    (and_then (compute_known refl refl pointer)
-    (and_ends tt (return_ends refl))))) (omega arith)

@@ -1,14 +1,12 @@
 -- What the word of a value tells of it in a represented state: its tag, and the header to which it points.
-use Rattle.std.proofs.Common.{◌≡◌, ℕ, zero, suc, ◌+◌, ◌-◌, ◌*◌, ◌%◌, ◌^◌, ◌<◌, ◌≤◌, ℤ, pos, Bool, true, false, List, [], ◌∷◌, length, Option, Some, None, refl, sym, ap, ◌∙◌, arith}
-use Rattle.std.specs.Prelude.{negsuc, ◌*ℤ◌, nat_le, slice_get, if◌then◌else◌}
+use Rattle.std.proofs.Common.{◌≡◌, ℕ, pos, zero, suc, ◌+◌, ◌-◌, ◌*◌, ◌%◌, ◌^◌, ◌<◌, ◌≤◌, ℤ, Bool, true, false, List, [], ◌∷◌, length, Option, Some, None, refl, sym, ap, ◌∙◌, arith}
+use Rattle.std.specs.Prelude.{nat_le, slice_get, if◌then◌else◌}
 use Rattle.std.proofs.lemmas.Bool.Decides.{nat_tests}
-use Rattle.std.proofs.lemmas.Int.{ints}
 use Rattle.isl_meaning.specs.declared.program.ProgramRows.{ProgramRows}
 use Rattle.isl_meaning.specs.Values.{SymbolValue, Value, integer, character, symbol, nil, object, in_range}
-use Rattle.isl_meaning.specs.Objects.{Object, cons}
+use Rattle.isl_meaning.specs.Objects.{Object}
 use Rattle.isl_meaning.specs.State as meaning
 use Rattle.isl_meaning.specs.Classes.{fetch}
-use Rattle.isl_mid.specs.Words.{low_word}
 use Rattle.isl_mid.specs.Arena.{word_at}
 use Rattle.isl_mid.specs.State.{State}
 use Rattle.isl_mid.proofs.WordBounds.{low_word_bounded}
@@ -18,19 +16,11 @@ use Rattle.isl_arena.specs.Standing.{SpotStands}
 use Rattle.isl_arena.specs.Layouts.{ObjectAt, SymbolAt}
 use Rattle.isl_arena.specs.Represents.{Represents}
 use Rattle.isl_arena.proofs.Keeping.{pointer_tells, header_of, header_of_symbol, symbol_tag, header_at_symbol, object_tag_is, header_at_object}
-use Rattle.isl_arena.proofs.Growing.{spot_below}
 use Rattle.isl_arena.proofs.Owners.{object_within}
+use Rattle.isl_arena.proofs.WordFacts.{integer_word_tag, integer_word_of_pos, in_range_is}
+use Rattle.isl_arena.proofs.Memory.{spot_low}
 
 -- ---- words of atoms
-
--- the lowest 32 bits of four times a number
-four_times : (n z : ℤ) → z ≡ pos 4 *ℤ n → low_word z % 4 ≡ 0
-unfolding low_word
-four_times n (pos m) e = omega (arith, ints, e)
-four_times n (negsuc m) e = omega (arith, ints, e)
-
-pub integer_tag : (n : ℤ) → integer_word n % 4 ≡ 0
-integer_tag n = four_times n (pos 4 *ℤ n) refl
 
 -- a choice that comes to something
 pub chosen : (b : Bool) (x w : ℕ) → (if b then Some x else None) ≡ Some w → (b ≡ true) × (w ≡ x)
@@ -42,6 +32,17 @@ integer_word_is places n w e = chosen (in_range n) (integer_word n) w e
 
 pub character_word_is : (places : Places) (c w : ℕ) → word_of places (character c) ≡ Some w → (c ≤ 255) × (w ≡ 256 * c + 15)
 character_word_is places c w e = let h = chosen (nat_le c 255) (character_word c) w e in (grind (arith, nat_tests), h.1)
+
+-- an integer in range, a length and a character have their words
+pub integer_word_there : (places : Places) (i : ℤ) → in_range i ≡ true → word_of places (integer i) ≡ Some (integer_word i)
+integer_word_there places i range = rw range refl
+
+pub length_word_is : (places : Places) (count : ℕ) → count < 2 ^ 29 → word_of places (integer (pos count)) ≡ Some (4 * count)
+length_word_is places count h =
+    integer_word_there places (pos count) (in_range_is (pos count) (omega arith) (omega arith)) ∙ ap (λ w. Some w) (integer_word_of_pos count (omega arith))
+
+pub character_word_there : (places : Places) (c : ℕ) → c ≤ 255 → word_of places (character c) ≡ Some (character_word c)
+character_word_there places c small = let is : nat_le c 255 ≡ true = grind (arith, nat_tests) in rw is refl
 
 -- ---- the tag and the header that a value's word leads to
 
@@ -161,7 +162,7 @@ module _ (names : List (List ℕ)) (program : ProgramRows) (places : Places) (z 
 
   -- the tag of a word
   pub tag_told : (v : Value) (w : ℕ) → word_of places v ≡ Some w → w % 4 ≡ value_tag z v
-  tag_told (integer n) w e = ap (λ x. x % 4) (integer_word_is places n w e).1 ∙ integer_tag n
+  tag_told (integer n) w e = ap (λ x. x % 4) (integer_word_is places n w e).1 ∙ integer_word_tag n
   tag_told (character c) w e = let h = character_word_is places c w e in omega (arith, h.1)
   tag_told (symbol s) w e = let there = symbol_there s w e in omega (arith, there.word, there.spot_stands.aligned)
   tag_told nil w e = let h : nil_word ≡ w = cc e in omega arith
@@ -192,33 +193,10 @@ module _ (names : List (List ℕ)) (program : ProgramRows) (places : Places) (z 
   word_told (character c) w e = let h = character_word_is places c w e in omega (arith, h.0, h.1)
   word_told (symbol s) w e =
       let there = symbol_there s w e in
-      let below = spot_below y.arena there.spot r.arena there.spot_stands in
-      omega (arith, there.word, below, there.spot_stands.some, r.arena.room, r.arena.size)
+      let below = spot_low r.arena there.spot_stands in
+      omega (arith, there.word, below, there.spot_stands.some)
   word_told nil w e = let h : nil_word ≡ w = cc e in omega arith
   word_told (object i) w e =
       let there = object_there i w e in
-      let below = spot_below y.arena there.spot r.arena there.spot_stands in
-      omega (arith, there.word, there.tag, there.spot_stands.tag, below, there.spot_stands.some, r.arena.room, r.arena.size)
-
-  -- the two words behind the word of a cons
-  pub record ConsWords (w : ℕ) (car cdr : Value) : Type 0 where
-    pub car_word : ℕ
-    pub of_car : word_of places car ≡ Some car_word
-    pub car_at : word_at y.arena (w - 1) ≡ Some car_word
-    pub cdr_word : ℕ
-    pub of_cdr : word_of places cdr ≡ Some cdr_word
-    pub cdr_at : word_at y.arena (w + 3) ≡ Some cdr_word
-
-  pub cons_words : (v : Value) (w : ℕ) (car cdr : Value) → word_of places v ≡ Some w → fetch z v ≡ Some (cons car cdr) → ConsWords w car cdr
-  cons_words v w car cdr e f =
-      let it = object_found v w (cons car cdr) e f in
-      let first : w - 1 ≡ it.spot.address = omega (arith, it.word) in
-      let second : w + 3 ≡ it.spot.address + 4 = omega (arith, it.word) in
-      record {
-        car_word = it.stands.car.word;
-        of_car = it.stands.car.of_value;
-        car_at = rw first it.stands.car.stands;
-        cdr_word = it.stands.cdr.word;
-        of_cdr = it.stands.cdr.of_value;
-        cdr_at = rw second it.stands.cdr.stands;
-      }
+      let below = spot_low r.arena there.spot_stands in
+      omega (arith, there.word, there.tag, there.spot_stands.tag, below, there.spot_stands.some)

@@ -37,10 +37,6 @@ replicated_bytes n c h i k = let same = length-replicate n c in rw (replicated_b
 
 -- ---- words of four bytes
 
--- the four bytes from a place on
-pub packed_below : (bytes : List ℕ) (j : ℕ) → AreBytes bytes → packed bytes j < 2 ^ 32
-packed_below bytes j b = omega (arith, byte_below bytes j b, byte_below bytes (j + 1) b, byte_below bytes (j + 2) b, byte_below bytes (j + 3) b)
-
 -- a place is the first, second, third or fourth one of its word
 data PlaceInWord (i : ℕ) : Type 0 where
   first : i ≡ 4 * (i / 4) → i % 4 ≡ 0 → PlaceInWord i
@@ -128,9 +124,6 @@ byte_offset_is i h = omega arith
 
 pub byte_shift_is : (i : ℕ) → byte_shift (4 * i) % 32 ≡ 8 * (i % 4)
 byte_shift_is i = omega arith
-
-pub double_shift_is : (i : ℕ) → sum32 (4 * i) (4 * i) % 32 ≡ 8 * (i % 4)
-double_shift_is i = omega arith
 
 -- a shift by the bits in front of a byte is by a power of 256
 pub byte_power : (i shift : ℕ) → shift % 32 ≡ 8 * (i % 4) → 2 ^ (shift % 32) ≡ 256 ^ (i % 4)
@@ -233,9 +226,6 @@ word_of_byte_there count i h = omega arith
 --     Compute 4 Multiply 4 6
 abbrev pub full_word : ℕ → ℕ
 full_word c = product32 c 16843009
-
-pub full_word_is : (c : ℕ) → c < 256 → full_word c ≡ 16843009 * c
-full_word_is c h = omega arith
 
 -- all words but the last one are full
 pub packed_full : (n c k : ℕ) → c < 256 → 4 * k + 4 ≤ n → packed (replicate n c) (4 * k) ≡ full_word c

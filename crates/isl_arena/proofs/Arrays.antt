@@ -1,31 +1,28 @@
--- What the primitives of vectors and strings have in common: their arguments, the word of a length, the test of an index, and the return
--- from a state where an object was changed.
+-- What the primitives of vectors, strings and slots have in common: the tests of a length and of an index, and the return from a state where
+-- an object was changed.
 use Rattle.std.proofs.Common.{◌≡◌, ℕ, ◌+◌, ◌*◌, ◌/◌, ◌%◌, ◌^◌, ◌<◌, ◌≤◌, ℤ, pos, true, List, [], ◌∷◌, length, Option, Some, None, refl, ap, ◌∙◌, arith}
 use Rattle.std.specs.Prelude.{is_some, slice_get, slice_set}
 use Rattle.std.proofs.Math.ListN.{length-set}
 use Rattle.isl_meaning.specs.declared.program.ProgramRows.{ProgramRows}
-use Rattle.isl_meaning.specs.declared.primitive.Primitive.{Primitive}
-use Rattle.isl_meaning.specs.Arity.{arity}
-use Rattle.isl_meaning.specs.Values.{Value, integer, object, in_range}
+use Rattle.isl_meaning.specs.Values.{Value, object, in_range}
 use Rattle.isl_meaning.specs.Objects.{Object, function, integer_class, program_error_class}
 use Rattle.isl_meaning.specs.State as meaning
-use Rattle.isl_meaning.specs.Primitives.{Answer, result, needs, program_error, domain_error, length_of, index_of, an_index, change, primitive}
+use Rattle.isl_meaning.specs.Primitives.{Answer, result, needs, program_error, domain_error, length_of, index_of, an_index, change}
 use Rattle.isl_mid.specs.declared.program.MidProcedure.{MidProcedure}
 use Rattle.isl_mid.specs.declared.operation.Comparison.TheVariants.{AtLeast, LessUnsigned}
 use Rattle.isl_mid.specs.Words.{compares, address}
 use Rattle.isl_mid.specs.Arena.{Arena, with_word}
 use Rattle.isl_mid.specs.MidCode.{MidStep, return_word, code_of}
-use Rattle.isl_mid.specs.State.{Registers, State, Outcome, returns, ends, register, first_registers}
+use Rattle.isl_mid.specs.State.{Registers, State, Outcome, returns, ends, register}
 use Rattle.isl_mid.specs.Meaning.{Task}
 use Rattle.isl_arena.specs.Tags.{integer_word}
-use Rattle.isl_arena.specs.Places.{Spot, end_of, Places, of_object, spot_of, word_of, WordsOf}
+use Rattle.isl_arena.specs.Places.{Spot, end_of, Places, of_object, spot_of, word_of}
 use Rattle.isl_arena.specs.FixedWords.{class_address}
 use Rattle.isl_arena.specs.Layouts.{ObjectAt}
 use Rattle.isl_arena.specs.Represents.{Represents}
-use Rattle.isl_arena.specs.Answers.{done, units_after, IsPrimitive}
-use Rattle.isl_arena.specs.Codes.{code_of_primitive, procedure_of}
+use Rattle.isl_arena.specs.Answers.{done}
 use Rattle.isl_arena.specs.Steps as steps
-use Rattle.isl_arena.proofs.WordFacts.{integer_word_of_pos, in_range_is, length_tested, length_word, index_is, index_word, index_tested}
+use Rattle.isl_arena.proofs.WordFacts.{length_tested, length_word, index_is, index_word, index_tested}
 use Rattle.isl_arena.proofs.Running.{constant_falls, and_then, and_ends, store_in_spot, return_ends}
 use Rattle.isl_arena.proofs.Growing.{Changes, changes_part}
 use Rattle.isl_arena.proofs.ClassesKept.{IsMade}
@@ -34,74 +31,7 @@ use Rattle.isl_arena.proofs.FixedChanges.{one_word}
 use Rattle.isl_arena.proofs.Making.{changes_stored}
 use Rattle.isl_arena.proofs.Doing.{alike_self, Answers, Run, goes_on, test_passes, second_answers}
 use Rattle.isl_arena.proofs.Conditions.{program_error as of_program, domain_error_run, signal_run}
-use Rattle.isl_arena.proofs.Checking.{Scratched, scratched_six, not_scratched, six_here}
-use Rattle.isl_arena.proofs.Entering.{does_by_code}
-
--- ---- arguments
-
--- The code of a primitive, at such arguments in the first registers, comes to its answer.
-abbrev pub CodeDoes : Primitive → List Value → List ℕ → Type 0
-CodeDoes which vs ws =
-    (names : List (List ℕ)) (program : ProgramRows) (places : Places) (z : meaning.State) (y : State) (procedures : List MidProcedure)
-    (below : Task → State → Outcome) (n : ℕ)
-    → Represents names program places z y → WordsOf places vs ws
-    → units_after names program (primitive names program which vs z) ≤ z.units + n
-    → Run names program places z y procedures below n (y.cost + 130 + 244 * arity which) (primitive names program which vs z)
-    (code_of (code_of_primitive which)) (first_registers 8 ws) y.cost
-
--- a primitive with one, two or three arguments
-pub does_one : (which : Primitive) → arity which ≡ 1 → ((v : Value) (a : ℕ) → CodeDoes which (v ∷ []) (a ∷ [])) → IsPrimitive which (procedure_of which)
-does_one which one code names program procedures below n places z y vs ws r are count units =
-    does_by_code names program places z y procedures below n which vs ws r are count (λ y' r'. by y' r' vs ws are (count ∙ one) units)
-  where
-    by :
-        (y' : State) → Represents names program places z y' → (vs : List Value) (ws : List ℕ) → WordsOf places vs ws → length vs ≡ 1
-        → units_after names program (primitive names program which vs z) ≤ z.units + n
-        → Run names program places z y' procedures below n (y'.cost + 130 + 244 * arity which) (primitive names program which vs z)
-        (code_of (code_of_primitive which)) (first_registers 8 ws) y'.cost
-    by y' r' (v ∷ []) (a ∷ []) are count units = code v a names program places z y' procedures below n r' are units
-    by y' r' [] ws are count units = absurd (omega (arith, count))
-    by y' r' (v ∷ []) [] are count units = absurd are
-    by y' r' (v ∷ []) (a ∷ b ∷ ws) are count units = absurd are.1
-    by y' r' (v ∷ w ∷ vs) ws are count units = absurd (omega (arith, count))
-
-pub does_two : (which : Primitive) → arity which ≡ 2 → ((v w : Value) (a b : ℕ) → CodeDoes which (v ∷ w ∷ []) (a ∷ b ∷ [])) → IsPrimitive which (procedure_of which)
-does_two which two code names program procedures below n places z y vs ws r are count units =
-    does_by_code names program places z y procedures below n which vs ws r are count (λ y' r'. by y' r' vs ws are (count ∙ two) units)
-  where
-    by :
-        (y' : State) → Represents names program places z y' → (vs : List Value) (ws : List ℕ) → WordsOf places vs ws → length vs ≡ 2
-        → units_after names program (primitive names program which vs z) ≤ z.units + n
-        → Run names program places z y' procedures below n (y'.cost + 130 + 244 * arity which) (primitive names program which vs z)
-        (code_of (code_of_primitive which)) (first_registers 8 ws) y'.cost
-    by y' r' (v ∷ w ∷ []) (a ∷ b ∷ []) are count units = code v w a b names program places z y' procedures below n r' are units
-    by y' r' [] ws are count units = absurd (omega (arith, count))
-    by y' r' (v ∷ []) ws are count units = absurd (omega (arith, count))
-    by y' r' (v ∷ w ∷ u ∷ vs) ws are count units = absurd (omega (arith, count))
-    by y' r' (v ∷ w ∷ []) [] are count units = absurd are
-    by y' r' (v ∷ w ∷ []) (a ∷ []) are count units = absurd are.1
-    by y' r' (v ∷ w ∷ []) (a ∷ b ∷ c ∷ ws) are count units = absurd are.1.1
-
-pub does_three :
-    (which : Primitive) → arity which ≡ 3 → ((v w u : Value) (a b c : ℕ) → CodeDoes which (v ∷ w ∷ u ∷ []) (a ∷ b ∷ c ∷ []))
-    → IsPrimitive which (procedure_of which)
-does_three which three code names program procedures below n places z y vs ws r are count units =
-    does_by_code names program places z y procedures below n which vs ws r are count (λ y' r'. by y' r' vs ws are (count ∙ three) units)
-  where
-    by :
-        (y' : State) → Represents names program places z y' → (vs : List Value) (ws : List ℕ) → WordsOf places vs ws → length vs ≡ 3
-        → units_after names program (primitive names program which vs z) ≤ z.units + n
-        → Run names program places z y' procedures below n (y'.cost + 130 + 244 * arity which) (primitive names program which vs z)
-        (code_of (code_of_primitive which)) (first_registers 8 ws) y'.cost
-    by y' r' (v ∷ w ∷ u ∷ []) (a ∷ b ∷ c ∷ []) are count units = code v w u a b c names program places z y' procedures below n r' are units
-    by y' r' [] ws are count units = absurd (omega (arith, count))
-    by y' r' (v ∷ []) ws are count units = absurd (omega (arith, count))
-    by y' r' (v ∷ w ∷ []) ws are count units = absurd (omega (arith, count))
-    by y' r' (v ∷ w ∷ u ∷ x ∷ vs) ws are count units = absurd (omega (arith, count))
-    by y' r' (v ∷ w ∷ u ∷ []) [] are count units = absurd are
-    by y' r' (v ∷ w ∷ u ∷ []) (a ∷ []) are count units = absurd are.1
-    by y' r' (v ∷ w ∷ u ∷ []) (a ∷ b ∷ []) are count units = absurd are.1.1
-    by y' r' (v ∷ w ∷ u ∷ []) (a ∷ b ∷ c ∷ d ∷ ws) are count units = absurd are.1.1.1
+use Rattle.isl_arena.proofs.Registers.{Scratched, not_scratched, scratched_six, six_here}
 
 -- ---- lengths and indices
 
@@ -112,12 +42,6 @@ index_test of rest = steps.either (steps.comparing LessUnsigned of 7) [] (steps.
 -- the lines that the integer in register 0 is a length
 abbrev pub length_test : List MidStep → List MidStep
 length_test rest = steps.constant 6 0 ∷ steps.either (steps.comparing AtLeast 0 6) [] (steps.domain_error 0 (pos (class_address integer_class))) ∷ rest
-
--- the word of a length
-pub length_word_is : (places : Places) (count : ℕ) → count < 2 ^ 29 → word_of places (integer (pos count)) ≡ Some (4 * count)
-length_word_is places count h =
-    let range : in_range (pos count) ≡ true = in_range_is (pos count) (omega arith) (omega arith) in
-    rw range (ap (λ w. Some w) (integer_word_of_pos count (omega arith)))
 
 module _
     (names : List (List ℕ)) (program : ProgramRows) (places : Places) (z : meaning.State) (y : State) (r : Represents names program places z y)

@@ -15,7 +15,8 @@ use Rattle.isl_meaning.specs.Facts.{is_plain_slot, is_row, begins_with_built_in}
 use Rattle.isl_meaning.specs.Lookup.{is_in}
 use Rattle.isl_meaning.specs.Objects.{built_in_classes, serious_condition_class}
 use Rattle.isl_meaning.specs.Classes.{precedence_of, slots_of, precedence, slots, is_below}
-use Rattle.isl_meaning.specs.Primitives.{instance_words, is_abstract}
+use Rattle.isl_meaning.specs.Primitives.{instance_words}
+use Rattle.isl_arena.proofs.Keeping.{words_of_condition}
 
 -- a class stands at its number, with that precedence list and so many slots, and instances of it can be made
 pub record RowAt (classes : List ClassRow) (c : ℕ) (above : List ℕ) (count : ℕ) : Type 0 where
@@ -103,9 +104,6 @@ module _ (program : ProgramRows) (built_in : begins_with_built_in program.classe
   pub slot_count_is : (c : ℕ) → c < built_in_classes → length (slots program c) ≡ slice_index_or built_in_slots c 0
   slot_count_is c h = let r = built_in_row c h in ap (λ o. length (slots_of o)) r.found ∙ r.slots
 
-  pub not_abstract : (c : ℕ) → c < built_in_classes → is_abstract (slice_get program.classes c) ≡ false
-  not_abstract c h = let r = built_in_row c h in ap is_abstract r.found ∙ r.concrete
-
   -- conditions are the classes from 18 on
   pub condition_from : (c : ℕ) → c < built_in_classes → is_below program c serious_condition_class ≡ nat_le serious_condition_class c
   condition_from c h =
@@ -124,7 +122,4 @@ module _ (program : ProgramRows) (built_in : begins_with_built_in program.classe
 
   -- so an instance of one of them has one word more
   pub condition_words : (c n : ℕ) → serious_condition_class < suc c → c < built_in_classes → instance_words program c n ≡ 3 + n
-  condition_words c n low high = let e = is_condition_class c low high in rw e (omega arith)
-
-  pub other_words : (c n : ℕ) → c < serious_condition_class → instance_words program c n ≡ 2 + n
-  other_words c n low = let e = no_condition_class c low in rw e (omega arith)
+  condition_words c n low high = words_of_condition program c n (is_condition_class c low high)

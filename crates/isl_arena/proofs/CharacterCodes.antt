@@ -1,7 +1,6 @@
 -- The integer of a character, and back, do what the meaning says of them.
 use Rattle.std.proofs.Common.{◌≡◌, ℕ, ◌+◌, ◌*◌, ◌≤◌, ℤ, pos, true, List, [], ◌∷◌, Option, Some, None, refl, ap, ◌∙◌, arith}
-use Rattle.std.specs.Prelude.{nat_le, is_some}
-use Rattle.std.proofs.lemmas.Bool.Decides.{nat_tests}
+use Rattle.std.specs.Prelude.{is_some}
 use Rattle.isl_meaning.specs.declared.program.ProgramRows.{ProgramRows}
 use Rattle.isl_meaning.specs.declared.primitive.Primitive.TheVariants.{CharCode, CodeChar}
 use Rattle.isl_meaning.specs.Values.{Value, integer, character, in_range}
@@ -29,6 +28,7 @@ use Rattle.isl_arena.proofs.Conditions.{domain_error_run}
 use Rattle.isl_arena.proofs.Checking.{tag_registers, integer_needed, character_needed}
 use Rattle.isl_arena.proofs.Integers.{returns_integer}
 use Rattle.isl_arena.proofs.Taking.{one_register, does_one}
+use Rattle.isl_arena.proofs.Arguments.{character_word_there}
 
 -- the lines behind the test of the argument
 abbrev coding : List MidStep
@@ -44,13 +44,10 @@ abbrev testing : List MidStep
 testing =
     steps.constant 6 1024 ∷ steps.either (steps.comparing comparison.LessUnsigned 0 6) [] (steps.domain_error 0 (pos (class_address integer_class))) ∷ decoding
 
-pub character_word_there : (places : Places) (c : ℕ) → c ≤ 255 → word_of places (character c) ≡ Some (character_word c)
-character_word_there places c small = let is : nat_le c 255 ≡ true = grind (arith, nat_tests) in rw is refl
-
 pub char_code_does : IsPrimitive CharCode (procedure_of CharCode)
-char_code_does = does_one CharCode refl (λ names program places z y procedures below n v a r word.
+char_code_does = does_one CharCode refl (λ v a names program places z y procedures below n r are units.
     character_needed names program places z y r procedures below n (y.cost + 130 + 244 * 1) y.cost 0 a v (λ c. result (integer (pos c)) z) coding (one_register a)
-    (omega arith) refl refl word (omega arith)
+    (omega arith) refl refl are.0 (omega arith)
     (λ c is small at.
     goes_on names program places z y procedures below constant_falls
     (goes_on names program places z y procedures below (compute_falls refl refl)
@@ -96,8 +93,8 @@ module _
             (omega (arith, cost)))))))))
 
 pub code_char_does : IsPrimitive CodeChar (procedure_of CodeChar)
-code_char_does = does_one CodeChar refl (λ names program places z y procedures below n v a r word.
+code_char_does = does_one CodeChar refl (λ v a names program places z y procedures below n r are units.
     integer_needed names program places z y r procedures below n (y.cost + 130 + 244 * 1) y.cost 0 a v
     (λ i. needs (byte_of i) (domain_error v integer_class z) (λ c. result (character c) z)) testing (one_register a)
-    (omega arith) refl refl word (omega arith)
-    (λ i is range at. testing_run names program places z y r procedures below n _ _ a i v word at range (omega arith)))
+    (omega arith) refl refl are.0 (omega arith)
+    (λ i is range at. testing_run names program places z y r procedures below n _ _ a i v are.0 at range (omega arith)))

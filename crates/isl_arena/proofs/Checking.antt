@@ -1,8 +1,7 @@
 -- The lines that test an argument, beside the meaning's tests of it.
-use Rattle.std.proofs.Common.{◌≡◌, ℕ, zero, suc, ◌+◌, ◌-◌, ◌*◌, ◌%◌, ◌^◌, ◌<◌, ◌≤◌, ℤ, pos, true, false, List, [], ◌∷◌, ◌++◌, length, Option, Some, refl, sym, ap, ◌∙◌, arith}
+use Rattle.std.proofs.Common.{◌≡◌, ℕ, ◌+◌, ◌-◌, ◌*◌, ◌%◌, ◌^◌, ◌<◌, ◌≤◌, ℤ, pos, true, false, List, ◌++◌, length, Some, sym, ◌∙◌, arith}
 use Rattle.std.specs.Prelude.{negsuc, ◌==◌, nat_lt, slice_set}
 use Rattle.std.proofs.lemmas.Bool.Decides.{nat_tests}
-use Rattle.std.proofs.Math.ListN.{length-set}
 use Rattle.isl_meaning.specs.declared.program.ProgramRows.{ProgramRows}
 use Rattle.isl_meaning.specs.Values.{Value, integer, character, symbol, nil, object, named, unnamed, in_range}
 use Rattle.isl_meaning.specs.Objects.{Object, cons, instance, integer_class, character_class, cons_class}
@@ -20,7 +19,6 @@ use Rattle.isl_arena.specs.Places.{Spot, Places, word_of}
 use Rattle.isl_arena.specs.Standing.{SpotStands}
 use Rattle.isl_arena.specs.Layouts.{ObjectAt}
 use Rattle.isl_arena.proofs.Keeping.{header_of}
-use Rattle.isl_arena.proofs.Growing.{spot_below}
 use Rattle.isl_arena.specs.FixedWords.{class_address}
 use Rattle.isl_arena.specs.Represents.{Represents}
 use Rattle.isl_arena.specs.Steps as steps
@@ -32,26 +30,12 @@ use Rattle.isl_arena.proofs.Arguments.{value_tag, value_header, tag_told, header
 use Rattle.isl_arena.proofs.Telling.{integer_told, character_told, cons_told, IntegerTold, CharacterTold, ConsTold, integer_found, no_integer, character_found, no_character, cons_found, no_cons}
 use Rattle.isl_arena.proofs.Doing.{alike_self, Run, goes_on, test_passes, second_answers, part_then, part_answers, paid}
 use Rattle.isl_arena.proofs.Conditions.{domain_error_run}
-
--- a register that was set, and one beside it
-pub register_here : (rs : Registers) (i w : ℕ) → i < length rs → register i (slice_set rs i (Some w)) ≡ Some w
-register_here [] i w h = absurd (omega arith)
-register_here (x ∷ xs) zero w h = refl
-register_here (x ∷ xs) (suc i) w h = register_here xs i w (omega arith)
-
-pub register_beside : (rs : Registers) (i j : ℕ) (w : Option ℕ) → (i ≡ j → ⊥) → register j (slice_set rs i w) ≡ register j rs
-register_beside [] i j w h = refl
-register_beside (x ∷ xs) zero zero w h = absurd (h refl)
-register_beside (x ∷ xs) zero (suc j) w h = refl
-register_beside (x ∷ xs) (suc i) zero w h = refl
-register_beside (x ∷ xs) (suc i) (suc j) w h = register_beside xs i j w (λ e. h (ap (λ n. suc n) e))
+use Rattle.isl_arena.proofs.Registers.{Scratched, not_scratched, scratched_seven, scratched_six, seven_behind_six, six_here}
+use Rattle.isl_arena.proofs.Memory.{spot_low}
 
 -- registers behind a test of the tag
 abbrev pub tag_registers : (w bits : ℕ) → Registers → Registers
 tag_registers w bits rs = slice_set (slice_set (slice_set rs 6 (Some 30)) 7 (Some (shift_left w 30))) 6 (Some bits)
-
-pub same_size : (rs : Registers) (i : ℕ) (w : Option ℕ) → length rs ≡ 8 → length (slice_set rs i w) ≡ 8
-same_size rs i w h = length-set rs i w ∙ h
 
 -- registers behind a test of the header
 abbrev pub header_registers : (w h header count : ℕ) → Registers → Registers
@@ -66,33 +50,6 @@ instance_registers w h rs =
 -- behind a test of the lowest byte
 abbrev pub byte_registers : (w : ℕ) → Registers → Registers
 byte_registers w rs = slice_set (slice_set (slice_set rs 6 (Some 24)) 7 (Some (shift_left w 24))) 6 (Some (15 * 2 ^ 24))
-
--- What some steps do with registers 6 and 7: the others are as they were.
-pub record Scratched (rs rs' : Registers) : Type 0 where
-  pub size : length rs' ≡ 8
-  pub others : (i : ℕ) → i < 6 → register i rs' ≡ register i rs
-
-pub scratched_six : (rs rs' : Registers) (w : Option ℕ) → Scratched rs rs' → Scratched rs (slice_set rs' 6 w)
-scratched_six rs rs' w s = record {
-  size = same_size rs' 6 w s.size;
-  others = λ i h. register_beside rs' 6 i w (omega arith) ∙ s.others i h;
-}
-
-pub scratched_seven : (rs rs' : Registers) (w : Option ℕ) → Scratched rs rs' → Scratched rs (slice_set rs' 7 w)
-scratched_seven rs rs' w s = record {
-  size = same_size rs' 7 w s.size;
-  others = λ i h. register_beside rs' 7 i w (omega arith) ∙ s.others i h;
-}
-
-pub not_scratched : (rs : Registers) → length rs ≡ 8 → Scratched rs rs
-not_scratched rs size = record { size = size; others = λ i h. refl }
-
--- the two registers that a test looks at
-pub six_here : (rs : Registers) (w : ℕ) → length rs ≡ 8 → register 6 (slice_set rs 6 (Some w)) ≡ Some w
-six_here rs w size = register_here rs 6 w (omega (arith, size))
-
-pub seven_behind_six : (rs : Registers) (v w : ℕ) → length rs ≡ 8 → register 7 (slice_set (slice_set rs 7 (Some v)) 6 (Some w)) ≡ Some v
-seven_behind_six rs v w size = register_beside (slice_set rs 7 (Some v)) 6 7 (Some w) (omega arith) ∙ register_here rs 7 v (omega (arith, size))
 
 module _ (names : List (List ℕ)) (program : ProgramRows) (places : Places) (z : meaning.State) (y : State) (r : Represents names program places z y) (procedures : List MidProcedure) (below : Task → State → Outcome) where
   -- An argument whose word is in one of the first registers, and the class that it is expected to be of. Where a test of it fails, the
@@ -209,7 +166,7 @@ module _ (names : List (List ℕ)) (program : ProgramRows) (places : Places) (z 
     where
       of_one : (o : Object) (s : Spot) → SpotStands y.arena s → ObjectAt names program places y.arena s o → header_of o < 2 ^ 32
       of_one (instance c values mark) s stands at =
-          omega (arith, at.size.words, spot_below y.arena s r.arena stands, r.arena.room, r.arena.size)
+          omega (arith, at.size.words, spot_low r.arena stands)
       of_one (cons car cdr) s stands at = omega arith
       of_one o s stands at = omega arith
 

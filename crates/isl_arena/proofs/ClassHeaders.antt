@@ -23,7 +23,7 @@ use Rattle.isl_arena.proofs.WordFacts.{low_four_bits_tested}
 use Rattle.isl_arena.proofs.Running.{RunsTo, StepsTo, turning, none_left, and_then, constant_falls, compute_falls, load_falls, choose_first_falls, choose_second_falls, address_up}
 use Rattle.isl_arena.proofs.Running.{address_above, address_below}
 use Rattle.isl_arena.proofs.Doing.{paid}
-use Rattle.isl_arena.proofs.Checking.{register_here, register_beside, same_size}
+use Rattle.isl_arena.proofs.Registers.{register_beside, register_here, same_size, six_here}
 
 -- a header of an object that is no class and no instance, or of a symbol, with the number of the class
 pub data KindHeader : (header class : ℕ) → Type 0 where
@@ -50,6 +50,24 @@ pub record Seeking (names : List (List ℕ)) (program : ProgramRows) (places : P
   pub word : ℕ
   pub start : Registers
   pub held : register of start ≡ Some word
+
+-- the word is in register 0, and that of the class is to come into register 2
+abbrev pub seeking_first :
+    {names : List (List ℕ)} {program : ProgramRows} {places : Places} {z : meaning.State} {y : State} (r : Represents names program places z y)
+    (procedures : List MidProcedure) (below : Task → State → Outcome) (n w : ℕ) (start : Registers) → register 0 start ≡ Some w → Seeking names program places z y
+seeking_first r procedures below n w start held = record {
+  represents = r;
+  procedures = procedures;
+  below = below;
+  turns = n;
+  to = 2;
+  to_low = omega arith;
+  of = 0;
+  of_low = omega arith;
+  word = w;
+  start = start;
+  held = held;
+}
 
 module _ {names : List (List ℕ)} {program : ProgramRows} {places : Places} {z : meaning.State} {y : State} (here : Seeking names program places z y) where
   -- Registers on the way: those of the arguments are as they were, 0 is in register 5, and that word is in register 7.
@@ -102,14 +120,14 @@ module _ {names : List (List ℕ)} {program : ProgramRows} {places : Places} {z 
   }
 
   -- in a branch
-  pub finds_first :
-      {class k bound a b : ℕ} {t : Test} {first second : MidCode} {rs : Registers} → register t.first rs ≡ Some a → register t.second rs ≡ Some b
-      → compares t.comparison a b ≡ true → Finds class first rs (k + 12) bound → Finds class (step_and (choose t first second) no_step) rs k (14 + bound)
-  finds_first e g h f = record {
+  finds_branch :
+      {class k bound : ℕ} {s : MidStep} {branch : MidCode} {rs : Registers} (f : Finds class branch rs (k + 12) bound)
+      → StepsTo (turning here.procedures here.below here.turns) s rs (paid y k) (ends falls f.registers (paid y (f.cost + 2))) → Finds class (step_and s no_step) rs k (14 + bound)
+  finds_branch f g = record {
     registers = f.registers;
     cost = f.cost + 2;
     word = f.word;
-    runs = and_then (choose_first_falls e g h f.runs) none_left;
+    runs = and_then g none_left;
     of_class = f.of_class;
     there = f.there;
     size = f.size;
@@ -117,20 +135,15 @@ module _ {names : List (List ℕ)} {program : ProgramRows} {places : Places} {z 
     within = omega (arith, f.within);
   }
 
+  pub finds_first :
+      {class k bound a b : ℕ} {t : Test} {first second : MidCode} {rs : Registers} → register t.first rs ≡ Some a → register t.second rs ≡ Some b
+      → compares t.comparison a b ≡ true → Finds class first rs (k + 12) bound → Finds class (step_and (choose t first second) no_step) rs k (14 + bound)
+  finds_first e g h f = finds_branch f (choose_first_falls e g h f.runs)
+
   pub finds_second :
       {class k bound a b : ℕ} {t : Test} {first second : MidCode} {rs : Registers} → register t.first rs ≡ Some a → register t.second rs ≡ Some b
       → compares t.comparison a b ≡ false → Finds class second rs (k + 12) bound → Finds class (step_and (choose t first second) no_step) rs k (14 + bound)
-  finds_second e g h f = record {
-    registers = f.registers;
-    cost = f.cost + 2;
-    word = f.word;
-    runs = and_then (choose_second_falls e g h f.runs) none_left;
-    of_class = f.of_class;
-    there = f.there;
-    size = f.size;
-    others = f.others;
-    within = omega (arith, f.within);
-  }
+  finds_second e g h f = finds_branch f (choose_second_falls e g h f.runs)
 
   -- a word is put into register 4, 6 or 7
   pub six : {v : ℕ} {rs : Registers} (x : ℕ) → OnTheWay v rs → OnTheWay v (slice_set rs 6 (Some x))
@@ -158,7 +171,7 @@ module _ {names : List (List ℕ)} {program : ProgramRows} {places : Places} {z 
   }
 
   pub six_there : {v : ℕ} {rs : Registers} (x : ℕ) → OnTheWay v rs → register 6 (slice_set rs 6 (Some x)) ≡ Some x
-  six_there {rs = rs} x o = register_here rs 6 x (omega (arith, o.size))
+  six_there {rs = rs} x o = six_here rs x o.size
 
   -- the word of the class comes into the register
   put_there :

@@ -1,5 +1,4 @@
--- The line that searches the precedence list of a class, beside the meaning's question whether a class is below another; and the primitives that
--- ask it, or give the name of a class.
+-- The line that searches the precedence list of a class, beside the meaning's question whether a class is below another.
 use Rattle.std.proofs.Common.{◌≡◌, ℕ, zero, suc, ◌+◌, ◌*◌, ◌^◌, ◌<◌, ◌≤◌, pos, Bool, true, false, List, [], ◌∷◌, ◌++◌, length, Some, refl, ap, ◌∙◌, arith}
 use Rattle.std.specs.Prelude.{◌==◌, nat_lt, slice_set, slice_index_or}
 use Rattle.std.proofs.lemmas.Bool.Decides.{nat_tests}
@@ -8,29 +7,27 @@ use Rattle.isl_meaning.specs.Values.{Value}
 use Rattle.isl_meaning.specs.Lookup.{is_in, passed}
 use Rattle.isl_meaning.specs.Objects.{class_object}
 use Rattle.isl_meaning.specs.Classes.{fetch, precedence, is_below}
-use Rattle.isl_meaning.specs.Primitives.{result, says}
+use Rattle.isl_meaning.specs.Primitives.{says}
 use Rattle.isl_meaning.specs.State as meaning
 use Rattle.isl_mid.specs.declared.program.MidProcedure.{MidProcedure}
 use Rattle.isl_mid.specs.declared.operation.Arithmetic.TheVariants as which
 use Rattle.isl_mid.specs.declared.operation.Comparison.TheVariants.{Equal}
 use Rattle.isl_mid.specs.Arena.{word_at}
 use Rattle.isl_mid.specs.Words.{sum32}
-use Rattle.isl_mid.specs.MidCode.{MidStep, return_word, MidCode, step_and, code_of}
+use Rattle.isl_mid.specs.MidCode.{MidStep, return_word, code_of}
 use Rattle.isl_mid.specs.State.{Registers, State, Outcome, falls, returns, ends, register}
 use Rattle.isl_mid.specs.Meaning.{Task}
 use Rattle.isl_arena.specs.Tags.{nil_word}
 use Rattle.isl_arena.specs.Places.{Places, word_of}
 use Rattle.isl_arena.specs.FixedWords.{true_address}
 use Rattle.isl_arena.specs.Represents.{Represents}
-use Rattle.isl_arena.specs.Answers.{done}
 use Rattle.isl_arena.specs.Steps as steps
 use Rattle.isl_arena.proofs.Running.{StepsTo, turning, none_left, and_then, and_ends, constant_falls, compute_known, load_falls, return_ends, choose_first_ends, choose_second_falls}
 use Rattle.isl_arena.proofs.Running.{repeat_falls, repeat_turn, repeat_ends, address_here, address_up, address_above}
-use Rattle.isl_arena.proofs.Growing.{spot_below, grows_same}
-use Rattle.isl_arena.proofs.Representing.{kept_grown, represents_grown, represents_same}
 use Rattle.isl_arena.proofs.Arguments.{ObjectFound, object_found}
-use Rattle.isl_arena.proofs.Doing.{Alike, alike_charged, paid, Run, goes_on, returns_value}
-use Rattle.isl_arena.proofs.Checking.{register_here, register_beside, same_size}
+use Rattle.isl_arena.proofs.Doing.{alike_charged, paid, Run, goes_on, returns_value, step_returns}
+use Rattle.isl_arena.proofs.Registers.{register_beside, register_here, same_size}
+use Rattle.isl_arena.proofs.Memory.{spot_low}
 
 -- what the loop does in a turn
 abbrev search_body : List MidStep
@@ -183,30 +180,6 @@ module _
     (names : List (List ℕ)) (program : ProgramRows) (places : Places) (z : meaning.State) (y : State) (r : Represents names program places z y)
     (procedures : List MidProcedure) (below : Task → State → Outcome)
   where
-    -- a step returns with the word of a value, where things stand as they stood
-    step_returns :
-        {n budget k k' w : ℕ} {v : Value} {z' : meaning.State} {s : MidStep} {code : MidCode} {rs rs' : Registers}
-        → StepsTo (turning procedures below n) s rs (paid y k) (ends (returns w) rs' (paid y k')) → word_of places v ≡ Some w → Alike z z'
-        → k' + 250 * z.units ≤ budget + 250 * z'.units → Run names program places z y procedures below n budget (result v z') (step_and s code) rs k
-    step_returns {k' = k'} {w = w} {z' = z'} {rs' = rs'} g e alike cost = record {
-      outcome = ends (returns w) rs' (paid y k');
-      runs = and_ends tt g;
-      answers = record {
-        comes = done (record {
-          word = w;
-          end = refl;
-          of_value = e;
-          represents =
-              represents_same names program places z z' (paid y k') alike.store alike.symbols alike.printed alike.input
-              (represents_grown names program places z y r (paid y k') (grows_same y.arena r.arena) refl refl);
-          arena = record { size = refl; laid_from = refl; laid_to = refl; heap_from = refl; heap_to = omega arith };
-          blocks = refl;
-          kept = kept_grown names program places z y r y.arena (grows_same y.arena r.arena);
-        });
-        cost = cost;
-      };
-    }
-
     -- The loop, and nil behind it, where a class is sought among others.
     sought_run :
         (n budget k at d : ℕ) (cs : List ℕ) (rs : Registers) → passed (λ c. d == c) cs ≤ n → InFront names program places z y r procedures below d at (length cs) rs
@@ -220,7 +193,7 @@ module _
             → Run names program places z y procedures below n budget (says (is_in d cs) (meaning.charged (passed (λ c. d == c) cs) z))
             (code_of (search ∷ steps.constant 5 nil_word ∷ return_word 5 ∷ [])) rs k
         by (found_there rs' k' there steps within) =
-            rw there (step_returns steps r.fixed.true_value.of_value (alike_charged z (passed (λ c. d == c) cs)) (omega (arith, within, cost)))
+            rw there (step_returns names program places z y procedures below r steps r.fixed.true_value.of_value (alike_charged z (passed (λ c. d == c) cs)) (omega (arith, within, cost)))
         by (not_there rs' k' there steps size within) =
             rw there
             (goes_on names program places z y procedures below steps
@@ -248,10 +221,10 @@ module _
         count = length (precedence program c)
 
         bounded : list + 4 * count < 2 ^ 32
-        bounded = omega (arith, one.stands.size.words, spot_below y.arena one.spot r.arena one.spot_stands, r.arena.room, r.arena.size)
+        bounded = omega (arith, one.stands.size.words, spot_low r.arena one.spot_stands)
 
         other_bounded : other.spot.address + 4 < 2 ^ 32
-        other_bounded = omega (arith, other.stands.size.words, spot_below y.arena other.spot r.arena other.spot_stands, r.arena.room, r.arena.size)
+        other_bounded = omega (arith, other.stands.size.words, spot_low r.arena other.spot_stands)
 
         abbrev asked : Registers
         asked = slice_set rs 4 (Some (4 * d))

@@ -24,16 +24,17 @@ use Rattle.isl_arena.specs.Codes.{procedure_of}
 use Rattle.isl_arena.specs.Steps as steps
 use Rattle.isl_arena.specs.Steps.{class_of_object, class_word}
 use Rattle.isl_arena.proofs.Keeping.{header_of}
-use Rattle.isl_arena.proofs.Growing.{spot_below}
 use Rattle.isl_arena.proofs.WordFacts.{tag_tested}
 use Rattle.isl_arena.proofs.Arguments.{character_word_is, tag_in, header_in, value_tag, value_header, tag_told, header_told, word_told, object_there, object_found}
 use Rattle.isl_arena.proofs.Running.{constant_falls, compute_falls}
 use Rattle.isl_arena.proofs.Doing.{alike_self, part_then, returns_value}
 use Rattle.isl_arena.proofs.Taking.{does_one}
-use Rattle.isl_arena.proofs.ClassHeaders.{KindHeader, of_string, of_vector, of_function, of_generic, of_input, of_output, of_symbol, of_fresh, Seeking, OnTheWay, Finds, finds_within}
+use Rattle.isl_arena.proofs.ClassHeaders.{KindHeader, of_string, of_vector, of_function, of_generic, of_input, of_output, of_symbol, of_fresh, Seeking, OnTheWay, Finds, finds_within, seeking_first}
 use Rattle.isl_arena.proofs.ClassHeaders.{finds_after, finds_first, finds_second, six, six_there, finds_fixed, finds_where, finds_otherwise, finds_by_header, finds_of_class}
 use Rattle.isl_arena.proofs.ClassHeaders.{finds_of_instance, finds_of_other}
-use Rattle.isl_arena.proofs.Checking.{register_here, register_beside, same_size}
+use Rattle.isl_arena.proofs.Telling.{character_not_nil}
+use Rattle.isl_arena.proofs.Registers.{register_beside, register_here, same_size}
+use Rattle.isl_arena.proofs.Memory.{spot_low}
 
 module _ {names : List (List ℕ)} {program : ProgramRows} {places : Places} {z : meaning.State} {y : State} (here : Seeking names program places z y) where
   -- ---- by the tag
@@ -131,7 +132,7 @@ module _ {names : List (List ℕ)} {program : ProgramRows} {places : Places} {z 
   module _ (i : ℕ) (e : word_of places (object i) ≡ Some here.word) {rs : Registers} (o : OnTheWay here (shift_left here.word 30) rs) where
     -- the words behind the header of an object that has one
     second_bounded : (s : Spot) → SpotStands y.arena s → here.word ≡ s.address + 2 → here.word + 2 < 2 ^ 32
-    second_bounded s stands at = omega (arith, at, stands.some, spot_below y.arena s here.represents.arena stands, here.represents.arena.room, here.represents.arena.size)
+    second_bounded s stands at = omega (arith, at, stands.some, spot_low here.represents.arena stands)
 
     second_of : (s : Spot) (x : ℕ) → here.word ≡ s.address + 2 → word_at y.arena (s.address + 4) ≡ Some x → word_at y.arena (here.word + 2) ≡ Some x
     second_of s x at f = let same : here.word + 2 ≡ s.address + 4 = omega (arith, at) in rw same f
@@ -183,9 +184,6 @@ module _ {names : List (List ℕ)} {program : ProgramRows} {places : Places} {z 
   finds_stored i e o output_stream stored spot at = finds_kind_object i e o _ stored refl refl of_output refl refl
   finds_stored i e o (fresh_symbol serial) stored spot at = finds_kind_object i e o _ stored refl refl of_fresh refl refl
 
-  character_not_nil : (c w : ℕ) → w ≡ 256 * c + 15 → (w == nil_word) ≡ false
-  character_not_nil c w h = grind (arith, nat_tests)
-
   finds_value : {k : ℕ} {rs : Registers} (v : Value) → word_of places v ≡ Some here.word → OnTheWay here (shift_left here.word 30) rs → Finds here (class_of z v) (code_of by_tag) rs k 232
   finds_value (integer n) e o = finds_integer (integer n) e o refl
   finds_value (character c) e o =
@@ -206,26 +204,14 @@ module _ {names : List (List ℕ)} {program : ProgramRows} {places : Places} {z 
       rw there.stored (finds_stored i e o there.one there.stored there.spot there.stands)
 
   -- the line finds the word of the class of the value
-  pub class_found : {k : ℕ} (v : Value) → word_of places v ≡ Some here.word → length here.start ≡ 8 → Finds here (class_of z v) (code_of (class_word here.to here.of)) here.start k 254
-  class_found v e size = finds_by_tag size (λ k rs o. finds_value v e o)
+  pub class_of_found : {k : ℕ} (v : Value) → word_of places v ≡ Some here.word → length here.start ≡ 8 → Finds here (class_of z v) (code_of (class_word here.to here.of)) here.start k 254
+  class_of_found v e size = finds_by_tag size (λ k rs o. finds_value v e o)
 
 -- ---- the primitive that gives the class of a value
 
 pub class_of_does : IsPrimitive ClassOf (procedure_of ClassOf)
-class_of_does = does_one ClassOf refl (λ names program places z y procedures below n v w r word.
-    let here : Seeking names program places z y = record {
-      represents = r;
-      procedures = procedures;
-      below = below;
-      turns = n;
-      to = 2;
-      to_low = omega arith;
-      of = 0;
-      of_low = omega arith;
-      word = w;
-      start = first_registers 8 (w ∷ []);
-      held = refl;
-    } in
-    let f = class_found here {k = y.cost} v word refl in
+class_of_does = does_one ClassOf refl (λ v w names program places z y procedures below n r are units.
+    let here : Seeking names program places z y = seeking_first r procedures below n w (first_registers 8 (w ∷ [])) refl in
+    let f = class_of_found here {k = y.cost} v are.0 refl in
     part_then names program places z y procedures below (class_word 2 0) (return_word 2 ∷ []) f.runs
     (returns_value names program places z y procedures below r f.there f.of_class (alike_self z) (omega (arith, f.within))))

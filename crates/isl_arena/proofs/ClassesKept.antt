@@ -1,6 +1,6 @@
 -- The class objects of a program stay where they are as long as no class object is made and none is changed.
-use Rattle.std.proofs.Common.{◌≡◌, ℕ, zero, suc, ◌<◌, List, [], ◌∷◌, length, Option, Some, refl, sym, ap, subst, ◌∙◌}
-use Rattle.std.specs.Prelude.{slice_get, slice_set}
+use Rattle.std.proofs.Common.{◌≡◌, ℕ, ◌<◌, List, [], ◌∷◌, length, Option, Some, refl, sym, ap, subst, ◌∙◌}
+use Rattle.std.specs.Prelude.{slice_get}
 use Rattle.isl_base.specs.Names.{slice_get-front}
 use Rattle.isl_meaning.specs.declared.program.ProgramRows.{ProgramRows}
 use Rattle.isl_meaning.specs.Values.{Value, integer, character, symbol, nil, object}
@@ -10,6 +10,7 @@ use Rattle.isl_meaning.specs.Classes.{fetch}
 use Rattle.isl_meaning.specs.Layout.{class_value}
 use Rattle.isl_arena.proofs.Owners.{FrontOrEnd, at_front, at_end, front_or_end, SetOrNot, at_place, elsewhere, set_or_not}
 use Rattle.isl_arena.specs.ClassesThere.{ClassesThere}
+use Rattle.isl_arena.proofs.Lists.{set_elsewhere}
 
 -- an object that a run makes: no class, and if it is an instance, then of a class of the program
 abbrev pub IsMade : ProgramRows → Object → Type 0
@@ -32,14 +33,6 @@ pub of_program :
     (program : ProgramRows) (o : Object) (c : ℕ) (slots : List (Option Value)) (mark : Value) → IsMade program o → o ≡ instance c slots mark
     → c < length program.classes
 of_program program o c slots mark made e = subst (λ x. IsMade program x) e made
-
--- an item beside one that was replaced
-set_beside : {X : Type 0} (xs : List X) (i : ℕ) (x : X) (j : ℕ) → (i ≡ j → ⊥) → slice_get (slice_set xs i x) j ≡ slice_get xs j
-set_beside [] i x j h = refl
-set_beside (y ∷ ys) zero x zero h = absurd (h refl)
-set_beside (y ∷ ys) zero x (suc j) h = refl
-set_beside (y ∷ ys) (suc i) x zero h = refl
-set_beside (y ∷ ys) (suc i) x (suc j) h = set_beside ys i x j (λ e. h (ap (λ n. suc n) e))
 
 module _ (names : List (List ℕ)) (program : ProgramRows) (z : meaning.State) (there : ClassesThere names program z) where
   -- in a state with the same objects
@@ -94,7 +87,7 @@ module _ (names : List (List ℕ)) (program : ProgramRows) (z : meaning.State) (
     where
       fetched : (v : Value) (c : ℕ) → fetch z v ≡ Some (class_object c) → fetch (meaning.changed i now z) v ≡ Some (class_object c)
       fetched (object j) c e =
-          set_beside z.store i now j (λ same. no_class program old c was (cc (stored, ap (λ k. slice_get z.store k) same, e))) ∙ e
+          set_elsewhere z.store i j now (λ same. no_class program old c was (cc (stored, ap (λ k. slice_get z.store k) same, e))) ∙ e
       fetched v c e = absurd (cc e)
 
       of_class : (j c : ℕ) → SetOrNot z.store i now j (class_object c) → class_value names program c ≡ object j

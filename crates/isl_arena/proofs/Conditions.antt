@@ -11,7 +11,7 @@ use Rattle.isl_meaning.specs.Layout.{class_value}
 use Rattle.isl_meaning.specs.Primitives.{domain_error, fails, instance_words}
 use Rattle.isl_mid.specs.declared.operation.Operation.TheVariants.{Request}
 use Rattle.isl_mid.specs.declared.program.MidProcedure.{MidProcedure}
-use Rattle.isl_mid.specs.Arena.{Arena, left, is_lent, word_at, with_word}
+use Rattle.isl_mid.specs.Arena.{left, is_lent, word_at, with_word}
 use Rattle.isl_mid.specs.MidCode.{MidStep, perform, MidCode, step_and, code_of}
 use Rattle.isl_mid.specs.State.{Registers, State, Outcome, falls, returns, no_room, ends, register}
 use Rattle.isl_mid.specs.Meaning.{Task, Context}
@@ -21,13 +21,13 @@ use Rattle.isl_arena.specs.FixedWords.{class_address, pending_address}
 use Rattle.isl_arena.specs.Represents.{Represents}
 use Rattle.isl_arena.specs.Answers.{done, Signalled}
 use Rattle.isl_arena.specs.Steps as steps
-use Rattle.isl_arena.proofs.Memory.{Facts, heap_below, in_spot_lent, spot_still_stands}
+use Rattle.isl_arena.proofs.Memory.{heap_below}
 use Rattle.isl_arena.proofs.Running.{RunsTo, and_then, and_ends, none_left, costing, parts_then, constant_falls, compute_known, load_falls, store_falls, store_in_heap, request_falls}
 use Rattle.isl_arena.proofs.Running.{request_wanting, return_ends, address_above, address_here}
-use Rattle.isl_arena.proofs.Representing.{fixed_spot, fixed_stands}
 use Rattle.isl_arena.proofs.BuiltInFacts.{built_in_known, is_condition_class, slot_count_is, condition_words}
-use Rattle.isl_arena.proofs.Making.{Room, is_left, is_wanting, room_for, begun, begun_facts, begun_heap, begun_blocks, fixed_below, answers_wanting, condition_at, signalled_new}
+use Rattle.isl_arena.proofs.Making.{Room, is_left, is_wanting, room_for, begun, begun_grows, begun_heap, begun_blocks, fixed_below, answers_wanting, condition_at, signalled_new, fixed_still_lent}
 use Rattle.isl_arena.proofs.Doing.{Alike, Run, paid}
+use Rattle.isl_arena.proofs.Registers.{EightRegisters, eight, eight_registers}
 
 -- a class of conditions that is built in, has no slots, and is signalled by primitives
 pub data PlainCondition : ℕ → Type 0 where
@@ -51,22 +51,6 @@ plain_slots division_by_zero = refl
 plain_slots integer_overflow = refl
 
 -- ---- registers
-
--- the eight registers of a primitive
-pub data EightRegisters : Registers → Type 0 where
-  eight : (r0 r1 r2 r3 r4 r5 r6 r7 : Option ℕ) → EightRegisters (r0 ∷ r1 ∷ r2 ∷ r3 ∷ r4 ∷ r5 ∷ r6 ∷ r7 ∷ [])
-
-pub eight_registers : (rs : Registers) → length rs ≡ 8 → EightRegisters rs
-eight_registers [] e = absurd (omega arith)
-eight_registers (r0 ∷ []) e = absurd (omega arith)
-eight_registers (r0 ∷ r1 ∷ []) e = absurd (omega arith)
-eight_registers (r0 ∷ r1 ∷ r2 ∷ []) e = absurd (omega arith)
-eight_registers (r0 ∷ r1 ∷ r2 ∷ r3 ∷ []) e = absurd (omega arith)
-eight_registers (r0 ∷ r1 ∷ r2 ∷ r3 ∷ r4 ∷ []) e = absurd (omega arith)
-eight_registers (r0 ∷ r1 ∷ r2 ∷ r3 ∷ r4 ∷ r5 ∷ []) e = absurd (omega arith)
-eight_registers (r0 ∷ r1 ∷ r2 ∷ r3 ∷ r4 ∷ r5 ∷ r6 ∷ []) e = absurd (omega arith)
-eight_registers (r0 ∷ r1 ∷ r2 ∷ r3 ∷ r4 ∷ r5 ∷ r6 ∷ r7 ∷ []) e = eight r0 r1 r2 r3 r4 r5 r6 r7
-eight_registers (r0 ∷ r1 ∷ r2 ∷ r3 ∷ r4 ∷ r5 ∷ r6 ∷ r7 ∷ r8 ∷ rs) e = absurd (omega arith)
 
 -- the first three do not hang on the others
 first_three : (of : ℕ) (r0 r1 r2 : Option ℕ) (rs rs' : Registers) → of < 3 → register of (r0 ∷ r1 ∷ r2 ∷ rs') ≡ register of (r0 ∷ r1 ∷ r2 ∷ rs)
@@ -114,7 +98,7 @@ module _ (names : List (List ℕ)) (program : ProgramRows) (places : Places) (z 
       let small = heap_below r.arena in
       let fixed = fixed_below names program places z y r in
       let loaded : word_at (begun words (header ∷ []) y.arena) class ≡ Some word =
-      (begun_facts words (header ∷ []) r.arena room).words class (omega arith) ∙ stands in
+      (begun_grows words (header ∷ []) r.arena room).words class (omega arith) ∙ stands in
       costing
       (and_then constant_falls
       (and_then (request_falls refl room)
@@ -124,10 +108,6 @@ module _ (names : List (List ℕ)) (program : ProgramRows) (places : Places) (z 
       (and_then (load_falls refl (address_above 0 class class (omega arith) (omega arith)) loaded)
       (and_then (store_in_heap refl refl (address_above y.arena.heap_to 4 (y.arena.heap_to + 4) refl (omega arith)) (omega (arith, r.arena.aligned)) (omega (arith, r.arena.heap)) (omega arith))
       none_left))))))) (omega arith)
-
-  -- the fixed word of a condition is lent as long as the arena grows
-  pending_lent : (b : Arena) → Facts y.arena b → is_lent b pending_address ≡ true
-  pending_lent b g = in_spot_lent {s = fixed_spot} pending_address (spot_still_stands g (fixed_stands names program places z y r)) refl (omega arith) (omega arith)
 
 module _ (names : List (List ℕ)) (program : ProgramRows) (places : Places) (z : meaning.State) (y : State) (r : Represents names program places z y) where
   -- the slots and the mark of a domain error are stored, and it is handed over
@@ -147,7 +127,7 @@ module _ (names : List (List ℕ)) (program : ProgramRows) (places : Places) (z 
       let fixed = fixed_below names program places z y r in
       let heap : ℕ = y.arena.heap_to in
       let loaded : word_at (begun 5 (header ∷ named ∷ w ∷ []) y.arena) (class_address expected) ≡ Some word =
-      (begun_facts 5 (header ∷ named ∷ w ∷ []) r.arena room).words (class_address expected) (omega arith) ∙ stands in
+      (begun_grows 5 (header ∷ named ∷ w ∷ []) r.arena room).words (class_address expected) (omega arith) ∙ stands in
       let all : List ℕ = header ∷ named ∷ w ∷ word ∷ nil_word ∷ [] in
       costing
       (and_then (store_in_heap at refl (address_above heap 8 (heap + 4 + 4) (omega arith) (omega arith)) (omega (arith, r.arena.aligned)) (omega (arith, r.arena.heap)) (omega arith))
@@ -155,7 +135,7 @@ module _ (names : List (List ℕ)) (program : ProgramRows) (places : Places) (z 
       (and_then (store_in_heap refl refl (address_above heap 12 (heap + 4 + 4 + 4) (omega arith) (omega arith)) (omega (arith, r.arena.aligned)) (omega (arith, r.arena.heap)) (omega arith))
       (and_then constant_falls
       (and_then (store_in_heap refl refl (address_above heap 16 (heap + 4 + 4 + 4 + 4) (omega arith) (omega arith)) (omega (arith, r.arena.aligned)) (omega (arith, r.arena.heap)) (omega arith))
-      (hand_over_ends heap (omega arith) (pending_lent names program places z y r (begun 5 all y.arena) (begun_facts 5 all r.arena room))))))))
+      (hand_over_ends heap (omega arith) (fixed_still_lent names program places z y r (begun 5 all y.arena) (begun_grows 5 all r.arena room) pending_address refl (omega arith))))))))
       (omega arith)
 
   -- the mark of a condition without slots is stored, and it is handed over
@@ -172,7 +152,7 @@ module _ (names : List (List ℕ)) (program : ProgramRows) (places : Places) (z 
       costing
       (and_then constant_falls
       (and_then (store_in_heap refl refl (address_above heap 8 (heap + 4 + 4) (omega arith) (omega arith)) (omega (arith, r.arena.aligned)) (omega (arith, r.arena.heap)) (omega arith))
-      (hand_over_ends heap (omega arith) (pending_lent names program places z y r (begun 3 all y.arena) (begun_facts 3 all r.arena room)))))
+      (hand_over_ends heap (omega arith) (fixed_still_lent names program places z y r (begun 3 all y.arena) (begun_grows 3 all r.arena room) pending_address refl (omega arith)))))
       (omega arith)
 
   -- where its words are not left, the code of a condition ends so
@@ -198,7 +178,7 @@ module _ (names : List (List ℕ)) (program : ProgramRows) (places : Places) (z 
       let stored : List ℕ = instance_header (length vs) ∷ named.word ∷ (ws ++ nil_word ∷ []) in
       signalled_new names program places z y r class vs (3 + length vs) z' (record y { arena = begun (3 + length vs) stored y.arena }) rs k alike
       (sym (condition_words program r.built_in class (length vs) low high))
-      (begun_facts (3 + length vs) stored r.arena room) (begun_heap (3 + length vs) stored y.arena) (begun_blocks (3 + length vs) stored y.arena) refl refl
+      (begun_grows (3 + length vs) stored r.arena room) (begun_heap (3 + length vs) stored y.arena) (begun_blocks (3 + length vs) stored y.arena) refl refl
       (condition_at names program places z y r class named.word vs ws (is_condition_class program r.built_in class low high) count named.of_value are room)
       (built_in_known program r.built_in class high)
 

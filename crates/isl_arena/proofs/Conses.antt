@@ -1,7 +1,6 @@
 -- A cons that is made, its two parts, and a part that is set do what the meaning says of them.
 use Rattle.std.proofs.Common.{◌≡◌, ℕ, ◌+◌, ◌*◌, ◌^◌, ◌<◌, ◌≤◌, ℤ, pos, List, [], ◌∷◌, ◌++◌, Some, refl, ap, ◌∙◌, arith}
 use Rattle.std.specs.Prelude.{negsuc, slice_set}
-use Rattle.std.proofs.Math.ListN.{length-set}
 use Rattle.isl_meaning.specs.declared.program.ProgramRows.{ProgramRows}
 use Rattle.isl_meaning.specs.declared.primitive.Primitive.TheVariants.{Cons, Car, Cdr, SetCar, SetCdr}
 use Rattle.isl_meaning.specs.Values.{Value}
@@ -12,7 +11,7 @@ use Rattle.isl_meaning.specs.Primitives.{result, makes, a_cons, change}
 use Rattle.isl_mid.specs.declared.program.MidProcedure.{MidProcedure}
 use Rattle.isl_mid.specs.declared.operation.Arithmetic.TheVariants as which
 use Rattle.isl_mid.specs.declared.operation.Operation.TheVariants as operation
-use Rattle.isl_mid.specs.Words.{sum32, address}
+use Rattle.isl_mid.specs.Words.{address}
 use Rattle.isl_mid.specs.Arena.{Arena, left, word_at, with_word}
 use Rattle.isl_mid.specs.MidCode.{MidStep, perform, return_word, code_of}
 use Rattle.isl_mid.specs.State.{Registers, State, Outcome, returns, no_room, ends, register, first_registers}
@@ -26,19 +25,18 @@ use Rattle.isl_arena.specs.Represents.{Represents}
 use Rattle.isl_arena.specs.Answers.{IsPrimitive}
 use Rattle.isl_arena.specs.Codes.{procedure_of}
 use Rattle.isl_arena.specs.Steps as steps
-use Rattle.isl_arena.proofs.Running.{constant_falls, compute_known, load_falls, store_in_heap, store_in_spot, request_falls, request_wanting}
+use Rattle.isl_arena.proofs.Running.{constant_falls, compute_known, load_falls, store_in_heap, request_falls, request_wanting}
 use Rattle.isl_arena.proofs.Running.{and_then, and_ends, return_ends, address_here, address_up, address_above, address_below}
-use Rattle.isl_arena.proofs.Memory.{heap_below, stored_in_spot, others_in_spot}
+use Rattle.isl_arena.proofs.Memory.{heap_below, stored_in_spot, others_in_spot, spot_low}
 use Rattle.isl_arena.proofs.Keeping.{same_word}
-use Rattle.isl_arena.proofs.Growing.{changes_part, spot_below}
-use Rattle.isl_arena.proofs.FixedChanges.{one_word}
-use Rattle.isl_arena.proofs.Making.{Room, is_left, is_wanting, room_for, begun, begun_facts, begun_word, changes_stored, answers_wanting, answers_made}
+use Rattle.isl_arena.proofs.Making.{Room, is_left, is_wanting, room_for, begun, begun_grows, begun_word, answers_wanting, answers_made}
 use Rattle.isl_arena.proofs.Arguments.{ObjectFound, object_found}
 use Rattle.isl_arena.proofs.ClassesKept.{IsMade}
 use Rattle.isl_arena.proofs.Doing.{alike_self, paid, Run, goes_on, returns_value}
 use Rattle.isl_arena.proofs.Checking.{tag_registers, cons_needed}
-use Rattle.isl_arena.proofs.Arrays.{returns_changed}
+use Rattle.isl_arena.proofs.Arrays.{stores_changed}
 use Rattle.isl_arena.proofs.Taking.{does_one, does_two}
+use Rattle.isl_arena.proofs.WordFacts.{sum_fits}
 
 -- ---- the parts of a cons
 
@@ -51,9 +49,9 @@ abbrev offset_of : Part → ℤ
 offset_of first_part = negsuc 0
 offset_of second_part = pos 3
 
-abbrev words_behind : Part → ℕ
-words_behind first_part = 0
-words_behind second_part = 1
+abbrev words_to : Part → ℕ
+words_to first_part = 0
+words_to second_part = 1
 
 abbrev part_of : Part → Value × Value → Value
 part_of first_part c = c.0
@@ -79,15 +77,15 @@ module _
     -- a part stands at its offset
     part_address :
         (part : Part) (v : Value) (w : ℕ) (car cdr : Value) (it : ObjectFound names program places z y r v w (cons car cdr))
-        → address w (offset_of part) ≡ it.spot.address + 4 * words_behind part
+        → address w (offset_of part) ≡ it.spot.address + 4 * words_to part
     part_address first_part v w car cdr it =
-        let high = spot_below y.arena it.spot r.arena it.spot_stands in
-        address_below w 0 (it.spot.address + 4 * 0) (omega (arith, it.word)) (omega (arith, it.word, it.stands.size.words, high, r.arena.room, r.arena.size))
+        let high = spot_low r.arena it.spot_stands in
+        address_below w 0 (it.spot.address + 4 * 0) (omega (arith, it.word)) (omega (arith, it.word, it.stands.size.words, high))
     part_address second_part v w car cdr it =
-        let high = spot_below y.arena it.spot r.arena it.spot_stands in
-        address_above w 3 (it.spot.address + 4 * 1) (omega (arith, it.word)) (omega (arith, it.stands.size.words, high, r.arena.room, r.arena.size))
+        let high = spot_low r.arena it.spot_stands in
+        address_above w 3 (it.spot.address + 4 * 1) (omega (arith, it.word)) (omega (arith, it.stands.size.words, high))
 
-    part_stands : (part : Part) (s : Spot) (car cdr : Value) → ConsAt places y.arena s car cdr → ValueAt places y.arena (s.address + 4 * words_behind part) (part_of part (car, cdr))
+    part_stands : (part : Part) (s : Spot) (car cdr : Value) → ConsAt places y.arena s car cdr → ValueAt places y.arena (s.address + 4 * words_to part) (part_of part (car, cdr))
     part_stands first_part s car cdr t = record { word = t.car.word; of_value = t.car.of_value; stands = ap (word_at y.arena) (omega arith) ∙ t.car.stands }
     part_stands second_part s car cdr t = t.cdr
 
@@ -106,12 +104,12 @@ module _
         (returns_value names program places z y procedures below r refl at.of_value (alike_self z) (omega arith)))
 
 pub car_does : IsPrimitive Car (procedure_of Car)
-car_does = does_one Car refl (λ names program places z y procedures below n v w r.
-    takes_part names program places z y r procedures below n w v first_part)
+car_does = does_one Car refl (λ v w names program places z y procedures below n r are units.
+    takes_part names program places z y r procedures below n w v first_part are.0)
 
 pub cdr_does : IsPrimitive Cdr (procedure_of Cdr)
-cdr_does = does_one Cdr refl (λ names program places z y procedures below n v w r.
-    takes_part names program places z y r procedures below n w v second_part)
+cdr_does = does_one Cdr refl (λ v w names program places z y procedures below n r are units.
+    takes_part names program places z y r procedures below n w v second_part are.0)
 
 -- ---- a part is set
 
@@ -119,7 +117,7 @@ cdr_does = does_one Cdr refl (λ names program places z y procedures below n v w
 cons_set :
     (places : Places) (a : Arena) (s : Spot) (car cdr v : Value) (w : ℕ) (part : Part) → ArenaStands a → SpotStands a s → word_of places v ≡ Some w
     → ConsAt places a s car cdr → (names : List (List ℕ)) (program : ProgramRows)
-    → ObjectAt names program places (with_word (s.address + 4 * words_behind part) w a) s (with_part part v (car, cdr))
+    → ObjectAt names program places (with_word (s.address + 4 * words_to part) w a) s (with_part part v (car, cdr))
 cons_set places a s car cdr v w first_part arena stands word t names program = record {
   size = t.size;
   car = record {
@@ -141,7 +139,7 @@ cons_set places a s car cdr v w second_part arena stands word t names program = 
   cdr = record { word = w; of_value = word; stands = stored_in_spot 1 w arena stands (omega (arith, t.size.words)) };
 }
 
-part_below : (part : Part) → words_behind part < 2
+part_below : (part : Part) → words_to part < 2
 part_below first_part = omega arith
 part_below second_part = omega arith
 
@@ -156,34 +154,12 @@ module _
         → Run names program places z y procedures below n budget (result v (change u (with_part part v (car, cdr)) z))
         (code_of (steps.store 0 1 (offset_of part) ∷ return_word 0 ∷ [])) rs k
     stores_part n budget k a w v u car cdr part rs first second found held held_cons cost =
-        rw it.value
-        (record {
-          outcome = ends (returns a) rs (record y { arena = later; cost = k + 8 + 14 });
-          runs =
-              and_then
-              (store_in_spot it.spot_stands held held_cons (part_address names program places z y r procedures below part u w car cdr it)
-              (omega (arith, it.spot_stands.aligned)) (omega arith) (omega (arith, low, it.stands.size.words)))
-              (and_ends tt (return_ends held));
-          answers =
-              returns_changed names program places z y r procedures below budget (k + 8 + 14) it.number a it.spot (cons car cdr) (with_part part v (car, cdr)) v later rs
-              it.stored tt (part_made program part v (car, cdr)) (λ p e. absurd (cc e)) it.found
-              (changes_part it.spot (one_word at) y.arena later (omega arith) (omega (arith, low, it.stands.size.words))
-              (changes_stored at a r.arena (omega (arith, it.spot_stands.aligned))))
-              (cons_set places y.arena it.spot car cdr v a part r.arena it.spot_stands first it.stands names program) first
-              (length-set y.arena.memory _ (Some a)) refl refl (omega (arith, cost));
-        })
-      where
-        it : ObjectFound names program places z y r u w (cons car cdr)
-        it = object_found names program places z y r u w (cons car cdr) second found
-
-        low : words_behind part < 2
-        low = part_below part
-
-        at : ℕ
-        at = it.spot.address + 4 * words_behind part
-
-        later : Arena
-        later = with_word at a y.arena
+        let it = object_found names program places z y r u w (cons car cdr) second found in
+        let low : words_to part < 2 = part_below part in
+        stores_changed names program places z y r procedures below n budget k it.number 0 1 0 w (it.spot.address + 4 * words_to part) a a (offset_of part) it.spot
+        (cons car cdr) (with_part part v (car, cdr)) v u rs held held_cons (part_address names program places z y r procedures below part u w car cdr it) held first
+        (omega (arith, it.spot_stands.aligned)) (omega arith) (omega (arith, low, it.stands.size.words)) it.stored tt (part_made program part v (car, cdr))
+        (λ p e. absurd (cc e)) it.found it.value (cons_set places y.arena it.spot car cdr v a part r.arena it.spot_stands first it.stands names program) cost
 
     sets_part :
         (n a w : ℕ) (v u : Value) (part : Part) → word_of places v ≡ Some a → word_of places u ≡ Some w
@@ -197,12 +173,12 @@ module _
         first second found refl refl (omega arith))
 
 pub set_car_does : IsPrimitive SetCar (procedure_of SetCar)
-set_car_does = does_two SetCar refl (λ names program places z y procedures below n v u a w r.
-    sets_part names program places z y r procedures below n a w v u first_part)
+set_car_does = does_two SetCar refl (λ v u a w names program places z y procedures below n r are units.
+    sets_part names program places z y r procedures below n a w v u first_part are.0 are.1.0)
 
 pub set_cdr_does : IsPrimitive SetCdr (procedure_of SetCdr)
-set_cdr_does = does_two SetCdr refl (λ names program places z y procedures below n v u a w r.
-    sets_part names program places z y r procedures below n a w v u second_part)
+set_cdr_does = does_two SetCdr refl (λ v u a w names program places z y procedures below n r are units.
+    sets_part names program places z y r procedures below n a w v u second_part are.0 are.1.0)
 
 -- ---- a cons is made
 
@@ -233,12 +209,12 @@ module _
         car = record {
           word = a;
           of_value = same_word spot_of_cons places v a first;
-          stands = ap (word_at arena_with_cons) (omega arith) ∙ begun_word 2 (a ∷ b ∷ []) 0 a r.arena room (omega arith) refl;
+          stands = begun_word 2 (a ∷ b ∷ []) y.arena.heap_to 0 a r.arena room (omega arith) (omega arith) refl;
         };
         cdr = record {
           word = b;
           of_value = same_word spot_of_cons places u b second;
-          stands = begun_word 2 (a ∷ b ∷ []) 1 b r.arena room (omega arith) refl;
+          stands = begun_word 2 (a ∷ b ∷ []) (y.arena.heap_to + 4) 1 b r.arena room (omega arith) (omega arith) refl;
         };
       }
 
@@ -259,16 +235,13 @@ module _
                 (and_then (store_in_heap refl refl (address_here y.arena.heap_to (omega (arith, low))) r.arena.aligned r.arena.heap (omega arith))
                 (and_then (store_in_heap refl refl (address_up y.arena.heap_to 4 (omega (arith, low))) (omega (arith, r.arena.aligned)) (omega (arith, r.arena.heap)) (omega arith))
                 (and_then constant_falls
-                (and_then (compute_known refl refl (pointer y.arena.heap_to low))
+                (and_then (compute_known refl refl (sum_fits y.arena.heap_to 1 (omega (arith, low))))
                 (and_ends tt (return_ends refl)))))));
             answers =
                 answers_made names program places z y r 2 0 (cons v u) z (record y { arena = arena_with_cons; cost = y.cost + 6 + 20 + 8 + 8 + 6 + 10 + 14 }) _
-                (alike_self z) (begun_facts 2 (a ∷ b ∷ []) r.arena room) refl refl refl refl (omega arith) (cons_stands room) tt (omega arith);
+                (alike_self z) (begun_grows 2 (a ∷ b ∷ []) r.arena room) refl refl refl refl (omega arith) (cons_stands room) tt (omega arith);
           }
-        where
-          pointer : (h : ℕ) → h ≤ 2 ^ 26 → sum32 h 1 ≡ h + 1
-          pointer h low = omega arith
 
 pub cons_does : IsPrimitive Cons (procedure_of Cons)
-cons_does = does_two Cons refl (λ names program places z y procedures below n v u a b r first second.
-    makes_cons names program places z y r procedures below n a b v u first second (room_for 2 y.arena))
+cons_does = does_two Cons refl (λ v u a b names program places z y procedures below n r are units.
+    makes_cons names program places z y r procedures below n a b v u are.0 are.1.0 (room_for 2 y.arena))

@@ -1,11 +1,9 @@
 -- The line that copies words: what its loop comes to.
-use Rattle.std.proofs.Common.{◌≡◌, ℕ, zero, suc, ◌+◌, ◌*◌, ◌%◌, ◌^◌, ◌<◌, ◌≤◌, pos, true, false, List, [], ◌∷◌, ◌++◌, length, Option, Some, refl, sym, ap, ◌∙◌, arith}
-use Rattle.std.specs.Prelude.{◌==◌, nat_lt, slice_get}
-use Rattle.std.proofs.lemmas.Bool.Decides.{nat_tests}
+use Rattle.std.proofs.Common.{◌≡◌, ℕ, zero, suc, ◌+◌, ◌*◌, ◌%◌, ◌<◌, ◌≤◌, pos, List, [], ◌∷◌, ◌++◌, length, Option, Some, refl, sym, ap, ◌∙◌, arith}
+use Rattle.std.specs.Prelude.{slice_get}
 use Rattle.std.proofs.lemmas.Option.{slice_get_within}
 use Rattle.isl_mid.specs.declared.operation.Arithmetic.TheVariants as which
 use Rattle.isl_mid.specs.declared.program.MidProcedure.{MidProcedure}
-use Rattle.isl_mid.specs.Words.{sum32}
 use Rattle.isl_mid.specs.Arena.{word_at, with_word}
 use Rattle.isl_mid.specs.MidCode.{MidStep}
 use Rattle.isl_mid.specs.State.{State, Outcome, falls, ends}
@@ -14,23 +12,13 @@ use Rattle.isl_arena.specs.Standing.{ArenaStands}
 use Rattle.isl_arena.specs.Steps as steps
 use Rattle.isl_arena.proofs.Memory.{heap_below, word_elsewhere, stands_with_word, with_words}
 use Rattle.isl_arena.proofs.Running.{StepsTo, turning, none_left, and_then, constant_falls, compute_known, load_falls, store_in_heap, address_above, repeat_falls, repeat_turn}
+use Rattle.std.proofs.lemmas.Bool.{lt-ltb, le-ltb, ne_eqb}
+use Rattle.isl_arena.proofs.WordFacts.{sum_fits}
 
 -- the loop
 abbrev pub copy_words : MidStep
 copy_words =
     steps.while_below 7 5 (steps.load 6 4 (pos 6) ∷ steps.store 6 7 (pos 8) ∷ steps.compute_by 7 which.Add 7 4 ++ steps.compute_by 4 which.Add 4 4)
-
-sum_of_four : (a : ℕ) → a + 4 < 2 ^ 32 → sum32 a 4 ≡ a + 4
-sum_of_four a h = omega arith
-
-is_below : (a b : ℕ) → a < b → nat_lt a b ≡ true
-is_below a b h = grind (arith, nat_tests)
-
-is_not_below : (a b : ℕ) → a ≡ b → nat_lt a b ≡ false
-is_not_below a b h = grind (arith, nat_tests)
-
-differs : (a b : ℕ) → b < a → (a == b) ≡ false
-differs a b h = grind (arith, nat_tests)
 
 module _ (procedures : List MidProcedure) (below : Task → State → Outcome) where
   -- With so many turns, these words are stored from an address on. What is left in the registers that the loop uses does not matter.
@@ -59,13 +47,13 @@ module _ (procedures : List MidProcedure) (below : Task → State → Outcome) w
         seven = rest.seven;
         paid = rest.paid;
         steps =
-            repeat_turn procedures below n none_left refl refl (is_below d e more)
+            repeat_turn procedures below n none_left refl refl (lt-ltb d e more)
             (and_then (load_falls refl (address_above s 6 from (sym from_is) (omega arith)) found)
             (and_then (store_in_heap refl refl (address_above d 8 at (sym at_is) (omega arith)) aligned low (omega arith))
             (and_then constant_falls
-            (and_then (compute_known refl refl (sum_of_four d (omega arith)))
+            (and_then (compute_known refl refl (sum_fits d 4 (omega arith)))
             (and_then constant_falls
-            (and_then (compute_known refl refl (sum_of_four s (omega arith)))
+            (and_then (compute_known refl refl (sum_fits s 4 (omega arith)))
             none_left))))))
             rest.steps;
         cost = omega (arith, rest.cost);
@@ -82,7 +70,7 @@ module _ (procedures : List MidProcedure) (below : Task → State → Outcome) w
     six = r6;
     seven = Some d;
     paid = x.cost + 12;
-    steps = repeat_falls none_left refl refl (is_not_below d e (omega arith));
+    steps = repeat_falls none_left refl refl (le-ltb d e (omega arith));
     cost = omega arith;
   }
   copies (w ∷ ws) zero s d e from at r0 r1 r2 r3 r6 x h from_is at_is end aligned low high apart turns found = absurd (omega arith)
@@ -96,5 +84,5 @@ module _ (procedures : List MidProcedure) (below : Task → State → Outcome) w
       behind : (i v : ℕ) → slice_get ws i ≡ Some v → word_at (with_word at w x.arena) (from + 4 + 4 * i) ≡ Some v
       behind i v e =
           let within : i < length ws = slice_get_within ws i v e in
-          word_elsewhere x.arena at w (from + 4 + 4 * i) aligned (differs at (from + 4 + 4 * i) (omega arith))
+          word_elsewhere x.arena at w (from + 4 + 4 * i) aligned (ne_eqb at (from + 4 + 4 * i) (λ same. omega arith))
           ∙ ap (word_at x.arena) (omega arith) ∙ found (suc i) v e

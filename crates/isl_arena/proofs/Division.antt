@@ -90,9 +90,9 @@ module _
         by_false false e h = absurd (cc h)
 
 pub divide_does : IsPrimitive Divide (procedure_of Divide)
-divide_does = does_two Divide refl (λ names program places z y procedures below n v w a b r first second.
+divide_does = does_two Divide refl (λ v w a b names program places z y procedures below n r are units.
     integers_needed names program places z y r procedures below n (y.cost + 130 + 244 * 2) y.cost a b v w (λ i j z'. division floor_quotient i j z') (need_divisor dividing)
-    first second (omega arith)
+    are.0 are.1.0 (omega arith)
     (λ i j g h.
     divisor_needed names program places z y r procedures below n _ _ i j floor_quotient dividing h (omega arith)
     (λ some.
@@ -110,9 +110,9 @@ divide_does = does_two Divide refl (λ names program places z y procedures below
     (returns_integer names program places z y r procedures below n _ _ 3 _ (floor_quotient i j) _ refl (quotient_is i j g h some) range (omega arith)))))))))))))
 
 pub modulo_does : IsPrimitive Modulo (procedure_of Modulo)
-modulo_does = does_two Modulo refl (λ names program places z y procedures below n v w a b r first second.
+modulo_does = does_two Modulo refl (λ v w a b names program places z y procedures below n r are units.
     integers_needed names program places z y r procedures below n (y.cost + 130 + 244 * 2) y.cost a b v w (λ i j z'. division floor_remainder i j z') (need_divisor taking_remainder)
-    first second (omega arith)
+    are.0 are.1.0 (omega arith)
     (λ i j g h.
     divisor_needed names program places z y r procedures below n _ _ i j floor_remainder taking_remainder h (omega arith)
     (λ some.

@@ -58,6 +58,25 @@ module _ (names : List (List ℕ)) (program : ProgramRows) (places : Places) (z 
       by one (done d) = of_done one d
       by one (no_words w) = rw w.end tt
 
+  -- the word of a value was returned, where things stand as they stood
+  pub value_answers :
+      (r : Represents names program places z y) {budget k w : ℕ} {v : Value} {z' : meaning.State} {rs : Registers} → word_of places v ≡ Some w → Alike z z'
+      → k + 250 * z.units ≤ budget + 250 * z'.units → Answers budget (result v z') (ends (returns w) rs (paid y k))
+  value_answers r {k = k} {w = w} {z' = z'} e alike cost = record {
+    comes = done (record {
+      word = w;
+      end = refl;
+      of_value = e;
+      represents =
+          represents_same names program places z z' (paid y k) alike.store alike.symbols alike.printed alike.input
+          (represents_grown names program places z y r (paid y k) (grows_same y.arena r.arena) refl refl);
+      arena = record { size = refl; laid_from = refl; laid_to = refl; heap_from = refl; heap_to = omega arith };
+      blocks = refl;
+      kept = kept_grown names program places z y r y.arena (grows_same y.arena r.arena);
+    });
+    cost = cost;
+  }
+
   module _ (procedures : List MidProcedure) (below : Task → State → Outcome) where
     -- code that comes to an answer, with so many turns, from registers on, where so much was paid
     pub record Run (n budget : ℕ) (answer : Answer) (code : MidCode) (rs : Registers) (k : ℕ) : Type 0 where
@@ -72,29 +91,19 @@ module _ (names : List (List ℕ)) (program : ProgramRows) (places : Places) (z 
         → Run n budget answer code rs' k' → Run n budget answer (step_and s code) rs k
     goes_on g h = record { outcome = h.outcome; runs = and_then g h.runs; answers = h.answers }
 
-    -- the word of a value is returned, where things stand as they stood
+    -- a step returns with the word of a value, where things stand as they stood; and the step that returns the word of a register
+    pub step_returns :
+        (r : Represents names program places z y) {n budget k k' w : ℕ} {v : Value} {z' : meaning.State} {s : MidStep} {code : MidCode} {rs rs' : Registers}
+        → StepsTo (turning procedures below n) s rs (paid y k) (ends (returns w) rs' (paid y k')) → word_of places v ≡ Some w → Alike z z'
+        → k' + 250 * z.units ≤ budget + 250 * z'.units → Run n budget (result v z') (step_and s code) rs k
+    step_returns r {k' = k'} {w = w} {rs' = rs'} g e alike cost =
+        record { outcome = ends (returns w) rs' (paid y k'); runs = and_ends tt g; answers = value_answers r e alike cost }
+
     pub returns_value :
         (r : Represents names program places z y) {n budget k at w : ℕ} {v : Value} {z' : meaning.State} {code : MidCode} {rs : Registers}
         → register at rs ≡ Some w → word_of places v ≡ Some w → Alike z z' → k + 14 + 250 * z.units ≤ budget + 250 * z'.units
         → Run n budget (result v z') (step_and (return_word at) code) rs k
-    returns_value r {k = k} {w = w} {z' = z'} {rs = rs} e f alike cost = record {
-      outcome = ends (returns w) rs (paid y (k + 14));
-      runs = and_ends tt (return_ends e);
-      answers = record {
-        comes = done (record {
-          word = w;
-          end = refl;
-          of_value = f;
-          represents =
-              represents_same names program places z z' (paid y (k + 14)) alike.store alike.symbols alike.printed alike.input
-              (represents_grown names program places z y r (paid y (k + 14)) (grows_same y.arena r.arena) refl refl);
-          arena = record { size = refl; laid_from = refl; laid_to = refl; heap_from = refl; heap_to = omega arith };
-          blocks = refl;
-          kept = kept_grown names program places z y r y.arena (grows_same y.arena r.arena);
-        });
-        cost = cost;
-      };
-    }
+    returns_value r e f alike cost = step_returns r (return_ends e) f alike cost
 
     -- a test holds, and its branch falls out at once; or its branch comes to the answer, or the other branch
     pub test_passes :

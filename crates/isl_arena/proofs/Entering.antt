@@ -1,5 +1,5 @@
 -- The procedure of a primitive does what its code does.
-use Rattle.std.proofs.Common.{◌≡◌, ℕ, suc, ◌+◌, ◌*◌, ◌<◌, ◌≤◌, List, [], ◌∷◌, length, refl, ap, ◌∙◌, ⊎_elim, arith}
+use Rattle.std.proofs.Common.{◌≡◌, ℕ, suc, ◌+◌, ◌*◌, ◌<◌, ◌≤◌, List, length, refl, ◌∙◌, ⊎_elim, arith}
 use Rattle.std.proofs.lemmas.Bool.{cases_lt}
 use Rattle.isl_meaning.specs.declared.program.ProgramRows.{ProgramRows}
 use Rattle.isl_meaning.specs.declared.primitive.Primitive.{Primitive}
@@ -21,13 +21,7 @@ use Rattle.isl_arena.proofs.Growing.{grows_same}
 use Rattle.isl_arena.proofs.Representing.{represents_grown}
 use Rattle.isl_arena.proofs.Doing.{paid, Run}
 use Rattle.isl_arena.proofs.Leaving.{leaves_cost, represents_frame, comes_with_frame, comes_without_frame}
-
--- the words of values are as many as the values
-pub words_length : (places : Places) (vs : List Value) (ws : List ℕ) → WordsOf places vs ws → length ws ≡ length vs
-words_length places [] [] h = refl
-words_length places [] (w ∷ ws) h = absurd h
-words_length places (v ∷ vs) [] h = absurd h
-words_length places (v ∷ vs) (w ∷ ws) h = ap (λ n. suc n) (words_length places vs ws h.1)
+use Rattle.isl_arena.proofs.Keeping.{as_many_words}
 
 -- In a represented state where the frame of a primitive is laid and its entry is paid, its code comes to the primitive's answer, within what
 -- is left of 150 and 250 for each argument.
@@ -44,7 +38,7 @@ does_by_code names program places z y procedures below n which vs ws r are count
     (cases_lt (left y.arena) frame_words)
   where
     many : length ws ≡ arity which
-    many = words_length places vs ws are ∙ count
+    many = as_many_words places vs ws are ∙ count
 
     answer : Answer
     answer = primitive names program which vs z

@@ -1,21 +1,17 @@
--- The loop that stores the same word again and again: with a turn for each word, it falls out where all were stored.
-use Rattle.std.proofs.Common.{◌≡◌, ℕ, zero, suc, ◌+◌, ◌*◌, ◌%◌, ◌^◌, ◌<◌, ◌≤◌, true, false, List, [], ◌∷◌, replicate, Option, Some, refl, ap, ◌∙◌, arith}
-use Rattle.std.specs.Prelude.{pos, nat_lt, slice_get}
+-- The loop that stores the same word again and again: with a turn for each word, it falls out where all were stored. And the code that
+-- ends with it.
+use Rattle.std.proofs.Common.{◌≡◌, ℕ, zero, suc, ◌+◌, ◌*◌, ◌%◌, ◌^◌, ◌<◌, ◌≤◌, true, false, List, [], ◌∷◌, ◌++◌, replicate, Option, Some, refl, ap, ◌∙◌, arith}
+use Rattle.std.specs.Prelude.{pos, nat_lt}
 use Rattle.std.proofs.lemmas.Bool.Decides.{nat_tests}
 use Rattle.isl_mid.specs.declared.operation.Arithmetic.TheVariants as which
 use Rattle.isl_mid.specs.declared.program.MidProcedure.{MidProcedure}
-use Rattle.isl_mid.specs.MidCode.{MidStep}
-use Rattle.isl_mid.specs.State.{Registers, State, Outcome, falls, ends}
+use Rattle.isl_mid.specs.MidCode.{MidStep, return_word, code_of}
+use Rattle.isl_mid.specs.State.{Registers, State, Outcome, falls, returns, ends}
 use Rattle.isl_mid.specs.Meaning.{Task, Context}
 use Rattle.isl_arena.specs.Steps as steps
 use Rattle.isl_arena.proofs.Memory.{with_words}
-use Rattle.isl_arena.proofs.Running.{StepsTo, turning, none_left, and_then, constant_falls, compute_known, store_in_heap, address_above, repeat_falls, repeat_turn}
-
--- each item of a list with the same item many times
-pub replicated : (n i w : ℕ) → i < n → slice_get (replicate n w) i ≡ Some w
-replicated zero i w h = absurd (omega arith)
-replicated (suc n) zero w h = refl
-replicated (suc n) (suc i) w h = replicated n i w (omega arith)
+use Rattle.isl_arena.proofs.Running.{StepsTo, turning, none_left, and_then, constant_falls, compute_known, store_in_heap, address_above, repeat_falls, repeat_turn, RunsTo, and_ends, costing, return_ends}
+use Rattle.isl_arena.proofs.WordFacts.{sum_fits}
 
 -- the step with the loop, and what is done in a turn
 abbrev turn_of_fill : List MidStep
@@ -64,3 +60,21 @@ module _ (procedures : List MidProcedure) (below : Task → State → Outcome) w
       still : (count : ℕ) → six_after count (Some 4) ≡ Some 4
       still zero = refl
       still (suc count) = refl
+
+-- the words are stored behind the first two, and the pointer to them is returned
+abbrev pub filling_code : List MidStep
+filling_code = fill ∷ steps.compute_by 3 which.Add 3 2 ++ return_word 3 ∷ []
+
+pub filling_ends :
+    {r0 r1 r2 r6 : Option ℕ} (procedures : List MidProcedure) (below : Task → State → Outcome) (n count heap w k : ℕ) (y : State) → count ≤ n → heap % 4 ≡ 0
+    → y.arena.heap_from ≤ heap → heap + 4 * (2 + count) ≤ y.arena.heap_to → y.arena.heap_to ≤ 2 ^ 26
+    → RunsTo (turning procedures below n) (code_of filling_code) (r0 ∷ r1 ∷ r2 ∷ Some heap ∷ Some w ∷ Some (heap + 4 * count) ∷ r6 ∷ Some heap ∷ []) (record y { cost = k })
+    (ends (returns (heap + 2)) (r0 ∷ r1 ∷ r2 ∷ Some (heap + 2) ∷ Some w ∷ Some (heap + 4 * count) ∷ Some 2 ∷ Some (heap + 4 * count) ∷ [])
+    (record y { arena = with_words (heap + 4 + 4) (replicate count w) y.arena; cost = k + 42 + 38 * count }))
+filling_ends procedures below n count heap w k y turns aligned low high small =
+    costing
+    (and_then
+    (fill_falls procedures below count n heap (heap + 4 + 4) (heap + 4 * count) _ _ _ _ _ _ _ turns (omega arith) refl (omega arith) (omega arith) (omega arith) (omega arith))
+    (and_then constant_falls
+    (and_then (compute_known refl refl (sum_fits heap 2 (omega arith)))
+    (and_ends tt (return_ends refl))))) (omega arith)

@@ -28,7 +28,7 @@ module _ (names : List (List ℕ)) (program : ProgramRows) (places : Places) (z 
     word_kept : (address : ℕ) → address < 184 → Apart (one_word address) (one_word changed) → word_at b address ≡ word_at y.arena address
     word_kept address low (in_front h) = c.before address (omega arith)
     word_kept address low (behind h) =
-        let below = spot_below y.arena fixed_spot r.arena (fixed_stands names program places z y r) in c.after address (omega arith) (omega arith)
+        let below = spot_below r.arena (fixed_stands names program places z y r) in c.after address (omega arith) (omega arith)
 
     fixed_value_kept : (address : ℕ) (v : Value) → address < 184 → Apart (one_word address) (one_word changed) → ValueAt places y.arena address v → ValueAt places b address v
     fixed_value_kept address v low apart at = record { word = at.word; of_value = at.of_value; stands = word_kept address low apart ∙ at.stands }

@@ -1,36 +1,35 @@
 -- A fresh symbol is made with the serial that comes next, as the meaning says.
-use Rattle.std.proofs.Common.{◌≡◌, ℕ, ◌+◌, ◌*◌, ◌/◌, ◌%◌, ◌^◌, ◌≤◌, true, List, [], ◌∷◌, length, Some, None, refl, ap, ◌∙◌, arith}
+use Rattle.std.proofs.Common.{◌≡◌, ℕ, ◌+◌, ◌*◌, ◌/◌, ◌%◌, ◌^◌, ◌≤◌, List, [], ◌∷◌, Some, None, refl, ◌∙◌, arith}
 use Rattle.std.specs.Prelude.{slice_get}
 use Rattle.std.proofs.Math.ListN.{length-set}
 use Rattle.isl_meaning.specs.declared.program.ProgramRows.{ProgramRows}
 use Rattle.isl_meaning.specs.declared.primitive.Primitive.TheVariants.{Gensym}
-use Rattle.isl_meaning.specs.Values.{Value}
 use Rattle.isl_meaning.specs.Objects.{Object, fresh_symbol}
 use Rattle.isl_meaning.specs.State as meaning
 use Rattle.isl_meaning.specs.Primitives.{makes_symbol, primitive}
 use Rattle.isl_mid.specs.declared.program.MidProcedure.{MidProcedure}
-use Rattle.isl_mid.specs.Arena.{Arena, left, is_lent, word_at, with_word}
+use Rattle.isl_mid.specs.Arena.{Arena, left, word_at, with_word}
 use Rattle.isl_mid.specs.MidCode.{code_of}
 use Rattle.isl_mid.specs.State.{Registers, State, Outcome, returns, no_room, ends, first_registers}
 use Rattle.isl_mid.specs.Meaning.{Task, Context}
 use Rattle.isl_arena.specs.Tags.{object_tag, fresh_header}
-use Rattle.isl_arena.specs.Places.{Spot, Places, WordsOf, with_object}
+use Rattle.isl_arena.specs.Places.{Spot, Places, with_object}
 use Rattle.isl_arena.specs.FixedWords.{serial_address}
 use Rattle.isl_arena.specs.Layouts.{PairAt}
 use Rattle.isl_arena.specs.Represents.{Represents}
 use Rattle.isl_arena.specs.Answers.{Done, done, IsPrimitive}
 use Rattle.isl_arena.specs.Codes.{code_of_primitive, procedure_of}
-use Rattle.isl_arena.proofs.Memory.{Facts, heap_below, in_spot_lent, in_spot_there, spot_still_stands, word_here}
-use Rattle.isl_arena.proofs.Growing.{Changes}
+use Rattle.isl_arena.proofs.Memory.{heap_below}
+use Rattle.isl_arena.proofs.Growing.{Changes, Grows}
 use Rattle.isl_arena.proofs.WordFacts.{next_serial}
 use Rattle.isl_arena.proofs.Running.{RunsTo, and_then, and_ends, costing, constant_falls, compute_falls, compute_known, load_falls, store_falls, store_in_heap, request_falls, request_wanting}
 use Rattle.isl_arena.proofs.Running.{return_ends, address_above, address_here}
-use Rattle.isl_arena.proofs.Representing.{fixed_spot, fixed_stands, kept_both, kept_made, kept_grown, kept_fixed}
+use Rattle.isl_arena.proofs.Representing.{kept_both, kept_made, kept_grown, kept_fixed}
 use Rattle.isl_arena.proofs.FixedChanges.{one_word, represents_serial, word_of_fixed}
-use Rattle.isl_arena.proofs.Making.{Room, is_left, is_wanting, room_for, begun, begun_facts, begun_heap, begun_blocks, begun_word, grows_by, changes_stored, fixed_below, answers_wanting}
+use Rattle.isl_arena.proofs.Making.{Room, is_left, is_wanting, room_for, begun, begun_grows, begun_heap, begun_blocks, begun_word, changes_stored, fixed_below, answers_wanting, fixed_still_lent, stored_fixed}
 use Rattle.isl_arena.proofs.Making.{represents_new, pointer_made}
 use Rattle.isl_arena.proofs.Doing.{alike_self, Run, paid}
-use Rattle.isl_arena.proofs.Entering.{does_by_code}
+use Rattle.isl_arena.proofs.Taking.{does_none}
 
 -- the word of the serial that comes next, and that of the one behind it
 abbrev serial_word : meaning.State → ℕ
@@ -47,11 +46,8 @@ module _ (names : List (List ℕ)) (program : ProgramRows) (places : Places) (z 
   abbrev serial_arena : Arena
   serial_arena = with_word serial_address (next_word z) symbol_arena
 
-  grown : Facts y.arena symbol_arena
-  grown = begun_facts 2 (fresh_header ∷ serial_word z ∷ []) r.arena room
-
-  serial_lent : is_lent symbol_arena serial_address ≡ true
-  serial_lent = in_spot_lent {s = fixed_spot} serial_address (spot_still_stands grown (fixed_stands names program places z y r)) refl (omega arith) (omega arith)
+  grown : Grows y.arena symbol_arena
+  grown = begun_grows 2 (fresh_header ∷ serial_word z ∷ []) r.arena room
 
   -- the code comes to the pointer to the symbol, with these words stored
   gensym_ends :
@@ -64,7 +60,7 @@ module _ (names : List (List ℕ)) (program : ProgramRows) (places : Places) (z 
       let small = heap_below r.arena in
       let fixed = fixed_below names program places z y r in
       let loaded : word_at (begun 2 (fresh_header ∷ []) y.arena) serial_address ≡ Some (serial_word z) =
-      (begun_facts 2 (fresh_header ∷ []) r.arena room).words serial_address (omega arith) ∙ r.fixed.serial in
+      (begun_grows 2 (fresh_header ∷ []) r.arena room).words serial_address (omega arith) ∙ r.fixed.serial in
       costing
       (and_then constant_falls
       (and_then (request_falls refl room)
@@ -80,7 +76,7 @@ module _ (names : List (List ℕ)) (program : ProgramRows) (places : Places) (z 
       (and_then constant_falls
       (and_then (compute_known refl refl (next_serial z.symbols))
       (and_then constant_falls
-      (and_then (store_falls refl refl (address_above 0 serial_address serial_address refl (omega arith)) serial_lent)
+      (and_then (store_falls refl refl (address_above 0 serial_address serial_address refl (omega arith)) (fixed_still_lent names program places z y r symbol_arena grown serial_address refl (omega arith)))
       (and_then constant_falls
       (and_then (compute_known refl refl (omega arith))
       (and_ends tt (return_ends refl))))))))))))))))))) (omega arith)
@@ -101,7 +97,7 @@ module _ (names : List (List ℕ)) (program : ProgramRows) (places : Places) (z 
     };
     blocks = blocks;
     kept =
-        kept_both places z y.arena symbol_arena serial_arena (kept_grown names program places z y r symbol_arena (grows_by grown))
+        kept_both places z y.arena symbol_arena serial_arena (kept_grown names program places z y r symbol_arena grown)
         (kept_made places z spot one symbol_arena serial_arena
         (kept_fixed names program after (meaning.stored one z) with_symbol there serial_arena
         (word_of_fixed names program after (meaning.stored one z) with_symbol there serial_address serial_arena (omega arith) changes)));
@@ -128,14 +124,14 @@ module _ (names : List (List ℕ)) (program : ProgramRows) (places : Places) (z 
       blocks : symbol_arena.blocks ≡ y.arena.blocks
       blocks = begun_blocks 2 (fresh_header ∷ serial_word z ∷ []) y.arena
 
-      stored : (i w : ℕ) → slice_get (fresh_header ∷ serial_word z ∷ []) i ≡ Some w → word_at symbol_arena (y.arena.heap_to + 4 * i) ≡ Some w
-      stored i w e = begun_word 2 (fresh_header ∷ serial_word z ∷ []) i w r.arena room (omega arith) e
+      stored : (x i w : ℕ) → x ≡ y.arena.heap_to + 4 * i → slice_get (fresh_header ∷ serial_word z ∷ []) i ≡ Some w → word_at symbol_arena x ≡ Some w
+      stored x i w same e = begun_word 2 (fresh_header ∷ serial_word z ∷ []) x i w r.arena room (omega arith) same e
 
       made : PairAt symbol_arena spot fresh_header (serial_word z)
       made = record {
         size = record { words = refl; tag = refl };
-        header = ap (word_at symbol_arena) (omega arith) ∙ stored 0 fresh_header refl;
-        word = stored 1 (serial_word z) refl;
+        header = stored y.arena.heap_to 0 fresh_header (omega arith) refl;
+        word = stored (y.arena.heap_to + 4) 1 (serial_word z) (omega arith) refl;
       }
 
       there : Represents names program after (meaning.stored one z) with_symbol
@@ -145,9 +141,7 @@ module _ (names : List (List ℕ)) (program : ProgramRows) (places : Places) (z 
       changes = changes_stored serial_address (next_word z) grown.stands refl
 
       serial : word_at serial_arena serial_address ≡ Some (next_word z)
-      serial =
-          word_here symbol_arena serial_address (next_word z) serial_lent
-          (in_spot_there {s = fixed_spot} serial_address grown.stands (fixed_stands names program after (meaning.stored one z) with_symbol there) (omega arith))
+      serial = stored_fixed names program after (meaning.stored one z) with_symbol there serial_address (next_word z) refl (omega arith)
 
 module _
     (names : List (List ℕ)) (program : ProgramRows) (places : Places) (z : meaning.State) (y : State) (r : Represents names program places z y)
@@ -172,13 +166,4 @@ module _
         }
 
 pub gensym_does : IsPrimitive Gensym (procedure_of Gensym)
-gensym_does names program procedures below n places z y vs ws r are count units =
-    does_by_code names program places z y procedures below n Gensym vs ws r are count (λ y' r'. by y' r' vs ws are count)
-  where
-    by :
-        (y' : State) → Represents names program places z y' → (vs : List Value) (ws : List ℕ) → WordsOf places vs ws → length vs ≡ 0
-        → Run names program places z y' procedures below n (y'.cost + 130 + 244 * 0) (primitive names program Gensym vs z)
-        (code_of (code_of_primitive Gensym)) (first_registers 8 ws) y'.cost
-    by y' r' [] [] are count = gensym_run names program places z y' r' procedures below n
-    by y' r' [] (w ∷ ws) are count = absurd are
-    by y' r' (v ∷ vs) ws are count = absurd (omega (arith, count))
+gensym_does = does_none Gensym refl (λ names program places z y procedures below n r are units. gensym_run names program places z y r procedures below n)

@@ -1,5 +1,5 @@
 -- An arena that grows or changes in a spot: what stands in it goes on standing, and keeps its words.
-use Rattle.std.proofs.Common.{◌≡◌, ℕ, ◌<◌, ◌≤◌, length, refl, ◌∙◌, arith}
+use Rattle.std.proofs.Common.{◌≡◌, ℕ, ◌<◌, ◌≤◌, length, refl, arith}
 use Rattle.isl_mid.specs.Arena.{Arena, word_at}
 use Rattle.isl_arena.specs.Places.{Spot, end_of}
 use Rattle.isl_arena.specs.Standing.{ArenaStands, IsLentPart, of_laid, of_heap, SpotStands, Apart, in_front, behind, SameWords}
@@ -17,20 +17,9 @@ pub record Grows (earlier later : Arena) : Type 0 where
 pub grows_same : (a : Arena) → ArenaStands a → Grows a a
 grows_same a stands = record { size = refl; laid_from = refl; laid_to = refl; heap_from = refl; heap_to = omega arith; stands = stands; words = λ x h. refl }
 
-pub grows_both : (a b c : Arena) → Grows a b → Grows b c → Grows a c
-grows_both a b c g h = record {
-  size = h.size ∙ g.size;
-  laid_from = h.laid_from ∙ g.laid_from;
-  laid_to = h.laid_to ∙ g.laid_to;
-  heap_from = h.heap_from ∙ g.heap_from;
-  heap_to = omega (arith, g.heap_to, h.heap_to);
-  stands = h.stands;
-  words = λ x low. h.words x (omega (arith, low, g.heap_to)) ∙ g.words x low;
-}
-
--- a spot ends in what was laid or in the heap
-pub spot_below : (a : Arena) (s : Spot) → ArenaStands a → SpotStands a s → end_of s ≤ a.heap_to
-spot_below a s stands spot = by spot.part
+-- a spot ends in what was laid or in the heap, and so below the stack
+pub spot_below : {a : Arena} {s : Spot} → ArenaStands a → SpotStands a s → end_of s ≤ a.heap_to
+spot_below {a} {s} stands spot = by spot.part
   where
     by : IsLentPart a s → end_of s ≤ a.heap_to
     by (of_laid low high) = omega (arith, high, stands.laid, stands.heap)
@@ -46,12 +35,12 @@ spot_stands a b s laid_from laid_to heap_from heap_to spot = record { aligned = 
     by (of_laid low high) = of_laid (omega arith) (omega arith)
     by (of_heap low high) = of_heap (omega arith) (omega arith)
 
-pub spot_grown : (a b : Arena) (s : Spot) → Grows a b → SpotStands a s → SpotStands b s
-spot_grown a b s g = spot_stands a b s g.laid_from g.laid_to g.heap_from g.heap_to
+pub spot_grown : {a b : Arena} {s : Spot} → Grows a b → SpotStands a s → SpotStands b s
+spot_grown {a} {b} {s} g = spot_stands a b s g.laid_from g.laid_to g.heap_from g.heap_to
 
 -- a spot that stood has the same words
 pub words_grown : (a b : Arena) (s : Spot) → Grows a b → ArenaStands a → SpotStands a s → SameWords a b s
-words_grown a b s g stands spot x low high = let below = spot_below a s stands spot in g.words x (omega arith)
+words_grown a b s g stands spot x low high = let below = spot_below stands spot in g.words x (omega arith)
 
 -- the same bounds but for the heap, which may have grown, and the same words in what was laid and in the heap but in a spot
 pub record Changes (s : Spot) (earlier later : Arena) : Type 0 where
@@ -62,28 +51,6 @@ pub record Changes (s : Spot) (earlier later : Arena) : Type 0 where
   pub stands : ArenaStands later
   pub before : (x : ℕ) → x < s.address → word_at later x ≡ word_at earlier x
   pub after : (x : ℕ) → end_of s ≤ x → x < earlier.heap_to → word_at later x ≡ word_at earlier x
-
-pub grows_changes : (s : Spot) (a b : Arena) → ArenaStands a → SpotStands a s → Grows a b → Changes s a b
-grows_changes s a b stands spot g = record {
-  laid_from = g.laid_from;
-  laid_to = g.laid_to;
-  heap_from = g.heap_from;
-  heap_to = g.heap_to;
-  stands = g.stands;
-  before = λ x h. let below = spot_below a s stands spot in g.words x (omega arith);
-  after = λ x low high. g.words x high;
-}
-
-pub changes_both : (s : Spot) (a b c : Arena) → Changes s a b → Changes s b c → Changes s a c
-changes_both s a b c g h = record {
-  laid_from = h.laid_from ∙ g.laid_from;
-  laid_to = h.laid_to ∙ g.laid_to;
-  heap_from = h.heap_from ∙ g.heap_from;
-  heap_to = omega (arith, g.heap_to, h.heap_to);
-  stands = h.stands;
-  before = λ x low. h.before x low ∙ g.before x low;
-  after = λ x low high. h.after x low (omega (arith, high, g.heap_to)) ∙ g.after x low high;
-}
 
 -- a change in a part of a spot is one in the spot
 pub changes_part : (s part : Spot) (a b : Arena) → s.address ≤ part.address → end_of part ≤ end_of s → Changes part a b → Changes s a b
@@ -103,4 +70,4 @@ spot_changed a b s one c = spot_stands a b one c.laid_from c.laid_to c.heap_from
 -- a spot apart from the one that changed has the same words
 pub words_apart : (a b : Arena) (s one : Spot) → Changes s a b → ArenaStands a → SpotStands a one → Apart one s → SameWords a b one
 words_apart a b s one c stands spot (in_front h) x low high = c.before x (omega arith)
-words_apart a b s one c stands spot (behind h) x low high = let below = spot_below a one stands spot in c.after x (omega arith) (omega arith)
+words_apart a b s one c stands spot (behind h) x low high = let below = spot_below stands spot in c.after x (omega arith) (omega arith)

@@ -3,8 +3,8 @@ use Rattle.std.proofs.Common.{◌≡◌, ℕ, ◌%◌, Bool, true, false, List, 
 use Rattle.std.specs.Prelude.{◌==◌, ◌||◌, is_some}
 use Rattle.std.proofs.lemmas.Bool.Decides.{nat_tests}
 use Rattle.isl_meaning.specs.Values.{Value}
-use Rattle.isl_meaning.specs.Objects.{Object, cons, string, vector, instance, class_object, input_stream, output_stream}
-use Rattle.isl_meaning.specs.Primitives.{as_cons, as_string, as_vector, as_class, as_instance, as_stream, is_function, is_generic}
+use Rattle.isl_meaning.specs.Objects.{Object, string, vector, instance, class_object, input_stream, output_stream}
+use Rattle.isl_meaning.specs.Primitives.{as_string, as_vector, as_class, as_instance, as_stream, is_function, is_generic}
 use Rattle.isl_arena.specs.Tags.{string_header, vector_header, class_header, input_header, output_header, function_header, generic_header, symbol_header, fresh_header}
 use Rattle.isl_arena.proofs.Keeping.{header_of}
 
@@ -67,10 +67,6 @@ generic_kind = record { none = refl; each = each; cons = refl; symbol = refl; fr
     each o = refl
 
 -- what is found in an object tells what the object is
-
-pub cons_is : (o : Option Object) (x : Value × Value) → as_cons o ≡ Some x → o ≡ Some (cons x.0 x.1)
-cons_is (Some (cons car cdr)) x e = let same : (car, cdr) ≡ x = cc e in ap (λ (p : Value × Value). Some (cons p.0 p.1)) same
-cons_is o x e = absurd (cc e)
 
 pub string_is : (o : Option Object) (bytes : List ℕ) → as_string o ≡ Some bytes → o ≡ Some (string bytes)
 string_is (Some (string bytes)) x e = cc e

@@ -32,6 +32,7 @@ use Rattle.isl_arena.proofs.Conditions.{PlainCondition, integer_overflow, signal
 use Rattle.isl_arena.proofs.Checking.{tag_registers, integer_needed}
 use Rattle.isl_arena.proofs.Taking.{two_registers, does_two}
 use Rattle.isl_arena.proofs.Saying.{saying, says_run}
+use Rattle.isl_arena.proofs.Arguments.{integer_word_there}
 
 -- the registers where both arguments are integers
 abbrev pub integer_registers : ℕ → ℕ → Registers
@@ -120,39 +121,36 @@ comparison_run names program places z y procedures below n v w a b t holds s r f
     (alike_self z) (omega arith))
 
 pub number_equal_does : IsPrimitive NumberEqual (procedure_of NumberEqual)
-number_equal_does = does_two NumberEqual refl (λ names program places z y procedures below n v w a b.
-    comparison_run names program places z y procedures below n v w a b _ int_equal (in_order comparison.Equal int_equal integers_compare_equal))
+number_equal_does = does_two NumberEqual refl (λ v w a b names program places z y procedures below n r are units.
+    comparison_run names program places z y procedures below n v w a b _ int_equal (in_order comparison.Equal int_equal integers_compare_equal) r are.0 are.1.0)
 
 pub number_not_equal_does : IsPrimitive NumberNotEqual (procedure_of NumberNotEqual)
-number_not_equal_does = does_two NumberNotEqual refl (λ names program places z y procedures below n v w a b.
-    comparison_run names program places z y procedures below n v w a b _ (λ i j. not (int_equal i j)) (in_order comparison.Different _ integers_compare_different))
+number_not_equal_does = does_two NumberNotEqual refl (λ v w a b names program places z y procedures below n r are units.
+    comparison_run names program places z y procedures below n v w a b _ (λ i j. not (int_equal i j)) (in_order comparison.Different _ integers_compare_different) r are.0 are.1.0)
 
 pub number_less_does : IsPrimitive NumberLess (procedure_of NumberLess)
-number_less_does = does_two NumberLess refl (λ names program places z y procedures below n v w a b.
-    comparison_run names program places z y procedures below n v w a b _ int_lt (in_order comparison.Less int_lt integers_compare_less))
+number_less_does = does_two NumberLess refl (λ v w a b names program places z y procedures below n r are units.
+    comparison_run names program places z y procedures below n v w a b _ int_lt (in_order comparison.Less int_lt integers_compare_less) r are.0 are.1.0)
 
 pub number_at_most_does : IsPrimitive NumberAtMost (procedure_of NumberAtMost)
-number_at_most_does = does_two NumberAtMost refl (λ names program places z y procedures below n v w a b.
-    comparison_run names program places z y procedures below n v w a b _ int_le (turned comparison.AtLeast int_le integers_compare_at_most))
+number_at_most_does = does_two NumberAtMost refl (λ v w a b names program places z y procedures below n r are units.
+    comparison_run names program places z y procedures below n v w a b _ int_le (turned comparison.AtLeast int_le integers_compare_at_most) r are.0 are.1.0)
 
 pub number_greater_does : IsPrimitive NumberGreater (procedure_of NumberGreater)
-number_greater_does = does_two NumberGreater refl (λ names program places z y procedures below n v w a b.
+number_greater_does = does_two NumberGreater refl (λ v w a b names program places z y procedures below n r are units.
     comparison_run names program places z y procedures below n v w a b _ (λ i j. int_lt j i)
-    (turned comparison.Less (λ i j. int_lt j i) (λ i j g h. integers_compare_less j i h g)))
+    (turned comparison.Less (λ i j. int_lt j i) (λ i j g h. integers_compare_less j i h g)) r are.0 are.1.0)
 
 pub number_at_least_does : IsPrimitive NumberAtLeast (procedure_of NumberAtLeast)
-number_at_least_does = does_two NumberAtLeast refl (λ names program places z y procedures below n v w a b.
+number_at_least_does = does_two NumberAtLeast refl (λ v w a b names program places z y procedures below n r are units.
     comparison_run names program places z y procedures below n v w a b _ (λ i j. int_le j i)
-    (in_order comparison.AtLeast (λ i j. int_le j i) (λ i j g h. integers_compare_at_least i j g h ∙ not_below i j)))
+    (in_order comparison.AtLeast (λ i j. int_le j i) (λ i j g h. integers_compare_at_least i j g h ∙ not_below i j)) r are.0 are.1.0)
 
 -- sums, differences and products
 
 -- the lines that a result in register 3 is in range where registers 4 and 5 are equal, and returned
 abbrev ending : List MidStep
 ending = steps.either (steps.comparing comparison.Equal 4 5) [] (steps.signal (pos (class_address integer_overflow_class))) ∷ return_word 3 ∷ []
-
-pub integer_word_there : (places : Places) (i : ℤ) → in_range i ≡ true → word_of places (integer i) ≡ Some (integer_word i)
-integer_word_there places i range = rw range refl
 
 module _
     (names : List (List ℕ)) (program : ProgramRows) (places : Places) (z : meaning.State) (y : State) (r : Represents names program places z y)
@@ -216,8 +214,8 @@ multiplying =
     ∷ steps.constant 6 31 ∷ steps.compute 5 which.ShiftRightSigned 3 6 ∷ ending
 
 pub add_does : IsPrimitive Add (procedure_of Add)
-add_does = does_two Add refl (λ names program places z y procedures below n v w a b r first second.
-    integers_needed names program places z y r procedures below n (y.cost + 130 + 244 * 2) y.cost a b v w (λ i j z'. integer_result (i +ℤ j) z') adding first second (omega arith)
+add_does = does_two Add refl (λ v w a b names program places z y procedures below n r are units.
+    integers_needed names program places z y r procedures below n (y.cost + 130 + 244 * 2) y.cost a b v w (λ i j z'. integer_result (i +ℤ j) z') adding are.0 are.1.0 (omega arith)
     (λ i j i_range j_range.
     goes_on names program places z y procedures below (compute_falls refl refl)
     (goes_on names program places z y procedures below constant_falls
@@ -226,8 +224,8 @@ add_does = does_two Add refl (λ names program places z y procedures below n v w
     (ending_run names program places z y r procedures below n _ _ _ _ _ (i +ℤ j) _ refl refl refl refl (sum_is i j) (sum_in_range i j i_range j_range) (omega arith)))))))
 
 pub subtract_does : IsPrimitive Subtract (procedure_of Subtract)
-subtract_does = does_two Subtract refl (λ names program places z y procedures below n v w a b r first second.
-    integers_needed names program places z y r procedures below n (y.cost + 130 + 244 * 2) y.cost a b v w (λ i j z'. integer_result (i -ℤ j) z') subtracting first second (omega arith)
+subtract_does = does_two Subtract refl (λ v w a b names program places z y procedures below n r are units.
+    integers_needed names program places z y r procedures below n (y.cost + 130 + 244 * 2) y.cost a b v w (λ i j z'. integer_result (i -ℤ j) z') subtracting are.0 are.1.0 (omega arith)
     (λ i j i_range j_range.
     goes_on names program places z y procedures below (compute_falls refl refl)
     (goes_on names program places z y procedures below constant_falls
@@ -237,8 +235,8 @@ subtract_does = does_two Subtract refl (λ names program places z y procedures b
     (omega arith)))))))
 
 pub multiply_does : IsPrimitive Multiply (procedure_of Multiply)
-multiply_does = does_two Multiply refl (λ names program places z y procedures below n v w a b r first second.
-    integers_needed names program places z y r procedures below n (y.cost + 130 + 244 * 2) y.cost a b v w (λ i j z'. integer_result (i *ℤ j) z') multiplying first second (omega arith)
+multiply_does = does_two Multiply refl (λ v w a b names program places z y procedures below n r are units.
+    integers_needed names program places z y r procedures below n (y.cost + 130 + 244 * 2) y.cost a b v w (λ i j z'. integer_result (i *ℤ j) z') multiplying are.0 are.1.0 (omega arith)
     (λ i j i_range j_range.
     goes_on names program places z y procedures below constant_falls
     (goes_on names program places z y procedures below (compute_falls refl refl)

@@ -1,5 +1,5 @@
 -- By kind of object: its words say the same as long as they stay and its values have the words that they had.
-use Rattle.std.proofs.Common.{◌≡◌, ℕ, ◌+◌, ◌*◌, ◌<◌, ◌≤◌, true, List, [], ◌∷◌, length, Option, Some, None, refl, ap, ◌∙◌, arith}
+use Rattle.std.proofs.Common.{◌≡◌, ℕ, suc, ◌+◌, ◌*◌, ◌<◌, ◌≤◌, true, List, [], ◌∷◌, length, Option, Some, None, refl, ap, ◌∙◌, arith}
 use Rattle.std.specs.Prelude.{slice_index_or}
 use Rattle.std.proofs.lemmas.Option.{slice_get_within}
 use Rattle.isl_base.specs.Names.{slice_get-front}
@@ -46,9 +46,6 @@ pub record Extends (before after : Places) : Type 0 where
 pub extends_same : (places : Places) → Extends places places
 extends_same places = record { word = λ v w e. e }
 
-pub extends_both : (first second third : Places) → Extends first second → Extends second third → Extends first third
-extends_both first second third g h = record { word = λ v w e. h.word v w (g.word v w e) }
-
 pub same_word : (s : Spot) (places : Places) (v : Value) (w : ℕ) → word_of places v ≡ Some w → word_of (with_object s places) v ≡ Some w
 same_word s places (integer n) w e = e
 same_word s places (character c) w e = e
@@ -66,6 +63,13 @@ words_extended before after more [] [] h = tt
 words_extended before after more [] (w ∷ ws) h = h
 words_extended before after more (v ∷ vs) [] h = h
 words_extended before after more (v ∷ vs) (w ∷ ws) h = (more.word v w h.0, words_extended before after more vs ws h.1)
+
+-- the words of values are as many as the values
+pub as_many_words : (places : Places) (vs : List Value) (ws : List ℕ) → WordsOf places vs ws → length ws ≡ length vs
+as_many_words places [] [] h = refl
+as_many_words places [] (w ∷ ws) h = absurd h
+as_many_words places (v ∷ vs) [] h = absurd h
+as_many_words places (v ∷ vs) (w ∷ ws) h = ap (λ n. suc n) (as_many_words places vs ws h.1)
 
 -- a condition has one word more
 pub words_of_condition : (program : ProgramRows) (c n : ℕ) → is_below program c serious_condition_class ≡ true → instance_words program c n ≡ 3 + n
@@ -186,6 +190,16 @@ module _ (a b : Arena) (s : Spot) (same : SameWords a b s) where
       object_kept input_stream t = stream_kept _ t
       object_kept output_stream t = stream_kept _ t
       object_kept (fresh_symbol serial) t = pair_kept _ _ t
+
+-- ---- the tag of an object is 1 or 2
+
+pub tag_low : (o : Object) → tag_of o < 3
+tag_low (cons car cdr) = omega arith
+tag_low o = omega arith
+
+pub tag_some : (o : Object) → 1 ≤ tag_of o
+tag_some (cons car cdr) = omega arith
+tag_some o = omega arith
 
 -- ---- what the first word of an object says
 

@@ -12,21 +12,9 @@ use Rattle.isl_arena.specs.Places.{Spot, Places, end_of, Owner, of_object, of_ot
 use Rattle.isl_arena.specs.FixedWords.{pending_address}
 use Rattle.isl_arena.specs.Represents.{Represents}
 use Rattle.isl_arena.specs.Answers.{Enlarged, Kept, words_asked, Returned, Pending, Done, RoomWanting, Comes, done, no_words}
-use Rattle.isl_arena.proofs.Memory.{Facts, facts_with_new_block, left_with_new_block, facts_given_back}
+use Rattle.isl_arena.proofs.Memory.{grows_with_new_block, left_with_new_block, grows_given_back}
 use Rattle.isl_arena.proofs.Growing.{Grows, spot_below, grows_same}
-use Rattle.isl_arena.proofs.Representing.{fixed_spot, fixed_stands, kept_grown, kept_both, represents_grown}
-
--- what stays where an arena grows, in the words of representations
-pub facts_grow : {a b : Arena} → Facts a b → Grows a b
-facts_grow g = record {
-  size = g.size;
-  laid_from = g.laid_from;
-  laid_to = g.laid_to;
-  heap_from = g.heap_from;
-  heap_to = g.heap_to;
-  stands = g.stands;
-  words = g.words;
-}
+use Rattle.isl_arena.proofs.Representing.{fixed_stands, kept_grown, kept_both, represents_grown}
 
 -- how the body of a procedure is left
 
@@ -66,7 +54,7 @@ module _
     (frame : Block) (cost : ℕ) (some : frame.words ≤ left y.arena)
   where
     frame_grows : Grows y.arena (with_frame frame cost y).arena
-    frame_grows = facts_grow (facts_with_new_block frame r.arena some)
+    frame_grows = grows_with_new_block frame r.arena some
 
     -- is represented too where the frame is laid
     pub represents_frame : Represents names program places z (with_frame frame cost y)
@@ -83,7 +71,7 @@ module _
     }
       where
         later : (p : Owner) (s : Spot) → spot_of places p ≡ Some s → (x : ℕ) → x < end_of s → word_at b x ≡ word_at a x
-        later p s e x to = let below = spot_below y.arena s r.arena (r.spots p s e) in g.words x (omega arith)
+        later p s e x to = let below = spot_below r.arena (r.spots p s e) in g.words x (omega arith)
 
     -- the same words more, counted from before the frame was laid, where blocks are given back
     enlarged_frame :
@@ -106,7 +94,7 @@ module _
           (after : Places) (v : Value) (z' : meaning.State) (words : ℕ) → Returned names program places z (with_frame frame cost y) after v z' words o
           → Returned names program places z y after v z' words (leaves y.arena.blocks o)
       returned after v z' words h =
-          let g : Grows o.state.arena given_back.arena = facts_grow (facts_given_back frame y.arena.blocks h.represents.arena h.blocks) in
+          let g : Grows o.state.arena given_back.arena = grows_given_back frame y.arena.blocks h.represents.arena h.blocks in
           rw (leaves_returned y.arena.blocks o h.end) (record {
             word = h.word;
             end = refl;
@@ -123,8 +111,8 @@ module _
           → Pending names program places z (with_frame frame cost y) after class slots z' words o
           → Pending names program places z y after class slots z' words (leaves y.arena.blocks o)
       signalled after class slots z' words h =
-          let g : Grows o.state.arena given_back.arena = facts_grow (facts_given_back frame y.arena.blocks h.represents.arena h.blocks) in
-          let fixed = spot_below o.state.arena fixed_spot h.represents.arena (fixed_stands names program after _ o.state h.represents) in
+          let g : Grows o.state.arena given_back.arena = grows_given_back frame y.arena.blocks h.represents.arena h.blocks in
+          let fixed = spot_below h.represents.arena (fixed_stands names program after _ o.state h.represents) in
           rw (leaves_returned y.arena.blocks o h.end) (record {
             end = refl;
             represents = represents_grown names program after _ o.state h.represents given_back g refl refl;

@@ -13,7 +13,7 @@ use Rattle.isl_meaning.specs.Primitives.{domain_error, needs, a_character, lengt
 use Rattle.isl_mid.specs.declared.program.MidProcedure.{MidProcedure}
 use Rattle.isl_mid.specs.declared.operation.Arithmetic.TheVariants as which
 use Rattle.isl_mid.specs.declared.operation.Operation.TheVariants.{Move, Request}
-use Rattle.isl_mid.specs.Words.{sum32, shift_left}
+use Rattle.isl_mid.specs.Words.{sum32}
 use Rattle.isl_mid.specs.Arena.{Arena, left, word_at, with_word, with_heap}
 use Rattle.isl_mid.specs.MidCode.{MidStep, perform, return_word, code_of}
 use Rattle.isl_mid.specs.State.{State, Outcome, falls, returns, no_room, ends, first_registers}
@@ -28,16 +28,19 @@ use Rattle.isl_arena.specs.Codes.{procedure_of}
 use Rattle.isl_arena.specs.Steps as steps
 use Rattle.isl_arena.specs.Steps.{steps_of}
 use Rattle.isl_arena.specs.declared.line.Line.TheVariants as line
-use Rattle.isl_arena.proofs.WordFacts.{character_code}
+use Rattle.isl_arena.proofs.WordFacts.{character_code, four_times_count, sum_fits}
 use Rattle.isl_arena.proofs.ArithmeticBytes.{replicated_bytes, byte_words_is, full_word, last_word, packed_in_front, packed_last}
-use Rattle.isl_arena.proofs.Memory.{Facts, heap_below, stands_with_heap, facts_with_heap, facts_stored, facts_with_words, stored_in_heap, word_elsewhere, with_words, words_in_front, words_stand}
+use Rattle.isl_arena.proofs.Memory.{heap_below, stands_with_heap, grows_with_heap, grows_stored, grows_with_words, stored_in_heap, word_elsewhere, with_words, words_in_front, words_stand}
 use Rattle.isl_arena.proofs.Running.{RunsTo, StepsTo, turning, none_left, parts_then, and_then, and_ends, costing, constant_falls, compute_falls, compute_known, move_falls, store_in_heap}
 use Rattle.isl_arena.proofs.Running.{request_falls, request_wanting, return_ends, address_here, address_above}
 use Rattle.isl_arena.proofs.Making.{Room, is_left, is_wanting, room_for, answers_made, answers_wanting}
 use Rattle.isl_arena.proofs.Doing.{alike_self, Run, paid}
 use Rattle.isl_arena.proofs.Checking.{integer_needed, character_needed}
-use Rattle.isl_arena.proofs.Filling.{fill, six_after, fill_falls, replicated}
-use Rattle.isl_arena.proofs.Arrays.{does_two, length_test, length_needed}
+use Rattle.isl_arena.proofs.Filling.{fill, six_after, fill_falls}
+use Rattle.isl_arena.proofs.Arrays.{length_test, length_needed}
+use Rattle.isl_arena.proofs.Growing.{Grows}
+use Rattle.isl_arena.proofs.Taking.{does_two}
+use Rattle.isl_arena.proofs.Lists.{replicated}
 
 -- ---- the arena
 
@@ -69,19 +72,19 @@ filled_blocks : (count c : ℕ) (a : Arena) → (filled_string count c a).blocks
 filled_blocks count c a = ap (λ b. b.blocks) (only_memory (a.heap_to + 8) (replicate (byte_words count) (full_word c)) (begun_string count a))
 
 module _ (a : Arena) (count c : ℕ) (stands : ArenaStands a) (room : 2 + byte_words count ≤ left a) (small : c < 256) where
-  begun_string_facts : Facts a (begun_string count a)
-  begun_string_facts = facts_stored a.heap_to string_header (facts_with_heap (2 + byte_words count) stands room) stands.aligned (omega arith)
+  begun_string_grows : Grows a (begun_string count a)
+  begun_string_grows = grows_stored a.heap_to string_header (grows_with_heap (2 + byte_words count) stands room) stands.aligned (omega arith)
 
-  filled_string_facts : Facts a (filled_string count c a)
-  filled_string_facts =
-      facts_with_words (a.heap_to + 8) (replicate (byte_words count) (full_word c)) begun_string_facts (omega (arith, stands.aligned)) (omega arith)
+  filled_string_grows : Grows a (filled_string count c a)
+  filled_string_grows =
+      grows_with_words (a.heap_to + 8) (replicate (byte_words count) (full_word c)) begun_string_grows (omega (arith, stands.aligned)) (omega arith)
 
-  ended_string_facts : Facts a (ended_string count c a)
-  ended_string_facts =
-      facts_stored (a.heap_to + 4 * byte_words count + 4) (last_word (full_word c) (4 * count)) filled_string_facts (omega (arith, stands.aligned)) (omega arith)
+  ended_string_grows : Grows a (ended_string count c a)
+  ended_string_grows =
+      grows_stored (a.heap_to + 4 * byte_words count + 4) (last_word (full_word c) (4 * count)) filled_string_grows (omega (arith, stands.aligned)) (omega arith)
 
-  made_string_facts : Facts a (made_string count c a)
-  made_string_facts = facts_stored (a.heap_to + 4) (4 * count) ended_string_facts (omega (arith, stands.aligned)) (omega arith)
+  made_string_grows : Grows a (made_string count c a)
+  made_string_grows = grows_stored (a.heap_to + 4) (4 * count) ended_string_grows (omega (arith, stands.aligned)) (omega arith)
 
   -- the words that stand there
   made_elsewhere : (x : ℕ) → a.heap_to + 4 ≢ x → word_at (made_string count c a) x ≡ word_at (ended_string count c a) x
@@ -96,11 +99,11 @@ module _ (a : Arena) (count c : ℕ) (stands : ArenaStands a) (room : 2 + byte_w
   header_there =
       made_elsewhere a.heap_to (λ e. omega arith) ∙ ended_elsewhere a.heap_to (λ e. omega arith)
       ∙ words_in_front (a.heap_to + 8) (replicate (byte_words count) (full_word c)) (begun_string count a) a.heap_to (omega (arith, stands.aligned)) (omega arith)
-      ∙ stored_in_heap a.heap_to string_header (facts_with_heap (2 + byte_words count) stands room).stands stands.aligned stands.heap (omega arith)
+      ∙ stored_in_heap a.heap_to string_header (grows_with_heap (2 + byte_words count) stands room).stands stands.aligned stands.heap (omega arith)
 
   count_there : word_at (made_string count c a) (a.heap_to + 4) ≡ Some (4 * count)
   count_there =
-      stored_in_heap (a.heap_to + 4) (4 * count) ended_string_facts.stands (omega (arith, stands.aligned))
+      stored_in_heap (a.heap_to + 4) (4 * count) ended_string_grows.stands (omega (arith, stands.aligned))
       (omega (arith, stands.heap, filled_from count c a)) (omega (arith, filled_heap count c a))
 
   bytes_there : (i : ℕ) → i < byte_words count → word_at (made_string count c a) (a.heap_to + 8 + 4 * i) ≡ Some (packed (replicate count c) (4 * i))
@@ -109,14 +112,14 @@ module _ (a : Arena) (count c : ℕ) (stands : ArenaStands a) (room : 2 + byte_w
       last : suc i ≡ byte_words count → word_at (ended_string count c a) (a.heap_to + 8 + 4 * i) ≡ Some (packed (replicate count c) (4 * i))
       last e =
           ap (word_at (ended_string count c a)) (omega arith)
-          ∙ stored_in_heap (a.heap_to + 4 * byte_words count + 4) (last_word (full_word c) (4 * count)) filled_string_facts.stands (omega (arith, stands.aligned))
+          ∙ stored_in_heap (a.heap_to + 4 * byte_words count + 4) (last_word (full_word c) (4 * count)) filled_string_grows.stands (omega (arith, stands.aligned))
           (omega (arith, stands.heap, filled_from count c a)) (omega (arith, filled_heap count c a))
           ∙ ap (λ w. Some w) (sym (packed_last count c i small (sym e)))
 
       in_front : suc i ≢ byte_words count → word_at (ended_string count c a) (a.heap_to + 8 + 4 * i) ≡ Some (packed (replicate count c) (4 * i))
       in_front other =
           ended_elsewhere (a.heap_to + 8 + 4 * i) (λ e. other (omega arith))
-          ∙ words_stand (a.heap_to + 8) (replicate (byte_words count) (full_word c)) (begun_string count a) i (full_word c) begun_string_facts.stands
+          ∙ words_stand (a.heap_to + 8) (replicate (byte_words count) (full_word c)) (begun_string count a) i (full_word c) begun_string_grows.stands
           (omega (arith, stands.aligned)) (omega (arith, stands.heap)) (omega (arith, length-replicate (byte_words count) (full_word c)))
           (replicated (byte_words count) i (full_word c) low)
           ∙ ap (λ w. Some w) (sym (packed_in_front count c i small (omega (arith, low, other))))
@@ -183,7 +186,6 @@ beginning_falls y k count c stands room =
     let heap : ℕ = y.arena.heap_to in
     let words : ℕ = byte_words count in
     let high : heap + 4 * (2 + words) ≤ 2 ^ 26 = heap_below (stands_with_heap (2 + words) stands room) in
-    let four_times : shift_left words 2 ≡ 4 * words = omega arith in
     let end_is : sum32 (4 * words) heap ≡ heap + 4 * words = omega arith in
     costing
     (and_then (request_falls refl room)
@@ -194,7 +196,7 @@ beginning_falls y k count c stands room =
     (and_then constant_falls
     (and_then (compute_falls refl refl)
     (and_then constant_falls
-    (and_then (compute_known refl refl four_times)
+    (and_then (compute_known refl refl (four_times_count words (omega arith)))
     (and_then (compute_known refl refl end_is)
     (and_then (move_falls refl) none_left))))))))))) (omega arith)
 
@@ -228,7 +230,6 @@ ending_ends y k count c stands room =
     let heap : ℕ = y.arena.heap_to in
     let words : ℕ = byte_words count in
     let high : heap + 4 * (2 + words) ≤ 2 ^ 26 = heap_below (stands_with_heap (2 + words) stands room) in
-    let pointer : sum32 heap 2 ≡ heap + 2 = omega arith in
     costing
     (and_then constant_falls
     (and_then (compute_falls refl refl)
@@ -244,7 +245,7 @@ ending_ends y k count c stands room =
     (store_in_heap refl refl (address_above heap 4 (heap + 4) refl (omega arith)) (omega (arith, stands.aligned))
     (omega (arith, stands.heap, filled_from count c y.arena)) (omega (arith, filled_heap count c y.arena)))
     (and_then constant_falls
-    (and_then (compute_known refl refl pointer)
+    (and_then (compute_known refl refl (sum_fits heap 2 (omega arith)))
     (and_ends tt (return_ends refl))))))))))))) (omega arith)
 
 module _
@@ -287,7 +288,7 @@ module _
                   (and_then (filling_falls procedures below n y (k + 48 + 98) count c r.arena room turns) (ending_ends y paid_then count c r.arena room)));
               answers =
                   answers_made names program places z y r (2 + byte_words (length (replicate count c))) (length (replicate count c)) (string (replicate count c)) z now _
-                  (alike_self z) (made_string_facts y.arena count c r.arena room small) (filled_heap count c y.arena ∙ omega (arith, many))
+                  (alike_self z) (made_string_grows y.arena count c r.arena room small) (filled_heap count c y.arena ∙ omega (arith, many))
                   (filled_blocks count c y.arena) refl refl (omega arith) (string_stands y.arena count c r.arena room small) tt (omega (arith, many, cost));
             }
 

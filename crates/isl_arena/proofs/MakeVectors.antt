@@ -13,7 +13,7 @@ use Rattle.isl_mid.specs.declared.operation.Arithmetic.TheVariants as which
 use Rattle.isl_mid.specs.declared.operation.Operation.TheVariants.{Move, Request}
 use Rattle.isl_mid.specs.Words.{sum32, shift_right}
 use Rattle.isl_mid.specs.Arena.{left, word_at}
-use Rattle.isl_mid.specs.MidCode.{MidStep, perform, return_word, code_of}
+use Rattle.isl_mid.specs.MidCode.{MidStep, perform, code_of}
 use Rattle.isl_mid.specs.State.{State, Outcome, falls, returns, no_room, ends, first_registers}
 use Rattle.isl_mid.specs.Meaning.{Task, Context}
 use Rattle.isl_arena.specs.Tags.{object_tag, vector_header}
@@ -26,13 +26,15 @@ use Rattle.isl_arena.specs.Codes.{procedure_of}
 use Rattle.isl_arena.specs.Steps as steps
 use Rattle.isl_arena.proofs.Keeping.{same_word}
 use Rattle.isl_arena.proofs.Memory.{heap_below, stands_with_heap}
-use Rattle.isl_arena.proofs.Running.{RunsTo, turning, none_left, parts_then, and_then, and_ends, costing, constant_falls, compute_known, move_falls, store_in_heap, request_falls}
-use Rattle.isl_arena.proofs.Running.{request_wanting, return_ends, address_here, address_above}
-use Rattle.isl_arena.proofs.Making.{Room, is_left, is_wanting, room_for, begun, begun_facts, begun_heap, begun_blocks, begun_word, answers_made, answers_wanting}
+use Rattle.isl_arena.proofs.Running.{RunsTo, none_left, parts_then, and_then, and_ends, costing, constant_falls, compute_known, move_falls, store_in_heap, request_falls}
+use Rattle.isl_arena.proofs.Running.{request_wanting, address_here, address_above}
+use Rattle.isl_arena.proofs.Making.{Room, is_left, is_wanting, room_for, begun, begun_grows, begun_heap, begun_blocks, begun_word, answers_made, answers_wanting}
 use Rattle.isl_arena.proofs.Doing.{alike_self, Run, paid}
 use Rattle.isl_arena.proofs.Checking.{integer_needed}
-use Rattle.isl_arena.proofs.Filling.{fill, fill_falls, replicated}
-use Rattle.isl_arena.proofs.Arrays.{does_two, length_test, length_needed}
+use Rattle.isl_arena.proofs.Arrays.{length_test, length_needed}
+use Rattle.isl_arena.proofs.Taking.{does_two}
+use Rattle.isl_arena.proofs.Lists.{replicated}
+use Rattle.isl_arena.proofs.Filling.{filling_code, filling_ends}
 
 -- the code behind the tests of the length, with four times the length in register 0 and the element in register 1: how many words are wanted
 abbrev asking_code : List MidStep
@@ -44,11 +46,7 @@ beginning_code =
     perform (Request 3 5) ∷ steps.constant 4 vector_header ∷ steps.store 4 3 (pos 0) ∷ steps.store 0 3 (pos 4)
     ∷ steps.compute 5 which.Add 0 3 ∷ perform (Move 4 1) ∷ perform (Move 7 3) ∷ []
 
--- the elements are stored, and the pointer is returned
-abbrev filling_code : List MidStep
-filling_code = fill ∷ steps.compute_by 3 which.Add 3 2 ++ return_word 3 ∷ []
-
--- all of it
+-- the elements are stored, and the pointer is returned: all of it
 abbrev vector_code : List MidStep
 vector_code = asking_code ++ (beginning_code ++ filling_code)
 
@@ -84,26 +82,6 @@ beginning_falls y k count stands room =
     (and_then (move_falls refl)
     (and_then (move_falls refl) none_left))))))) (omega arith)
 
-filling_ends :
-    {r0 r1 r2 r6 : Option ℕ} {b : ℕ} (procedures : List MidProcedure) (below : Task → State → Outcome) (n : ℕ) (y : State) (k count : ℕ) → ArenaStands y.arena
-    → 2 + count ≤ left y.arena → count ≤ n
-    → RunsTo (turning procedures below n) (code_of filling_code)
-    (r0 ∷ r1 ∷ r2 ∷ Some y.arena.heap_to ∷ Some b ∷ Some (y.arena.heap_to + 4 * count) ∷ r6 ∷ Some y.arena.heap_to ∷ [])
-    (record y { arena = begun (2 + count) (vector_header ∷ (4 * count) ∷ []) y.arena; cost = k })
-    (ends (returns (y.arena.heap_to + 2)) (r0 ∷ r1 ∷ r2 ∷ Some (y.arena.heap_to + 2) ∷ Some b ∷ Some (y.arena.heap_to + 4 * count) ∷ Some 2 ∷ Some (y.arena.heap_to + 4 * count) ∷ [])
-    (record y { arena = begun (2 + count) (vector_header ∷ (4 * count) ∷ replicate count b) y.arena; cost = k + 42 + 38 * count }))
-filling_ends procedures below n y k count stands room turns =
-    let heap : ℕ = y.arena.heap_to in
-    let high : heap + 4 * (2 + count) ≤ 2 ^ 26 = heap_below (stands_with_heap (2 + count) stands room) in
-    let pointer : sum32 heap 2 ≡ heap + 2 = omega arith in
-    costing
-    (and_then
-    (fill_falls procedures below count n heap (heap + 4 + 4) (heap + 4 * count) _ _ _ _ _ _ _ turns (omega arith) refl (omega (arith, stands.aligned))
-    (omega (arith, stands.heap)) (omega arith) (omega arith))
-    (and_then constant_falls
-    (and_then (compute_known refl refl pointer)
-    (and_ends tt (return_ends refl))))) (omega arith)
-
 module _ (names : List (List ℕ)) (program : ProgramRows) (places : Places) (z : meaning.State) (y : State) (r : Represents names program places z y) where
   module _ (count b : ℕ) (v : Value) (word : word_of places v ≡ Some b) (room : 2 + count ≤ left y.arena) where
     -- the words of the vector, and its spot
@@ -130,9 +108,7 @@ module _ (names : List (List ℕ)) (program : ProgramRows) (places : Places) (z 
       where
         moved :
             (x i w : ℕ) → x ≡ y.arena.heap_to + 4 * i → slice_get all_words i ≡ Some w → word_at (begun (2 + count) all_words y.arena) x ≡ Some w
-        moved x i w same found =
-            ap (word_at (begun (2 + count) all_words y.arena)) same
-            ∙ begun_word (2 + count) all_words i w r.arena room (omega (arith, length-replicate count b)) found
+        moved x i w same found = begun_word (2 + count) all_words x i w r.arena room (omega (arith, length-replicate count b)) same found
 
   module _ (procedures : List MidProcedure) (below : Task → State → Outcome) where
     -- the vector is made, where its words are left
@@ -165,10 +141,11 @@ module _ (names : List (List ℕ)) (program : ProgramRows) (places : Places) (z 
               runs =
                   parts_then asking_code (beginning_code ++ filling_code) (asking_falls count low)
                   (parts_then beginning_code filling_code (beginning_falls y (k + 32) count r.arena room)
-                  (filling_ends procedures below n y (k + 32 + 64) count r.arena room turns));
+                  (filling_ends procedures below n count y.arena.heap_to b (k + 32 + 64) (record y { arena = begun (2 + count) (vector_header ∷ (4 * count) ∷ []) y.arena }) turns
+                  r.arena.aligned r.arena.heap (omega arith) (heap_below (stands_with_heap (2 + count) r.arena room))));
               answers =
                   answers_made names program places z y r (2 + length (replicate count v)) 0 (vector (replicate count v)) z now _ (alike_self z)
-                  (begun_facts (2 + count) all r.arena room) (begun_heap (2 + count) all y.arena ∙ omega (arith, many)) (begun_blocks (2 + count) all y.arena) refl refl
+                  (begun_grows (2 + count) all r.arena room) (begun_heap (2 + count) all y.arena ∙ omega (arith, many)) (begun_blocks (2 + count) all y.arena) refl refl
                   (omega arith) (vector_stands count b v word room) tt (omega (arith, many, cost));
             }
 

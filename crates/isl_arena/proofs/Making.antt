@@ -1,14 +1,14 @@
 -- A new object at the end of the heap, whose words were requested and stored one after another: what the arena is then, that it represents
 -- the state with the object, and how a run ends that returns it. And the store of a condition that is to be signalled.
 use Rattle.std.proofs.Common.{◌≡◌, ℕ, zero, suc, ◌+◌, ◌*◌, ◌/◌, ◌%◌, ◌<◌, ◌≤◌, Bool, true, false, List, [], ◌∷◌, ◌++◌, length, Some, None, refl, sym, ap, subst, ◌∙◌, arith}
-use Rattle.std.specs.Prelude.{◌==◌, nat_le, map, slice_get, slice_index_or}
+use Rattle.std.specs.Prelude.{nat_le, map, slice_get, slice_index_or}
 use Rattle.std.proofs.lemmas.Bool.Decides.{nat_tests}
 use Rattle.std.proofs.lemmas.List.{length-map}
 use Rattle.std.proofs.Math.ListN.{length-append, length-set}
 use Rattle.isl_base.specs.Names.{slice_get-front, slice_get-behind}
 use Rattle.isl_meaning.specs.declared.program.ProgramRows.{ProgramRows}
 use Rattle.isl_meaning.specs.Values.{Value, nil, object}
-use Rattle.isl_meaning.specs.Objects.{Object, cons, string, vector, instance, function, closure, generic_function, class_object, input_stream, output_stream, fresh_symbol}
+use Rattle.isl_meaning.specs.Objects.{Object, instance}
 use Rattle.isl_meaning.specs.Objects.{serious_condition_class}
 use Rattle.isl_meaning.specs.State as meaning
 use Rattle.isl_meaning.specs.Classes.{slots, is_below}
@@ -23,15 +23,16 @@ use Rattle.isl_arena.specs.FixedWords.{pending_address}
 use Rattle.isl_arena.specs.Layouts.{ObjectAt, InstanceAt}
 use Rattle.isl_arena.specs.Represents.{Represents}
 use Rattle.isl_arena.specs.Answers.{Enlarged, Returned, Pending, Signalled, RoomWanting, done, no_words, words_asked, units_after}
-use Rattle.isl_arena.proofs.Memory.{Facts, in_spot_lent, in_spot_there, word_here, word_elsewhere, stands_with_word, stands_with_heap, facts_with_heap, with_words, facts_with_words}
+use Rattle.isl_arena.proofs.Memory.{in_spot_lent, in_spot_there, word_here, word_elsewhere, stands_with_word, stands_with_heap, grows_with_heap, with_words, grows_with_words, stored_heap, stored_blocks}
 use Rattle.isl_arena.proofs.Memory.{words_stand}
-use Rattle.isl_arena.proofs.Keeping.{same_word, words_extended, words_of_condition, words_at_least, extends_one}
-use Rattle.isl_arena.proofs.Growing.{Grows, grows_same, Changes, spot_below}
+use Rattle.isl_arena.proofs.Keeping.{same_word, words_extended, words_of_condition, words_at_least, extends_one, as_many_words, tag_low}
+use Rattle.isl_arena.proofs.Growing.{Grows, grows_same, Changes, spot_below, spot_grown}
 use Rattle.isl_arena.proofs.Owners.{new_spot_found}
 use Rattle.isl_arena.proofs.ClassesKept.{IsMade}
 use Rattle.isl_arena.proofs.Representing.{fixed_spot, fixed_stands, represents_same, represents_grown, represents_made, kept_both, kept_same, kept_made, kept_grown, kept_fixed}
 use Rattle.isl_arena.proofs.FixedChanges.{one_word, represents_pending, word_of_fixed}
 use Rattle.isl_arena.proofs.Doing.{Alike, Answers, paid}
+use Rattle.std.proofs.lemmas.Bool.{ne_eqb}
 
 -- ---- arenas
 
@@ -47,68 +48,31 @@ room_for words a = by (nat_le words (left a)) refl
     by true e = is_left (grind (arith, nat_tests))
     by false e = is_wanting (grind (arith, nat_tests))
 
-pub grows_by : {a b : Arena} → Facts a b → Grows a b
-grows_by g = record {
-  size = g.size;
-  laid_from = g.laid_from;
-  laid_to = g.laid_to;
-  heap_from = g.heap_from;
-  heap_to = g.heap_to;
-  stands = g.stands;
-  words = g.words;
-}
-
-pub enlarged_by : {a b : Arena} (words : ℕ) → Facts a b → b.heap_to ≡ a.heap_to + 4 * words → Enlarged a b words
+pub enlarged_by : {a b : Arena} (words : ℕ) → Grows a b → b.heap_to ≡ a.heap_to + 4 * words → Enlarged a b words
 enlarged_by words g to = record { size = g.size; laid_from = g.laid_from; laid_to = g.laid_to; heap_from = g.heap_from; heap_to = to }
 
 -- the arena with so many new words, of which the first ones were stored
 abbrev pub begun : (words : ℕ) → List ℕ → Arena → Arena
 begun words ws a = with_words a.heap_to ws (with_heap words a)
 
--- the arena with new words, which were all stored
-abbrev pub with_new : List ℕ → Arena → Arena
-with_new ws a = begun (length ws) ws a
-
 -- it has the heap and the blocks of before, but for the new words
-stored_heap : (x : ℕ) (ws : List ℕ) (a : Arena) → (with_words x ws a).heap_to ≡ a.heap_to
-stored_heap x [] a = refl
-stored_heap x (w ∷ ws) a = stored_heap (x + 4) ws (with_word x w a)
-
-stored_from : (x : ℕ) (ws : List ℕ) (a : Arena) → (with_words x ws a).heap_from ≡ a.heap_from
-stored_from x [] a = refl
-stored_from x (w ∷ ws) a = stored_from (x + 4) ws (with_word x w a)
-
-stored_blocks : (x : ℕ) (ws : List ℕ) (a : Arena) → (with_words x ws a).blocks ≡ a.blocks
-stored_blocks x [] a = refl
-stored_blocks x (w ∷ ws) a = stored_blocks (x + 4) ws (with_word x w a)
-
 pub begun_heap : (words : ℕ) (ws : List ℕ) (a : Arena) → (begun words ws a).heap_to ≡ a.heap_to + 4 * words
 begun_heap words ws a = stored_heap a.heap_to ws (with_heap words a)
-
-pub begun_from : (words : ℕ) (ws : List ℕ) (a : Arena) → (begun words ws a).heap_from ≡ a.heap_from
-begun_from words ws a = stored_from a.heap_to ws (with_heap words a)
 
 pub begun_blocks : (words : ℕ) (ws : List ℕ) (a : Arena) → (begun words ws a).blocks ≡ a.blocks
 begun_blocks words ws a = stored_blocks a.heap_to ws (with_heap words a)
 
 -- all else stays
-pub begun_facts : {a : Arena} (words : ℕ) (ws : List ℕ) → ArenaStands a → words ≤ left a → Facts a (begun words ws a)
-begun_facts {a} words ws h room = facts_with_words a.heap_to ws (facts_with_heap words h room) h.aligned (omega arith)
-
-pub new_facts : {a : Arena} (ws : List ℕ) → ArenaStands a → length ws ≤ left a → Facts a (with_new ws a)
-new_facts ws h room = begun_facts (length ws) ws h room
+pub begun_grows : {a : Arena} (words : ℕ) (ws : List ℕ) → ArenaStands a → words ≤ left a → Grows a (begun words ws a)
+begun_grows {a} words ws h room = grows_with_words a.heap_to ws (grows_with_heap words h room) h.aligned (omega arith)
 
 -- each word stands where it was stored
 pub begun_word :
-    {a : Arena} (words : ℕ) (ws : List ℕ) (i w : ℕ) → ArenaStands a → words ≤ left a → length ws ≤ words → slice_get ws i ≡ Some w
-    → word_at (begun words ws a) (a.heap_to + 4 * i) ≡ Some w
-begun_word {a} words ws i w h room some found =
-    words_stand a.heap_to ws (with_heap words a) i w (stands_with_heap words h room) h.aligned (omega (arith, h.heap)) (omega arith) found
-
-pub new_word :
-    {a : Arena} (ws : List ℕ) (i w : ℕ) → ArenaStands a → length ws ≤ left a → slice_get ws i ≡ Some w
-    → word_at (with_new ws a) (a.heap_to + 4 * i) ≡ Some w
-new_word ws i w h room found = begun_word (length ws) ws i w h room (omega arith) found
+    {a : Arena} (words : ℕ) (ws : List ℕ) (x i w : ℕ) → ArenaStands a → words ≤ left a → length ws ≤ words → x ≡ a.heap_to + 4 * i → slice_get ws i ≡ Some w
+    → word_at (begun words ws a) x ≡ Some w
+begun_word {a} words ws x i w h room some same found =
+    ap (word_at (begun words ws a)) same
+    ∙ words_stand a.heap_to ws (with_heap words a) i w (stands_with_heap words h room) h.aligned (omega (arith, h.heap)) (omega arith) found
 
 -- a word that is stored in a spot changes at most that spot
 pub changes_stored : {a : Arena} (x w : ℕ) → ArenaStands a → x % 4 ≡ 0 → Changes (one_word x) a (with_word x w a)
@@ -118,23 +82,11 @@ changes_stored {a} x w h aligned = record {
   heap_from = refl;
   heap_to = omega arith;
   stands = stands_with_word x w h;
-  before = λ y low. word_elsewhere a x w y aligned (other y (omega arith));
-  after = λ y low high. word_elsewhere a x w y aligned (behind y (omega arith));
+  before = λ y low. word_elsewhere a x w y aligned (ne_eqb x y (λ same. omega arith));
+  after = λ y low high. word_elsewhere a x w y aligned (ne_eqb x y (λ same. omega arith));
 }
-  where
-    other : (y : ℕ) → y < x → (x == y) ≡ false
-    other y low = grind (arith, nat_tests)
-
-    behind : (y : ℕ) → x + 4 ≤ y → (x == y) ≡ false
-    behind y low = grind (arith, nat_tests)
 
 -- ---- slots
-
-pub as_many_words : (places : Places) (vs : List Value) (ws : List ℕ) → WordsOf places vs ws → length ws ≡ length vs
-as_many_words places [] [] h = refl
-as_many_words places [] (w ∷ ws) h = absurd h
-as_many_words places (v ∷ vs) [] h = absurd h
-as_many_words places (v ∷ vs) (w ∷ ws) h = ap (λ n. suc n) (as_many_words places vs ws h.1)
 
 -- where the words of values stand, so do slots with these values
 pub slot_stands :
@@ -145,30 +97,24 @@ slot_stands places a address (v ∷ vs) [] i h low stand = absurd h
 slot_stands places a address (v ∷ vs) (w ∷ ws) zero h low stand = record { word = w; of_value = h.0; stands = stand w refl }
 slot_stands places a address (v ∷ vs) (w ∷ ws) (suc i) h low stand = slot_stands places a address vs ws i h.1 (omega arith) stand
 
--- ---- tags
-
-pub tag_small : (o : Object) → tag_of o < 4
-tag_small (cons car cdr) = omega arith
-tag_small (string bytes) = omega arith
-tag_small (vector vs) = omega arith
-tag_small (instance c vs mark) = omega arith
-tag_small (function p) = omega arith
-tag_small (closure required rest body env) = omega arith
-tag_small (generic_function g) = omega arith
-tag_small (class_object c) = omega arith
-tag_small input_stream = omega arith
-tag_small output_stream = omega arith
-tag_small (fresh_symbol s) = omega arith
-
 -- ---- a represented state
 
 module _ (names : List (List ℕ)) (program : ProgramRows) (places : Places) (z : meaning.State) (y : State) (r : Represents names program places z y) where
   -- the fixed words are lent, and stand below the heap's end
   pub fixed_below : 184 ≤ y.arena.heap_to
-  fixed_below = spot_below y.arena fixed_spot r.arena (fixed_stands names program places z y r)
+  fixed_below = spot_below r.arena (fixed_stands names program places z y r)
 
   pub fixed_lent : (x : ℕ) → x % 4 ≡ 0 → x < 184 → is_lent y.arena x ≡ true
   fixed_lent x aligned high = in_spot_lent x (fixed_stands names program places z y r) aligned (omega arith) high
+
+  -- also where the arena grew
+  pub fixed_still_lent : (b : Arena) → Grows y.arena b → (x : ℕ) → x % 4 ≡ 0 → x < 184 → is_lent b x ≡ true
+  fixed_still_lent b g x aligned high = in_spot_lent x (spot_grown g (fixed_stands names program places z y r)) aligned (omega arith) high
+
+  -- what is stored there stands there
+  pub stored_fixed : (address word : ℕ) → address % 4 ≡ 0 → address < 184 → word_at (with_word address word y.arena) address ≡ Some word
+  stored_fixed address word aligned low =
+      word_here y.arena address word (fixed_lent address aligned low) (in_spot_there {s = fixed_spot} address r.arena (fixed_stands names program places z y r) (omega arith))
 
 module _ (names : List (List ℕ)) (program : ProgramRows) (places : Places) (z : meaning.State) (y : State) (r : Represents names program places z y) where
   -- words that are not left were asked for, where nothing else changed
@@ -197,7 +143,7 @@ module _ (names : List (List ℕ)) (program : ProgramRows) (places : Places) (z 
 
   -- a new object, at the end of the heap, in an arena that grew by its words
   module _
-      (words tag : ℕ) (o : Object) (y' : State) (g : Facts y.arena y'.arena) (to : y'.arena.heap_to ≡ y.arena.heap_to + 4 * words)
+      (words tag : ℕ) (o : Object) (y' : State) (g : Grows y.arena y'.arena) (to : y'.arena.heap_to ≡ y.arena.heap_to + 4 * words)
       (blocks : y'.arena.blocks ≡ y.arena.blocks) (printed : y'.printed ≡ y.printed) (input : y'.input ≡ y.input) (some : 1 ≤ words) (small : tag < 4)
     where
       -- the spot of the object, and the places with it
@@ -211,7 +157,7 @@ module _ (names : List (List ℕ)) (program : ProgramRows) (places : Places) (z 
         -- it is represented
         pub represents_new : Represents names program places_made (meaning.stored o z') y'
         represents_new =
-            represents_made names program places z' y (represents_same names program places z z' y alike.store alike.symbols alike.printed alike.input r) y' (grows_by g) printed input
+            represents_made names program places z' y (represents_same names program places z z' y alike.store alike.symbols alike.printed alike.input r) y' g printed input
             spot_made o refl (omega (arith, to)) some small made is_made
 
         -- and it is the value of its pointer
@@ -229,19 +175,19 @@ module _ (names : List (List ℕ)) (program : ProgramRows) (places : Places) (z 
           represents = represents_new;
           arena = enlarged_by words g to;
           blocks = blocks;
-          kept = kept_grown names program places z y r y'.arena (grows_by g);
+          kept = kept_grown names program places z y r y'.arena g;
         }
 
   -- so such a run answers
   pub answers_made :
-      {budget : ℕ} (size besides : ℕ) (o : Object) (z' : meaning.State) (y' : State) (rs : Registers) → Alike z z' → Facts y.arena y'.arena
+      {budget : ℕ} (size besides : ℕ) (o : Object) (z' : meaning.State) (y' : State) (rs : Registers) → Alike z z' → Grows y.arena y'.arena
       → y'.arena.heap_to ≡ y.arena.heap_to + 4 * size → y'.arena.blocks ≡ y.arena.blocks → y'.printed ≡ y.printed → y'.input ≡ y.input → 1 ≤ size
       → ObjectAt names program (with_object (record { address = y.arena.heap_to; words = size; tag = tag_of o }) places) y'.arena
       (record { address = y.arena.heap_to; words = size; tag = tag_of o }) o
       → IsMade program o → y'.cost + 250 * z.units ≤ budget + 250 * (z'.units + size + besides)
       → Answers names program places z y budget (makes size besides o z') (ends (returns (y.arena.heap_to + tag_of o)) rs y')
   answers_made size besides o z' y' rs alike g to blocks printed input some made is_made cost = record {
-    comes = done (returned_new size (tag_of o) o y' g to blocks printed input some (tag_small o) z' alike made is_made rs);
+    comes = done (returned_new size (tag_of o) o y' g to blocks printed input some (omega (arith, tag_low o)) z' alike made is_made rs);
     cost = cost;
   }
 
@@ -267,11 +213,8 @@ module _ (names : List (List ℕ)) (program : ProgramRows) (places : Places) (z 
       all_words : length stored_words ≤ 3 + length vs
       all_words = omega (arith, length-append ws (nil_word ∷ []), as_many_words places vs ws are)
 
-      there : (i w : ℕ) → slice_get stored_words i ≡ Some w → word_at condition_arena (y.arena.heap_to + 4 * i) ≡ Some w
-      there i w found = begun_word (3 + length vs) stored_words i w r.arena room all_words found
-
       moved : (x i w : ℕ) → x ≡ y.arena.heap_to + 4 * i → slice_get stored_words i ≡ Some w → word_at condition_arena x ≡ Some w
-      moved x i w same found = ap (word_at condition_arena) same ∙ there i w found
+      moved x i w same found = begun_word (3 + length vs) stored_words x i w r.arena room all_words same found
 
       as_many : length (map (λ v. Some v) vs) ≡ length vs
       as_many = length-map vs (λ v. Some v)
@@ -305,7 +248,7 @@ module _ (names : List (List ℕ)) (program : ProgramRows) (places : Places) (z 
   -- where a new condition stands, and its pointer was stored at the fixed address, it is to be signalled
   pub signalled_new :
       (class : ℕ) (vs : List Value) (words : ℕ) (z' : meaning.State) (y' : State) (rs : Registers) (k : ℕ) → Alike z z'
-      → words ≡ instance_words program class (length vs) → Facts y.arena y'.arena → y'.arena.heap_to ≡ y.arena.heap_to + 4 * words
+      → words ≡ instance_words program class (length vs) → Grows y.arena y'.arena → y'.arena.heap_to ≡ y.arena.heap_to + 4 * words
       → y'.arena.blocks ≡ y.arena.blocks → y'.printed ≡ y.printed → y'.input ≡ y.input
       → InstanceAt names program (with_object (record { address = y.arena.heap_to; words = words; tag = object_tag }) places) y'.arena
       (record { address = y.arena.heap_to; words = words; tag = object_tag }) class (map (λ v. Some v) vs) nil
@@ -348,9 +291,7 @@ module _ (names : List (List ℕ)) (program : ProgramRows) (places : Places) (z 
         pending = record {
           word = word;
           of_value = pointer_made words object_tag condition y' g to blocks printed input some (omega arith) z' alike made known;
-          stands =
-              word_here y'.arena pending_address word (fixed_lent names program after (meaning.stored condition z') y' there pending_address refl (omega arith))
-              (in_spot_there {s = fixed_spot} pending_address g.stands (fixed_stands names program after (meaning.stored condition z') y' there) (omega arith));
+          stands = stored_fixed names program after (meaning.stored condition z') y' there pending_address word refl (omega arith);
         };
         arena = record {
           size = length-set y'.arena.memory (pending_address / 4) (Some word) ∙ g.size;
@@ -361,7 +302,7 @@ module _ (names : List (List ℕ)) (program : ProgramRows) (places : Places) (z 
         };
         blocks = blocks;
         kept =
-            kept_both places z y.arena y'.arena pending_state.arena (kept_grown names program places z y r y'.arena (grows_by g))
+            kept_both places z y.arena y'.arena pending_state.arena (kept_grown names program places z y r y'.arena g)
             (kept_same places z z' y'.arena pending_state.arena alike.store
             (kept_made places z' spot condition y'.arena pending_state.arena
             (kept_fixed names program after (meaning.stored condition z') y' there pending_state.arena

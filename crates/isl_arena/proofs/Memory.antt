@@ -1,5 +1,5 @@
 -- What stands where after a change of the arena.
-use Rattle.std.proofs.Common.{◌≡◌, ℕ, zero, suc, ◌+◌, ◌-◌, ◌*◌, ◌/◌, ◌%◌, ◌^◌, ◌<◌, ◌≤◌, length, Bool, true, false, List, [], ◌∷◌, ◌++◌, Option, Some, None, refl, ap, ◌∙◌, arith}
+use Rattle.std.proofs.Common.{◌≡◌, ℕ, zero, suc, ◌+◌, ◌*◌, ◌/◌, ◌%◌, ◌^◌, ◌<◌, ◌≤◌, length, Bool, true, false, List, [], ◌∷◌, Option, Some, None, refl, ap, ◌∙◌, arith}
 use Rattle.std.specs.Prelude.{◌==◌, ◌&&◌, ◌||◌, if◌then◌else◌, slice_get, slice_set}
 use Rattle.std.proofs.lemmas.Bool.Decides.{nat_tests}
 use Rattle.std.proofs.Math.ListN.{length-set}
@@ -7,6 +7,10 @@ use Rattle.isl_mid.specs.Arena.{Block, is_record, Arena, words_of, begin_of, len
 use Rattle.isl_mid.proofs.Growth.{length-emptied}
 use Rattle.isl_arena.specs.Places.{Spot, end_of}
 use Rattle.isl_arena.specs.Standing.{ArenaStands, IsLentPart, of_laid, of_heap, SpotStands}
+use Rattle.isl_arena.proofs.Growing.{Grows, spot_below}
+use Rattle.std.proofs.lemmas.Bool.{eq-eqb, ne_eqb, and_from, or_left, or_right}
+use Rattle.isl_arena.proofs.Lists.{set_here, set_elsewhere}
+use Rattle.isl_mid.proofs.WordBounds.{first_true}
 
 -- tests
 
@@ -16,46 +20,14 @@ within from to x h g = grind (arith, nat_tests)
 not_within_below : (from to x : ℕ) → x < from → is_within from to x ≡ false
 not_within_below from to x h = grind (arith, nat_tests)
 
-is_same : (m n : ℕ) → m ≡ n → (m == n) ≡ true
-is_same m n e = grind (arith, nat_tests)
-
--- lists
-
-got_here : {X : Type 0} (xs : List X) (i : ℕ) (x : X) → i < length xs → slice_get (slice_set xs i x) i ≡ Some x
-got_here [] i x h = absurd (omega arith)
-got_here (y ∷ ys) zero x h = refl
-got_here (y ∷ ys) (suc i) x h = got_here ys i x (omega arith)
-
-got_elsewhere : {X : Type 0} (xs : List X) (i j : ℕ) (x : X) → (i ≡ j → ⊥) → slice_get (slice_set xs i x) j ≡ slice_get xs j
-got_elsewhere [] i j x h = refl
-got_elsewhere (y ∷ ys) zero zero x h = absurd (h refl)
-got_elsewhere (y ∷ ys) zero (suc j) x h = refl
-got_elsewhere (y ∷ ys) (suc i) zero x h = refl
-got_elsewhere (y ∷ ys) (suc i) (suc j) x h = got_elsewhere ys i j x (λ e. h (ap (λ n. suc n) e))
-
--- memory with words emptied: those in front are as they were, and at the places themselves there is none
+-- memory with words emptied: those in front are as they were
 emptied_in_front : (i n : ℕ) (ws : List (Option ℕ)) (j : ℕ) → j < i → slice_get (emptied i n ws) j ≡ slice_get ws j
 emptied_in_front i n [] j h = refl
 emptied_in_front zero n (w ∷ ws) j h = absurd (omega arith)
 emptied_in_front (suc i) n (w ∷ ws) zero h = refl
 emptied_in_front (suc i) n (w ∷ ws) (suc j) h = emptied_in_front i n ws j (omega arith)
 
-emptied_within : (i n : ℕ) (ws : List (Option ℕ)) (j : ℕ) → i ≤ j → j < i + n → word_in (slice_get (emptied i n ws) j) ≡ None
-emptied_within i n [] j h g = refl
-emptied_within zero zero (w ∷ ws) j h g = absurd (omega arith)
-emptied_within zero (suc n) (w ∷ ws) zero h g = refl
-emptied_within zero (suc n) (w ∷ ws) (suc j) h g = emptied_within zero n ws j (omega arith) (omega arith)
-emptied_within (suc i) n (w ∷ ws) zero h g = absurd (omega arith)
-emptied_within (suc i) n (w ∷ ws) (suc j) h g = emptied_within i n ws j (omega arith) (omega arith)
-
 -- what is lent
-
-true_and : (a b : Bool) → a ≡ true → b ≡ true → (a && b) ≡ true
-true_and a b h g = cc
-
-first_and : (a b : Bool) → (a && b) ≡ true → a ≡ true
-first_and true b h = refl
-first_and false b h = absurd (cc h)
 
 -- below the stack no word is in a record
 not_in_record : (size : ℕ) (bs : List Block) (x : ℕ) → x < begin_of size bs → is_in_record size bs x ≡ false
@@ -71,14 +43,14 @@ not_in_record size (b ∷ bs) x h =
 
 aligned : (a : Arena) (x : ℕ) → is_lent a x ≡ true → x % 4 ≡ 0
 aligned a x h =
-    let e : (x % 4 == 0) ≡ true = first_and (x % 4 == 0) _ h in
+    let e : (x % 4 == 0) ≡ true = first_true (x % 4 == 0) _ h in
     grind (arith, nat_tests)
 
 -- the same word, where the same is lent and the word there is the same
-same_word :
+same_lent_word :
     (a b : Arena) (x : ℕ) → is_lent b x ≡ is_lent a x → (is_lent a x ≡ true → word_in (slice_get b.memory (x / 4)) ≡ word_in (slice_get a.memory (x / 4)))
     → word_at b x ≡ word_at a x
-same_word a b x e h = by_test (is_lent b x) (is_lent a x) _ _ e h
+same_lent_word a b x e h = by_test (is_lent b x) (is_lent a x) _ _ e h
   where
     by_test : (s t : Bool) (v w : Option ℕ) → s ≡ t → (t ≡ true → v ≡ w) → (if s then v else None) ≡ (if t then w else None)
     by_test true true v w e h = h refl
@@ -92,19 +64,10 @@ word_found a x h = ap (λ t. if t then word_in (slice_get a.memory (x / 4)) else
 -- spots that stand
 
 pub lent_in_heap : (a : Arena) (x : ℕ) → x % 4 ≡ 0 → a.heap_from ≤ x → x < a.heap_to → is_lent a x ≡ true
-lent_in_heap a x e h g = true_and _ _ (is_same _ _ e) (second_of_three _ _ _ (within _ _ x h g))
-  where
-    second_of_three : (p q r : Bool) → q ≡ true → (p || q || r) ≡ true
-    second_of_three true q r h = refl
-    second_of_three false true r h = refl
-    second_of_three false false r h = absurd (cc h)
+lent_in_heap a x e h g = and_from _ _ (eq-eqb _ _ e) (or_left _ _ (or_right _ _ (within _ _ x h g)))
 
 pub lent_in_laid : (a : Arena) (x : ℕ) → x % 4 ≡ 0 → a.laid_from ≤ x → x < a.laid_to → is_lent a x ≡ true
-lent_in_laid a x e h g = true_and _ _ (is_same _ _ e) (first_of_three _ _ _ (within _ _ x h g))
-  where
-    first_of_three : (p q r : Bool) → p ≡ true → (p || q || r) ≡ true
-    first_of_three true q r h = refl
-    first_of_three false q r h = absurd (cc h)
+lent_in_laid a x e h g = and_from _ _ (eq-eqb _ _ e) (or_left _ _ (or_left _ _ (within _ _ x h g)))
 
 -- an address in a spot that stands is lent
 pub in_spot_lent : {a : Arena} {s : Spot} (x : ℕ) → SpotStands a s → x % 4 ≡ 0 → s.address ≤ x → x < end_of s → is_lent a x ≡ true
@@ -114,19 +77,15 @@ in_spot_lent {a} {s} x stands e h g = from stands.part
     from (of_laid low high) = lent_in_laid a x e (omega arith) (omega arith)
     from (of_heap low high) = lent_in_heap a x e (omega arith) (omega arith)
 
--- below where the heap ends, and so below the stack
-pub spot_below : {a : Arena} {s : Spot} → ArenaStands a → SpotStands a s → end_of s ≤ a.heap_to
-spot_below {a} {s} arena stands = from stands.part
-  where
-    from : IsLentPart a s → end_of s ≤ a.heap_to
-    from (of_laid low high) = omega (arith, arena.laid, arena.heap)
-    from (of_heap low high) = high
-
 -- where the heap ends is no more than 2 ^ 26, so addresses are words
 pub heap_below : {a : Arena} → ArenaStands a → a.heap_to ≤ 2 ^ 26
 heap_below {a} arena = omega (arith, arena.room, arena.size)
 
--- and there is a word of the memory at it
+-- and so are those of the words of a spot
+pub spot_low : {a : Arena} {s : Spot} → ArenaStands a → SpotStands a s → end_of s ≤ 2 ^ 26
+spot_low arena stands = omega (arith, spot_below arena stands, heap_below arena)
+
+-- there is a word of the memory at an address in front of where the heap ends
 pub in_heap_there : {a : Arena} (x : ℕ) → ArenaStands a → x < a.heap_to → x / 4 < length a.memory
 in_heap_there {a} x arena h = omega (arith, arena.room, arena.aligned)
 
@@ -150,7 +109,7 @@ lent_with_word a x w y =
 
 pub word_here : (a : Arena) (x w : ℕ) → is_lent a x ≡ true → x / 4 < length a.memory → word_at (with_word x w a) x ≡ Some w
 word_here a x w h g =
-    word_found (with_word x w a) x (lent_with_word a x w x ∙ h) ∙ ap word_in (got_here a.memory (x / 4) (Some w) g)
+    word_found (with_word x w a) x (lent_with_word a x w x ∙ h) ∙ ap word_in (set_here a.memory (x / 4) (Some w) g)
 
 -- the same for an address in the heap
 pub stored_in_heap : {a : Arena} (x w : ℕ) → ArenaStands a → x % 4 ≡ 0 → a.heap_from ≤ x → x < a.heap_to → word_at (with_word x w a) x ≡ Some w
@@ -158,8 +117,8 @@ stored_in_heap {a} x w h e low high = word_here a x w (lent_in_heap a x e low hi
 
 pub word_elsewhere : (a : Arena) (x w y : ℕ) → x % 4 ≡ 0 → (x == y) ≡ false → word_at (with_word x w a) y ≡ word_at a y
 word_elsewhere a x w y e h =
-    same_word a (with_word x w a) y (lent_with_word a x w y)
-    (λ l. ap word_in (got_elsewhere a.memory (x / 4) (y / 4) (Some w) (λ same. other (omega (arith, aligned a y l)))))
+    same_lent_word a (with_word x w a) y (lent_with_word a x w y)
+    (λ l. ap word_in (set_elsewhere a.memory (x / 4) (y / 4) (Some w) (λ same. other (omega (arith, aligned a y l)))))
   where
     other : x ≡ y → ⊥
     other same = grind (arith, nat_tests)
@@ -175,16 +134,6 @@ stands_with_word {a} x w h =
       room = omega (arith, same, h.room);
       blocks = omega (arith, same, h.blocks);
     }
-
--- What stays where an arena grows: the bounds but for the heap, which may have grown, and the words laid and in the heap.
-pub record Facts (earlier later : Arena) : Type 0 where
-  pub size : length later.memory ≡ length earlier.memory
-  pub laid_from : later.laid_from ≡ earlier.laid_from
-  pub laid_to : later.laid_to ≡ earlier.laid_to
-  pub heap_from : later.heap_from ≡ earlier.heap_from
-  pub heap_to : earlier.heap_to ≤ later.heap_to
-  pub stands : ArenaStands later
-  pub words : (x : ℕ) → x < earlier.heap_to → word_at later x ≡ word_at earlier x
 
 -- below the heap's end and the stack, whether an address is lent does not hang on where they end
 lent_below :
@@ -202,7 +151,7 @@ words_below :
 words_below a b x h e f g more room same low =
     let here : is_in_record (length a.memory) a.blocks x ≡ false = not_in_record (length a.memory) a.blocks x (omega (arith, h.room)) in
     let there : is_in_record (length b.memory) b.blocks x ≡ false = not_in_record (length b.memory) b.blocks x (omega (arith, room)) in
-    same_word a b x
+    same_lent_word a b x
     (ap (λ n. (x % 4 == 0) && (is_within n b.laid_to x || is_within b.heap_from b.heap_to x || is_in_record (length b.memory) b.blocks x)) e
     ∙ ap (λ n. (x % 4 == 0) && (is_within a.laid_from n x || is_within b.heap_from b.heap_to x || is_in_record (length b.memory) b.blocks x)) f
     ∙ ap (λ n. (x % 4 == 0) && (is_within a.laid_from a.laid_to x || is_within n b.heap_to x || is_in_record (length b.memory) b.blocks x)) g
@@ -223,8 +172,8 @@ stands_with_heap {a} n h some =
       blocks = omega (arith, same, h.blocks);
     }
 
-pub facts_with_heap : {a : Arena} (n : ℕ) → ArenaStands a → n ≤ left a → Facts a (with_heap n a)
-facts_with_heap {a} n h some =
+pub grows_with_heap : {a : Arena} (n : ℕ) → ArenaStands a → n ≤ left a → Grows a (with_heap n a)
+grows_with_heap {a} n h some =
     let same : length (emptied (a.heap_to / 4) n a.memory) ≡ length a.memory = length-emptied (a.heap_to / 4) n a.memory in
     record {
       size = same;
@@ -237,36 +186,6 @@ facts_with_heap {a} n h some =
           words_below a (with_heap n a) x h refl refl refl (omega arith) (omega (arith, same, h.room))
           (emptied_in_front (a.heap_to / 4) n a.memory (x / 4) (omega (arith, h.aligned))) low;
     }
-
--- the new words are lent, and nothing was stored there; by their addresses, and by their numbers
-
-pub new_lent : {a : Arena} (n x : ℕ) → ArenaStands a → x % 4 ≡ 0 → a.heap_to ≤ x → x < a.heap_to + 4 * n → is_lent (with_heap n a) x ≡ true
-new_lent {a} n x h e low high = lent_in_heap (with_heap n a) x e (omega (arith, h.heap)) high
-
-pub new_none : {a : Arena} (n x : ℕ) → ArenaStands a → x % 4 ≡ 0 → a.heap_to ≤ x → x < a.heap_to + 4 * n → word_at (with_heap n a) x ≡ None
-new_none {a} n x h e low high =
-    word_found (with_heap n a) x (new_lent n x h e low high)
-    ∙ emptied_within (a.heap_to / 4) n a.memory (x / 4) (omega arith) (omega (arith, h.aligned))
-
-pub new_word_lent : {a : Arena} (n k : ℕ) → ArenaStands a → k < n → is_lent (with_heap n a) (a.heap_to + 4 * k) ≡ true
-new_word_lent {a} n k h low = new_lent n (a.heap_to + 4 * k) h (omega (arith, h.aligned)) (omega arith) (omega arith)
-
-pub new_word_none : {a : Arena} (n k : ℕ) → ArenaStands a → k < n → word_at (with_heap n a) (a.heap_to + 4 * k) ≡ None
-new_word_none {a} n k h low = new_none n (a.heap_to + 4 * k) h (omega (arith, h.aligned)) (omega arith) (omega arith)
-
--- they are a spot
-pub new_spot_stands :
-    {a : Arena} (n tag : ℕ) → ArenaStands a → 1 ≤ n → tag < 4 → SpotStands (with_heap n a) (record { address = a.heap_to; words = n; tag = tag })
-new_spot_stands {a} n tag h some small =
-    record { aligned = h.aligned; some = some; tag = small; part = of_heap h.heap (omega arith) }
-
--- a spot that stands still does
-pub spot_still_stands : {a b : Arena} {s : Spot} → Facts a b → SpotStands a s → SpotStands b s
-spot_still_stands {a} {b} {s} g h = record { aligned = h.aligned; some = h.some; tag = h.tag; part = from h.part }
-  where
-    from : IsLentPart a s → IsLentPart b s
-    from (of_laid low high) = of_laid (omega (arith, g.laid_from)) (omega (arith, g.laid_to))
-    from (of_heap low high) = of_heap (omega (arith, g.heap_from)) (omega (arith, g.heap_to))
 
 -- a block is laid
 
@@ -282,8 +201,8 @@ stands_with_new_block {a} b h some =
       blocks = omega (arith, same, h.blocks);
     }
 
-pub facts_with_new_block : {a : Arena} (b : Block) → ArenaStands a → b.words ≤ left a → Facts a (with_new_block b a)
-facts_with_new_block {a} b h some =
+pub grows_with_new_block : {a : Arena} (b : Block) → ArenaStands a → b.words ≤ left a → Grows a (with_new_block b a)
+grows_with_new_block {a} b h some =
     let same : length (with_new_block b a).memory ≡ length a.memory = length-emptied _ b.words a.memory in
     record {
       size = same;
@@ -315,8 +234,8 @@ stands_with_blocks {a} bs h fewer = record {
   blocks = omega (arith, h.blocks);
 }
 
-pub facts_with_blocks : {a : Arena} (bs : List Block) → ArenaStands a → words_of bs ≤ words_of a.blocks → Facts a (with_blocks bs a)
-facts_with_blocks {a} bs h fewer = record {
+pub grows_with_blocks : {a : Arena} (bs : List Block) → ArenaStands a → words_of bs ≤ words_of a.blocks → Grows a (with_blocks bs a)
+grows_with_blocks {a} bs h fewer = record {
   size = refl;
   laid_from = refl;
   laid_to = refl;
@@ -326,64 +245,23 @@ facts_with_blocks {a} bs h fewer = record {
   words = λ x low. words_below a (with_blocks bs a) x h refl refl refl (omega arith) (omega (arith, h.room)) refl low;
 }
 
-pub left_with_blocks : {a : Arena} (bs : List Block) → ArenaStands a → words_of bs ≤ words_of a.blocks → left (with_blocks bs a) + words_of bs ≡ left a + words_of a.blocks
-left_with_blocks {a} bs h fewer = omega (arith, h.room, h.blocks)
-
 -- the innermost block is given back
-pub facts_given_back : {a : Arena} (b : Block) (bs : List Block) → ArenaStands a → a.blocks ≡ b ∷ bs → Facts a (with_blocks bs a)
-facts_given_back {a} b bs h e =
+pub grows_given_back : {a : Arena} (b : Block) (bs : List Block) → ArenaStands a → a.blocks ≡ b ∷ bs → Grows a (with_blocks bs a)
+grows_given_back {a} b bs h e =
     let same : words_of a.blocks ≡ b.words + words_of bs = ap words_of e in
-    facts_with_blocks bs h (omega arith)
-
-pub left_given_back : {a : Arena} (b : Block) (bs : List Block) → ArenaStands a → a.blocks ≡ b ∷ bs → left (with_blocks bs a) ≡ left a + b.words
-left_given_back {a} b bs h e =
-    let same : words_of a.blocks ≡ b.words + words_of bs = ap words_of e in
-    omega (arith, h.room, h.blocks)
-
--- how many words are left otherwise
-
-pub left_with_word : (a : Arena) (x w : ℕ) → left (with_word x w a) ≡ left a
-left_with_word a x w = ap (λ n. (begin_of n a.blocks - a.heap_to) / 4) (length-set a.memory (x / 4) (Some w))
-
-pub left_with_heap : {a : Arena} (n : ℕ) → ArenaStands a → n ≤ left a → left (with_heap n a) + n ≡ left a
-left_with_heap {a} n h some =
-    let same : length (emptied (a.heap_to / 4) n a.memory) ≡ length a.memory = length-emptied (a.heap_to / 4) n a.memory in
-    omega (arith, same, h.room, h.blocks)
-
--- one change after another
-
-pub facts_same : {a : Arena} → ArenaStands a → Facts a a
-facts_same h = record { size = refl; laid_from = refl; laid_to = refl; heap_from = refl; heap_to = omega arith; stands = h; words = λ x low. refl }
-
-pub facts_both : {a b c : Arena} → Facts a b → Facts b c → Facts a c
-facts_both {a} {b} {c} g h = record {
-  size = h.size ∙ g.size;
-  laid_from = h.laid_from ∙ g.laid_from;
-  laid_to = h.laid_to ∙ g.laid_to;
-  heap_from = h.heap_from ∙ g.heap_from;
-  heap_to = omega (arith, g.heap_to, h.heap_to);
-  stands = h.stands;
-  words = λ x low. h.words x (omega (arith, low, g.heap_to)) ∙ g.words x low;
-}
+    grows_with_blocks bs h (omega arith)
 
 -- a word is stored above where the heap ended before
-pub facts_stored : {a b : Arena} (x w : ℕ) → Facts a b → x % 4 ≡ 0 → a.heap_to ≤ x → Facts a (with_word x w b)
-facts_stored {a} {b} x w g e above = record {
+pub grows_stored : {a b : Arena} (x w : ℕ) → Grows a b → x % 4 ≡ 0 → a.heap_to ≤ x → Grows a (with_word x w b)
+grows_stored {a} {b} x w g e above = record {
   size = length-set b.memory (x / 4) (Some w) ∙ g.size;
   laid_from = g.laid_from;
   laid_to = g.laid_to;
   heap_from = g.heap_from;
   heap_to = g.heap_to;
   stands = stands_with_word x w g.stands;
-  words = λ y low. word_elsewhere b x w y e (is_other x y (omega arith)) ∙ g.words y low;
+  words = λ y low. word_elsewhere b x w y e (ne_eqb x y (λ same. omega arith)) ∙ g.words y low;
 }
-  where
-    is_other : (m n : ℕ) → n < m → (m == n) ≡ false
-    is_other m n h = grind (arith, nat_tests)
-
--- the frame of a procedure is laid, what the body does grows from there, and the blocks are those of before again
-pub facts_left : {a b : Arena} (block : Block) → ArenaStands a → block.words ≤ left a → Facts (with_new_block block a) b → b.blocks ≡ block ∷ a.blocks → Facts a (with_blocks a.blocks b)
-facts_left {a} {b} block h some g e = facts_both (facts_both (facts_with_new_block block h some) g) (facts_given_back block a.blocks g.stands e)
 
 -- the words of a spot by their numbers: one is stored, the others are as before
 
@@ -396,40 +274,30 @@ pub others_in_spot :
 others_in_spot {a} {s} i j w stands h =
     word_elsewhere a (s.address + 4 * i) w (s.address + 4 * j) (omega (arith, stands.aligned)) (grind (arith, nat_tests))
 
-pub spot_stands_with_word : {a : Arena} {s : Spot} (x w : ℕ) → SpotStands a s → SpotStands (with_word x w a) s
-spot_stands_with_word {a} {s} x w h = record { aligned = h.aligned; some = h.some; tag = h.tag; part = from h.part }
-  where
-    from : IsLentPart a s → IsLentPart (with_word x w a) s
-    from (of_laid low high) = of_laid low high
-    from (of_heap low high) = of_heap low high
-
 -- words that are stored one after another from an address on
 abbrev pub with_words : ℕ → List ℕ → Arena → Arena
 with_words x [] a = a
 with_words x (w ∷ ws) a = with_words (x + 4) ws (with_word x w a)
 
--- one more behind them
-pub with_words_and : (x : ℕ) (ws : List ℕ) (w : ℕ) (a : Arena) → with_words x (ws ++ w ∷ []) a ≡ with_word (x + 4 * length ws) w (with_words x ws a)
-with_words_and x [] w a = ap (λ n. with_word n w a) (omega arith)
-with_words_and x (v ∷ ws) w a =
-    with_words_and (x + 4) ws w (with_word x v a) ∙ ap (λ n. with_word n w (with_words (x + 4) ws (with_word x v a))) (omega arith)
+-- the heap and the blocks are those of before
+pub stored_heap : (x : ℕ) (ws : List ℕ) (a : Arena) → (with_words x ws a).heap_to ≡ a.heap_to
+stored_heap x [] a = refl
+stored_heap x (w ∷ ws) a = stored_heap (x + 4) ws (with_word x w a)
+
+pub stored_blocks : (x : ℕ) (ws : List ℕ) (a : Arena) → (with_words x ws a).blocks ≡ a.blocks
+stored_blocks x [] a = refl
+stored_blocks x (w ∷ ws) a = stored_blocks (x + 4) ws (with_word x w a)
 
 -- the words in front and behind are as they were
 pub words_in_front : (x : ℕ) (ws : List ℕ) (a : Arena) (y : ℕ) → x % 4 ≡ 0 → y < x → word_at (with_words x ws a) y ≡ word_at a y
 words_in_front x [] a y e h = refl
 words_in_front x (w ∷ ws) a y e h =
-    words_in_front (x + 4) ws (with_word x w a) y (omega arith) (omega arith) ∙ word_elsewhere a x w y e (differs x y h)
-  where
-    differs : (m n : ℕ) → n < m → (m == n) ≡ false
-    differs m n h = grind (arith, nat_tests)
+    words_in_front (x + 4) ws (with_word x w a) y (omega arith) (omega arith) ∙ word_elsewhere a x w y e (ne_eqb x y (λ same. omega arith))
 
 pub words_behind : (x : ℕ) (ws : List ℕ) (a : Arena) (y : ℕ) → x % 4 ≡ 0 → x + 4 * length ws ≤ y → word_at (with_words x ws a) y ≡ word_at a y
 words_behind x [] a y e h = refl
 words_behind x (w ∷ ws) a y e h =
-    words_behind (x + 4) ws (with_word x w a) y (omega arith) (omega arith) ∙ word_elsewhere a x w y e (differs x y (omega arith))
-  where
-    differs : (m n : ℕ) → m < n → (m == n) ≡ false
-    differs m n h = grind (arith, nat_tests)
+    words_behind (x + 4) ws (with_word x w a) y (omega arith) (omega arith) ∙ word_elsewhere a x w y e (ne_eqb x y (λ same. omega arith))
 
 -- and they stand where they were stored
 pub words_stand :
@@ -445,6 +313,6 @@ words_stand x (v ∷ ws) a (suc i) w h e low high found =
     ∙ words_stand (x + 4) ws (with_word x v a) i w (stands_with_word x v h) (omega arith) (omega arith) (omega arith) found
 
 -- an arena grows where they are stored above where the heap ended before
-pub facts_with_words : {a b : Arena} (x : ℕ) (ws : List ℕ) → Facts a b → x % 4 ≡ 0 → a.heap_to ≤ x → Facts a (with_words x ws b)
-facts_with_words {a} {b} x [] g e above = g
-facts_with_words {a} {b} x (w ∷ ws) g e above = facts_with_words {a = a} {b = with_word x w b} (x + 4) ws (facts_stored x w g e above) (omega arith) (omega arith)
+pub grows_with_words : {a b : Arena} (x : ℕ) (ws : List ℕ) → Grows a b → x % 4 ≡ 0 → a.heap_to ≤ x → Grows a (with_words x ws b)
+grows_with_words {a} {b} x [] g e above = g
+grows_with_words {a} {b} x (w ∷ ws) g e above = grows_with_words {a = a} {b = with_word x w b} (x + 4) ws (grows_stored x w g e above) (omega arith) (omega arith)

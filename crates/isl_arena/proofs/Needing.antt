@@ -21,12 +21,13 @@ use Rattle.isl_arena.specs.Steps as steps
 use Rattle.isl_arena.specs.Steps.{steps_of}
 use Rattle.isl_arena.specs.declared.line.Line.TheVariants as line
 use Rattle.isl_arena.proofs.Keeping.{header_of}
-use Rattle.isl_arena.proofs.WordFacts.{tag_tested, low_four_bits_tested, header_tested, two_headers_tested}
+use Rattle.isl_arena.proofs.WordFacts.{tag_tested, low_four_bits_tested, equal_bit, two_headers_tested}
 use Rattle.isl_arena.proofs.HeaderKinds.{instance_of, stream_of}
 use Rattle.isl_arena.proofs.Telling.{FoundByHeader, found_kind, found_other_kind, found_other_tag, string_told, vector_told, class_told, instance_told, stream_told}
 use Rattle.isl_arena.proofs.Doing.{Run, goes_on, second_answers, part_then, part_answers, paid}
-use Rattle.isl_arena.proofs.Checking.{tag_registers, header_registers, instance_registers, Scratched, scratched_six, scratched_seven, six_here, seven_behind_six, errs, tag_scratched, tag_passes, tag_errs, header_loaded, header_passes, header_errs, header_errs_by_tag, header_bounded}
+use Rattle.isl_arena.proofs.Checking.{tag_registers, header_registers, instance_registers, errs, tag_scratched, tag_passes, tag_errs, header_loaded, header_passes, header_errs, header_errs_by_tag, header_bounded}
 use Rattle.isl_arena.proofs.Running.{RunsTo, turning, none_left, and_then, parts_then, constant_falls, compute_falls, choose_first_falls}
+use Rattle.isl_arena.proofs.Registers.{Scratched, scratched_seven, scratched_six, seven_behind_six, six_here}
 
 module _
     (names : List (List ℕ)) (program : ProgramRows) (places : Places) (z : meaning.State) (y : State) (r : Represents names program places z y)
@@ -71,7 +72,7 @@ module _
         (k + 6 + 10 + 6 + 12 + 2 + 8 + 6 + 10 + 6 + 12 + 2))
         → Run names program places z y procedures below n budget (a_string v z next) (code_of (steps.need_header of string_header 1 (pos (class_address string_class)) ++ rest)) rs k
     string_needed n budget k of w v next rest rs low size held word cost more =
-        kind_needed as_string string (λ h. h == string_header) string_header 1 string_class (λ h g. header_tested h string_header g (omega arith)) (omega arith)
+        kind_needed as_string string (λ h. h == string_header) string_header 1 string_class (λ h g. equal_bit h string_header g (omega arith)) (omega arith)
         n budget k of w v next rest rs low size held word (string_told names program places z y r v w word) cost (λ bytes found at. more bytes found)
 
     pub vector_needed :
@@ -82,7 +83,7 @@ module _
         (k + 6 + 10 + 6 + 12 + 2 + 8 + 6 + 10 + 6 + 12 + 2))
         → Run names program places z y procedures below n budget (a_vector v z next) (code_of (steps.need_header of vector_header 1 (pos (class_address vector_class)) ++ rest)) rs k
     vector_needed n budget k of w v next rest rs low size held word cost more =
-        kind_needed as_vector vector (λ h. h == vector_header) vector_header 1 vector_class (λ h g. header_tested h vector_header g (omega arith)) (omega arith)
+        kind_needed as_vector vector (λ h. h == vector_header) vector_header 1 vector_class (λ h g. equal_bit h vector_header g (omega arith)) (omega arith)
         n budget k of w v next rest rs low size held word (vector_told names program places z y r v w word) cost (λ vs found at. more vs found)
 
     pub class_needed :
@@ -93,7 +94,7 @@ module _
         (k + 6 + 10 + 6 + 12 + 2 + 8 + 6 + 10 + 6 + 12 + 2))
         → Run names program places z y procedures below n budget (a_class v z next) (code_of (steps.need_header of class_header 1 (pos (class_address standard_class_class)) ++ rest)) rs k
     class_needed n budget k of w v next rest rs low size held word cost more =
-        kind_needed as_class class_object (λ h. h == class_header) class_header 1 standard_class_class (λ h g. header_tested h class_header g (omega arith)) (omega arith)
+        kind_needed as_class class_object (λ h. h == class_header) class_header 1 standard_class_class (λ h g. equal_bit h class_header g (omega arith)) (omega arith)
         n budget k of w v next rest rs low size held word (class_told names program places z y r v w word) cost (λ c found at. more c found)
 
     -- a stream, which is the standard output or not; its header is in register 7's difference

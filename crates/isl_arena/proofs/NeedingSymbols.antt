@@ -1,5 +1,5 @@
 -- The line that needs a symbol, beside the meaning's test of it.
-use Rattle.std.proofs.Common.{◌≡◌, ℕ, ◌+◌, ◌-◌, ◌*◌, ◌%◌, ◌^◌, ◌<◌, ◌≤◌, true, false, List, [], ◌∷◌, ◌++◌, length, Option, Some, refl, sym, ap, ◌∙◌, arith}
+use Rattle.std.proofs.Common.{◌≡◌, ℕ, ◌+◌, ◌-◌, ◌*◌, ◌%◌, ◌^◌, ◌<◌, ◌≤◌, true, false, List, ◌++◌, length, Some, refl, sym, ap, ◌∙◌, arith}
 use Rattle.std.specs.Prelude.{negsuc, ◌==◌, ◌||◌, slice_set}
 use Rattle.std.proofs.lemmas.Bool.Decides.{nat_tests}
 use Rattle.isl_meaning.specs.declared.program.ProgramRows.{ProgramRows}
@@ -20,15 +20,14 @@ use Rattle.isl_arena.specs.Represents.{Represents}
 use Rattle.isl_arena.specs.Steps.{steps_of}
 use Rattle.isl_arena.specs.declared.line.Line.TheVariants as line
 use Rattle.isl_arena.proofs.WordFacts.{two_headers_tested}
-use Rattle.isl_arena.proofs.Memory.{heap_below}
-use Rattle.isl_arena.proofs.Growing.{spot_below}
+use Rattle.isl_arena.proofs.Memory.{spot_low}
 use Rattle.isl_arena.proofs.Arguments.{value_tag, tag_told, symbol_there, object_there}
 use Rattle.isl_arena.proofs.Telling.{SymbolTold, nil_found, name_found, serial_found, no_symbol_header, no_symbol_tag, symbol_told}
 use Rattle.isl_arena.proofs.Running.{constant_falls, choose_second_falls, address_below}
 use Rattle.isl_arena.proofs.Doing.{Run, goes_on, test_passes, second_answers}
-use Rattle.isl_arena.proofs.Conditions.{EightRegisters, eight, eight_registers}
-use Rattle.isl_arena.proofs.Checking.{Scratched, scratched_six, scratched_seven, not_scratched, six_here, same_size, register_beside, header_registers, header_passes, header_errs}
+use Rattle.isl_arena.proofs.Checking.{header_registers, header_passes, header_errs}
 use Rattle.isl_arena.proofs.Checking.{header_errs_by_tag, header_bounded}
+use Rattle.isl_arena.proofs.Registers.{Scratched, not_scratched, register_beside, same_size, scratched_seven, scratched_six, six_here}
 
 -- A symbol that was found, and how it is spelt: nil by its word, one with a name and one without by their headers, behind which the
 -- latter has its serial. A pointer is far from the end of all words.
@@ -47,26 +46,6 @@ header_address w small tag =
     let tag_is : w % 4 ≡ 2 = grind (arith, nat_tests) in
     address_below w 1 (w - 2) (omega arith) small
 
--- eight registers of which the last two were used: the others are as they were
-pub record LastTwo (r0 r1 r2 r3 r4 r5 : Option ℕ) (rs : Registers) : Type 0 where
-  pub six : Option ℕ
-  pub seven : Option ℕ
-  pub same : rs ≡ r0 ∷ r1 ∷ r2 ∷ r3 ∷ r4 ∷ r5 ∷ six ∷ seven ∷ []
-
-pub last_two :
-    {r0 r1 r2 r3 r4 r5 r6 r7 : Option ℕ} {rs : Registers} → Scratched (r0 ∷ r1 ∷ r2 ∷ r3 ∷ r4 ∷ r5 ∷ r6 ∷ r7 ∷ []) rs → LastTwo r0 r1 r2 r3 r4 r5 rs
-last_two {r0} {r1} {r2} {r3} {r4} {r5} {r6} {r7} {rs} s = by rs (eight_registers rs s.size) s
-  where
-    by : (rs : Registers) → EightRegisters rs → Scratched (r0 ∷ r1 ∷ r2 ∷ r3 ∷ r4 ∷ r5 ∷ r6 ∷ r7 ∷ []) rs → LastTwo r0 r1 r2 r3 r4 r5 rs
-    by rs (eight q0 q1 q2 q3 q4 q5 q6 q7) s =
-        let e0 : q0 ≡ r0 = s.others 0 (omega arith) in
-        let e1 : q1 ≡ r1 = s.others 1 (omega arith) in
-        let e2 : q2 ≡ r2 = s.others 2 (omega arith) in
-        let e3 : q3 ≡ r3 = s.others 3 (omega arith) in
-        let e4 : q4 ≡ r4 = s.others 4 (omega arith) in
-        let e5 : q5 ≡ r5 = s.others 5 (omega arith) in
-        record { six = q6; seven = q7; same = cc }
-
 module _
     (names : List (List ℕ)) (program : ProgramRows) (places : Places) (z : meaning.State) (y : State) (r : Represents names program places z y)
     (procedures : List MidProcedure) (below : Task → State → Outcome)
@@ -82,11 +61,11 @@ module _
         by (character c) e h = absurd (omega (arith, h))
         by (symbol s) e h =
             let there = symbol_there names program places z y r s w e in
-            omega (arith, there.word, spot_below y.arena there.spot r.arena there.spot_stands, heap_below r.arena)
+            omega (arith, there.word, spot_low r.arena there.spot_stands)
         by nil e h = absurd (omega (arith, h))
         by (object i) e h =
             let there = object_there names program places z y r i w e in
-            omega (arith, there.word, there.tag, there.spot_stands.tag, spot_below y.arena there.spot r.arena there.spot_stands, heap_below r.arena)
+            omega (arith, there.word, there.tag, there.spot_stands.tag, spot_low r.arena there.spot_stands)
 
     -- the argument is a symbol, with which the code behind goes on, or a domain error
     pub symbol_needed :

@@ -45,5 +45,4 @@ string_begun {a} bytes h room bounded = record {
 
     at : (x i w : ℕ) → x ≡ a.heap_to + 4 * i → slice_get all i ≡ Some w → word_at (begun (2 + byte_words (length bytes)) all a) x ≡ Some w
     at x i w same found =
-        ap (word_at (begun (2 + byte_words (length bytes)) all a)) same
-        ∙ begun_word (2 + byte_words (length bytes)) all i w h room (omega (arith, words_from_count bytes 0 (byte_words (length bytes)))) found
+        begun_word (2 + byte_words (length bytes)) all x i w h room (omega (arith, words_from_count bytes 0 (byte_words (length bytes)))) same found

@@ -24,7 +24,7 @@ use Rattle.isl_arena.specs.Represents.{Represents}
 use Rattle.isl_arena.specs.Answers.{IsPrimitive}
 use Rattle.isl_arena.specs.Codes.{procedure_of}
 use Rattle.isl_arena.specs.Steps as steps
-use Rattle.isl_arena.proofs.WordFacts.{tag_tested, low_byte_tested, header_tested, two_headers_tested}
+use Rattle.isl_arena.proofs.WordFacts.{tag_tested, low_byte_tested, equal_bit, two_headers_tested}
 use Rattle.isl_arena.proofs.Running.{constant_falls, compute_falls, load_falls, address_up, address_below}
 use Rattle.isl_arena.proofs.Arguments.{word_told}
 use Rattle.isl_arena.proofs.Telling.{IntegerTold, integer_found, no_integer, CharacterTold, character_found, no_character, ConsTold, cons_found, no_cons}
@@ -37,21 +37,22 @@ use Rattle.isl_arena.proofs.Doing.{alike_self, Run, goes_on, returns_value, test
 use Rattle.isl_arena.proofs.Checking.{header_bounded}
 use Rattle.isl_arena.proofs.Saying.{saying, says_run}
 use Rattle.isl_arena.proofs.Taking.{does_one, does_two}
+use Rattle.std.proofs.lemmas.Bool.{or_from}
 
 -- ---- words compared
 
 pub same_does : IsPrimitive Same (procedure_of Same)
-same_does = does_two Same refl (λ names program places z y procedures below n v u w x r first second.
+same_does = does_two Same refl (λ v u w x names program places z y procedures below n r are units.
     says_run names program places z y r procedures below n (y.cost + 130 + 244 * 2) y.cost w x (same v u) (steps.comparing comparison.Equal 0 1) z
     (first_registers 8 (w ∷ x ∷ [])) refl (λ e. omega arith) (λ e. omega arith) refl refl
-    (same_value_same_word names program places z y r v u w x first second) (alike_self z) (omega arith))
+    (same_value_same_word names program places z y r v u w x are.0 are.1.0) (alike_self z) (omega arith))
 
 pub is_null_does : IsPrimitive IsNull (procedure_of IsNull)
-is_null_does = does_one IsNull refl (λ names program places z y procedures below n v w r word.
+is_null_does = does_one IsNull refl (λ v w names program places z y procedures below n r are units.
     goes_on names program places z y procedures below constant_falls
     (says_run names program places z y r procedures below n (y.cost + 130 + 244) (y.cost + 6) w nil_word (same v nil) (steps.comparing comparison.Equal 0 6) z
     (slice_set (first_registers 8 (w ∷ [])) 6 (Some nil_word)) refl (λ e. omega arith) (λ e. omega arith) refl refl
-    (nil_told names program places z y r v w word) (alike_self z) (omega arith)))
+    (nil_told names program places z y r v w are.0) (alike_self z) (omega arith)))
 
 -- ---- by the lowest bits of the word
 
@@ -87,19 +88,19 @@ character_byte_says v w (character_found c is found small at byte) = rw found by
 character_byte_says v w (no_character none byte) = rw none byte
 
 pub is_integer_does : IsPrimitive IsInteger (procedure_of IsInteger)
-is_integer_does = does_one IsInteger refl (λ names program places z y procedures below n v w r word.
+is_integer_does = does_one IsInteger refl (λ v w names program places z y procedures below n r are units.
     shifted_says names program places z y r procedures below n (y.cost + 130 + 244) y.cost w 30 0 (is_some (as_integer v))
-    (tag_tested w 0 ∙ integer_tag_says v w (integer_told names program places z y r v w word)) (omega arith))
+    (tag_tested w 0 ∙ integer_tag_says v w (integer_told names program places z y r v w are.0)) (omega arith))
 
 pub is_cons_does : IsPrimitive IsCons (procedure_of IsCons)
-is_cons_does = does_one IsCons refl (λ names program places z y procedures below n v w r word.
+is_cons_does = does_one IsCons refl (λ v w names program places z y procedures below n r are units.
     shifted_says names program places z y r procedures below n (y.cost + 130 + 244) y.cost w 30 (2 ^ 30) (is_some (as_cons (fetch z v)))
-    (tag_tested w 1 ∙ cons_tag_says (fetch z v) w (cons_told names program places z y r v w word)) (omega arith))
+    (tag_tested w 1 ∙ cons_tag_says (fetch z v) w (cons_told names program places z y r v w are.0)) (omega arith))
 
 pub is_character_does : IsPrimitive IsCharacter (procedure_of IsCharacter)
-is_character_does = does_one IsCharacter refl (λ names program places z y procedures below n v w r word.
+is_character_does = does_one IsCharacter refl (λ v w names program places z y procedures below n r are units.
     shifted_says names program places z y r procedures below n (y.cost + 130 + 244) y.cost w 24 (15 * 2 ^ 24) (is_some (as_character v))
-    (low_byte_tested w 15 ∙ character_byte_says v w (character_told names program places z y r v w word)) (omega arith))
+    (low_byte_tested w 15 ∙ character_byte_says v w (character_told names program places z y r v w are.0)) (omega arith))
 
 -- ---- by the header
 
@@ -191,24 +192,24 @@ module _
         (header_decides names program places z y r p is_kind kind v w word) (omega arith)
 
 pub is_string_does : IsPrimitive IsString (procedure_of IsString)
-is_string_does = does_one IsString refl (λ names program places z y procedures below n v w r.
+is_string_does = does_one IsString refl (λ v w names program places z y procedures below n r are units.
     kind_says names program places z y r procedures below n w v string_header 1 (λ o. is_some (as_string o)) (λ h. h == string_header) string_kind
-    (λ h low. header_tested h string_header low (omega arith)))
+    (λ h low. equal_bit h string_header low (omega arith)) are.0)
 
 pub is_vector_does : IsPrimitive IsVector (procedure_of IsVector)
-is_vector_does = does_one IsVector refl (λ names program places z y procedures below n v w r.
+is_vector_does = does_one IsVector refl (λ v w names program places z y procedures below n r are units.
     kind_says names program places z y r procedures below n w v vector_header 1 (λ o. is_some (as_vector o)) (λ h. h == vector_header) vector_kind
-    (λ h low. header_tested h vector_header low (omega arith)))
+    (λ h low. equal_bit h vector_header low (omega arith)) are.0)
 
 pub is_function_does : IsPrimitive IsFunction (procedure_of IsFunction)
-is_function_does = does_one IsFunction refl (λ names program places z y procedures below n v w r.
+is_function_does = does_one IsFunction refl (λ v w names program places z y procedures below n r are units.
     kind_says names program places z y r procedures below n w v function_header 2 is_function (λ h. h == function_header || h == generic_header) function_kind
-    (λ h low. two_headers_tested h function_header low (omega arith)))
+    (λ h low. two_headers_tested h function_header low (omega arith)) are.0)
 
 pub is_generic_does : IsPrimitive IsGeneric (procedure_of IsGeneric)
-is_generic_does = does_one IsGeneric refl (λ names program places z y procedures below n v w r.
+is_generic_does = does_one IsGeneric refl (λ v w names program places z y procedures below n r are units.
     kind_says names program places z y r procedures below n w v generic_header 1 is_generic (λ h. h == generic_header) generic_kind
-    (λ h low. header_tested h generic_header low (omega arith)))
+    (λ h low. equal_bit h generic_header low (omega arith)) are.0)
 
 -- ---- symbols
 
@@ -220,9 +221,6 @@ abbrev is_nil_or_symbol : List MidStep
 is_nil_or_symbol =
     steps.constant 6 nil_word ∷ steps.constant 5 0 ∷ steps.load 5 5 (pos true_address) ∷ steps.return_if (steps.comparing comparison.Equal 0 6) 5
     ∷ header_is symbol_header 2
-
-neither : (a b : Bool) → a ≡ false → b ≡ false → (a || b) ≡ false
-neither a b f g = cc
 
 module _
     (names : List (List ℕ)) (program : ProgramRows) (places : Places) (z : meaning.State) (y : State) (r : Represents names program places z y)
@@ -258,10 +256,10 @@ module _
     symbol_says n w v word (serial_found serial is not_nil tag at behind) =
         behind_nil n w v (is_some (as_symbol z v)) word not_nil (of_kind fresh_header (rw is refl) tag at refl)
     symbol_says n w v word (no_symbol_header h none not_nil tag at first second) =
-        behind_nil n w v (is_some (as_symbol z v)) word not_nil (of_other_kind h (rw none refl) tag at (neither (h == symbol_header) (h == fresh_header) first second))
+        behind_nil n w v (is_some (as_symbol z v)) word not_nil (of_other_kind h (rw none refl) tag at (or_from (h == symbol_header) (h == fresh_header) first second))
     symbol_says n w v word (no_symbol_tag none not_nil tag) =
         behind_nil n w v (is_some (as_symbol z v)) word not_nil (of_other_tag (rw none refl) tag)
 
 pub is_symbol_does : IsPrimitive IsSymbol (procedure_of IsSymbol)
-is_symbol_does = does_one IsSymbol refl (λ names program places z y procedures below n v w r word.
-    symbol_says names program places z y r procedures below n w v word (symbol_told names program places z y r v w word))
+is_symbol_does = does_one IsSymbol refl (λ v w names program places z y procedures below n r are units.
+    symbol_says names program places z y r procedures below n w v are.0 (symbol_told names program places z y r v w are.0))

@@ -32,13 +32,13 @@ use Rattle.isl_arena.proofs.Keeping.{header_of}
 use Rattle.isl_arena.proofs.HeaderKinds.{stream_of}
 use Rattle.isl_arena.proofs.Arguments.{object_found, word_told}
 use Rattle.isl_arena.proofs.FixedChanges.{represents_printed}
-use Rattle.isl_arena.proofs.Making.{changes_stored, fixed_lent}
+use Rattle.isl_arena.proofs.Making.{changes_stored, fixed_lent, stored_fixed}
 use Rattle.isl_arena.proofs.Doing.{alike_self, Run, goes_on, test_passes, second_answers}
 use Rattle.isl_arena.proofs.Conditions.{domain_error_run}
 use Rattle.isl_arena.proofs.Checking.{header_registers, character_needed}
 use Rattle.isl_arena.proofs.Needing.{stream_needed}
 use Rattle.isl_arena.proofs.Taking.{does_two}
-use Rattle.isl_arena.proofs.Streams.{returns_stored, stored_fixed}
+use Rattle.isl_arena.proofs.Streams.{returns_stored}
 
 -- ---- whether the output is at the start of a line
 
@@ -186,5 +186,5 @@ module _
         (puts_on n (y.cost + 130 + 244 * 2) (y.cost + 6 + 10 + 6 + 12 + 2 + 8 + 6 + 10 + 6 + 12 + 2 + 6 + 10 + 6 + 12 + 2) w c v is_output _ _ first found at small (omega arith))))
 
 pub put_char_does : IsPrimitive PutChar (procedure_of PutChar)
-put_char_does = does_two PutChar refl (λ names program places z y procedures below n v u w x r first second.
-    puts_char names program places z y r procedures below n w x v u first second)
+put_char_does = does_two PutChar refl (λ v u w x names program places z y procedures below n r are units.
+    puts_char names program places z y r procedures below n w x v u are.0 are.1.0)

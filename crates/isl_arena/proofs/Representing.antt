@@ -6,13 +6,13 @@ use Rattle.std.proofs.lemmas.Bool.Decides.{nat_tests}
 use Rattle.std.proofs.Math.ListN.{length-append, length-set}
 use Rattle.isl_base.specs.Names.{slice_get-front}
 use Rattle.isl_meaning.specs.declared.program.ProgramRows.{ProgramRows}
-use Rattle.isl_meaning.specs.Values.{Value, object}
+use Rattle.isl_meaning.specs.Values.{Value}
 use Rattle.isl_meaning.specs.Objects.{Object, function}
 use Rattle.isl_meaning.specs.State as meaning
 use Rattle.isl_mid.specs.Arena.{Arena}
-use Rattle.isl_mid.specs.State.{State, charged}
+use Rattle.isl_mid.specs.State.{State}
 use Rattle.isl_arena.specs.Tags.{symbol_header}
-use Rattle.isl_arena.specs.Places.{Spot, end_of, pointer_to, pointer_in, word_of, Places, Owner, same_owner, of_object, of_symbol, of_other, spot_of, with_object}
+use Rattle.isl_arena.specs.Places.{Spot, end_of, Places, Owner, same_owner, of_object, of_symbol, of_other, spot_of, with_object}
 use Rattle.isl_arena.specs.Standing.{of_heap, SpotStands, Apart, in_front, behind, SameWords, ValueAt}
 use Rattle.isl_arena.specs.FixedWords.{fixed_words, nil_text, class_address, input_address, output_address, true_address, serial_address, line_address, peeked_address, InputIs, untouched, looked_at, FixedStand}
 use Rattle.isl_arena.specs.Layouts.{AreBytes, ObjectAt}
@@ -22,7 +22,7 @@ use Rattle.isl_arena.proofs.ClassesKept.{IsMade, classes_same, classes_stored, c
 use Rattle.isl_arena.proofs.Keeping.{Extends, extends_same, extends_one, old_spot, text_kept, value_kept, symbol_kept, object_kept}
 use Rattle.isl_arena.proofs.Growing.{Grows, Changes, spot_below, spot_grown, words_grown, spot_changed, words_apart}
 use Rattle.isl_arena.proofs.Owners.{after_zero, FrontOrEnd, at_front, at_end, front_or_end, OldOrNew, of_old}
-use Rattle.isl_arena.proofs.Owners.{of_new, old_or_new, new_spot_found, object_within, SetOrNot, at_place, elsewhere, set_or_not}
+use Rattle.isl_arena.proofs.Owners.{of_new, old_or_new, object_within, SetOrNot, at_place, elsewhere, set_or_not}
 
 -- ---- the fixed words
 
@@ -75,25 +75,6 @@ represents_same names program places z z' y store symbols printed input r = reco
   printed = r.printed ∙ sym printed;
 }
 
--- in each state with the same arena, output and input it is represented too
-pub represents_state :
-    (names : List (List ℕ)) (program : ProgramRows) (places : Places) (z : meaning.State) (y y' : State) → y'.arena ≡ y.arena
-    → y'.printed ≡ y.printed → y'.input ≡ y.input → Represents names program places z y → Represents names program places z y'
-represents_state names program places z y y' arena printed input r = record {
-  built_in = r.built_in;
-  arena = rw arena r.arena;
-  spots = λ p s e. rw arena (r.spots p s e);
-  apart = r.apart;
-  count = r.count;
-  classes = r.classes;
-  objects = λ i o s found e. rw arena (r.objects i o s found e);
-  symbols = λ v s e. rw arena (r.symbols v s e);
-  no_nil = r.no_nil;
-  fixed = rw (arena, input) r.fixed;
-  input = r.input;
-  printed = printed ∙ r.printed;
-}
-
 -- ---- what is kept, step by step
 
 pub kept_both : (places : Places) (z : meaning.State) (a b c : Arena) → Kept places z a b → Kept places z b c → Kept places z a c
@@ -120,20 +101,8 @@ kept_made places z s o a b k = record {
 -- ---- a represented state
 
 module _ (names : List (List ℕ)) (program : ProgramRows) (places : Places) (z : meaning.State) (y : State) (r : Represents names program places z y) where
-  -- units of the meaning
-  pub represents_charged : (n : ℕ) → Represents names program places (meaning.charged n z) y
-  represents_charged n = represents_same names program places z (meaning.charged n z) y refl refl refl refl r
-
-  -- the cost of middle code
-  pub represents_cost : (n : ℕ) → Represents names program places z (charged n y)
-  represents_cost n = represents_state names program places z y (charged n y) refl refl refl r
-
   pub fixed_stands : SpotStands y.arena fixed_spot
   fixed_stands = r.spots (of_other 0) fixed_spot r.fixed.spot
-
-  -- the word of the object that is made next, where it is given that spot
-  pub made_word : (s : Spot) → word_of (with_object s places) (object (length z.store)) ≡ Some (pointer_to s)
-  made_word s = rw (← r.count) (ap pointer_in (new_spot_found s places))
 
   -- what an owner's spot has stays
   pub owned_grown : (b : Arena) → Grows y.arena b → (p : Owner) (s : Spot) → spot_of places p ≡ Some s → SameWords y.arena b s
@@ -150,7 +119,7 @@ module _ (names : List (List ℕ)) (program : ProgramRows) (places : Places) (z 
     represents_grown = record {
       built_in = r.built_in;
       arena = g.stands;
-      spots = λ p s e. spot_grown y.arena y'.arena s g (r.spots p s e);
+      spots = λ p s e. spot_grown g (r.spots p s e);
       apart = r.apart;
       count = r.count;
       classes = r.classes;
@@ -181,7 +150,7 @@ module _ (names : List (List ℕ)) (program : ProgramRows) (places : Places) (z 
 
         -- the old spots end where the new one begins
         old_in_front : (p : Owner) (old : Spot) → spot_of places p ≡ Some old → end_of old ≤ s.address
-        old_in_front p old e = let below = spot_below y.arena old r.arena (r.spots p old e) in omega arith
+        old_in_front p old e = let below = spot_below r.arena (r.spots p old e) in omega arith
 
         made_apart : (p q : Owner) (first second : Spot) → same_owner p q ≡ false → OldOrNew s places p first → OldOrNew s places q second → Apart first second
         made_apart p q first second different (of_old d) (of_old e) = r.apart p q first second different d e
@@ -192,7 +161,7 @@ module _ (names : List (List ℕ)) (program : ProgramRows) (places : Places) (z 
             absurd (grind (arith, nat_tests))
 
         made_spot : (p : Owner) (found : Spot) → OldOrNew s places p found → SpotStands y'.arena found
-        made_spot p found (of_old e) = spot_grown y.arena y'.arena found g (r.spots p found e)
+        made_spot p found (of_old e) = spot_grown g (r.spots p found e)
         made_spot p found (of_new e same) = rw same new_stands
 
         made_object :

@@ -1,7 +1,6 @@
 -- Runs of code step by step: what each step comes to, so that the run of straight-line code is a chain of equations.
 use Rattle.std.proofs.Common.{◌≡◌, ℕ, suc, ◌+◌, ◌-◌, ◌%◌, ◌^◌, ◌<◌, ◌≤◌, length, Bool, true, false, List, [], ◌∷◌, ◌++◌, Option, Some, refl, sym, ap, ◌∙◌, arith}
-use Rattle.std.specs.Prelude.{ℤ, pos, negsuc, ◌+ℤ◌, ◌==◌, nat_le, slice_set}
-use Rattle.std.proofs.lemmas.Bool.Decides.{nat_tests}
+use Rattle.std.specs.Prelude.{ℤ, pos, negsuc, ◌+ℤ◌, slice_set}
 use Rattle.std.proofs.lemmas.Int.{ints}
 use Rattle.isl_mid.specs.declared.operation.Arithmetic.{Arithmetic}
 use Rattle.isl_mid.specs.declared.operation.Counted.{Counted}
@@ -11,13 +10,15 @@ use Rattle.isl_mid.specs.declared.operation.Test.{Test}
 use Rattle.isl_mid.specs.declared.program.MidProcedure.{MidProcedure}
 use Rattle.isl_mid.specs.Words.{computed, compares, low_word, address}
 use Rattle.isl_mid.specs.MidCode.{MidStep, perform, choose, repeat, return_word, MidCode, no_step, step_and, code_of}
-use Rattle.isl_mid.specs.Arena.{Block, activation_frame, left, is_lent, word_at, with_word, with_heap, with_blocks, with_new_block}
+use Rattle.isl_mid.specs.Arena.{Block, activation_frame, left, is_lent, word_at, with_word, with_heap, with_new_block}
 use Rattle.isl_mid.specs.Costs.{operation_cost, test_cost, jump_cost, return_cost, entry_cost}
 use Rattle.isl_mid.specs.State.{Registers, first_registers, State, End, falls, returns, cuts, no_room, no_level, no_turn, halts, unhandled, exhausted, stuck, Outcome, Next, ends, charged, with_arena, gives, go_on, with_some, choose_by, register, jumped}
 use Rattle.isl_mid.specs.Meaning.{store, get_from, test, count, Task, enter, again, Context, context_of, leaves, exec, exec_step, turns}
 use Rattle.isl_arena.specs.Places.{Spot, end_of}
 use Rattle.isl_arena.specs.Standing.{SpotStands}
 use Rattle.isl_arena.proofs.Memory.{lent_in_heap, in_spot_lent}
+use Rattle.std.proofs.lemmas.Bool.{eq-eqb, le-leb, lt-leb}
+use Rattle.isl_arena.proofs.WordFacts.{low_word_of_word}
 
 -- an end that is not falling out
 abbrev pub IsLast : End → Type 0
@@ -59,15 +60,6 @@ second_chosen : {b : Bool} (first second : Next) (rs : Registers) (z : State) �
 unfolding choose_by
 second_chosen first second rs z e = ap (λ b. choose_by b first second rs z) e
 
-is_at_most : (m n : ℕ) → m ≤ n → nat_le m n ≡ true
-is_at_most m n h = grind (arith, nat_tests)
-
-is_not_at_most : (m n : ℕ) → n < m → nat_le m n ≡ false
-is_not_at_most m n h = grind (arith, nat_tests)
-
-is_same : (m n : ℕ) → m ≡ n → (m == n) ≡ true
-is_same m n e = grind (arith, nat_tests)
-
 -- where code falls out, it jumps; every other end passes
 pub jumped_falls : {r : Outcome} {rs : Registers} {z : State} → r ≡ ends falls rs z → jumped r ≡ ends falls rs (charged jump_cost z)
 unfolding go_on
@@ -89,17 +81,13 @@ loop_test c how head t body rs z = test t (loop_turn c how head t body) (ends fa
 
 -- addresses
 
-address_of_word : (b : ℕ) → b < 2 ^ 32 → low_word (pos b) ≡ b
-unfolding low_word
-address_of_word b h = omega arith
-
 pub address_up : (b k : ℕ) → b + k < 2 ^ 32 → address b (pos k) ≡ b + k
-address_up b k h = address_of_word (b + k) h
+address_up b k h = low_word_of_word (b + k) h
 
 pub address_down : (b k : ℕ) → b + suc k < 2 ^ 32 → address (b + suc k) (negsuc k) ≡ b
 address_down b k h =
     let e : (pos (b + suc k) +ℤ negsuc k) ≡ pos b = omega (arith, ints) in
-    ap low_word e ∙ address_of_word b (omega arith)
+    ap low_word e ∙ low_word_of_word b (omega arith)
 
 pub address_here : (b : ℕ) → b < 2 ^ 32 → address b (pos 0) ≡ b
 address_here b h = address_up b 0 (omega arith) ∙ omega arith
@@ -224,14 +212,14 @@ pub request_falls :
     → StepsTo c (perform (Request to words)) rs z
     (ends falls (slice_set rs to (Some z.arena.heap_to)) (with_arena (with_heap n z.arena) (charged (operation_cost (Request to words)) z)))
 unfolding exec
-request_falls {rs = rs} e h = record { same = some_found _ rs _ e ∙ first_chosen _ _ rs _ (is_at_most _ _ h) }
+request_falls {rs = rs} e h = record { same = some_found _ rs _ e ∙ first_chosen _ _ rs _ (le-leb _ _ h) }
 
 -- or they are not
 pub request_wanting :
     {c : Context} {to words n : ℕ} {rs : Registers} {z : State} → register words rs ≡ Some n → left z.arena < n
     → StepsTo c (perform (Request to words)) rs z (ends (no_room n (left z.arena)) rs (charged (operation_cost (Request to words)) z))
 unfolding exec
-request_wanting {rs = rs} e h = record { same = some_found _ rs _ e ∙ second_chosen _ _ rs _ (is_not_at_most _ _ h) }
+request_wanting {rs = rs} e h = record { same = some_found _ rs _ e ∙ second_chosen _ _ rs _ (lt-leb _ _ h) }
 
 pub put_falls :
     {c : Context} {from w : ℕ} {rs : Registers} {z : State} → register from rs ≡ Some w
@@ -446,7 +434,7 @@ pub enters_wanting :
     → EntersTo procedures below n p ws z
     (ends (no_room p.frame (left z.arena)) (first_registers p.registers ws) (charged (entry_cost p.parameters) z))
 unfolding turns
-enters_wanting {p = p} e h = record { same = first_chosen _ _ _ _ (is_same _ _ e) ∙ second_chosen _ _ _ _ (is_not_at_most _ _ h) }
+enters_wanting {p = p} e h = record { same = first_chosen _ _ _ _ (eq-eqb _ _ e) ∙ second_chosen _ _ _ _ (lt-leb _ _ h) }
 
 -- its frame is left, and the body runs
 pub enters :
@@ -456,22 +444,4 @@ pub enters :
     → EntersTo procedures below n p ws z (leaves z.arena.blocks r)
 unfolding turns
 enters {z = z} e h g =
-    record { same = first_chosen _ _ _ _ (is_same _ _ e) ∙ first_chosen _ _ _ _ (is_at_most _ _ h) ∙ ap (leaves z.arena.blocks) g.same }
-
--- the body returns, and the blocks are those of before
-pub enters_returns :
-    {procedures : List MidProcedure} {below : Task → State → Outcome} {n w : ℕ} {p : MidProcedure} {ws : List ℕ} {z z' : State} {rs : Registers}
-    → length ws ≡ p.parameters → p.frame ≤ left z.arena
-    → RunsTo (turning procedures below n) (code_of p.body) (first_registers p.registers ws) (entered p z) (ends (returns w) rs z')
-    → EntersTo procedures below n p ws z (ends (returns w) rs (with_arena (with_blocks z.arena.blocks z'.arena) z'))
-unfolding leaves
-enters_returns e h g = record { same = (enters e h g).same }
-
--- the body asks for words that are not left
-pub enters_no_room :
-    {procedures : List MidProcedure} {below : Task → State → Outcome} {n asked lacking : ℕ} {p : MidProcedure} {ws : List ℕ} {z z' : State} {rs : Registers}
-    → length ws ≡ p.parameters → p.frame ≤ left z.arena
-    → RunsTo (turning procedures below n) (code_of p.body) (first_registers p.registers ws) (entered p z) (ends (no_room asked lacking) rs z')
-    → EntersTo procedures below n p ws z (ends (no_room asked lacking) rs z')
-unfolding leaves
-enters_no_room e h g = record { same = (enters e h g).same }
+    record { same = first_chosen _ _ _ _ (eq-eqb _ _ e) ∙ first_chosen _ _ _ _ (le-leb _ _ h) ∙ ap (leaves z.arena.blocks) g.same }

@@ -1,15 +1,11 @@
 -- Two values are the same exactly where their words are.
-use Rattle.std.proofs.Common.{◌≡◌, ℕ, ◌+◌, ◌-◌, ◌%◌, ◌^◌, ◌<◌, ◌≤◌, ℤ, pos, Bool, true, false, List, Some, refl, sym, ap, ◌∙◌, arith}
-use Rattle.std.specs.Prelude.{negsuc, ◌==◌, ◌&&◌, ◌*ℤ◌}
+use Rattle.std.proofs.Common.{◌≡◌, ℕ, ◌+◌, ◌%◌, ◌<◌, ◌≤◌, Bool, true, false, List, Some, refl, sym, ap, ◌∙◌, arith}
+use Rattle.std.specs.Prelude.{◌==◌, ◌&&◌}
 use Rattle.std.proofs.lemmas.Bool.Decides.{nat_tests}
 use Rattle.std.proofs.lemmas.Slice.Eq.{bytes_eq-Decides}
-use Rattle.std.proofs.lemmas.Int.{ints}
-use borrow.Author.Differences.{up, down}
 use Rattle.isl_meaning.specs.declared.program.ProgramRows.{ProgramRows}
-use Rattle.isl_meaning.specs.Values.{SymbolValue, named, unnamed, same_symbol, Value, integer, character, symbol, nil, object, in_range, int_equal, same}
-use Rattle.isl_meaning.specs.Objects.{Object, cons}
+use Rattle.isl_meaning.specs.Values.{SymbolValue, named, unnamed, same_symbol, Value, integer, character, symbol, nil, object, int_equal, same}
 use Rattle.isl_meaning.specs.State as meaning
-use Rattle.isl_mid.specs.Words.{low_word}
 use Rattle.isl_mid.specs.State.{State}
 use Rattle.isl_arena.specs.Tags.{integer_word, nil_word, tag_of}
 use Rattle.isl_arena.specs.Places.{Spot, Places, Owner, of_object, of_symbol, same_owner, spot_of, word_of}
@@ -17,34 +13,9 @@ use Rattle.isl_arena.specs.Standing.{Apart, in_front, behind}
 use Rattle.isl_arena.specs.Represents.{Represents}
 use Rattle.isl_arena.proofs.Arguments.{integer_word_is, character_word_is, tag_in, value_tag, tag_told, symbol_there, object_there}
 use Rattle.isl_arena.proofs.Telling.{object_low, nil_told}
-
--- ---- integers
-
--- an integer in range, in the terms of `omega`
-in_range_tells : (n : ℤ) → in_range n ≡ true → (up n < 2 ^ 29 + down n) × (down n ≤ 2 ^ 29 + up n)
-in_range_tells n h = grind (arith, ints)
-
--- a number of 31 bits and a sign is known by its lowest 32 bits
-low_word_same : (x y : ℤ) → up x < 2 ^ 31 + down x → down x ≤ 2 ^ 31 + up x → up y < 2 ^ 31 + down y → down y ≤ 2 ^ 31 + up y → low_word x ≡ low_word y → x ≡ y
-unfolding low_word
-low_word_same (pos m) (pos n) f f' g g' h = let e : m % 2 ^ 32 ≡ n % 2 ^ 32 = h in ap pos (omega arith)
-low_word_same (pos m) (negsuc n) f f' g g' h = let e : m % 2 ^ 32 ≡ 2 ^ 32 - 1 - n % 2 ^ 32 = h in absurd (omega arith)
-low_word_same (negsuc m) (pos n) f f' g g' h = let e : 2 ^ 32 - 1 - m % 2 ^ 32 ≡ n % 2 ^ 32 = h in absurd (omega arith)
-low_word_same (negsuc m) (negsuc n) f f' g g' h = let e : 2 ^ 32 - 1 - m % 2 ^ 32 ≡ 2 ^ 32 - 1 - n % 2 ^ 32 = h in ap negsuc (omega arith)
-
--- the word of an integer in range tells it
-pub integer_word_same : (a b : ℤ) → in_range a ≡ true → in_range b ≡ true → integer_word a ≡ integer_word b → a ≡ b
-integer_word_same a b f g h =
-    let first = in_range_tells a f in
-    let second = in_range_tells b g in
-    let four : pos 4 *ℤ a ≡ pos 4 *ℤ b = low_word_same (pos 4 *ℤ a) (pos 4 *ℤ b) (omega (arith, ints)) (omega (arith, ints)) (omega (arith, ints)) (omega (arith, ints)) h in
-    omega (arith, ints)
-
-int_equal_same : (a b : ℤ) → int_equal a b ≡ true → a ≡ b
-int_equal_same a b h = grind (arith, ints)
-
-int_equal_self : (a : ℤ) → int_equal a a ≡ true
-int_equal_self a = grind (arith, ints)
+use Rattle.isl_arena.proofs.WordFacts.{integer_word_one_to_one, int_equal_tells, int_equal_same}
+use Rattle.std.proofs.lemmas.Bool.{eq-eqb, ne_eqb}
+use Rattle.isl_arena.proofs.Keeping.{tag_some}
 
 -- ---- symbols
 
@@ -64,14 +35,8 @@ symbol_same (unnamed x s) (unnamed y r) h =
 
 -- a test that says when two numbers are equal
 decided : (b : Bool) (w u : ℕ) → (b ≡ true → w ≡ u) → (w ≡ u → b ≡ true) → (w == u) ≡ b
-decided true w u g h = let e : w ≡ u = g refl in rw e (itself u)
-  where
-    itself : (u : ℕ) → (u == u) ≡ true
-    itself u = grind (arith, nat_tests)
-decided false w u g h = differ w u (λ e. absurd (cc (h e)))
-  where
-    differ : (w u : ℕ) → (w ≡ u → ⊥) → (w == u) ≡ false
-    differ w u h = grind (arith, nat_tests)
+decided true w u g h = eq-eqb w u (g refl)
+decided false w u g h = ne_eqb w u (λ e. absurd (cc (h e)))
 
 turned : (w u : ℕ) → (w == u) ≡ (u == w)
 turned w u = grind (arith, nat_tests)
@@ -91,10 +56,6 @@ spots_differ :
     → w ≡ s.address + s.tag → u ≡ t.address + t.tag → (w == u) ≡ false
 spots_differ s t w u (in_front h) d e f g m n p q = decided false w u (λ x. absurd (cc x)) (λ x. absurd (omega arith))
 spots_differ s t w u (behind h) d e f g m n p q = decided false w u (λ x. absurd (cc x)) (λ x. absurd (omega arith))
-
-tag_some : (o : Object) → 1 ≤ tag_of o
-tag_some (cons car cdr) = omega arith
-tag_some o = omega arith
 
 module _ (names : List (List ℕ)) (program : ProgramRows) (places : Places) (z : meaning.State) (y : State) (r : Represents names program places z y) where
   -- the tag of an object is that of no integer, character or nil
@@ -119,8 +80,8 @@ module _ (names : List (List ℕ)) (program : ProgramRows) (places : Places) (z 
       let first = integer_word_is places a w d in
       let second = integer_word_is places b x e in
       decided (int_equal a b) w x
-      (λ h. first.1 ∙ ap integer_word (int_equal_same a b h) ∙ sym second.1)
-      (λ h. let same_integer : a ≡ b = integer_word_same a b first.0 second.0 (sym first.1 ∙ h ∙ second.1) in rw same_integer (int_equal_self b))
+      (λ h. first.1 ∙ ap integer_word (int_equal_tells a b h) ∙ sym second.1)
+      (λ h. let same_integer : a ≡ b = integer_word_one_to_one a b first.0 second.0 (sym first.1 ∙ h ∙ second.1) in rw same_integer (int_equal_same b))
   same_value_same_word (character a) (character b) w x d e =
       let first = character_word_is places a w d in
       let second = character_word_is places b x e in

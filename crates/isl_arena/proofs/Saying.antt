@@ -17,7 +17,7 @@ use Rattle.isl_arena.specs.Represents.{Represents}
 use Rattle.isl_arena.specs.Steps as steps
 use Rattle.isl_arena.proofs.Running.{constant_falls, load_falls, address_up}
 use Rattle.isl_arena.proofs.Doing.{Alike, Run, goes_on, returns_value, test_fails, first_answers}
-use Rattle.isl_arena.proofs.Checking.{register_here, register_beside, same_size}
+use Rattle.isl_arena.proofs.Registers.{register_beside, register_here, same_size}
 
 -- the lines LoadFixed 5 TRUE_AT, ReturnIf t 5, Set 5 NIL, Return 5
 abbrev pub saying : Test → List MidStep

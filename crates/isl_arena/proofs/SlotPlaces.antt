@@ -6,12 +6,12 @@ use Rattle.std.proofs.lemmas.Bool.Decides.{nat_tests}
 use Rattle.isl_meaning.specs.declared.program.ProgramRows.{ProgramRows}
 use Rattle.isl_meaning.specs.declared.program.SlotRow.{SlotRow}
 use Rattle.isl_meaning.specs.declared.primitive.Primitive.TheVariants.{SlotPlace}
-use Rattle.isl_meaning.specs.Values.{Value, integer}
+use Rattle.isl_meaning.specs.Values.{Value}
 use Rattle.isl_meaning.specs.Objects.{instance, class_object, program_error_class, standard_object_class}
 use Rattle.isl_meaning.specs.State as meaning
 use Rattle.isl_meaning.specs.Classes.{precedence, slots}
 use Rattle.isl_meaning.specs.Layout.{class_value}
-use Rattle.isl_meaning.specs.Primitives.{result, Spelt, as_symbol, a_symbol, is_slot, slot_place}
+use Rattle.isl_meaning.specs.Primitives.{Spelt, as_symbol, a_symbol, is_slot, slot_place}
 use Rattle.isl_mid.specs.declared.program.MidProcedure.{MidProcedure}
 use Rattle.isl_mid.specs.declared.operation.Arithmetic.TheVariants as which
 use Rattle.isl_mid.specs.Words.{sum32, product32}
@@ -22,25 +22,25 @@ use Rattle.isl_arena.specs.Tags.{instance_header}
 use Rattle.isl_arena.specs.Places.{Places, word_of}
 use Rattle.isl_arena.specs.FixedWords.{class_address}
 use Rattle.isl_arena.specs.Represents.{Represents}
-use Rattle.isl_arena.specs.Answers.{done, units_after, IsPrimitive}
+use Rattle.isl_arena.specs.Answers.{units_after, IsPrimitive}
 use Rattle.isl_arena.specs.Codes.{procedure_of}
 use Rattle.isl_arena.specs.Steps as steps
 use Rattle.isl_arena.specs.Steps.{steps_of}
 use Rattle.isl_arena.specs.declared.line.Line.TheVariants as line
 use Rattle.isl_arena.proofs.Running.{and_ends, constant_falls, compute_known, load_falls, address_above}
-use Rattle.isl_arena.proofs.Growing.{grows_same}
-use Rattle.isl_arena.proofs.Representing.{represents_same, represents_grown, kept_grown}
-use Rattle.isl_arena.proofs.Arguments.{ObjectFound, object_found}
-use Rattle.isl_arena.proofs.Doing.{Alike, alike_charged, Answers, Run, goes_on, part_answers, paid}
+use Rattle.isl_arena.proofs.Arguments.{ObjectFound, object_found, length_word_is}
+use Rattle.isl_arena.proofs.Doing.{alike_charged, Run, goes_on, part_answers, paid, value_answers}
 use Rattle.isl_arena.proofs.Conditions.{program_error as of_program, signal_run}
 use Rattle.isl_arena.proofs.Checking.{instance_registers}
 use Rattle.isl_arena.proofs.Needing.{instance_needed}
-use Rattle.isl_arena.proofs.NeedingSymbols.{symbol_needed, last_two}
-use Rattle.isl_arena.proofs.Arrays.{does_two, length_word_is}
+use Rattle.isl_arena.proofs.NeedingSymbols.{symbol_needed}
 use Rattle.isl_arena.specs.ClassesThere.{ClassesThere}
 use Rattle.isl_arena.proofs.Slots.{instance_low}
 use Rattle.isl_arena.proofs.SlotRows.{class_found, class_low}
-use Rattle.isl_arena.proofs.SlotSearch.{search_slot, position_at_most, NameAt, Searched, found, missed, search, slot_told, sum_is}
+use Rattle.isl_arena.proofs.SlotSearch.{search_slot, position_at_most, NameAt, Searched, found, missed, search, slot_told}
+use Rattle.isl_arena.proofs.Taking.{does_two}
+use Rattle.isl_arena.proofs.Registers.{last_two}
+use Rattle.isl_arena.proofs.WordFacts.{sum_fits}
 
 -- what the search is charged bounds its turns
 place_units :
@@ -64,25 +64,6 @@ abbrev sought : List MidStep
 sought = search_slot ∷ steps.signal (pos (class_address program_error_class)) ++ []
 
 module _ (names : List (List ℕ)) (program : ProgramRows) (places : Places) (z : meaning.State) (y : State) (r : Represents names program places z y) where
-  -- the word of a value was returned, where things stand as they stood
-  value_answers :
-      (budget k w : ℕ) (v : Value) (z' : meaning.State) (rs : Registers) → word_of places v ≡ Some w → Alike z z' → k + 250 * z.units ≤ budget + 250 * z'.units
-      → Answers names program places z y budget (result v z') (ends (returns w) rs (paid y k))
-  value_answers budget k w v z' rs word alike cost = record {
-    comes = done (record {
-      word = w;
-      end = refl;
-      of_value = word;
-      represents =
-          represents_same names program places z z' (paid y k) alike.store alike.symbols alike.printed alike.input
-          (represents_grown names program places z y r (paid y k) (grows_same y.arena r.arena) refl refl);
-      arena = record { size = refl; laid_from = refl; laid_to = refl; heap_from = refl; heap_to = omega arith };
-      blocks = refl;
-      kept = kept_grown names program places z y r y.arena (grows_same y.arena r.arena);
-    });
-    cost = cost;
-  }
-
   module _
       (procedures : List MidProcedure) (below : Task → State → Outcome) (n budget : ℕ) (rows : List SlotRow) (p : SlotRow → Bool) (few : length rows < 2 ^ 28)
       (x : ℕ)
@@ -97,8 +78,7 @@ module _ (names : List (List ℕ)) (program : ProgramRows) (places : Places) (z 
             outcome = ends (returns (4 * j)) rs' (paid y k');
             runs = let same : 0 + j ≡ j = omega arith in and_ends tt (rw same at run);
             answers =
-                value_answers budget k' (4 * j) (integer (pos j)) (meaning.charged (j + 1) z) rs' (length_word_is places j (omega (arith, few, inside))) (alike_charged z (j + 1))
-                (omega (arith, within, cost));
+                value_answers names program places z y r (length_word_is places j (omega (arith, few, inside))) (alike_charged z (j + 1)) (omega (arith, within, cost));
           })
       searched k rs cost (missed k' rs' place size within run) =
           let not_less : nat_lt (length rows) (length rows) ≡ false = grind (arith, nat_tests) in
@@ -142,7 +122,7 @@ module _
         (load_falls refl (address_above w 2 (it.spot.address + 4) (omega (arith, it.word)) (omega (arith, it.word, low))) it.stands.class.stands)
         (goes_on names program places z y procedures below
         (load_falls refl (address_above class_word 18 (of_class.spot.address + 20) (omega (arith, is_word)) (omega (arith, is_word, high))) of_class.stands.above)
-        (goes_on names program places z y procedures below (compute_known refl refl (sum_is above class_word (omega (arith, high))))
+        (goes_on names program places z y procedures below (compute_known refl refl (sum_fits above class_word (omega (arith, high))))
         (goes_on names program places z y procedures below constant_falls
         (goes_on names program places z y procedures below
         (compute_known refl refl (let sum : sum32 (above + class_word) 26 ≡ rows_from = omega (arith, is_word, high) in sum))

@@ -4,7 +4,7 @@ use Rattle.std.specs.Prelude.{◌==◌, not, nat_le, slice_get, slice_set, if◌
 use Rattle.isl_meaning.specs.declared.program.ProgramRows.{ProgramRows}
 use Rattle.isl_meaning.specs.declared.program.SlotRow.{SlotRow}
 use Rattle.isl_meaning.specs.declared.primitive.Primitive.TheVariants.{SlotInitargs, SlotInitform, Continuable}
-use Rattle.isl_meaning.specs.Values.{Value, integer, character, symbol, nil, object, truth, same}
+use Rattle.isl_meaning.specs.Values.{Value, integer, character, symbol, nil, object, truth}
 use Rattle.isl_meaning.specs.Objects.{Object, cons, string, vector, instance, function, closure, generic_function, class_object, input_stream, output_stream, fresh_symbol, serious_condition_class}
 use Rattle.isl_meaning.specs.State as meaning
 use Rattle.isl_meaning.specs.Classes.{fetch, class_of, class_of_object, precedence, slots, is_below, is_condition}
@@ -27,17 +27,18 @@ use Rattle.isl_arena.specs.Answers.{IsPrimitive}
 use Rattle.isl_arena.specs.Codes.{procedure_of}
 use Rattle.isl_arena.specs.Steps as steps
 use Rattle.isl_arena.proofs.Running.{load_falls, constant_falls, compute_known, address_above, address_below}
-use Rattle.isl_arena.proofs.Growing.{spot_below}
 use Rattle.isl_arena.proofs.Arguments.{ObjectFound, object_found, item_there}
-use Rattle.isl_arena.proofs.Telling.{nil_told}
+use Rattle.isl_arena.proofs.Telling.{truth_told}
 use Rattle.isl_arena.proofs.BuiltInFacts.{no_condition_class}
 use Rattle.isl_arena.proofs.Doing.{alike_self, Run, goes_on, returns_value, test_passes, second_answers}
 use Rattle.isl_arena.proofs.Conditions.{domain_error_run}
 use Rattle.isl_arena.proofs.Checking.{instance_registers}
 use Rattle.isl_arena.proofs.Needing.{instance_needed}
-use Rattle.isl_arena.proofs.Arrays.{does_one, does_two}
 use Rattle.isl_arena.specs.ClassesThere.{ClassesThere}
-use Rattle.isl_arena.proofs.Slots.{counting, slot_registers, slot_needed, instance_low, header_without_kind, four_times_count}
+use Rattle.isl_arena.proofs.Slots.{counting, slot_registers, slot_needed, instance_low}
+use Rattle.isl_arena.proofs.Taking.{does_one, does_two}
+use Rattle.isl_arena.proofs.WordFacts.{header_without_kind, four_times_count}
+use Rattle.isl_arena.proofs.Memory.{spot_low}
 
 module _ (names : List (List ℕ)) (program : ProgramRows) (places : Places) (z : meaning.State) (y : State) (r : Represents names program places z y) (classes : ClassesThere names program z) where
   -- the class of an instance
@@ -53,8 +54,8 @@ module _ (names : List (List ℕ)) (program : ProgramRows) (places : Places) (z 
       (v : Value) (w c : ℕ) → ObjectFound names program places z y r v w (class_object c)
       → w + 28 + 4 * length (precedence program c) + 12 * length (slots program c) < 2 ^ 27
   class_low v w c it =
-      let high = spot_below y.arena it.spot r.arena it.spot_stands in
-      omega (arith, it.word, it.stands.size.words, high, r.arena.room, r.arena.size)
+      let high = spot_low r.arena it.spot_stands in
+      omega (arith, it.word, it.stands.size.words, high)
 
 -- the lines behind the test of a place: so far behind the word of the class, behind four times the classes above and twelve times the place
 abbrev rows_of : (offset : ℕ) → List MidStep
@@ -160,14 +161,6 @@ value_class_below z nil e = omega arith
 value_class_below z (object i) e = class_below (slice_get z.store i) e
 
 module _ (names : List (List ℕ)) (program : ProgramRows) (places : Places) (z : meaning.State) (y : State) (r : Represents names program places z y) where
-  -- t or nil, by its word
-  pub truth_told : (b : Bool) (word : ℕ) → word_of places (truth b) ≡ Some word → not (word == nil_word) ≡ b
-  truth_told b word e = ap not (nil_told names program places z y r (truth b) word e) ∙ turned b
-    where
-      turned : (b : Bool) → not (same (truth b) nil) ≡ b
-      turned true = refl
-      turned false = refl
-
   -- the class of an instance that is stored
   instance_class : (v : Value) (i : ℕ × List (Option Value) × Value) → as_instance (fetch z v) ≡ Some i → class_of z v ≡ i.0
   instance_class (object k) i e = by (slice_get z.store k) e

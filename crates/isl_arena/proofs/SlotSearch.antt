@@ -1,9 +1,8 @@
 -- The search for a slot by its name: what the loop comes to, and the place of a slot beside what the meaning says of it.
 use Rattle.std.proofs.Common.{◌≡◌, ℕ, zero, suc, ◌+◌, ◌*◌, ◌^◌, ◌<◌, ◌≤◌, pos, Bool, true, false, List, [], ◌∷◌, ◌++◌, length, Option, Some, None, refl, sym, ap, ◌∙◌, arith}
-use Rattle.std.specs.Prelude.{◌==◌, not, nat_lt, slice_get}
+use Rattle.std.specs.Prelude.{◌==◌, not, slice_get}
 use Rattle.std.specs.List.{position_or_len}
 use Rattle.std.specs.Str.{bytes_eq}
-use Rattle.std.proofs.lemmas.Bool.Decides.{nat_tests}
 use Rattle.std.proofs.lemmas.List.Sums.{prefix_len-le-length}
 use Rattle.std.proofs.lemmas.Slice.Eq.{bytes_eq-Decides}
 use Rattle.isl_meaning.specs.declared.program.ProgramRows.{ProgramRows}
@@ -31,6 +30,8 @@ use Rattle.isl_arena.proofs.Running.{load_falls, return_ends, choose_first_ends,
 use Rattle.isl_arena.proofs.Arguments.{symbol_there}
 use Rattle.isl_arena.proofs.Sameness.{same_value_same_word}
 use Rattle.isl_arena.proofs.Doing.{paid}
+use Rattle.std.proofs.lemmas.Bool.{lt-ltb, le-ltb}
+use Rattle.isl_arena.proofs.WordFacts.{sum_fits}
 
 -- ---- places
 
@@ -49,15 +50,6 @@ module _ {X : Type 0} (p : X → Bool) where
 abbrev pub search_slot : MidStep
 search_slot =
     steps.while_below 5 7 (steps.load 4 5 (pos 0) ∷ steps.return_if (steps.comparing Equal 4 1) 3 ∷ steps.compute_by 5 which.Add 5 12 ++ steps.compute_by 3 which.Add 3 4)
-
-below_is : (m n : ℕ) → m < n → nat_lt m n ≡ true
-below_is m n h = grind (arith, nat_tests)
-
-not_below_is : (m n : ℕ) → n ≤ m → nat_lt m n ≡ false
-not_below_is m n h = grind (arith, nat_tests)
-
-pub sum_is : (a b : ℕ) → a + b < 2 ^ 32 → sum32 a b ≡ a + b
-sum_is a b h = omega arith
 
 module _ (procedures : List MidProcedure) (below : Task → State → Outcome) (y : State) (x : ℕ) (p : SlotRow → Bool) where
   -- the word at an address is the one that is sought exactly where the row passes
@@ -86,7 +78,7 @@ module _ (procedures : List MidProcedure) (below : Task → State → Outcome) (
         (let ends_so :
         StepsTo (turning procedures below n) search_slot (searching r0 r2 r4 r6 i a e) (paid y k)
         (ends (returns (4 * i)) (searching r0 r2 (Some at.word) r6 i a e) (paid y (k + 12 + 8 + 12 + 14))) =
-        repeat_ends tt none_left refl refl (below_is a e more)
+        repeat_ends tt none_left refl refl (lt-ltb a e more)
         (and_then (load_falls refl (address_here a (omega arith)) at.stands)
         (and_ends tt (choose_first_ends tt refl refl (at.tells ∙ passes) (and_ends tt (return_ends refl)))))
         in
@@ -99,11 +91,11 @@ module _ (procedures : List MidProcedure) (below : Task → State → Outcome) (
         → StepsTo (turning procedures below n) search_slot (searching r0 r2 (Some at.word) (Some 4) (i + 1) (a + 12) e) (paid y (k + 12 + 8 + 12 + 2 + 6 + 10 + 6 + 10 + 2)) r
         → StepsTo (turning procedures below (suc n)) search_slot (searching r0 r2 r4 r6 i a e) (paid y k) r
     turn fails rest =
-        repeat_turn procedures below n none_left refl refl (below_is a e more)
+        repeat_turn procedures below n none_left refl refl (lt-ltb a e more)
         (and_then (load_falls refl (address_here a (omega arith)) at.stands)
         (and_then (choose_second_falls refl refl (at.tells ∙ fails) none_left)
         (and_then constant_falls
-        (and_then (compute_known refl refl (sum_is a 12 (omega arith)))
+        (and_then (compute_known refl refl (sum_fits a 12 (omega arith)))
         (and_then constant_falls
         (and_then (compute_known refl refl (let next : sum32 (4 * i) 4 ≡ 4 * (i + 1) = omega arith in next))
         none_left))))))
@@ -123,7 +115,7 @@ module _ (procedures : List MidProcedure) (below : Task → State → Outcome) (
       (rows : List SlotRow) (n i k a e : ℕ) (r0 r2 r4 r6 : Option ℕ) → ((j : ℕ) (row : SlotRow) → slice_get rows j ≡ Some row → NameAt (a + 12 * j) row)
       → e ≡ a + 12 * length rows → e < 2 ^ 27 → i + length rows < 2 ^ 28 → position_or_len p rows ≤ n → Searched n rows i k (searching r0 r2 r4 r6 i a e)
   search [] n i k a e r0 r2 r4 r6 names end low few turns =
-      missed (k + 12) (searching r0 r2 r4 r6 i a e) refl refl (omega arith) (repeat_falls none_left refl refl (not_below_is a e (omega arith)))
+      missed (k + 12) (searching r0 r2 r4 r6 i a e) refl refl (omega arith) (repeat_falls none_left refl refl (le-ltb a e (omega arith)))
   search (row ∷ rows) n i k a e r0 r2 r4 r6 names end low few turns =
       by (p row) refl n turns
       (λ m enough.

@@ -1,5 +1,5 @@
 -- A slot of an instance that is set: the code does what the meaning says of it.
-use Rattle.std.proofs.Common.{◌≡◌, ℕ, ◌+◌, ◌*◌, ◌/◌, ◌<◌, ◌≤◌, pos, List, [], ◌∷◌, length, Option, Some, None, ⊎_elim, refl, sym, ap, ◌∙◌, arith}
+use Rattle.std.proofs.Common.{◌≡◌, ℕ, ◌+◌, ◌*◌, ◌<◌, ◌≤◌, pos, List, [], ◌∷◌, length, Option, Some, None, ⊎_elim, refl, sym, ap, ◌∙◌, arith}
 use Rattle.std.specs.Prelude.{slice_set, slice_index_or, ◌≢◌}
 use Rattle.std.proofs.lemmas.Bool.Decides.{nat_tests}
 use Rattle.std.proofs.lemmas.Bool.{cases_eq}
@@ -15,7 +15,7 @@ use Rattle.isl_mid.specs.declared.program.MidProcedure.{MidProcedure}
 use Rattle.isl_mid.specs.declared.operation.Arithmetic.TheVariants as which
 use Rattle.isl_mid.specs.Arena.{Arena, word_at, with_word}
 use Rattle.isl_mid.specs.MidCode.{MidStep, return_word, code_of}
-use Rattle.isl_mid.specs.State.{Registers, State, Outcome, returns, ends, first_registers}
+use Rattle.isl_mid.specs.State.{Registers, State, Outcome, first_registers}
 use Rattle.isl_mid.specs.Meaning.{Task}
 use Rattle.isl_arena.specs.Tags.{instance_header}
 use Rattle.isl_arena.specs.Places.{Spot, end_of, Places, word_of}
@@ -26,16 +26,14 @@ use Rattle.isl_arena.specs.Answers.{IsPrimitive}
 use Rattle.isl_arena.specs.Codes.{procedure_of}
 use Rattle.isl_arena.specs.Steps as steps
 use Rattle.isl_arena.specs.Steps.{steps_of}
-use Rattle.isl_arena.proofs.Running.{compute_known, address_above, store_in_spot, and_then, and_ends, return_ends}
+use Rattle.isl_arena.proofs.Running.{compute_known, address_above}
 use Rattle.isl_arena.proofs.Memory.{word_elsewhere, stored_in_spot}
 use Rattle.isl_arena.proofs.Keeping.{words_at_least}
-use Rattle.isl_arena.proofs.Growing.{Changes, changes_part}
-use Rattle.isl_arena.proofs.Making.{changes_stored}
-use Rattle.isl_arena.proofs.FixedChanges.{one_word}
 use Rattle.isl_arena.proofs.Arguments.{ObjectFound}
-use Rattle.isl_arena.proofs.Doing.{Run}
-use Rattle.isl_arena.proofs.Arrays.{does_three, returns_changed}
+use Rattle.isl_arena.proofs.Doing.{Run, goes_on}
 use Rattle.isl_arena.proofs.Slots.{slot_registers, instance_low, slot_needed, slot_sum}
+use Rattle.isl_arena.proofs.Taking.{does_three}
+use Rattle.isl_arena.proofs.Arrays.{stores_changed}
 
 -- an instance in whose spot one slot was set
 pub instance_set :
@@ -103,20 +101,12 @@ module _
     (it : ObjectFound names program places z y r v w (instance c values mark)) (inside : j < length values) (place : x ≡ 4 * j)
     (u : Value) (word : ℕ) (of_value : word_of places u ≡ Some word)
   where
-    -- the arena where the slot was set, and the object
-    abbrev slot_stored : Arena
-    slot_stored = with_word (it.spot.address + 4 * (2 + j)) word y.arena
-
+    -- the object where the slot was set
     abbrev now : Object
     now = instance c (slice_set values j (Some u)) mark
 
     slot_within : it.spot.address + 4 * (2 + j) + 4 ≤ end_of it.spot
     slot_within = omega (arith, it.stands.size.words, words_at_least program c (length values))
-
-    slot_changes : Changes it.spot y.arena slot_stored
-    slot_changes =
-        changes_part it.spot (one_word (it.spot.address + 4 * (2 + j))) y.arena slot_stored (omega arith) slot_within
-        (changes_stored (it.spot.address + 4 * (2 + j)) word r.arena (omega (arith, it.spot_stands.aligned)))
 
     set_run :
         (procedures : List MidProcedure) (below : Task → State → Outcome) (n budget k : ℕ) → k + 32 ≤ budget
@@ -126,21 +116,12 @@ module _
         let low = instance_low names program places z y r v w c values mark it in
         let known : c < length program.classes = r.classes.instances it.number c values mark it.stored in
         let registers : Registers = slice_set (slot_registers w x (length values) (first_registers 8 (word ∷ w ∷ x ∷ []))) 5 (Some (w + x)) in
-        rw it.value (record {
-          outcome = ends (returns word) registers (record y { arena = slot_stored; cost = k + 10 + 8 + 14 });
-          runs =
-              and_then (compute_known refl refl (slot_sum names program places z y r w x c v values mark j it inside place))
-              (and_then
-              (store_in_spot it.spot_stands refl refl
-              (address_above (w + x) 6 (it.spot.address + 4 * (2 + j)) (omega (arith, it.word)) (omega (arith, it.word, low)))
-              (omega (arith, it.spot_stands.aligned)) (omega arith) (omega (arith, slot_within)))
-              (and_ends tt (return_ends refl)));
-          answers =
-              returns_changed names program places z y r procedures below budget (k + 10 + 8 + 14) it.number word it.spot (instance c values mark) now u slot_stored registers
-              it.stored known known (λ p e. absurd (cc e)) it.found slot_changes
-              (instance_set names program places y.arena it.spot c values mark j word u r.arena it.spot_stands inside of_value it.stands)
-              of_value (length-set y.arena.memory ((it.spot.address + 4 * (2 + j)) / 4) (Some word)) refl refl (omega (arith, cost));
-        })
+        goes_on names program places z y procedures below (compute_known refl refl (slot_sum names program places z y r w x c v values mark j it inside place))
+        (stores_changed names program places z y r procedures below n budget (k + 10) it.number 0 5 0 (w + x) (it.spot.address + 4 * (2 + j)) word word (pos 6) it.spot
+        (instance c values mark) now u v registers refl refl
+        (address_above (w + x) 6 (it.spot.address + 4 * (2 + j)) (omega (arith, it.word)) (omega (arith, it.word, low))) refl of_value
+        (omega (arith, it.spot_stands.aligned)) (omega arith) (omega (arith, slot_within)) it.stored known known (λ p e. absurd (cc e)) it.found it.value
+        (instance_set names program places y.arena it.spot c values mark j word u r.arena it.spot_stands inside of_value it.stands) (omega (arith, cost)))
 
 pub slot_set_does : IsPrimitive SlotSet (procedure_of SlotSet)
 slot_set_does = does_three SlotSet refl (λ u v p word w x names program places z y procedures below n r are units.

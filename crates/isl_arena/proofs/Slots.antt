@@ -1,4 +1,4 @@
--- How many slots an instance has, what is in a slot, whether something is, and a slot that is set: the code does what the meaning says of them.
+-- How many slots an instance has, what is in a slot, and whether something is: the code does what the meaning says of them.
 use Rattle.std.proofs.Common.{◌≡◌, ℕ, ◌+◌, ◌*◌, ◌^◌, ◌<◌, ◌≤◌, ℤ, pos, true, false, List, [], ◌∷◌, ◌++◌, length, Option, Some, None, refl, ap, ◌∙◌, arith}
 use Rattle.std.specs.Prelude.{negsuc, ◌==◌, not, slice_get, slice_set, slice_index_or}
 use Rattle.std.proofs.lemmas.Bool.Decides.{nat_tests}
@@ -12,7 +12,7 @@ use Rattle.isl_meaning.specs.Primitives.{Answer, result, a_slot, an_integer, an_
 use Rattle.isl_mid.specs.declared.program.MidProcedure.{MidProcedure}
 use Rattle.isl_mid.specs.declared.operation.Arithmetic.TheVariants as which
 use Rattle.isl_mid.specs.declared.operation.Comparison.TheVariants.{LessUnsigned, Different}
-use Rattle.isl_mid.specs.Words.{sum32, shift_left, shift_right, address}
+use Rattle.isl_mid.specs.Words.{sum32, address}
 use Rattle.isl_mid.specs.Arena.{word_at}
 use Rattle.isl_mid.specs.MidCode.{MidStep, return_word, code_of}
 use Rattle.isl_mid.specs.State.{Registers, State, Outcome, register, first_registers}
@@ -29,15 +29,18 @@ use Rattle.isl_arena.specs.Steps.{steps_of}
 use Rattle.isl_arena.specs.declared.line.Line.TheVariants as line
 use Rattle.isl_arena.proofs.Running.{load_falls, constant_falls, compute_known, address_above, address_below}
 use Rattle.isl_arena.proofs.Keeping.{words_at_least}
-use Rattle.isl_arena.proofs.Growing.{spot_below}
-use Rattle.isl_arena.proofs.Arguments.{ObjectFound, object_found, character_word_is}
+use Rattle.isl_arena.proofs.Arguments.{ObjectFound, object_found, character_word_is, length_word_is}
 use Rattle.isl_arena.proofs.Telling.{integer_low, symbol_low, object_low}
 use Rattle.isl_arena.proofs.Doing.{alike_self, Run, goes_on, returns_value, test_passes, second_answers}
 use Rattle.isl_arena.proofs.Conditions.{program_error as of_program, signal_run}
-use Rattle.isl_arena.proofs.Checking.{register_here, Scratched, scratched_six, scratched_seven, not_scratched, six_here, seven_behind_six, tag_registers, instance_registers, integer_needed}
+use Rattle.isl_arena.proofs.Checking.{tag_registers, instance_registers, integer_needed}
 use Rattle.isl_arena.proofs.Needing.{instance_needed}
 use Rattle.isl_arena.proofs.Saying.{saying, says_run}
-use Rattle.isl_arena.proofs.Arrays.{does_one, does_two, length_word_is, index_needed}
+use Rattle.isl_arena.proofs.Arrays.{index_needed}
+use Rattle.isl_arena.proofs.Taking.{does_one, does_two}
+use Rattle.isl_arena.proofs.Registers.{Scratched, not_scratched, register_here, scratched_seven, scratched_six, seven_behind_six, six_here}
+use Rattle.isl_arena.proofs.WordFacts.{header_without_kind, four_times_count, sum_fits}
+use Rattle.isl_arena.proofs.Memory.{spot_low}
 
 -- ---- registers
 
@@ -85,20 +88,14 @@ need_slot of at rest =
     ++ steps.need_tag at 0 (pos (class_address integer_class))
     ++ counting of (steps.either (steps.comparing LessUnsigned at 7) [] (steps.signal (pos (class_address program_error_class))) ∷ rest)
 
-pub header_without_kind : (count : ℕ) → shift_right (instance_header count) 4 ≡ count
-header_without_kind count = omega arith
-
-pub four_times_count : (count : ℕ) → count < 2 ^ 29 → shift_left count 2 ≡ 4 * count
-four_times_count count h = omega arith
-
 module _ (names : List (List ℕ)) (program : ProgramRows) (places : Places) (z : meaning.State) (y : State) (r : Represents names program places z y) where
   -- an instance stands in the heap or beside the code, so its word and the number of its slots are not large
   pub instance_low :
       (v : Value) (w c : ℕ) (values : List (Option Value)) (mark : Value) → ObjectFound names program places z y r v w (instance c values mark)
       → w + 4 * length values + 8 < 2 ^ 27
   instance_low v w c values mark it =
-      let high = spot_below y.arena it.spot r.arena it.spot_stands in
-      omega (arith, it.word, it.stands.size.words, words_at_least program c (length values), high, r.arena.room, r.arena.size)
+      let high = spot_low r.arena it.spot_stands in
+      omega (arith, it.word, it.stands.size.words, words_at_least program c (length values), high)
 
   -- no value has the word of a slot without a value
   pub no_value_unbound : (v : Value) (w : ℕ) → word_of places v ≡ Some w → (w == unbound_word) ≡ false
@@ -189,7 +186,7 @@ module _
 
     -- the address of the slot's word, as it is computed
     pub slot_sum : sum32 w x ≡ w + x
-    slot_sum = omega (arith, low)
+    slot_sum = sum_fits w x (omega (arith, low))
 
     pub slot_word_address : address (w + x) (pos 6) ≡ it.spot.address + 8 + 4 * j
     slot_word_address = address_above (w + x) 6 (it.spot.address + 8 + 4 * j) (omega (arith, it.word)) (omega (arith, it.word, low))

@@ -4,13 +4,11 @@ use Rattle.std.specs.Prelude.{negsuc, ◌==◌, not, slice_set}
 use Rattle.std.proofs.lemmas.Bool.Decides.{nat_tests}
 use Rattle.std.proofs.Math.ListN.{length-set}
 use Rattle.isl_meaning.specs.declared.program.ProgramRows.{ProgramRows}
-use Rattle.isl_meaning.specs.declared.primitive.Primitive.{Primitive}
 use Rattle.isl_meaning.specs.declared.primitive.Primitive.TheVariants.{StandardInput, StandardOutput, IsFreshLine, GetByte, PeekByte}
-use Rattle.isl_meaning.specs.Arity.{arity}
-use Rattle.isl_meaning.specs.Values.{Value, integer, in_range, truth}
+use Rattle.isl_meaning.specs.Values.{Value, integer, truth}
 use Rattle.isl_meaning.specs.State as meaning
 use Rattle.isl_meaning.specs.Layout.{standard_input, standard_output}
-use Rattle.isl_meaning.specs.Primitives.{result, first_byte, other_bytes, is_fresh_line, primitive}
+use Rattle.isl_meaning.specs.Primitives.{result, first_byte, other_bytes, is_fresh_line}
 use Rattle.isl_mid.specs.declared.program.MidProcedure.{MidProcedure}
 use Rattle.isl_mid.specs.declared.operation.Arithmetic.TheVariants as which
 use Rattle.isl_mid.specs.declared.operation.Comparison.TheVariants as comparison
@@ -21,44 +19,24 @@ use Rattle.isl_mid.specs.MidCode.{MidStep, perform, return_word, code_of}
 use Rattle.isl_mid.specs.State.{Registers, State, Outcome, falls, returns, ends, first_registers}
 use Rattle.isl_mid.specs.Meaning.{Task, Context}
 use Rattle.isl_arena.specs.Tags.{nil_word, integer_word}
-use Rattle.isl_arena.specs.Places.{Places, word_of, WordsOf}
+use Rattle.isl_arena.specs.Places.{Places, word_of}
 use Rattle.isl_arena.specs.Standing.{ValueAt}
 use Rattle.isl_arena.specs.FixedWords.{input_address, output_address, line_address, peeked_address, InputIs, untouched, looked_at}
 use Rattle.isl_arena.specs.Layouts.{AreBytes}
 use Rattle.isl_arena.specs.Represents.{Represents}
 use Rattle.isl_arena.specs.Answers.{done, IsPrimitive}
-use Rattle.isl_arena.specs.Codes.{code_of_primitive, procedure_of}
+use Rattle.isl_arena.specs.Codes.{procedure_of}
 use Rattle.isl_arena.specs.Steps as steps
 use Rattle.isl_arena.proofs.WordFacts.{integer_word_tag, integer_word_of_pos, integer_word_of_negsuc, byte_read, end_read, in_range_is}
 use Rattle.isl_arena.proofs.Running.{StepsTo, constant_falls, compute_known, load_falls, store_falls, get_falls, get_at_end}
 use Rattle.isl_arena.proofs.Running.{choose_first_ends, choose_second_falls, none_left, and_then, and_ends, return_ends, address_up, address_above}
-use Rattle.isl_arena.proofs.Memory.{word_here, in_spot_there}
-use Rattle.isl_arena.proofs.Representing.{fixed_spot, fixed_stands, represents_same, kept_fixed}
+use Rattle.isl_arena.proofs.Representing.{represents_same, kept_fixed}
 use Rattle.isl_arena.proofs.FixedChanges.{word_of_fixed, represents_read}
-use Rattle.isl_arena.proofs.Making.{changes_stored, fixed_lent}
+use Rattle.isl_arena.proofs.Making.{changes_stored, fixed_lent, stored_fixed}
 use Rattle.isl_arena.proofs.Doing.{alike_self, Answers, Run, goes_on, returns_value, first_answers, test_fails}
-use Rattle.isl_arena.proofs.Entering.{does_by_code}
-
--- the code of a primitive without arguments comes to its answer
-abbrev pub DoesNone : Primitive → Type 0
-DoesNone which =
-    (names : List (List ℕ)) (program : ProgramRows) (places : Places) (z : meaning.State) (y : State) (procedures : List MidProcedure)
-    (below : Task → State → Outcome) (n : ℕ)
-    → Represents names program places z y
-    → Run names program places z y procedures below n (y.cost + 130 + 244 * arity which) (primitive names program which [] z)
-    (code_of (code_of_primitive which)) (first_registers 8 []) y.cost
-
-pub does_none : (which : Primitive) → arity which ≡ 0 → DoesNone which → IsPrimitive which (procedure_of which)
-does_none which none code names program procedures below n places z y vs ws r are count units =
-    does_by_code names program places z y procedures below n which vs ws r are count (λ y' r'. by y' r' vs ws are (count ∙ none))
-  where
-    by :
-        (y' : State) → Represents names program places z y' → (vs : List Value) (ws : List ℕ) → WordsOf places vs ws → length vs ≡ 0
-        → Run names program places z y' procedures below n (y'.cost + 130 + 244 * arity which) (primitive names program which vs z)
-        (code_of (code_of_primitive which)) (first_registers 8 ws) y'.cost
-    by y' r' [] [] are count = code names program places z y' procedures below n r'
-    by y' r' [] (w ∷ ws) are count = absurd are
-    by y' r' (v ∷ vs) ws are count = absurd (omega (arith, count))
+use Rattle.isl_arena.proofs.Taking.{does_none}
+use Rattle.isl_arena.proofs.Telling.{not_nil}
+use Rattle.isl_arena.proofs.Arguments.{integer_word_there}
 
 -- ---- values at fixed addresses
 
@@ -76,15 +54,15 @@ module _
         (returns_value names program places z y procedures below r refl at.of_value (alike_self z) (omega arith)))
 
 pub standard_input_does : IsPrimitive StandardInput (procedure_of StandardInput)
-standard_input_does = does_none StandardInput refl (λ names program places z y procedures below n r.
+standard_input_does = does_none StandardInput refl (λ names program places z y procedures below n r are units.
     returns_fixed names program places z y r procedures below n input_address (standard_input names program) (omega arith) r.fixed.input_stream)
 
 pub standard_output_does : IsPrimitive StandardOutput (procedure_of StandardOutput)
-standard_output_does = does_none StandardOutput refl (λ names program places z y procedures below n r.
+standard_output_does = does_none StandardOutput refl (λ names program places z y procedures below n r are units.
     returns_fixed names program places z y r procedures below n output_address (standard_output names program) (omega arith) r.fixed.output_stream)
 
 pub is_fresh_line_does : IsPrimitive IsFreshLine (procedure_of IsFreshLine)
-is_fresh_line_does = does_none IsFreshLine refl (λ names program places z y procedures below n r.
+is_fresh_line_does = does_none IsFreshLine refl (λ names program places z y procedures below n r are units.
     returns_fixed names program places z y r procedures below n line_address (truth (is_fresh_line z.printed)) (omega arith) r.fixed.line)
 
 -- ---- bytes that are read
@@ -115,7 +93,7 @@ other_are_bytes (byte ∷ more) bytes = λ i h. bytes (suc i) (omega arith)
 
 -- the integer of a byte, and of the end, has its word
 byte_value : (places : Places) (byte : ℕ) → byte < 256 → word_of places (integer (pos byte)) ≡ Some (integer_word (pos byte))
-byte_value places byte h = let range : in_range (pos byte) ≡ true = in_range_is (pos byte) (omega arith) (omega arith) in rw range refl
+byte_value places byte h = integer_word_there places (pos byte) (in_range_is (pos byte) (omega arith) (omega arith))
 
 value_got : (places : Places) (left : List ℕ) → AreBytes left → word_of places (first_byte left) ≡ Some (word_got left)
 value_got places [] bytes = refl
@@ -123,10 +101,7 @@ value_got places (byte ∷ more) bytes = byte_value places byte (bytes 0 (omega 
 
 -- a word of an integer is not that of nil
 integer_not_nil : (i : ℤ) → (integer_word i == nil_word) ≡ false
-integer_not_nil i = by (integer_word i) (integer_word_tag i)
-  where
-    by : (w : ℕ) → w % 4 ≡ 0 → (w == nil_word) ≡ false
-    by w h = grind (arith, nat_tests)
+integer_not_nil i = not_nil (integer_word i) (omega (arith, integer_word_tag i))
 
 -- the input where a byte was looked at, and where none was
 data Peeked (a : Arena) (left bytes : List ℕ) : Type 0 where
@@ -167,12 +142,6 @@ module _ (names : List (List ℕ)) (program : ProgramRows) (places : Places) (z 
     });
     cost = cost;
   }
-
-  -- what was stored there stands there
-  pub stored_fixed : (address word : ℕ) → address % 4 ≡ 0 → address < 184 → word_at (with_word address word y.arena) address ≡ Some word
-  stored_fixed address word aligned low =
-      word_here y.arena address word (fixed_lent names program places z y r address aligned low)
-      (in_spot_there {s = fixed_spot} address r.arena (fixed_stands names program places z y r) (omega arith))
 
 -- ---- a byte is got
 
@@ -242,7 +211,7 @@ module _
         })
 
 pub get_byte_does : IsPrimitive GetByte (procedure_of GetByte)
-get_byte_does = does_none GetByte refl (λ names program places z y procedures below n r.
+get_byte_does = does_none GetByte refl (λ names program places z y procedures below n r are units.
     gets_byte names program places z y r procedures below n z.input r.input (peeked y.arena y.input z.input r.fixed.input))
 
 -- ---- a byte is looked at
@@ -332,5 +301,5 @@ module _
         (returns_value names program places z y procedures below r refl (byte_value places byte (are 0 (omega arith))) (alike_self z) (omega arith))))))
 
 pub peek_byte_does : IsPrimitive PeekByte (procedure_of PeekByte)
-peek_byte_does = does_none PeekByte refl (λ names program places z y procedures below n r.
+peek_byte_does = does_none PeekByte refl (λ names program places z y procedures below n r are units.
     peeks_byte names program places z y r procedures below n z.input refl (peeked y.arena y.input z.input r.fixed.input))

@@ -1,6 +1,6 @@
 -- The length of a string, a character of it, and a character that is set do what the meaning says of them.
-use Rattle.std.proofs.Common.{◌≡◌, Option, ℕ, ◌+◌, ◌*◌, ◌/◌, ◌%◌, ◌^◌, ◌<◌, ◌≤◌, pos, true, List, [], ◌∷◌, ◌++◌, length, Some, ⊎_elim, refl, sym, ap, ◌∙◌, arith}
-use Rattle.std.specs.Prelude.{nat_le, slice_set, slice_index_or, ◌≢◌}
+use Rattle.std.proofs.Common.{◌≡◌, Option, ℕ, ◌+◌, ◌*◌, ◌/◌, ◌%◌, ◌^◌, ◌<◌, ◌≤◌, pos, List, [], ◌∷◌, ◌++◌, length, Some, ⊎_elim, refl, sym, ap, ◌∙◌, arith}
+use Rattle.std.specs.Prelude.{slice_set, slice_index_or, ◌≢◌}
 use Rattle.std.proofs.lemmas.Bool.Decides.{nat_tests}
 use Rattle.std.proofs.lemmas.Bool.{cases_eq}
 use Rattle.std.proofs.Math.ListN.{length-set}
@@ -31,18 +31,15 @@ use Rattle.isl_arena.proofs.WordFacts.{character_code}
 use Rattle.isl_arena.proofs.ArithmeticBytes.{byte_below, changed_bytes, byte_offset, byte_shift, byte_in, word_changed, byte_in_is, character_in_is, word_changed_is, other_packed}
 use Rattle.isl_arena.proofs.ArithmeticBytes.{byte_offset_is, byte_shift_is, word_of_byte_there}
 use Rattle.isl_arena.proofs.Running.{RunsTo, and_then, none_left, costing, constant_falls, compute_falls, load_falls, compute_known, address_above}
-use Rattle.isl_arena.proofs.Memory.{word_elsewhere, stored_in_spot}
-use Rattle.isl_arena.proofs.Growing.{spot_below}
-use Rattle.isl_arena.proofs.Arguments.{ObjectFound, object_found}
+use Rattle.isl_arena.proofs.Memory.{word_elsewhere, stored_in_spot, spot_low}
+use Rattle.isl_arena.proofs.Arguments.{ObjectFound, object_found, character_word_there, length_word_is}
 use Rattle.isl_arena.proofs.Doing.{alike_self, paid, Run, goes_on, returns_value, part_then}
 use Rattle.isl_arena.proofs.Checking.{integer_needed, character_needed}
 use Rattle.isl_arena.proofs.Needing.{string_needed}
-use Rattle.isl_arena.proofs.Arrays.{does_one, does_two, does_three, length_word_is, index_test, index_needed, stores_changed}
+use Rattle.isl_arena.proofs.Arrays.{index_test, index_needed, stores_changed}
+use Rattle.isl_arena.proofs.Taking.{does_one, does_two, does_three}
 
 -- the word of a character
-pub character_there : (places : Places) (c : ℕ) → c < 256 → word_of places (character c) ≡ Some (character_word c)
-character_there places c h = let small : nat_le c 255 ≡ true = grind (arith, nat_tests) in rw small refl
-
 -- a string in whose spot the word with a byte was changed
 pub string_set :
     (a : Arena) (s : Spot) (bytes : List ℕ) (i c : ℕ) → ArenaStands a → SpotStands a s → i < length bytes → c < 256 → TextAt a s string_header bytes
@@ -79,8 +76,8 @@ module _ (names : List (List ℕ)) (program : ProgramRows) (places : Places) (z 
   -- a string stands in the heap or beside the code, so its word and its length are not large
   string_low : (v : Value) (w : ℕ) (bytes : List ℕ) → ObjectFound names program places z y r v w (string bytes) → w + length bytes + 8 < 2 ^ 27
   string_low v w bytes it =
-      let high = spot_below y.arena it.spot r.arena it.spot_stands in
-      omega (arith, it.word, it.stands.size.words, high, r.arena.room, r.arena.size)
+      let high = spot_low r.arena it.spot_stands in
+      omega (arith, it.word, it.stands.size.words, high)
 
 pub string_length_does : IsPrimitive StringLength (procedure_of StringLength)
 string_length_does = does_one StringLength refl (λ v a names program places z y procedures below n r are units.
@@ -175,7 +172,7 @@ module _
         (goes_on names program places z y procedures below (compute_falls refl refl)
         (goes_on names program places z y procedures below constant_falls
         (goes_on names program places z y procedures below (compute_known refl refl (character_in_is bytes i (byte_shift b) it.stands.bytes shift))
-        (returns_value names program places z y procedures below r refl (character_there places (byte_at bytes i) (byte_below bytes i it.stands.bytes)) (alike_self z)
+        (returns_value names program places z y procedures below r refl (character_word_there places (byte_at bytes i) (omega (arith, byte_below bytes i it.stands.bytes))) (alike_self z)
         (omega (arith, cost)))))))))))))))))))
 
     -- a character is set, and returned

@@ -26,27 +26,26 @@ use Rattle.isl_arena.specs.Codes.{code_of_primitive, procedure_of}
 use Rattle.isl_arena.specs.Steps as steps
 use Rattle.isl_arena.specs.Steps.{class_word}
 use Rattle.isl_arena.proofs.Running.{load_falls, address_above}
-use Rattle.isl_arena.proofs.Growing.{spot_below}
 use Rattle.isl_arena.proofs.BuiltInFacts.{built_in_row}
 use Rattle.isl_arena.proofs.Arguments.{object_found}
 use Rattle.isl_arena.proofs.Doing.{alike_self, Run, goes_on, returns_value, part_then}
 use Rattle.isl_arena.proofs.Checking.{header_registers}
 use Rattle.isl_arena.proofs.Needing.{class_needed}
-use Rattle.isl_arena.proofs.Taking.{does_one}
-use Rattle.isl_arena.proofs.Arrays.{does_two}
+use Rattle.isl_arena.proofs.Taking.{does_one, does_two}
 use Rattle.isl_arena.specs.ClassesThere.{ClassesThere}
-use Rattle.isl_arena.proofs.ClassHeaders.{Seeking, Finds}
-use Rattle.isl_arena.proofs.ClassWords.{class_found}
+use Rattle.isl_arena.proofs.ClassHeaders.{Seeking, Finds, seeking_first}
+use Rattle.isl_arena.proofs.ClassWords.{class_of_found}
 use Rattle.isl_arena.proofs.ClassSearch.{asking, asking_run}
+use Rattle.isl_arena.proofs.Memory.{spot_low}
 
 pub class_name_does : IsPrimitive ClassName (procedure_of ClassName)
-class_name_does = does_one ClassName refl (λ names program places z y procedures below n v w r word.
+class_name_does = does_one ClassName refl (λ v w names program places z y procedures below n r are units.
     class_needed names program places z y r procedures below n (y.cost + 130 + 244) y.cost 0 w v
     (λ c. result (symbol (named (class_name names (slice_get program.classes c)))) z) (steps.load 5 0 (pos 6) ∷ return_word 5 ∷ [])
-    (first_registers 8 (w ∷ [])) (omega arith) refl refl word (omega arith) (λ c found.
-    let it = object_found names program places z y r v w (class_object c) word found in
+    (first_registers 8 (w ∷ [])) (omega arith) refl refl are.0 (omega arith) (λ c found.
+    let it = object_found names program places z y r v w (class_object c) are.0 found in
     let bounded : it.spot.address + 8 < 2 ^ 32 =
-    omega (arith, it.stands.size.words, spot_below y.arena it.spot r.arena it.spot_stands, r.arena.room, r.arena.size)
+    omega (arith, it.stands.size.words, spot_low r.arena it.spot_stands)
     in
     goes_on names program places z y procedures below
     (load_falls refl (address_above w 6 (it.spot.address + 8) (omega (arith, it.word)) bounded) it.stands.name.stands)
@@ -129,22 +128,10 @@ is_instance_run names program places z y procedures below n w x v u r there word
     (class.others 1 (omega arith) (λ e. omega (arith, e))) other_word other (instance_turns names program z v u d n other units) (omega (arith, class.within))))
   where
     here : Seeking names program places z y
-    here = record {
-      represents = r;
-      procedures = procedures;
-      below = below;
-      turns = n;
-      to = 2;
-      to_low = omega arith;
-      of = 0;
-      of_low = omega arith;
-      word = w;
-      start = header_registers x class_header class_header 1 (first_registers 8 (w ∷ x ∷ []));
-      held = refl;
-    }
+    here = seeking_first r procedures below n w (header_registers x class_header class_header 1 (first_registers 8 (w ∷ x ∷ []))) refl
 
     class : Finds here (class_of z v) (code_of (class_word 2 0)) here.start (class_tested y.cost) 254
-    class = class_found here v word refl
+    class = class_of_found here v word refl
 
 pub is_instance_does : IsPrimitive IsInstance (procedure_of IsInstance)
 is_instance_does = does_two IsInstance refl (λ v u w x names program places z y procedures below n r are units.

@@ -13,7 +13,7 @@ use Rattle.isl_mid.specs.declared.operation.Arithmetic.TheVariants as which
 use Rattle.isl_mid.specs.declared.operation.Comparison.TheVariants.{Equal}
 use Rattle.isl_mid.specs.declared.operation.Operation.TheVariants.{Move, Request}
 use Rattle.isl_mid.specs.Arena.{Arena, left, word_at}
-use Rattle.isl_mid.specs.Words.{sum32, shift_left, shift_right}
+use Rattle.isl_mid.specs.Words.{sum32}
 use Rattle.isl_mid.specs.MidCode.{MidStep, perform, return_word, code_of}
 use Rattle.isl_mid.specs.State.{State, Outcome, returns, no_room, ends, first_registers}
 use Rattle.isl_mid.specs.Meaning.{Task, Context}
@@ -25,16 +25,20 @@ use Rattle.isl_arena.specs.Represents.{Represents}
 use Rattle.isl_arena.specs.Answers.{units_after, IsPrimitive}
 use Rattle.isl_arena.specs.Codes.{procedure_of}
 use Rattle.isl_arena.specs.Steps as steps
-use Rattle.isl_arena.proofs.Memory.{heap_below, spot_below}
+use Rattle.isl_arena.proofs.Memory.{heap_below}
 use Rattle.isl_arena.proofs.Arguments.{word_told, symbol_there}
-use Rattle.isl_arena.proofs.Running.{RunsTo, turning, none_left, and_then, and_ends, costing, move_falls, constant_falls, compute_known, load_falls, store_in_heap, request_falls, request_wanting}
+use Rattle.isl_arena.proofs.Running.{RunsTo, turning, none_left, and_then, and_ends, costing, move_falls, constant_falls, compute_known, load_falls, store_in_heap, request_falls, request_wanting, compute_falls}
 use Rattle.isl_arena.proofs.Running.{return_ends, choose_first_falls, address_above, address_below, address_here}
-use Rattle.isl_arena.proofs.Making.{Room, is_left, is_wanting, room_for, begun, begun_facts, begun_heap, begun_blocks, fixed_below, answers_wanting, answers_made}
+use Rattle.isl_arena.proofs.Making.{Room, is_left, is_wanting, room_for, begun, begun_grows, begun_heap, begun_blocks, fixed_below, answers_wanting, answers_made}
 use Rattle.isl_arena.proofs.Doing.{alike_self, Run, goes_on, test_fails, paid}
-use Rattle.isl_arena.proofs.Arrays.{does_one}
-use Rattle.isl_arena.proofs.NeedingSymbols.{SymbolFound, is_nil, is_named, is_fresh, header_address, last_two, symbol_needed}
+use Rattle.isl_arena.proofs.NeedingSymbols.{SymbolFound, is_nil, is_named, is_fresh, header_address, symbol_needed}
 use Rattle.isl_arena.proofs.NewTexts.{words_from_count, text_words, text_word_there, string_begun}
 use Rattle.isl_arena.proofs.CopyingWords.{copy_words, Copies, copies}
+use Rattle.isl_arena.proofs.Growing.{spot_below}
+use Rattle.isl_arena.proofs.Taking.{does_one}
+use Rattle.isl_arena.proofs.Registers.{last_two}
+use Rattle.isl_arena.proofs.WordFacts.{four_times_count}
+use Rattle.isl_arena.proofs.ArithmeticBytes.{byte_words_is}
 
 -- ---- the code
 
@@ -51,19 +55,6 @@ find_lines =
     perform (Move 4 0) ∷ steps.constant 6 nil_word ∷ steps.either (steps.comparing Equal 0 6) (steps.constant 4 (nil_name_address + object_tag) ∷ []) []
     ∷ steps.load 7 4 (negsuc 1) ∷ steps.constant 6 fresh_header
     ∷ steps.either (steps.comparing Equal 7 6) (steps.constant 4 (no_name_address + object_tag) ∷ []) [] ∷ copy_lines
-
--- what the code computes of the word of a count
-count_up : (count : ℕ) → count < 2 ^ 28 → sum32 (4 * count) 12 ≡ 4 * count + 12
-count_up count h = omega arith
-
-words_of_count : (count : ℕ) → shift_right (4 * count + 12) 4 ≡ byte_words count
-words_of_count count = omega arith
-
-four_times : (count : ℕ) → count < 2 ^ 28 → shift_left count 2 ≡ 4 * count
-four_times count h = omega arith
-
-end_of_words : (count heap : ℕ) → heap + 4 * count < 2 ^ 32 → sum32 (4 * count) heap ≡ heap + 4 * count
-end_of_words count heap h = omega arith
 
 module _
     (names : List (List ℕ)) (program : ProgramRows) (places : Places) (z : meaning.State) (y : State) (r : Represents names program places z y)
@@ -97,9 +88,9 @@ module _
           costing
           (and_then (load_falls refl (address_above p 2 (s.address + 4) (omega arith) (omega arith)) text.count)
           (and_then constant_falls
-          (and_then (compute_known refl refl (count_up (length bytes) (omega arith)))
+          (and_then (compute_falls refl refl)
           (and_then constant_falls
-          (and_then (compute_known refl refl (words_of_count (length bytes)))
+          (and_then (compute_known refl refl (byte_words_is (length bytes) (omega arith)))
           (and_then constant_falls
           (and_then (compute_known refl refl (omega arith))
           (and_ends tt (request_wanting refl lacking))))))))) (omega arith)
@@ -117,14 +108,14 @@ module _
         text_stands : (i w : ℕ) → slice_get (text_words bytes) i ≡ Some w → word_at begun_arena (s.address + 8 + 4 * i) ≡ Some w
         text_stands i w found =
             let low : i < count = omega (arith, as_many, slice_get_within (text_words bytes) i w found) in
-            (begun_facts (2 + count) (string_header ∷ 4 * length bytes ∷ []) r.arena room).words (s.address + 8 + 4 * i) (omega (arith, text.size.words))
+            (begun_grows (2 + count) (string_header ∷ 4 * length bytes ∷ []) r.arena room).words (s.address + 8 + 4 * i) (omega (arith, text.size.words))
             ∙ text.words i low ∙ sym (text_word_there bytes i low) ∙ found
 
         -- so they are copied behind the header and the count
         copied : Copies procedures below n (text_words bytes) (heap + 4 + 4) r0 (Some (4 * length bytes)) None (Some heap) (Some p) (Some (heap + 4 * count)) (Some 2) (Some heap) loop_state
         copied =
             copies procedures below (text_words bytes) n p heap (heap + 4 * count) (s.address + 8) (heap + 4 + 4) r0 (Some (4 * length bytes)) None (Some heap) (Some 2) loop_state
-            (begun_facts (2 + count) (string_header ∷ 4 * length bytes ∷ []) r.arena room).stands (omega arith) (omega arith) (omega (arith, as_many))
+            (begun_grows (2 + count) (string_header ∷ 4 * length bytes ∷ []) r.arena room).stands (omega arith) (omega arith) (omega (arith, as_many))
             (omega (arith, r.arena.aligned)) (omega (arith, r.arena.heap)) (omega (arith, as_many)) (omega (arith, as_many, text.size.words)) (omega (arith, as_many)) text_stands
 
         copy_ends :
@@ -135,12 +126,13 @@ module _
         copy_ends =
             let small = heap_below r.arena in
             let size = text.size.words in
+            let end_is : sum32 (4 * count) heap ≡ heap + 4 * count = omega arith in
             costing
             (and_then (load_falls refl (address_above p 2 (s.address + 4) (omega arith) (omega arith)) text.count)
             (and_then constant_falls
-            (and_then (compute_known refl refl (count_up (length bytes) (omega arith)))
+            (and_then (compute_falls refl refl)
             (and_then constant_falls
-            (and_then (compute_known refl refl (words_of_count (length bytes)))
+            (and_then (compute_known refl refl (byte_words_is (length bytes) (omega arith)))
             (and_then constant_falls
             (and_then (compute_known refl refl (omega arith))
             (and_then (request_falls refl room)
@@ -148,8 +140,8 @@ module _
             (and_then (store_in_heap refl refl (address_here heap (omega arith)) r.arena.aligned (omega (arith, r.arena.heap)) (omega arith))
             (and_then (store_in_heap refl refl (address_above heap 4 (heap + 4) refl (omega arith)) (omega (arith, r.arena.aligned)) (omega (arith, r.arena.heap)) (omega arith))
             (and_then constant_falls
-            (and_then (compute_known refl refl (four_times count (omega arith)))
-            (and_then (compute_known refl refl (end_of_words count heap (omega arith)))
+            (and_then (compute_known refl refl (four_times_count count (omega arith)))
+            (and_then (compute_known refl refl end_is)
             (and_then (move_falls refl)
             (and_then copied.steps
             (and_then constant_falls
@@ -177,7 +169,7 @@ module _
                 runs = copy_ends r0 r7 k room turns;
                 answers =
                     answers_made names program places z y r (2 + count) (length bytes) (string bytes) z (record y { arena = string_arena; cost = k + 172 + 62 * count }) _
-                    (alike_self z) (begun_facts (2 + count) all r.arena room) (begun_heap (2 + count) all y.arena) (begun_blocks (2 + count) all y.arena) refl refl (omega arith)
+                    (alike_self z) (begun_grows (2 + count) all r.arena room) (begun_heap (2 + count) all y.arena) (begun_blocks (2 + count) all y.arena) refl refl (omega arith)
                     (string_begun bytes r.arena room text.bytes) tt (omega (arith, cost));
               }
 

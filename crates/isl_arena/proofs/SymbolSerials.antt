@@ -17,11 +17,12 @@ use Rattle.isl_arena.specs.Represents.{Represents}
 use Rattle.isl_arena.specs.Answers.{IsPrimitive}
 use Rattle.isl_arena.specs.Codes.{procedure_of}
 use Rattle.isl_arena.specs.Steps as steps
-use Rattle.isl_arena.proofs.Arguments.{word_told}
+use Rattle.isl_arena.proofs.Arguments.{word_told, length_word_is}
 use Rattle.isl_arena.proofs.Running.{constant_falls, load_falls, address_up}
 use Rattle.isl_arena.proofs.Doing.{alike_self, Run, goes_on, returns_value, test_fails, first_answers}
-use Rattle.isl_arena.proofs.Arrays.{does_one, length_word_is}
-use Rattle.isl_arena.proofs.NeedingSymbols.{SymbolFound, is_nil, is_named, is_fresh, header_address, last_two, symbol_needed}
+use Rattle.isl_arena.proofs.NeedingSymbols.{SymbolFound, is_nil, is_named, is_fresh, header_address, symbol_needed}
+use Rattle.isl_arena.proofs.Taking.{does_one}
+use Rattle.isl_arena.proofs.Registers.{last_two}
 
 -- what the meaning gives for a symbol
 abbrev serial_of : Spelt → Value

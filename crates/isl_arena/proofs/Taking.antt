@@ -1,5 +1,5 @@
--- The procedure of a primitive of one or of two arguments does what its code does.
-use Rattle.std.proofs.Common.{◌≡◌, ℕ, ◌+◌, ◌*◌, List, [], ◌∷◌, length, Some, ◌∙◌, arith}
+-- The procedure of a primitive of none, one, two or three arguments does what its code does.
+use Rattle.std.proofs.Common.{◌≡◌, ℕ, ◌+◌, ◌*◌, ◌≤◌, List, [], ◌∷◌, length, ◌∙◌, arith}
 use Rattle.isl_meaning.specs.declared.program.ProgramRows.{ProgramRows}
 use Rattle.isl_meaning.specs.declared.primitive.Primitive.{Primitive}
 use Rattle.isl_meaning.specs.Arity.{arity}
@@ -10,9 +10,9 @@ use Rattle.isl_mid.specs.declared.program.MidProcedure.{MidProcedure}
 use Rattle.isl_mid.specs.MidCode.{code_of}
 use Rattle.isl_mid.specs.State.{Registers, State, Outcome, first_registers}
 use Rattle.isl_mid.specs.Meaning.{Task}
-use Rattle.isl_arena.specs.Places.{Places, word_of, WordsOf}
+use Rattle.isl_arena.specs.Places.{Places, WordsOf}
 use Rattle.isl_arena.specs.Represents.{Represents}
-use Rattle.isl_arena.specs.Answers.{IsPrimitive}
+use Rattle.isl_arena.specs.Answers.{units_after, IsPrimitive}
 use Rattle.isl_arena.specs.Codes.{code_of_primitive, procedure_of}
 use Rattle.isl_arena.proofs.Doing.{Run}
 use Rattle.isl_arena.proofs.Entering.{does_by_code}
@@ -24,49 +24,64 @@ one_register a = first_registers 8 (a ∷ [])
 abbrev pub two_registers : ℕ → ℕ → Registers
 two_registers a b = first_registers 8 (a ∷ b ∷ [])
 
--- the code of a primitive of one argument comes to its answer
-abbrev pub DoesOne : Primitive → Type 0
-DoesOne which =
+-- The code of a primitive, at such arguments in the first registers, comes to its answer, where so many units as the answer takes are left for turns.
+abbrev pub CodeDoes : Primitive → List Value → List ℕ → Type 0
+CodeDoes which vs ws =
     (names : List (List ℕ)) (program : ProgramRows) (places : Places) (z : meaning.State) (y : State) (procedures : List MidProcedure)
-    (below : Task → State → Outcome) (n : ℕ) (v : Value) (a : ℕ) → Represents names program places z y → word_of places v ≡ Some a
-    → Run names program places z y procedures below n (y.cost + 130 + 244 * arity which) (primitive names program which (v ∷ []) z)
-    (code_of (code_of_primitive which)) (one_register a) y.cost
+    (below : Task → State → Outcome) (n : ℕ)
+    → Represents names program places z y → WordsOf places vs ws
+    → units_after names program (primitive names program which vs z) ≤ z.units + n
+    → Run names program places z y procedures below n (y.cost + 130 + 244 * arity which) (primitive names program which vs z)
+    (code_of (code_of_primitive which)) (first_registers 8 ws) y.cost
 
-pub does_one : (which : Primitive) → arity which ≡ 1 → DoesOne which → IsPrimitive which (procedure_of which)
-does_one which one code names program procedures below n places z y vs ws r are count units =
-    does_by_code names program places z y procedures below n which vs ws r are count (λ y' r'. by y' r' vs ws are (count ∙ one))
+-- it does so at any arguments, as many as the primitive has
+does_at_all : (which : Primitive) → ((vs : List Value) (ws : List ℕ) → length vs ≡ arity which → CodeDoes which vs ws) → IsPrimitive which (procedure_of which)
+does_at_all which code names program procedures below n places z y vs ws r are count units =
+    does_by_code names program places z y procedures below n which vs ws r are count (λ y' r'. code vs ws count names program places z y' procedures below n r' are units)
+
+-- a primitive without arguments, with one, two or three
+pub does_none : (which : Primitive) → arity which ≡ 0 → CodeDoes which [] [] → IsPrimitive which (procedure_of which)
+does_none which none code = does_at_all which (λ vs ws count. by vs ws (count ∙ none))
   where
-    by :
-        (y' : State) → Represents names program places z y' → (vs : List Value) (ws : List ℕ) → WordsOf places vs ws → length vs ≡ 1
-        → Run names program places z y' procedures below n (y'.cost + 130 + 244 * arity which) (primitive names program which vs z)
-        (code_of (code_of_primitive which)) (first_registers 8 ws) y'.cost
-    by y' r' (v ∷ []) (a ∷ []) are count = code names program places z y' procedures below n v a r' are.0
-    by y' r' [] ws are count = absurd (omega (arith, count))
-    by y' r' (v ∷ w ∷ vs) ws are count = absurd (omega (arith, count))
-    by y' r' (v ∷ []) [] are count = absurd are
-    by y' r' (v ∷ []) (a ∷ b ∷ ws) are count = absurd are.1
+    by : (vs : List Value) (ws : List ℕ) → length vs ≡ 0 → CodeDoes which vs ws
+    by [] [] count = code
+    by [] (w ∷ ws) count = λ names program places z y procedures below n r are units. absurd are
+    by (v ∷ vs) ws count = absurd (omega (arith, count))
 
--- the code of a primitive of two arguments comes to its answer
-abbrev pub DoesTwo : Primitive → Type 0
-DoesTwo which =
-    (names : List (List ℕ)) (program : ProgramRows) (places : Places) (z : meaning.State) (y : State) (procedures : List MidProcedure)
-    (below : Task → State → Outcome) (n : ℕ) (v w : Value) (a b : ℕ)
-    → Represents names program places z y → word_of places v ≡ Some a → word_of places w ≡ Some b
-    → Run names program places z y procedures below n (y.cost + 130 + 244 * arity which) (primitive names program which (v ∷ w ∷ []) z)
-    (code_of (code_of_primitive which)) (two_registers a b) y.cost
-
-pub does_two : (which : Primitive) → arity which ≡ 2 → DoesTwo which → IsPrimitive which (procedure_of which)
-does_two which two code names program procedures below n places z y vs ws r are count units =
-    does_by_code names program places z y procedures below n which vs ws r are count (λ y' r'. by y' r' vs ws are (count ∙ two))
+pub does_one : (which : Primitive) → arity which ≡ 1 → ((v : Value) (a : ℕ) → CodeDoes which (v ∷ []) (a ∷ [])) → IsPrimitive which (procedure_of which)
+does_one which one code = does_at_all which (λ vs ws count. by vs ws (count ∙ one))
   where
-    by :
-        (y' : State) → Represents names program places z y' → (vs : List Value) (ws : List ℕ) → WordsOf places vs ws → length vs ≡ 2
-        → Run names program places z y' procedures below n (y'.cost + 130 + 244 * arity which) (primitive names program which vs z)
-        (code_of (code_of_primitive which)) (first_registers 8 ws) y'.cost
-    by y' r' (v ∷ w ∷ []) (a ∷ b ∷ []) are count = code names program places z y' procedures below n v w a b r' are.0 are.1.0
-    by y' r' [] ws are count = absurd (omega (arith, count))
-    by y' r' (v ∷ []) ws are count = absurd (omega (arith, count))
-    by y' r' (v ∷ w ∷ u ∷ vs) ws are count = absurd (omega (arith, count))
-    by y' r' (v ∷ w ∷ []) [] are count = absurd are
-    by y' r' (v ∷ w ∷ []) (a ∷ []) are count = absurd are.1
-    by y' r' (v ∷ w ∷ []) (a ∷ b ∷ c ∷ ws) are count = absurd are.1.1
+    by : (vs : List Value) (ws : List ℕ) → length vs ≡ 1 → CodeDoes which vs ws
+    by (v ∷ []) (a ∷ []) count = code v a
+    by [] ws count = absurd (omega (arith, count))
+    by (v ∷ w ∷ vs) ws count = absurd (omega (arith, count))
+    by (v ∷ []) [] count = λ names program places z y procedures below n r are units. absurd are
+    by (v ∷ []) (a ∷ b ∷ ws) count = λ names program places z y procedures below n r are units. absurd are.1
+
+pub does_two : (which : Primitive) → arity which ≡ 2 → ((v w : Value) (a b : ℕ) → CodeDoes which (v ∷ w ∷ []) (a ∷ b ∷ [])) → IsPrimitive which (procedure_of which)
+does_two which two code = does_at_all which (λ vs ws count. by vs ws (count ∙ two))
+  where
+    by : (vs : List Value) (ws : List ℕ) → length vs ≡ 2 → CodeDoes which vs ws
+    by (v ∷ w ∷ []) (a ∷ b ∷ []) count = code v w a b
+    by [] ws count = absurd (omega (arith, count))
+    by (v ∷ []) ws count = absurd (omega (arith, count))
+    by (v ∷ w ∷ u ∷ vs) ws count = absurd (omega (arith, count))
+    by (v ∷ w ∷ []) [] count = λ names program places z y procedures below n r are units. absurd are
+    by (v ∷ w ∷ []) (a ∷ []) count = λ names program places z y procedures below n r are units. absurd are.1
+    by (v ∷ w ∷ []) (a ∷ b ∷ c ∷ ws) count = λ names program places z y procedures below n r are units. absurd are.1.1
+
+pub does_three :
+    (which : Primitive) → arity which ≡ 3 → ((v w u : Value) (a b c : ℕ) → CodeDoes which (v ∷ w ∷ u ∷ []) (a ∷ b ∷ c ∷ []))
+    → IsPrimitive which (procedure_of which)
+does_three which three code = does_at_all which (λ vs ws count. by vs ws (count ∙ three))
+  where
+    by : (vs : List Value) (ws : List ℕ) → length vs ≡ 3 → CodeDoes which vs ws
+    by (v ∷ w ∷ u ∷ []) (a ∷ b ∷ c ∷ []) count = code v w u a b c
+    by [] ws count = absurd (omega (arith, count))
+    by (v ∷ []) ws count = absurd (omega (arith, count))
+    by (v ∷ w ∷ []) ws count = absurd (omega (arith, count))
+    by (v ∷ w ∷ u ∷ x ∷ vs) ws count = absurd (omega (arith, count))
+    by (v ∷ w ∷ u ∷ []) [] count = λ names program places z y procedures below n r are units. absurd are
+    by (v ∷ w ∷ u ∷ []) (a ∷ []) count = λ names program places z y procedures below n r are units. absurd are.1
+    by (v ∷ w ∷ u ∷ []) (a ∷ b ∷ []) count = λ names program places z y procedures below n r are units. absurd are.1.1
+    by (v ∷ w ∷ u ∷ []) (a ∷ b ∷ c ∷ d ∷ ws) count = λ names program places z y procedures below n r are units. absurd are.1.1.1

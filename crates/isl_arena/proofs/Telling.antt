@@ -1,23 +1,23 @@
 -- What tests of a word's tag and of the header behind it find out of the value, one case for each way that the tests go.
 use Rattle.std.proofs.Common.{◌≡◌, ℕ, ◌+◌, ◌-◌, ◌*◌, ◌%◌, ◌^◌, ◌<◌, ◌≤◌, ℤ, Bool, true, false, List, length, Option, Some, None, refl, sym, ap, ◌∙◌, arith}
-use Rattle.std.specs.Prelude.{◌==◌, ◌||◌, is_some, slice_get}
+use Rattle.std.specs.Prelude.{◌==◌, ◌||◌, not, is_some, slice_get}
 use Rattle.std.proofs.lemmas.Bool.Decides.{nat_tests}
 use Rattle.isl_meaning.specs.declared.program.ProgramRows.{ProgramRows}
-use Rattle.isl_meaning.specs.Values.{SymbolValue, named, unnamed, Value, integer, character, symbol, nil, object, in_range, same}
+use Rattle.isl_meaning.specs.Values.{SymbolValue, named, unnamed, Value, integer, character, symbol, nil, object, in_range, same, truth}
 use Rattle.isl_meaning.specs.Objects.{Object, cons, string, vector, instance, class_object, fresh_symbol}
 use Rattle.isl_meaning.specs.State as meaning
 use Rattle.isl_meaning.specs.Classes.{fetch}
-use Rattle.isl_meaning.specs.Primitives.{as_integer, as_character, as_cons, as_string, as_vector, as_class, as_instance, as_stream, fresh_in, as_symbol, Spelt, by_serial, is_function, is_generic}
+use Rattle.isl_meaning.specs.Primitives.{as_integer, as_character, as_cons, as_string, as_vector, as_class, as_instance, as_stream, fresh_in, as_symbol, Spelt, by_serial}
 use Rattle.isl_mid.specs.Arena.{Arena, word_at}
 use Rattle.isl_mid.specs.State.{State}
 use Rattle.isl_arena.specs.Tags.{cons_tag, object_tag, integer_word, nil_word, character_word, string_header, vector_header}
-use Rattle.isl_arena.specs.Tags.{class_header, input_header, output_header, function_header, generic_header, symbol_header, fresh_header, tag_of}
+use Rattle.isl_arena.specs.Tags.{class_header, input_header, output_header, symbol_header, fresh_header, tag_of}
 use Rattle.isl_arena.specs.Places.{Places, word_of}
 use Rattle.isl_arena.specs.Represents.{Represents}
-use Rattle.isl_arena.proofs.Keeping.{header_of}
+use Rattle.isl_arena.proofs.Keeping.{header_of, tag_low}
 use Rattle.isl_arena.proofs.Arguments.{integer_word_is, character_word_is, tag_in, header_in, value_tag, value_header, tag_told, header_told, symbol_there, object_there, object_found}
-use Rattle.isl_arena.proofs.HeaderKinds.{IsKindOf, string_kind, vector_kind, class_kind, instance_kind, stream_kind, function_kind}
-use Rattle.isl_arena.proofs.HeaderKinds.{generic_kind, instance_of, stream_of, string_is, vector_is, class_is, instance_is, stream_is}
+use Rattle.isl_arena.proofs.HeaderKinds.{IsKindOf, string_kind, vector_kind, class_kind, instance_kind, stream_kind}
+use Rattle.isl_arena.proofs.HeaderKinds.{instance_of, stream_of, string_is, vector_is, class_is, instance_is, stream_is}
 
 -- ---- cases
 
@@ -80,13 +80,13 @@ is_none None e = refl
 is_none (Some x) e = absurd (cc e)
 
 -- words whose tag is not 3
-not_nil : (w : ℕ) → w % 4 < 3 → (w == nil_word) ≡ false
+pub not_nil : (w : ℕ) → w % 4 < 3 → (w == nil_word) ≡ false
 not_nil w h = grind (arith, nat_tests)
 
 not_character : (w : ℕ) → w % 4 < 3 → (w % 256 == 15) ≡ false
 not_character w h = grind (arith, nat_tests)
 
-character_not_nil : (c w : ℕ) → w ≡ 256 * c + 15 → (w == nil_word) ≡ false
+pub character_not_nil : (c w : ℕ) → w ≡ 256 * c + 15 → (w == nil_word) ≡ false
 character_not_nil c w h = grind (arith, nat_tests)
 
 instance_not_named : (n : ℕ) → (16 * n + 3 == symbol_header) ≡ false
@@ -94,10 +94,6 @@ instance_not_named n = grind (arith, nat_tests)
 
 instance_not_fresh : (n : ℕ) → (16 * n + 3 == fresh_header) ≡ false
 instance_not_fresh n = grind (arith, nat_tests)
-
-pub tag_low : (o : Object) → tag_of o < 3
-tag_low (cons car cdr) = omega arith
-tag_low o = omega arith
 
 -- ---- what the tag and the header decide
 
@@ -173,14 +169,6 @@ module _ (names : List (List ℕ)) (program : ProgramRows) (places : Places) (z 
       → FoundByHeader as_stream stream_of (λ h. h == input_header || h == output_header) y.arena (fetch z v) w
   stream_told = header_finds as_stream stream_of _ stream_kind stream_is
 
-  pub function_told :
-      (v : Value) (w : ℕ) → word_of places v ≡ Some w
-      → ByHeader y.arena w (λ h. h == function_header || h == generic_header) (is_function (fetch z v))
-  function_told = header_decides is_function _ function_kind
-
-  pub generic_told : (v : Value) (w : ℕ) → word_of places v ≡ Some w → ByHeader y.arena w (λ h. h == generic_header) (is_generic (fetch z v))
-  generic_told = header_decides is_generic _ generic_kind
-
   pub integer_told : (v : Value) (w : ℕ) → word_of places v ≡ Some w → IntegerTold v w
   integer_told (integer n) w e =
       let h = integer_word_is places n w e in
@@ -237,6 +225,14 @@ module _ (names : List (List ℕ)) (program : ProgramRows) (places : Places) (z 
   nil_told (symbol s) w e = not_nil w (symbol_low s w e)
   nil_told nil w e = let h : nil_word ≡ w = cc e in rw (← h) refl
   nil_told (object i) w e = not_nil w (object_low i w e)
+
+  -- t or nil, by its word
+  pub truth_told : (b : Bool) (word : ℕ) → word_of places (truth b) ≡ Some word → not (word == nil_word) ≡ b
+  truth_told b word e = ap not (nil_told (truth b) word e) ∙ turned b
+    where
+      turned : (b : Bool) → not (same (truth b) nil) ≡ b
+      turned true = refl
+      turned false = refl
 
   -- the serial of an unnamed symbol and of a fresh one stands behind the header
   serial_behind : (w address serial : ℕ) → w ≡ address + object_tag → word_at y.arena (address + 4) ≡ Some (4 * (serial % 2 ^ 29)) → word_at y.arena (w + 2) ≡ Some (4 * (serial % 2 ^ 29))

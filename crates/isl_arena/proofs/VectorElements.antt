@@ -25,13 +25,13 @@ use Rattle.isl_arena.specs.Answers.{IsPrimitive}
 use Rattle.isl_arena.specs.Codes.{procedure_of}
 use Rattle.isl_arena.specs.Steps as steps
 use Rattle.isl_arena.proofs.Running.{load_falls, compute_known, address_above}
-use Rattle.isl_arena.proofs.Memory.{word_elsewhere, stored_in_spot}
-use Rattle.isl_arena.proofs.Growing.{spot_below}
-use Rattle.isl_arena.proofs.Arguments.{ObjectFound, object_found}
+use Rattle.isl_arena.proofs.Memory.{word_elsewhere, stored_in_spot, spot_low}
+use Rattle.isl_arena.proofs.Arguments.{ObjectFound, object_found, length_word_is}
 use Rattle.isl_arena.proofs.Doing.{alike_self, goes_on, returns_value}
 use Rattle.isl_arena.proofs.Checking.{integer_needed}
 use Rattle.isl_arena.proofs.Needing.{vector_needed}
-use Rattle.isl_arena.proofs.Arrays.{does_one, does_two, does_three, length_word_is, index_test, index_needed, stores_changed}
+use Rattle.isl_arena.proofs.Arrays.{index_test, index_needed, stores_changed}
+use Rattle.isl_arena.proofs.Taking.{does_one, does_two, does_three}
 
 -- a vector in whose spot one element was set
 pub vector_set :
@@ -73,8 +73,8 @@ module _ (names : List (List ℕ)) (program : ProgramRows) (places : Places) (z 
   -- a vector stands in the heap or beside the code, so its word and its length are not large
   vector_low : (v : Value) (w : ℕ) (vs : List Value) → ObjectFound names program places z y r v w (vector vs) → w + 4 * length vs + 8 < 2 ^ 27
   vector_low v w vs it =
-      let high = spot_below y.arena it.spot r.arena it.spot_stands in
-      omega (arith, it.word, it.stands.size.words, high, r.arena.room, r.arena.size)
+      let high = spot_low r.arena it.spot_stands in
+      omega (arith, it.word, it.stands.size.words, high)
 
 pub vector_length_does : IsPrimitive VectorLength (procedure_of VectorLength)
 vector_length_does = does_one VectorLength refl (λ v a names program places z y procedures below n r are units.

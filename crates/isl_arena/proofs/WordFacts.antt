@@ -1,20 +1,18 @@
--- Facts about words: their tags and bytes, the words of integers, characters and pointers, and what tests on them tell.
-use Rattle.std.proofs.Common.{◌≡◌, ℕ, suc, ◌+◌, ◌-◌, ◌*◌, ◌/◌, ◌%◌, ◌^◌, ◌<◌, ◌≤◌, ℤ, pos, Bool, true, false, Option, Some, None, ⊎_elim, refl, sym, ap, ◌∙◌, arith}
-use Rattle.std.specs.Prelude.{negsuc, ◌==◌, nat_lt, nat_le, int_lt, int_le, not, ◌&&◌, ◌||◌, ◌*ℤ◌, FitsSigned, is_some, if◌then◌else◌, ◌≢◌}
+-- Facts about words: their tags and bytes, the words of integers and characters, headers, and what tests on them tell.
+use Rattle.std.proofs.Common.{◌≡◌, ℕ, suc, ◌+◌, ◌-◌, ◌*◌, ◌/◌, ◌%◌, ◌^◌, ◌<◌, ◌≤◌, ℤ, pos, Bool, true, false, Option, Some, None, refl, sym, ap, ◌∙◌, arith}
+use Rattle.std.specs.Prelude.{negsuc, ◌==◌, nat_lt, nat_le, int_lt, int_le, not, ◌&&◌, ◌||◌, ◌*ℤ◌, FitsSigned, is_some, if◌then◌else◌}
 use Rattle.std.specs.Int.{w32}
 use Rattle.std.proofs.lemmas.Int.{ints}
 use borrow.Author.Differences.{up, down, true_is_lt, false_is_lt, true_is_le, false_is_le}
-use Rattle.std.proofs.lemmas.Bool.{cases_lt, eqb-true, eq-eqb, not-true, ltb-true, leb-true, le-ltb, and_left, and_right}
+use Rattle.std.proofs.lemmas.Bool.{eqb-true, eq-eqb, not-true, ltb-true, leb-true, le-ltb, and_left, and_right}
 use Rattle.std.proofs.lemmas.Bool.Decides.{nat_tests}
 use Rattle.isl_mid.specs.declared.operation.Comparison.TheVariants as comparison
-use Rattle.isl_mid.specs.Words.{compares, less_signed, sum32, product32, difference32, address}
+use Rattle.isl_mid.specs.Words.{compares, less_signed, sum32, product32, difference32}
 use Rattle.isl_mid.proofs.WordBounds.{first_true, second_true}
 use Rattle.isl_mid.specs.Words.{low_word, signed, shift_left, shift_right}
 use Rattle.isl_meaning.specs.Values.{in_range, int_equal}
 use Rattle.isl_meaning.specs.Primitives.{index_of, length_of, byte_of}
 use Rattle.isl_arena.specs.Tags.{integer_word, character_word, nil_word, instance_header}
-use Rattle.isl_arena.specs.Places.{Spot, pointer_to}
-use Rattle.isl_arena.specs.Standing.{Apart, in_front, behind}
 
 -- two tests that follow from one another
 pub same_truth : (a b : Bool) → (a ≡ true → b ≡ true) → (b ≡ true → a ≡ true) → a ≡ b
@@ -24,33 +22,8 @@ same_truth false false f g = refl
 
 -- ---- tags and bytes of any word
 
--- the tag, shifted to the top
-pub tag_up : (w : ℕ) → shift_left w 30 ≡ 2 ^ 30 * (w % 4)
-tag_up w = omega arith
-
-pub low_four_bits_up : (w : ℕ) → shift_left w 28 ≡ 2 ^ 28 * (w % 16)
-low_four_bits_up w = omega arith
-
-pub low_byte_up : (w : ℕ) → shift_left w 24 ≡ 2 ^ 24 * (w % 256)
-low_byte_up w = omega arith
-
-pub low_half_up : (w : ℕ) → shift_left w 16 ≡ 2 ^ 16 * (w % 65536)
-low_half_up w = omega arith
-
--- a tag, up to the top and down again
-pub tag_alone : (w : ℕ) → shift_right (shift_left w 30) 30 ≡ w % 4
-tag_alone w = omega arith
-
--- the two bits above the tag: the number of a byte in its word, where w is the word of its index
-pub two_bits_above : (w : ℕ) → shift_right (shift_left w 28) 30 ≡ (w / 4) % 4
-two_bits_above w = omega arith
-
 pub low_byte_alone : (w : ℕ) → shift_right (shift_left w 24) 24 ≡ w % 256
 low_byte_alone w = omega arith
-
--- eight times the number of a byte in its word
-pub bits_in_front : (w : ℕ) → shift_left ((w / 4) % 4) 3 ≡ 8 * ((w / 4) % 4)
-bits_in_front w = omega arith
 
 -- to compare the shifted tag with a tag's bits tells the tag
 pub tag_tested : (w t : ℕ) → (shift_left w 30 == 2 ^ 30 * t) ≡ (w % 4 == t)
@@ -61,6 +34,14 @@ low_four_bits_tested w t = grind (arith, nat_tests)
 
 pub low_byte_tested : (w c : ℕ) → (shift_left w 24 == 2 ^ 24 * c) ≡ (w % 256 == c)
 low_byte_tested w c = grind (arith, nat_tests)
+
+-- ---- sums and products by four that fit in a word
+
+pub sum_fits : (a b : ℕ) → a + b < 2 ^ 32 → sum32 a b ≡ a + b
+sum_fits a b h = omega arith
+
+pub four_times_count : (count : ℕ) → 4 * count < 2 ^ 32 → shift_left count 2 ≡ 4 * count
+four_times_count count h = omega arith
 
 -- ---- the lowest 32 bits of a number
 
@@ -124,15 +105,7 @@ signed_low_word (negsuc n) f =
 pub signed_is : (z r : ℤ) (j k : ℕ) → up z + 2 ^ 32 * j + down r ≡ up r + 2 ^ 32 * k + down z → FitsSigned w32 r → signed (low_word z) ≡ r
 signed_is z r j k e f = rw (same_low_word z r j k e) (signed_low_word r f)
 
--- a word is the lowest 32 bits of the number that it stands for
-pub low_word_signed : (w : ℕ) → w < 2 ^ 32 → low_word (signed w) ≡ w
-low_word_signed w h = ⊎_elim (λ low. rw (signed_low w low) (low_word_of_word w h))
-    (λ high. rw (signed_high w high) (low_word_is (negsuc (2 ^ 32 - suc w)) w 1 0 (record { below = h; balance = omega arith }))) (cases_lt w (2 ^ 31))
-
 -- ---- words of integers
-
-pub integer_word_below : (n : ℤ) → integer_word n < 2 ^ 32
-integer_word_below n = low_word_below (pos 4 *ℤ n)
 
 pub integer_word_tag : (n : ℤ) → integer_word n % 4 ≡ 0
 integer_word_tag n = let s = low_word_apart (pos 4 *ℤ n) in omega (arith, ints, s.2.balance)
@@ -214,9 +187,6 @@ integer_is_zero a g = rw (low_word_of_pos 0) at (integer_word_equal a (pos 0) g 
 pub is_negative : (a : ℤ) → in_range a ≡ true → less_signed (integer_word a) 0 ≡ int_lt a (pos 0)
 is_negative a g = (λ i. int_lt (signed_integer_word a g i) (pos 0)) ∙ four_times_below a (pos 0)
 
-pub is_positive : (a : ℤ) → in_range a ≡ true → less_signed 0 (integer_word a) ≡ int_lt (pos 0) a
-is_positive a g = (λ i. int_lt (pos 0) (signed_integer_word a g i)) ∙ four_times_below (pos 0) a
-
 pub integers_compare_at_most : (a b : ℤ) → in_range a ≡ true → in_range b ≡ true → compares comparison.AtLeast (integer_word b) (integer_word a) ≡ int_le a b
 integers_compare_at_most a b g h = integers_compare_at_least b a h g ∙ not_below b a
 
@@ -266,33 +236,11 @@ byte_read c h = rw (integer_word_of_pos c (omega arith)) (omega arith)
 pub end_read : shift_left (2 ^ 32 - 1) 2 ≡ integer_word (negsuc 0)
 end_read = sym (integer_word_of_negsuc 0 (omega arith))
 
-pub byte_is_no_end : (c : ℕ) → c < 256 → integer_word (pos c) ≢ integer_word (negsuc 0)
-byte_is_no_end c h e = omega (arith, e, integer_word_of_pos c (omega arith), integer_word_of_negsuc 0 (omega arith))
-
 -- the next serial number, as an integer of 29 bits
 pub next_serial : (n : ℕ) → shift_right (shift_left (sum32 (4 * (n % 2 ^ 29)) 4) 1) 1 ≡ 4 * ((n + 1) % 2 ^ 29)
 next_serial n = omega arith
 
 -- ---- characters
-
-pub character_word_below : (c : ℕ) → c ≤ 255 → character_word c < 2 ^ 16
-character_word_below c h = omega arith
-
-pub character_word_byte : (c : ℕ) → character_word c % 256 ≡ 15
-character_word_byte c = omega arith
-
-pub character_word_tag : (c : ℕ) → character_word c % 4 ≡ 3
-character_word_tag c = omega arith
-
--- the lowest byte tells characters from all other values: it has their tag, and it is not that of nil
-pub character_byte_tag : (w : ℕ) → w % 256 ≡ 15 → w % 4 ≡ 3
-character_byte_tag w h = omega arith
-
-pub character_word_one_to_one : (a b : ℕ) → character_word a ≡ character_word b → a ≡ b
-character_word_one_to_one a b e = omega arith
-
-pub character_word_equal : (a b : ℕ) → (character_word a == character_word b) ≡ (a == b)
-character_word_equal a b = grind (arith, nat_tests)
 
 -- the code of a character, and the integer of it
 pub character_code : (c : ℕ) → shift_right (character_word c) 8 ≡ c
@@ -305,20 +253,20 @@ character_integer c h = rw (integer_word_of_pos c (omega arith)) (omega arith)
 pub character_of_integer : (c : ℕ) → c ≤ 255 → sum32 (shift_left (integer_word (pos c)) 6) 15 ≡ character_word c
 character_of_integer c h = rw (integer_word_of_pos c (omega arith)) (omega arith)
 
+-- ---- words that are equal
+
+-- a word is that one where their difference is below 1
+pub equal_bit : (a b : ℕ) → a < 2 ^ 32 → b < 2 ^ 32 → nat_lt (difference32 a b) 1 ≡ (a == b)
+equal_bit a b g h = grind (arith, nat_tests)
+
 -- ---- headers
 
--- whether a header is one of so many from that one on
-pub header_tested : (h header : ℕ) → h < 2 ^ 32 → header < 2 ^ 32 → nat_lt (difference32 h header) 1 ≡ (h == header)
-header_tested h header g k = grind (arith, nat_tests)
-
+-- whether a header is that one or the next one
 pub two_headers_tested : (h header : ℕ) → h < 2 ^ 32 → suc header < 2 ^ 32 → nat_lt (difference32 h header) 2 ≡ (h == header || h == suc header)
 two_headers_tested h header g k = grind (arith, nat_tests)
 
-pub instance_header_bits : (slots : ℕ) → shift_left (instance_header slots) 28 ≡ 2 ^ 28 * 3
-instance_header_bits slots = omega arith
-
-pub instance_header_count : (slots : ℕ) → 4 * slots < 2 ^ 32 → shift_left (shift_right (instance_header slots) 4) 2 ≡ 4 * slots
-instance_header_count slots h = omega arith
+pub header_without_kind : (slots : ℕ) → shift_right (instance_header slots) 4 ≡ slots
+header_without_kind slots = omega arith
 
 pub instance_header_made : (slots : ℕ) → 16 * slots + 3 < 2 ^ 32 → sum32 (shift_left (4 * slots) 2) 3 ≡ instance_header slots
 instance_header_made slots h = omega arith
@@ -333,48 +281,6 @@ truth_bit w h = grind (arith, nat_tests)
 pub word_or_nil : (w : ℕ) (b : Bool) → w < 2 ^ 32 → sum32 (product32 (difference32 w nil_word) (if b then 1 else 0)) nil_word ≡ if b then w else nil_word
 word_or_nil w true h = omega arith
 word_or_nil w false h = omega arith
-
--- 1 where a word is that one, as a difference that is below 1
-pub equal_bit : (a b : ℕ) → a < 2 ^ 32 → b < 2 ^ 32 → nat_lt (difference32 a b) 1 ≡ (a == b)
-equal_bit = header_tested
-
--- ---- pointers
-
--- the tag of a pointer to an address
-pub pointer_tag : (address tag : ℕ) → address % 4 ≡ 0 → tag < 4 → (address + tag) % 4 ≡ tag
-pointer_tag address tag g h = omega arith
-
-pub pointer_without_tag : (address tag : ℕ) → address + tag < 2 ^ 32 → difference32 (address + tag) tag ≡ address
-pointer_without_tag address tag h = omega arith
-
--- what is at an offset from an address
-pub address_ahead : (base offset : ℕ) → base + offset < 2 ^ 32 → address base (pos offset) ≡ base + offset
-address_ahead base offset h = low_word_of_word (base + offset) h
-
--- spots of at least a word that are apart have different pointers
-pub apart_pointers : (s r : Spot) → s.address % 4 ≡ 0 → r.address % 4 ≡ 0 → s.tag < 4 → r.tag < 4 → 1 ≤ s.words → 1 ≤ r.words → Apart s r → pointer_to s ≢ pointer_to r
-apart_pointers s r a b c d e f (in_front h) p = omega arith
-apart_pointers s r a b c d e f (behind h) p = omega arith
-
--- words of values of different shapes
-
-pub integer_is_no_pointer : (n : ℤ) (s : Spot) → s.address % 4 ≡ 0 → 1 ≤ s.tag → s.tag < 4 → integer_word n ≢ pointer_to s
-integer_is_no_pointer n s a b c e = omega (arith, integer_word_tag n)
-
-pub integer_is_no_character : (n : ℤ) (c : ℕ) → integer_word n ≢ character_word c
-integer_is_no_character n c e = omega (arith, integer_word_tag n)
-
-pub integer_is_not_nil : (n : ℤ) → integer_word n ≢ nil_word
-integer_is_not_nil n e = omega (arith, integer_word_tag n)
-
-pub character_is_no_pointer : (c : ℕ) (s : Spot) → s.address % 4 ≡ 0 → s.tag < 3 → character_word c ≢ pointer_to s
-character_is_no_pointer c s a b e = omega arith
-
-pub character_is_not_nil : (c : ℕ) → character_word c ≢ nil_word
-character_is_not_nil c e = omega arith
-
-pub nil_is_no_pointer : (s : Spot) → s.address % 4 ≡ 0 → s.tag < 3 → nil_word ≢ pointer_to s
-nil_is_no_pointer s a b e = omega arith
 
 -- ---- indices
 
