@@ -1,10 +1,10 @@
 -- The steps of each line of the code of primitives.
 use Rattle.std.specs.Prelude.{ℕ, ◌*◌, ◌^◌, ℤ, pos, negsuc, List, [], ◌∷◌, ◌++◌}
-use Rattle.isl_meaning.specs.Objects.{character_class, symbol_class, string_class, vector_class, function_class, generic_function_class, cons_class, null_class, integer_class, stream_class, built_in_class_class, standard_class_class, domain_error_class}
+use Rattle.isl_meaning.specs.Objects.{character_class, symbol_class, string_class, vector_class, function_class, generic_function_class, cons_class, null_class, integer_class, stream_class, built_in_class_class, standard_class_class, standard_object_class, program_error_class, domain_error_class}
 use Rattle.isl_mid.specs.declared.operation.Arithmetic.{Arithmetic}
 use Rattle.isl_mid.specs.declared.operation.Arithmetic.TheVariants as which
 use Rattle.isl_mid.specs.declared.operation.Comparison.{Comparison}
-use Rattle.isl_mid.specs.declared.operation.Comparison.TheVariants.{Equal, LessUnsigned}
+use Rattle.isl_mid.specs.declared.operation.Comparison.TheVariants.{Equal, Different, AtLeast, LessUnsigned, AtLeastUnsigned}
 use Rattle.isl_mid.specs.declared.operation.Counted.TheVariants.{Turn}
 use Rattle.isl_mid.specs.declared.operation.Operation.TheVariants as operation
 use Rattle.isl_mid.specs.declared.operation.Test.{Test}
@@ -131,10 +131,44 @@ while_below first second body = repeat Turn no_step (comparing LessUnsigned firs
 abbrev pub return_if : Test → ℕ → MidStep
 return_if test from = either test (return_word from ∷ []) []
 
+-- t or nil
+abbrev pub says : Test → List MidStep
+says test = constant 5 0 ∷ load 5 5 (pos true_address) ∷ return_if test 5 ∷ constant 5 nil_word ∷ return_word 5 ∷ []
+
+-- whether the argument is an object with one of so many headers
+abbrev pub says_header : (header count : ℕ) → List MidStep
+says_header header count =
+    tag_bits 0 ++ constant 6 (2 ^ 31) ∷ constant 5 nil_word ∷ return_if (comparing Different 7 6) 5
+    ∷ load 7 0 (negsuc 1) ∷ compute_by 7 which.Subtract 7 header
+    ++ constant 6 count ∷ return_if (comparing AtLeastUnsigned 7 6) 5 ∷ constant 5 0 ∷ load 5 5 (pos true_address) ∷ return_word 5 ∷ []
+
+abbrev pub need_integer : (of : ℕ) → List MidStep
+need_integer of = need_tag of 0 (at integer_class)
+
+abbrev pub signal_unless : Test → (class : ℤ) → MidStep
+signal_unless test class = either test [] (signal class)
+
+-- an index is below the number of elements as a number without a sign
+abbrev pub need_below : (of limit : ℕ) → MidStep
+need_below of limit = signal_unless (comparing LessUnsigned of limit) (at program_error_class)
+
+abbrev pub need_instance : (of : ℕ) → (class : ℤ) → List MidStep
+need_instance of class = need_tag of (2 ^ 31) class ++ need_instance_of of class
+
+-- the number of slots of an instance, as an integer
+abbrev pub slot_count : (of : ℕ) → List MidStep
+slot_count of = load 7 of (negsuc 1) ∷ compute_by 7 which.ShiftRight 7 4 ++ compute_by 7 which.ShiftLeft 7 2
+
+-- the three words of a slot stand in its class behind the precedence list
+abbrev pub slot_word : (offset : ℤ) → List MidStep
+slot_word offset =
+    load 4 0 (pos 2) ∷ load 5 4 (pos 18) ∷ compute 4 which.Add 4 5 ∷ compute_by 5 which.Multiply 1 3
+    ++ compute 4 which.Add 4 5 ∷ load 5 4 offset ∷ return_word 5 ∷ []
+
 abbrev pub steps_of : Line → List MidStep
 steps_of (line.Set to word) = constant to word ∷ []
 steps_of (line.Copy to from) = perform (operation.Move to from) ∷ []
-steps_of (line.SetIf test to word) = either test (constant to word ∷ []) [] ∷ []
+steps_of (line.SetIf how first second to word) = either (comparing how first second) (constant to word ∷ []) [] ∷ []
 steps_of (line.Compute to how first second) = compute to how first second ∷ []
 steps_of (line.ComputeBy to how first word) = compute_by to how first word
 steps_of (line.Load to base offset) = load to base offset ∷ []
@@ -145,19 +179,27 @@ steps_of (line.Request to words) = perform (operation.Request to words) ∷ []
 steps_of (line.Put from) = perform (operation.Put from) ∷ []
 steps_of (line.Get to) = perform (operation.Get to) ∷ []
 steps_of (line.Return from) = return_word from ∷ []
-steps_of (line.ReturnIf test from) = return_if test from ∷ []
+steps_of (line.ReturnIf how first second from) = return_if (comparing how first second) from ∷ []
+steps_of (line.Says how first second) = says (comparing how first second)
+steps_of (line.SaysHeader header count) = says_header header count
 steps_of (line.NeedTag of bits class) = need_tag of bits class
+steps_of line.NeedIntegers = need_integer 0 ++ need_integer 1
+steps_of line.NeedLength = need_integer 0 ++ constant 6 0 ∷ either (comparing AtLeast 0 6) [] (domain_error 0 (at integer_class)) ∷ []
 steps_of (line.NeedCharacter of) =
     compute_by 7 which.ShiftLeft of 24 ++ constant 6 (15 * 2 ^ 24)
     ∷ either (comparing Equal 7 6) [] (domain_error of (at character_class)) ∷ []
 steps_of (line.NeedHeader of header count class) = need_header of header count class
-steps_of (line.NeedInstance of class) = need_tag of (2 ^ 31) class ++ need_instance_of of class
+steps_of (line.NeedInstance of class) = need_instance of class
 steps_of (line.NeedSymbol of) =
     constant 6 nil_word ∷ either (comparing Equal of 6) [] (need_header of symbol_header 2 (at symbol_class)) ∷ []
-steps_of (line.NeedTest test of class) = either test [] (domain_error of class) ∷ []
-steps_of (line.SignalUnless test class) = either test [] (signal class) ∷ []
+steps_of (line.NeedIndex of index) = need_integer index ++ load 7 of (pos 2) ∷ need_below index 7 ∷ []
+steps_of (line.NeedPlace of place) =
+    need_instance of (at standard_object_class) ++ need_integer place ++ slot_count of ++ need_below place 7 ∷ []
+steps_of (line.NeedTest how first second of class) = either (comparing how first second) [] (domain_error of class) ∷ []
+steps_of (line.SignalUnless how first second class) = signal_unless (comparing how first second) class ∷ []
 steps_of (line.Signal class) = signal class
 steps_of (line.ClassWord to of) = class_word to of
+steps_of (line.SlotWord offset) = slot_word offset
 steps_of line.Fill = while_below 7 5 (store 4 7 (pos 8) ∷ compute_by 7 which.Add 7 4) ∷ []
 steps_of line.CopyWords =
     while_below 7 5 (load 6 4 (pos 6) ∷ store 6 7 (pos 8) ∷ compute_by 7 which.Add 7 4 ++ compute_by 4 which.Add 4 4) ∷ []

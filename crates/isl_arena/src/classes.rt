@@ -2,15 +2,16 @@
 
 use crate::line::Line;
 use crate::line::Line::{
-    ClassWord, Compute, ComputeBy, Copy, Fill, Load, LoadFixed, NeedHeader, NeedInstance,
-    NeedSymbol, NeedTag, NeedTest, Request, Return, ReturnIf, SearchClass, SearchSlot, Set, Signal,
-    SignalUnless, Store,
+    ClassWord, Compute, ComputeBy, Copy, Fill, Load, NeedHeader, NeedInstance, NeedPlace,
+    NeedSymbol, NeedTest, Request, Return, Says, SearchClass, SearchSlot, Set, Signal,
+    SignalUnless, SlotWord, Store,
 };
 use crate::words::{
-    CLASS, HEADER, INTEGER_BITS, INTEGER_CLASS, NIL, OBJECT, PROGRAM_ERROR, SECOND,
-    SERIOUS_CONDITION, STANDARD_CLASS, STANDARD_OBJECT, THIRD, TRUE_AT, UNBOUND,
+    CLASS, HEADER, NIL, OBJECT, PROGRAM_ERROR, SECOND, SERIOUS_CONDITION, STANDARD_CLASS,
+    STANDARD_OBJECT, THIRD, UNBOUND,
 };
-use isl_mid::{Arithmetic, Comparison, Test};
+use isl_mid::Arithmetic::{Add, LessUnsigned, Multiply, ShiftLeft, ShiftRight, Subtract};
+use isl_mid::Comparison::Different;
 
 /// Offsets from the word of a class: whether instances can be made, whether they are conditions, how many classes its precedence list has, how
 /// many slots they have; and from where the precedence list begins, less the tag.
@@ -24,679 +25,134 @@ const SLOTS: i32 = 22;
 
 const LIST: u32 = 26;
 
-pub const CLASS_OF: &[Line] = &[ClassWord { to: 2, of: 0 }, Return { from: 2 }];
+pub const CLASS_OF: &[Line] = &[ClassWord(2, 0), Return(2)];
 
 pub const CLASS_NAME: &[Line] = &[
-    NeedHeader {
-        of: 0,
-        header: CLASS,
-        count: 1,
-        class: STANDARD_CLASS,
-    },
-    Load {
-        to: 5,
-        base: 0,
-        offset: THIRD,
-    },
-    Return { from: 5 },
+    NeedHeader(0, CLASS, 1, STANDARD_CLASS),
+    Load(5, 0, THIRD),
+    Return(5),
 ];
 
 pub const IS_SUBCLASS: &[Line] = &[
-    NeedHeader {
-        of: 0,
-        header: CLASS,
-        count: 1,
-        class: STANDARD_CLASS,
-    },
-    NeedHeader {
-        of: 1,
-        header: CLASS,
-        count: 1,
-        class: STANDARD_CLASS,
-    },
-    Load {
-        to: 4,
-        base: 1,
-        offset: SECOND,
-    },
-    Load {
-        to: 3,
-        base: 0,
-        offset: ABOVE,
-    },
-    ComputeBy {
-        to: 5,
-        which: Arithmetic::Add,
-        first: 0,
-        word: LIST,
-    },
-    Compute {
-        to: 3,
-        which: Arithmetic::Add,
-        first: 3,
-        second: 5,
-    },
+    NeedHeader(0, CLASS, 1, STANDARD_CLASS),
+    NeedHeader(1, CLASS, 1, STANDARD_CLASS),
+    Load(4, 1, SECOND),
+    Load(3, 0, ABOVE),
+    ComputeBy(5, Add, 0, LIST),
+    Compute(3, Add, 3, 5),
     SearchClass,
-    Set { to: 5, word: NIL },
-    Return { from: 5 },
+    Set(5, NIL),
+    Return(5),
 ];
 
 pub const IS_INSTANCE: &[Line] = &[
-    NeedHeader {
-        of: 1,
-        header: CLASS,
-        count: 1,
-        class: STANDARD_CLASS,
-    },
-    ClassWord { to: 2, of: 0 },
-    Load {
-        to: 4,
-        base: 1,
-        offset: SECOND,
-    },
-    Load {
-        to: 3,
-        base: 2,
-        offset: ABOVE,
-    },
-    ComputeBy {
-        to: 5,
-        which: Arithmetic::Add,
-        first: 2,
-        word: LIST,
-    },
-    Compute {
-        to: 3,
-        which: Arithmetic::Add,
-        first: 3,
-        second: 5,
-    },
+    NeedHeader(1, CLASS, 1, STANDARD_CLASS),
+    ClassWord(2, 0),
+    Load(4, 1, SECOND),
+    Load(3, 2, ABOVE),
+    ComputeBy(5, Add, 2, LIST),
+    Compute(3, Add, 3, 5),
     SearchClass,
-    Set { to: 5, word: NIL },
-    Return { from: 5 },
+    Set(5, NIL),
+    Return(5),
 ];
 
 /// A condition has one word more. Nil is stored in its place first: where there is no mark, that word is the last slot or the class, which is stored
 /// later.
 pub const ALLOCATE: &[Line] = &[
-    NeedHeader {
-        of: 0,
-        header: CLASS,
-        count: 1,
-        class: STANDARD_CLASS,
-    },
-    Load {
-        to: 4,
-        base: 0,
-        offset: IS_MADE,
-    },
-    Set { to: 6, word: NIL },
-    SignalUnless {
-        test: Test {
-            comparison: Comparison::Different,
-            first: 4,
-            second: 6,
-        },
-        class: PROGRAM_ERROR,
-    },
-    Load {
-        to: 4,
-        base: 0,
-        offset: IS_CONDITION,
-    },
-    ComputeBy {
-        to: 4,
-        which: Arithmetic::Subtract,
-        first: 4,
-        word: NIL,
-    },
-    Set { to: 6, word: 0 },
-    Compute {
-        to: 4,
-        which: Arithmetic::LessUnsigned,
-        first: 6,
-        second: 4,
-    },
-    Load {
-        to: 5,
-        base: 0,
-        offset: SLOTS,
-    },
-    ComputeBy {
-        to: 3,
-        which: Arithmetic::ShiftRight,
-        first: 5,
-        word: 2,
-    },
-    Compute {
-        to: 3,
-        which: Arithmetic::Add,
-        first: 3,
-        second: 4,
-    },
-    ComputeBy {
-        to: 3,
-        which: Arithmetic::Add,
-        first: 3,
-        word: 2,
-    },
-    Request { to: 3, words: 3 },
-    ComputeBy {
-        to: 4,
-        which: Arithmetic::ShiftLeft,
-        first: 4,
-        word: 2,
-    },
-    Compute {
-        to: 4,
-        which: Arithmetic::Add,
-        first: 4,
-        second: 5,
-    },
-    Compute {
-        to: 4,
-        which: Arithmetic::Add,
-        first: 4,
-        second: 3,
-    },
-    Set { to: 6, word: NIL },
-    Store {
-        from: 6,
-        base: 4,
-        offset: 4,
-    },
-    ComputeBy {
-        to: 7,
-        which: Arithmetic::ShiftLeft,
-        first: 5,
-        word: 2,
-    },
-    ComputeBy {
-        to: 7,
-        which: Arithmetic::Add,
-        first: 7,
-        word: 3,
-    },
-    Store {
-        from: 7,
-        base: 3,
-        offset: 0,
-    },
-    Store {
-        from: 0,
-        base: 3,
-        offset: 4,
-    },
-    Compute {
-        to: 5,
-        which: Arithmetic::Add,
-        first: 5,
-        second: 3,
-    },
-    Copy { to: 7, from: 3 },
-    Set {
-        to: 4,
-        word: UNBOUND,
-    },
+    NeedHeader(0, CLASS, 1, STANDARD_CLASS),
+    Load(4, 0, IS_MADE),
+    Set(6, NIL),
+    SignalUnless(Different, 4, 6, PROGRAM_ERROR),
+    Load(4, 0, IS_CONDITION),
+    ComputeBy(4, Subtract, 4, NIL),
+    Set(6, 0),
+    Compute(4, LessUnsigned, 6, 4),
+    Load(5, 0, SLOTS),
+    ComputeBy(3, ShiftRight, 5, 2),
+    Compute(3, Add, 3, 4),
+    ComputeBy(3, Add, 3, 2),
+    Request(3, 3),
+    ComputeBy(4, ShiftLeft, 4, 2),
+    Compute(4, Add, 4, 5),
+    Compute(4, Add, 4, 3),
+    Set(6, NIL),
+    Store(6, 4, 4),
+    ComputeBy(7, ShiftLeft, 5, 2),
+    ComputeBy(7, Add, 7, 3),
+    Store(7, 3, 0),
+    Store(0, 3, 4),
+    Compute(5, Add, 5, 3),
+    Copy(7, 3),
+    Set(4, UNBOUND),
     Fill,
-    ComputeBy {
-        to: 3,
-        which: Arithmetic::Add,
-        first: 3,
-        word: OBJECT,
-    },
-    Return { from: 3 },
+    ComputeBy(3, Add, 3, OBJECT),
+    Return(3),
 ];
 
 pub const SLOT_COUNT: &[Line] = &[
-    NeedInstance {
-        of: 0,
-        class: STANDARD_OBJECT,
-    },
-    Load {
-        to: 5,
-        base: 0,
-        offset: HEADER,
-    },
-    ComputeBy {
-        to: 5,
-        which: Arithmetic::ShiftRight,
-        first: 5,
-        word: 4,
-    },
-    ComputeBy {
-        to: 5,
-        which: Arithmetic::ShiftLeft,
-        first: 5,
-        word: 2,
-    },
-    Return { from: 5 },
+    NeedInstance(0, STANDARD_OBJECT),
+    Load(5, 0, HEADER),
+    ComputeBy(5, ShiftRight, 5, 4),
+    ComputeBy(5, ShiftLeft, 5, 2),
+    Return(5),
 ];
 
 pub const SLOT_PLACE: &[Line] = &[
-    NeedInstance {
-        of: 0,
-        class: STANDARD_OBJECT,
-    },
-    NeedSymbol { of: 1 },
-    Load {
-        to: 4,
-        base: 0,
-        offset: SECOND,
-    },
-    Load {
-        to: 5,
-        base: 4,
-        offset: ABOVE,
-    },
-    Compute {
-        to: 5,
-        which: Arithmetic::Add,
-        first: 5,
-        second: 4,
-    },
-    ComputeBy {
-        to: 5,
-        which: Arithmetic::Add,
-        first: 5,
-        word: LIST,
-    },
-    Load {
-        to: 7,
-        base: 4,
-        offset: SLOTS,
-    },
-    ComputeBy {
-        to: 7,
-        which: Arithmetic::Multiply,
-        first: 7,
-        word: 3,
-    },
-    Compute {
-        to: 7,
-        which: Arithmetic::Add,
-        first: 7,
-        second: 5,
-    },
-    Set { to: 3, word: 0 },
+    NeedInstance(0, STANDARD_OBJECT),
+    NeedSymbol(1),
+    Load(4, 0, SECOND),
+    Load(5, 4, ABOVE),
+    Compute(5, Add, 5, 4),
+    ComputeBy(5, Add, 5, LIST),
+    Load(7, 4, SLOTS),
+    ComputeBy(7, Multiply, 7, 3),
+    Compute(7, Add, 7, 5),
+    Set(3, 0),
     SearchSlot,
-    Signal {
-        class: PROGRAM_ERROR,
-    },
+    Signal(PROGRAM_ERROR),
 ];
 
 pub const SLOT_REF: &[Line] = &[
-    NeedInstance {
-        of: 0,
-        class: STANDARD_OBJECT,
-    },
-    NeedTag {
-        of: 1,
-        bits: INTEGER_BITS,
-        class: INTEGER_CLASS,
-    },
-    Load {
-        to: 7,
-        base: 0,
-        offset: HEADER,
-    },
-    ComputeBy {
-        to: 7,
-        which: Arithmetic::ShiftRight,
-        first: 7,
-        word: 4,
-    },
-    ComputeBy {
-        to: 7,
-        which: Arithmetic::ShiftLeft,
-        first: 7,
-        word: 2,
-    },
-    SignalUnless {
-        test: Test {
-            comparison: Comparison::LessUnsigned,
-            first: 1,
-            second: 7,
-        },
-        class: PROGRAM_ERROR,
-    },
-    Compute {
-        to: 5,
-        which: Arithmetic::Add,
-        first: 0,
-        second: 1,
-    },
-    Load {
-        to: 5,
-        base: 5,
-        offset: THIRD,
-    },
-    Set {
-        to: 6,
-        word: UNBOUND,
-    },
-    SignalUnless {
-        test: Test {
-            comparison: Comparison::Different,
-            first: 5,
-            second: 6,
-        },
-        class: PROGRAM_ERROR,
-    },
-    Return { from: 5 },
+    NeedPlace(0, 1),
+    Compute(5, Add, 0, 1),
+    Load(5, 5, THIRD),
+    Set(6, UNBOUND),
+    SignalUnless(Different, 5, 6, PROGRAM_ERROR),
+    Return(5),
 ];
 
 pub const SLOT_SET: &[Line] = &[
-    NeedInstance {
-        of: 1,
-        class: STANDARD_OBJECT,
-    },
-    NeedTag {
-        of: 2,
-        bits: INTEGER_BITS,
-        class: INTEGER_CLASS,
-    },
-    Load {
-        to: 7,
-        base: 1,
-        offset: HEADER,
-    },
-    ComputeBy {
-        to: 7,
-        which: Arithmetic::ShiftRight,
-        first: 7,
-        word: 4,
-    },
-    ComputeBy {
-        to: 7,
-        which: Arithmetic::ShiftLeft,
-        first: 7,
-        word: 2,
-    },
-    SignalUnless {
-        test: Test {
-            comparison: Comparison::LessUnsigned,
-            first: 2,
-            second: 7,
-        },
-        class: PROGRAM_ERROR,
-    },
-    Compute {
-        to: 5,
-        which: Arithmetic::Add,
-        first: 1,
-        second: 2,
-    },
-    Store {
-        from: 0,
-        base: 5,
-        offset: THIRD,
-    },
-    Return { from: 0 },
+    NeedPlace(1, 2),
+    Compute(5, Add, 1, 2),
+    Store(0, 5, THIRD),
+    Return(0),
 ];
 
 pub const SLOT_BOUND: &[Line] = &[
-    NeedInstance {
-        of: 0,
-        class: STANDARD_OBJECT,
-    },
-    NeedTag {
-        of: 1,
-        bits: INTEGER_BITS,
-        class: INTEGER_CLASS,
-    },
-    Load {
-        to: 7,
-        base: 0,
-        offset: HEADER,
-    },
-    ComputeBy {
-        to: 7,
-        which: Arithmetic::ShiftRight,
-        first: 7,
-        word: 4,
-    },
-    ComputeBy {
-        to: 7,
-        which: Arithmetic::ShiftLeft,
-        first: 7,
-        word: 2,
-    },
-    SignalUnless {
-        test: Test {
-            comparison: Comparison::LessUnsigned,
-            first: 1,
-            second: 7,
-        },
-        class: PROGRAM_ERROR,
-    },
-    Compute {
-        to: 5,
-        which: Arithmetic::Add,
-        first: 0,
-        second: 1,
-    },
-    Load {
-        to: 4,
-        base: 5,
-        offset: THIRD,
-    },
-    Set {
-        to: 6,
-        word: UNBOUND,
-    },
-    LoadFixed {
-        to: 5,
-        address: TRUE_AT,
-    },
-    ReturnIf {
-        test: Test {
-            comparison: Comparison::Different,
-            first: 4,
-            second: 6,
-        },
-        from: 5,
-    },
-    Set { to: 5, word: NIL },
-    Return { from: 5 },
+    NeedPlace(0, 1),
+    Compute(5, Add, 0, 1),
+    Load(4, 5, THIRD),
+    Set(6, UNBOUND),
+    Says(Different, 4, 6),
 ];
 
 /// The three words of a slot in its class stand from 28 behind the class on, behind the precedence list.
-pub const SLOT_INITARGS: &[Line] = &[
-    NeedInstance {
-        of: 0,
-        class: STANDARD_OBJECT,
-    },
-    NeedTag {
-        of: 1,
-        bits: INTEGER_BITS,
-        class: INTEGER_CLASS,
-    },
-    Load {
-        to: 7,
-        base: 0,
-        offset: HEADER,
-    },
-    ComputeBy {
-        to: 7,
-        which: Arithmetic::ShiftRight,
-        first: 7,
-        word: 4,
-    },
-    ComputeBy {
-        to: 7,
-        which: Arithmetic::ShiftLeft,
-        first: 7,
-        word: 2,
-    },
-    SignalUnless {
-        test: Test {
-            comparison: Comparison::LessUnsigned,
-            first: 1,
-            second: 7,
-        },
-        class: PROGRAM_ERROR,
-    },
-    Load {
-        to: 4,
-        base: 0,
-        offset: SECOND,
-    },
-    Load {
-        to: 5,
-        base: 4,
-        offset: ABOVE,
-    },
-    Compute {
-        to: 4,
-        which: Arithmetic::Add,
-        first: 4,
-        second: 5,
-    },
-    ComputeBy {
-        to: 5,
-        which: Arithmetic::Multiply,
-        first: 1,
-        word: 3,
-    },
-    Compute {
-        to: 4,
-        which: Arithmetic::Add,
-        first: 4,
-        second: 5,
-    },
-    Load {
-        to: 5,
-        base: 4,
-        offset: 30,
-    },
-    Return { from: 5 },
-];
+pub const SLOT_INITARGS: &[Line] = &[NeedPlace(0, 1), SlotWord(30)];
 
-pub const SLOT_INITFORM: &[Line] = &[
-    NeedInstance {
-        of: 0,
-        class: STANDARD_OBJECT,
-    },
-    NeedTag {
-        of: 1,
-        bits: INTEGER_BITS,
-        class: INTEGER_CLASS,
-    },
-    Load {
-        to: 7,
-        base: 0,
-        offset: HEADER,
-    },
-    ComputeBy {
-        to: 7,
-        which: Arithmetic::ShiftRight,
-        first: 7,
-        word: 4,
-    },
-    ComputeBy {
-        to: 7,
-        which: Arithmetic::ShiftLeft,
-        first: 7,
-        word: 2,
-    },
-    SignalUnless {
-        test: Test {
-            comparison: Comparison::LessUnsigned,
-            first: 1,
-            second: 7,
-        },
-        class: PROGRAM_ERROR,
-    },
-    Load {
-        to: 4,
-        base: 0,
-        offset: SECOND,
-    },
-    Load {
-        to: 5,
-        base: 4,
-        offset: ABOVE,
-    },
-    Compute {
-        to: 4,
-        which: Arithmetic::Add,
-        first: 4,
-        second: 5,
-    },
-    ComputeBy {
-        to: 5,
-        which: Arithmetic::Multiply,
-        first: 1,
-        word: 3,
-    },
-    Compute {
-        to: 4,
-        which: Arithmetic::Add,
-        first: 4,
-        second: 5,
-    },
-    Load {
-        to: 5,
-        base: 4,
-        offset: 34,
-    },
-    Return { from: 5 },
-];
+pub const SLOT_INITFORM: &[Line] = &[NeedPlace(0, 1), SlotWord(34)];
 
 /// The mark of a condition stands behind its slots.
 pub const CONTINUABLE: &[Line] = &[
-    NeedInstance {
-        of: 0,
-        class: SERIOUS_CONDITION,
-    },
-    Load {
-        to: 4,
-        base: 0,
-        offset: SECOND,
-    },
-    Load {
-        to: 5,
-        base: 4,
-        offset: IS_CONDITION,
-    },
-    Set { to: 6, word: NIL },
-    NeedTest {
-        test: Test {
-            comparison: Comparison::Different,
-            first: 5,
-            second: 6,
-        },
-        of: 0,
-        class: SERIOUS_CONDITION,
-    },
-    Load {
-        to: 7,
-        base: 0,
-        offset: HEADER,
-    },
-    ComputeBy {
-        to: 7,
-        which: Arithmetic::ShiftRight,
-        first: 7,
-        word: 4,
-    },
-    ComputeBy {
-        to: 7,
-        which: Arithmetic::ShiftLeft,
-        first: 7,
-        word: 2,
-    },
-    Compute {
-        to: 7,
-        which: Arithmetic::Add,
-        first: 7,
-        second: 0,
-    },
-    Load {
-        to: 5,
-        base: 7,
-        offset: THIRD,
-    },
-    Return { from: 5 },
+    NeedInstance(0, SERIOUS_CONDITION),
+    Load(4, 0, SECOND),
+    Load(5, 4, IS_CONDITION),
+    Set(6, NIL),
+    NeedTest(Different, 5, 6, 0, SERIOUS_CONDITION),
+    Load(7, 0, HEADER),
+    ComputeBy(7, ShiftRight, 7, 4),
+    ComputeBy(7, ShiftLeft, 7, 2),
+    Compute(7, Add, 7, 0),
+    Load(5, 7, THIRD),
+    Return(5),
 ];

@@ -1,131 +1,72 @@
 // The lines that the code of primitives is written in.
 
-use isl_mid::{Arithmetic, Register, Test};
+use isl_mid::{Arithmetic, Comparison, Register};
 
 /// A line of the code of a primitive: an operation, or what many primitives do, as a test of an argument. The arguments stand in registers 0 to 2;
-/// lines that need registers of their own take 6 and 7, those that signal a condition 3 to 5.
+/// lines that need registers of their own take 6 and 7, those that answer t or nil 5, and those that signal a condition 3 to 5. The register that is set
+/// stands first; a class is given by the address of its word, a test by a comparison and two registers.
 #[derive(Clone, Copy)]
 pub enum Line {
-    /// The word.
-    Set {
-        to: Register,
-        word: u32,
-    },
-    /// What is in a register.
-    Copy {
-        to: Register,
-        from: Register,
-    },
-    /// The word, where the test holds.
-    SetIf {
-        test: Test,
-        to: Register,
-        word: u32,
-    },
-    /// What is computed of two words.
-    Compute {
-        to: Register,
-        which: Arithmetic,
-        first: Register,
-        second: Register,
-    },
-    /// What is computed of a word and that word.
-    ComputeBy {
-        to: Register,
-        which: Arithmetic,
-        first: Register,
-        word: u32,
-    },
-    /// The word at an offset from a word.
-    Load {
-        to: Register,
-        base: Register,
-        offset: i32,
-    },
-    /// Stores the word at an offset from a word.
-    Store {
-        from: Register,
-        base: Register,
-        offset: i32,
-    },
-    /// The word at a fixed address.
-    LoadFixed {
-        to: Register,
-        address: i32,
-    },
-    /// Stores the word at a fixed address.
-    StoreFixed {
-        from: Register,
-        address: i32,
-    },
-    /// The address of so many words of the heap.
-    Request {
-        to: Register,
-        words: Register,
-    },
-    /// Prints a byte.
-    Put {
-        from: Register,
-    },
-    /// The next byte of the input.
-    Get {
-        to: Register,
-    },
-    /// Ends with the word.
-    Return {
-        from: Register,
-    },
-    /// Ends with the word, where the test holds.
-    ReturnIf {
-        test: Test,
-        from: Register,
-    },
-    /// The argument has to have the tag that is in the highest bits of that word, or it is a domain error of the class whose word is at that address.
-    NeedTag {
-        of: Register,
-        bits: u32,
-        class: i32,
-    },
+    /// A register is set to a word.
+    Set(Register, u32),
+    /// To what is in another one.
+    Copy(Register, Register),
+    /// Where a test holds, a register is set to a word.
+    SetIf(Comparison, Register, Register, Register, u32),
+    /// To what is computed of the words in two registers.
+    Compute(Register, Arithmetic, Register, Register),
+    /// To what is computed of the word in a register and a word.
+    ComputeBy(Register, Arithmetic, Register, u32),
+    /// To the word at an offset from the word in a register.
+    Load(Register, Register, i32),
+    /// The word in the first register is stored at an offset from the word in the second one.
+    Store(Register, Register, i32),
+    /// A register is set to the word at a fixed address.
+    LoadFixed(Register, i32),
+    /// The word in a register is stored at a fixed address.
+    StoreFixed(Register, i32),
+    /// A register is set to the address of so many words of the heap as another one says.
+    Request(Register, Register),
+    /// Prints the byte in a register.
+    Put(Register),
+    /// A register is set to the next byte of the input.
+    Get(Register),
+    /// Ends with the word in a register.
+    Return(Register),
+    /// Ends so where a test holds.
+    ReturnIf(Comparison, Register, Register, Register),
+    /// Ends with t where a test holds, else with nil.
+    Says(Comparison, Register, Register),
+    /// Ends with t where the argument is an object with one of so many headers, from that one on, else with nil.
+    SaysHeader(u32, u32),
+    /// The argument has to have the tag that is in the highest bits of that word, or it is a domain error of that class.
+    NeedTag(Register, u32, i32),
+    /// Both arguments have to be integers.
+    NeedIntegers,
+    /// The first argument has to be an integer that is not negative.
+    NeedLength,
     /// It has to be a character.
-    NeedCharacter {
-        of: Register,
-    },
-    /// It has to be an object with one of so many headers, from that one on.
-    NeedHeader {
-        of: Register,
-        header: u32,
-        count: u32,
-        class: i32,
-    },
+    NeedCharacter(Register),
+    /// It has to be an object with one of so many headers, from that one on, or it is a domain error of that class.
+    NeedHeader(Register, u32, u32, i32),
     /// It has to be an instance, or it is a domain error of that class.
-    NeedInstance {
-        of: Register,
-        class: i32,
-    },
+    NeedInstance(Register, i32),
     /// It has to be a symbol; nil is one.
-    NeedSymbol {
-        of: Register,
-    },
-    /// The test has to hold, or the argument is a domain error of that class.
-    NeedTest {
-        test: Test,
-        of: Register,
-        class: i32,
-    },
-    /// The test has to hold, or a condition of that class, without slots, is signalled.
-    SignalUnless {
-        test: Test,
-        class: i32,
-    },
+    NeedSymbol(Register),
+    /// The second register has to hold an index of the string or vector in the first one.
+    NeedIndex(Register, Register),
+    /// The first register has to hold an instance, and the second one the place of a slot of it.
+    NeedPlace(Register, Register),
+    /// A test has to hold, or the argument in the third register is a domain error of that class.
+    NeedTest(Comparison, Register, Register, Register, i32),
+    /// A test has to hold, or a condition of that class, without slots, is signalled.
+    SignalUnless(Comparison, Register, Register, i32),
     /// A condition of that class, without slots, is signalled.
-    Signal {
-        class: i32,
-    },
-    /// The word of the class of a value.
-    ClassWord {
-        to: Register,
-        of: Register,
-    },
+    Signal(i32),
+    /// A register is set to the word of the class of the value in another one.
+    ClassWord(Register, Register),
+    /// Ends with the word at an offset from where the slot stands in its class: of the instance in register 0 and the place in register 1.
+    SlotWord(i32),
     /// Stores the word in register 4 from 8 behind the address in register 7 on, as long as that one is below the address in register 5.
     Fill,
     /// Stores so the words from 6 behind the word in register 4 on.

@@ -1,428 +1,85 @@
 // The code of arithmetic and of comparisons.
 
 use crate::line::Line;
-use crate::line::Line::{
-    Compute, ComputeBy, LoadFixed, NeedTag, Return, ReturnIf, Set, SignalUnless,
+use crate::line::Line::{Compute, ComputeBy, NeedIntegers, Return, Says, Set, SignalUnless};
+use crate::words::{DIVISION_BY_ZERO, INTEGER_OVERFLOW};
+use isl_mid::Arithmetic;
+use isl_mid::Arithmetic::{
+    Add, Divide, Multiply, MultiplyHigh, Remainder, ShiftLeft, ShiftRightSigned, Subtract,
 };
-use crate::words::{DIVISION_BY_ZERO, INTEGER_BITS, INTEGER_CLASS, INTEGER_OVERFLOW, NIL, TRUE_AT};
-use isl_mid::{Arithmetic, Comparison, Test};
+use isl_mid::Comparison::{AtLeast, Different, Equal, Less};
 
 /// A sum is out of range exactly where the second number is negative, or the sum is less than the first, and not both.
 pub const ADD: &[Line] = &[
-    NeedTag {
-        of: 0,
-        bits: INTEGER_BITS,
-        class: INTEGER_CLASS,
-    },
-    NeedTag {
-        of: 1,
-        bits: INTEGER_BITS,
-        class: INTEGER_CLASS,
-    },
-    Compute {
-        to: 3,
-        which: Arithmetic::Add,
-        first: 0,
-        second: 1,
-    },
-    Set { to: 6, word: 0 },
-    Compute {
-        to: 4,
-        which: Arithmetic::Less,
-        first: 1,
-        second: 6,
-    },
-    Compute {
-        to: 5,
-        which: Arithmetic::Less,
-        first: 3,
-        second: 0,
-    },
-    SignalUnless {
-        test: Test {
-            comparison: Comparison::Equal,
-            first: 4,
-            second: 5,
-        },
-        class: INTEGER_OVERFLOW,
-    },
-    Return { from: 3 },
+    NeedIntegers,
+    Compute(3, Add, 0, 1),
+    Set(6, 0),
+    Compute(4, Arithmetic::Less, 1, 6),
+    Compute(5, Arithmetic::Less, 3, 0),
+    SignalUnless(Equal, 4, 5, INTEGER_OVERFLOW),
+    Return(3),
 ];
 
 /// A difference is out of range exactly where the second number is negative, or the first is less than the difference, and not both.
 pub const SUBTRACT: &[Line] = &[
-    NeedTag {
-        of: 0,
-        bits: INTEGER_BITS,
-        class: INTEGER_CLASS,
-    },
-    NeedTag {
-        of: 1,
-        bits: INTEGER_BITS,
-        class: INTEGER_CLASS,
-    },
-    Compute {
-        to: 3,
-        which: Arithmetic::Subtract,
-        first: 0,
-        second: 1,
-    },
-    Set { to: 6, word: 0 },
-    Compute {
-        to: 4,
-        which: Arithmetic::Less,
-        first: 1,
-        second: 6,
-    },
-    Compute {
-        to: 5,
-        which: Arithmetic::Less,
-        first: 0,
-        second: 3,
-    },
-    SignalUnless {
-        test: Test {
-            comparison: Comparison::Equal,
-            first: 4,
-            second: 5,
-        },
-        class: INTEGER_OVERFLOW,
-    },
-    Return { from: 3 },
+    NeedIntegers,
+    Compute(3, Subtract, 0, 1),
+    Set(6, 0),
+    Compute(4, Arithmetic::Less, 1, 6),
+    Compute(5, Arithmetic::Less, 0, 3),
+    SignalUnless(Equal, 4, 5, INTEGER_OVERFLOW),
+    Return(3),
 ];
 
 /// A product is in range exactly where its upper word is all copies of the sign of its lower word.
 pub const MULTIPLY: &[Line] = &[
-    NeedTag {
-        of: 0,
-        bits: INTEGER_BITS,
-        class: INTEGER_CLASS,
-    },
-    NeedTag {
-        of: 1,
-        bits: INTEGER_BITS,
-        class: INTEGER_CLASS,
-    },
-    ComputeBy {
-        to: 3,
-        which: Arithmetic::ShiftRightSigned,
-        first: 0,
-        word: 2,
-    },
-    Compute {
-        to: 4,
-        which: Arithmetic::MultiplyHigh,
-        first: 3,
-        second: 1,
-    },
-    Compute {
-        to: 3,
-        which: Arithmetic::Multiply,
-        first: 3,
-        second: 1,
-    },
-    ComputeBy {
-        to: 5,
-        which: Arithmetic::ShiftRightSigned,
-        first: 3,
-        word: 31,
-    },
-    SignalUnless {
-        test: Test {
-            comparison: Comparison::Equal,
-            first: 4,
-            second: 5,
-        },
-        class: INTEGER_OVERFLOW,
-    },
-    Return { from: 3 },
+    NeedIntegers,
+    ComputeBy(3, ShiftRightSigned, 0, 2),
+    Compute(4, MultiplyHigh, 3, 1),
+    Compute(3, Multiply, 3, 1),
+    ComputeBy(5, ShiftRightSigned, 3, 31),
+    SignalUnless(Equal, 4, 5, INTEGER_OVERFLOW),
+    Return(3),
 ];
 
 /// The quotient is rounded towards zero, and is one too great where there is a remainder whose sign is not the divisor's. Only -2^29 by -1
 /// has a quotient out of range, 2^29.
 pub const DIVIDE: &[Line] = &[
-    NeedTag {
-        of: 0,
-        bits: INTEGER_BITS,
-        class: INTEGER_CLASS,
-    },
-    NeedTag {
-        of: 1,
-        bits: INTEGER_BITS,
-        class: INTEGER_CLASS,
-    },
-    Set { to: 6, word: 0 },
-    SignalUnless {
-        test: Test {
-            comparison: Comparison::Different,
-            first: 1,
-            second: 6,
-        },
-        class: DIVISION_BY_ZERO,
-    },
-    Compute {
-        to: 3,
-        which: Arithmetic::Divide,
-        first: 0,
-        second: 1,
-    },
-    Compute {
-        to: 4,
-        which: Arithmetic::Remainder,
-        first: 0,
-        second: 1,
-    },
-    Compute {
-        to: 5,
-        which: Arithmetic::MultiplyHigh,
-        first: 4,
-        second: 1,
-    },
-    Compute {
-        to: 5,
-        which: Arithmetic::Less,
-        first: 5,
-        second: 6,
-    },
-    Compute {
-        to: 3,
-        which: Arithmetic::Subtract,
-        first: 3,
-        second: 5,
-    },
-    Set {
-        to: 6,
-        word: 536870912,
-    },
-    SignalUnless {
-        test: Test {
-            comparison: Comparison::Different,
-            first: 3,
-            second: 6,
-        },
-        class: INTEGER_OVERFLOW,
-    },
-    ComputeBy {
-        to: 3,
-        which: Arithmetic::ShiftLeft,
-        first: 3,
-        word: 2,
-    },
-    Return { from: 3 },
+    NeedIntegers,
+    Set(6, 0),
+    SignalUnless(Different, 1, 6, DIVISION_BY_ZERO),
+    Compute(3, Divide, 0, 1),
+    Compute(4, Remainder, 0, 1),
+    Compute(5, MultiplyHigh, 4, 1),
+    Compute(5, Arithmetic::Less, 5, 6),
+    Compute(3, Subtract, 3, 5),
+    Set(6, 536870912),
+    SignalUnless(Different, 3, 6, INTEGER_OVERFLOW),
+    ComputeBy(3, ShiftLeft, 3, 2),
+    Return(3),
 ];
 
 /// The divisor is added to a remainder whose sign is not the divisor's.
 pub const MODULO: &[Line] = &[
-    NeedTag {
-        of: 0,
-        bits: INTEGER_BITS,
-        class: INTEGER_CLASS,
-    },
-    NeedTag {
-        of: 1,
-        bits: INTEGER_BITS,
-        class: INTEGER_CLASS,
-    },
-    Set { to: 6, word: 0 },
-    SignalUnless {
-        test: Test {
-            comparison: Comparison::Different,
-            first: 1,
-            second: 6,
-        },
-        class: DIVISION_BY_ZERO,
-    },
-    Compute {
-        to: 4,
-        which: Arithmetic::Remainder,
-        first: 0,
-        second: 1,
-    },
-    Compute {
-        to: 5,
-        which: Arithmetic::MultiplyHigh,
-        first: 4,
-        second: 1,
-    },
-    Compute {
-        to: 5,
-        which: Arithmetic::Less,
-        first: 5,
-        second: 6,
-    },
-    Compute {
-        to: 5,
-        which: Arithmetic::Multiply,
-        first: 5,
-        second: 1,
-    },
-    Compute {
-        to: 4,
-        which: Arithmetic::Add,
-        first: 4,
-        second: 5,
-    },
-    Return { from: 4 },
+    NeedIntegers,
+    Set(6, 0),
+    SignalUnless(Different, 1, 6, DIVISION_BY_ZERO),
+    Compute(4, Remainder, 0, 1),
+    Compute(5, MultiplyHigh, 4, 1),
+    Compute(5, Arithmetic::Less, 5, 6),
+    Compute(5, Multiply, 5, 1),
+    Compute(4, Add, 4, 5),
+    Return(4),
 ];
 
-pub const NUMBER_EQUAL: &[Line] = &[
-    NeedTag {
-        of: 0,
-        bits: INTEGER_BITS,
-        class: INTEGER_CLASS,
-    },
-    NeedTag {
-        of: 1,
-        bits: INTEGER_BITS,
-        class: INTEGER_CLASS,
-    },
-    LoadFixed {
-        to: 5,
-        address: TRUE_AT,
-    },
-    ReturnIf {
-        test: Test {
-            comparison: Comparison::Equal,
-            first: 0,
-            second: 1,
-        },
-        from: 5,
-    },
-    Set { to: 5, word: NIL },
-    Return { from: 5 },
-];
+pub const NUMBER_EQUAL: &[Line] = &[NeedIntegers, Says(Equal, 0, 1)];
 
-pub const NUMBER_NOT_EQUAL: &[Line] = &[
-    NeedTag {
-        of: 0,
-        bits: INTEGER_BITS,
-        class: INTEGER_CLASS,
-    },
-    NeedTag {
-        of: 1,
-        bits: INTEGER_BITS,
-        class: INTEGER_CLASS,
-    },
-    LoadFixed {
-        to: 5,
-        address: TRUE_AT,
-    },
-    ReturnIf {
-        test: Test {
-            comparison: Comparison::Different,
-            first: 0,
-            second: 1,
-        },
-        from: 5,
-    },
-    Set { to: 5, word: NIL },
-    Return { from: 5 },
-];
+pub const NUMBER_NOT_EQUAL: &[Line] = &[NeedIntegers, Says(Different, 0, 1)];
 
-pub const NUMBER_LESS: &[Line] = &[
-    NeedTag {
-        of: 0,
-        bits: INTEGER_BITS,
-        class: INTEGER_CLASS,
-    },
-    NeedTag {
-        of: 1,
-        bits: INTEGER_BITS,
-        class: INTEGER_CLASS,
-    },
-    LoadFixed {
-        to: 5,
-        address: TRUE_AT,
-    },
-    ReturnIf {
-        test: Test {
-            comparison: Comparison::Less,
-            first: 0,
-            second: 1,
-        },
-        from: 5,
-    },
-    Set { to: 5, word: NIL },
-    Return { from: 5 },
-];
+pub const NUMBER_LESS: &[Line] = &[NeedIntegers, Says(Less, 0, 1)];
 
-pub const NUMBER_AT_MOST: &[Line] = &[
-    NeedTag {
-        of: 0,
-        bits: INTEGER_BITS,
-        class: INTEGER_CLASS,
-    },
-    NeedTag {
-        of: 1,
-        bits: INTEGER_BITS,
-        class: INTEGER_CLASS,
-    },
-    LoadFixed {
-        to: 5,
-        address: TRUE_AT,
-    },
-    ReturnIf {
-        test: Test {
-            comparison: Comparison::AtLeast,
-            first: 1,
-            second: 0,
-        },
-        from: 5,
-    },
-    Set { to: 5, word: NIL },
-    Return { from: 5 },
-];
+pub const NUMBER_AT_MOST: &[Line] = &[NeedIntegers, Says(AtLeast, 1, 0)];
 
-pub const NUMBER_GREATER: &[Line] = &[
-    NeedTag {
-        of: 0,
-        bits: INTEGER_BITS,
-        class: INTEGER_CLASS,
-    },
-    NeedTag {
-        of: 1,
-        bits: INTEGER_BITS,
-        class: INTEGER_CLASS,
-    },
-    LoadFixed {
-        to: 5,
-        address: TRUE_AT,
-    },
-    ReturnIf {
-        test: Test {
-            comparison: Comparison::Less,
-            first: 1,
-            second: 0,
-        },
-        from: 5,
-    },
-    Set { to: 5, word: NIL },
-    Return { from: 5 },
-];
+pub const NUMBER_GREATER: &[Line] = &[NeedIntegers, Says(Less, 1, 0)];
 
-pub const NUMBER_AT_LEAST: &[Line] = &[
-    NeedTag {
-        of: 0,
-        bits: INTEGER_BITS,
-        class: INTEGER_CLASS,
-    },
-    NeedTag {
-        of: 1,
-        bits: INTEGER_BITS,
-        class: INTEGER_CLASS,
-    },
-    LoadFixed {
-        to: 5,
-        address: TRUE_AT,
-    },
-    ReturnIf {
-        test: Test {
-            comparison: Comparison::AtLeast,
-            first: 0,
-            second: 1,
-        },
-        from: 5,
-    },
-    Set { to: 5, word: NIL },
-    Return { from: 5 },
-];
+pub const NUMBER_AT_LEAST: &[Line] = &[NeedIntegers, Says(AtLeast, 0, 1)];

@@ -3,10 +3,10 @@
 ghost use Rattle.std.specs.Prelude.{◌≡◌, ◌++◌, OnOk, IfOk};
 ghost use Rattle.isl_arena.specs.Steps as steps;
 
-use crate::steps::{compute, constant, give, load, store};
+use crate::steps::{compute, constant, either, give, load, store};
 use crate::words::{DOMAIN_ERROR, NIL, OBJECT, PENDING_AT, SIGNAL};
 use isl_base::NoMemory;
-use isl_mid::{Arithmetic, Code, Operation, Register, Step, StepKind};
+use isl_mid::{Arithmetic, Code, Operation, Register, Step, StepKind, Test};
 use std::alloc::Global;
 
 /// A condition that was made is handed over: its address is in register 3, and 0 in register 5.
@@ -63,4 +63,12 @@ pub fn domain_error(alloc: Global, of: Register, class: i32) -> Result<Code, NoM
     code.push(store(4, 3, 16))?;
     hand_over(&mut code)?;
     Ok(code)
+}
+
+/// A test has to hold, or a condition without slots is signalled.
+pub fn signal_unless(alloc: Global, test: Test, class: i32) -> Result<Step, NoMemory>
+    ensures { IfOk result (λ s. s ≡ steps.signal_unless test class) }
+{
+    let error = signal(alloc, class)?;
+    Ok(either(test, Code::new(alloc), error))
 }

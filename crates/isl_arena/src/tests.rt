@@ -1,13 +1,16 @@
 // The steps that test an argument.
 
-ghost use Rattle.std.specs.Prelude.{◌≡◌, ◌++◌, OnOk, IfOk};
+ghost use Rattle.std.specs.Prelude.{◌≡◌, ◌++◌, [], ◌∷◌, OnOk};
 ghost use Rattle.isl_arena.specs.Steps as steps;
 ghost use Rattle.isl_arena.specs.Steps.{steps_of};
 ghost use Rattle.isl_arena.specs.declared.line.Line.TheVariants as line;
 
-use crate::signals::domain_error;
+use crate::signals::{domain_error, signal_unless};
 use crate::steps::{comparing, compute_by, constant, either, load};
-use crate::words::{CHARACTER_CLASS, HEADER, NIL, OBJECT_BITS, SYMBOL, SYMBOL_CLASS};
+use crate::words::{
+    CHARACTER_CLASS, HEADER, INTEGER_BITS, INTEGER_CLASS, NIL, OBJECT_BITS, PROGRAM_ERROR, SECOND,
+    SYMBOL, SYMBOL_CLASS,
+};
 use isl_base::NoMemory;
 use isl_mid::{Arithmetic, Code, Comparison, Register, Test};
 use std::alloc::Global;
@@ -20,7 +23,7 @@ pub fn need_test(
     of: Register,
     class: i32,
 ) -> Result<(), NoMemory>
-    ensures { OnOk result (code.new ≡ code.old ++ steps_of (line.NeedTest test of class)) }
+    ensures { OnOk result (code.new ≡ code.old ++ steps.either test [] (steps.domain_error of class) ∷ []) }
 {
     let error = domain_error(alloc, of, class)?;
     code.push(either(test, Code::new(alloc), error))?;
@@ -40,6 +43,55 @@ pub fn need_tag(
     compute_by(code, 7, Arithmetic::ShiftLeft, of, 30)?;
     code.push(constant(6, bits))?;
     need_test(code, alloc, comparing(Comparison::Equal, 7, 6), of, class)
+}
+
+/// It has to be an integer.
+pub fn need_integer(code: &mut Code, alloc: Global, of: Register) -> Result<(), NoMemory>
+    ensures { OnOk result (code.new ≡ code.old ++ steps.need_integer of) }
+{
+    need_tag(code, alloc, of, INTEGER_BITS, INTEGER_CLASS)
+}
+
+/// Both arguments have to be integers.
+pub fn need_integers(code: &mut Code, alloc: Global) -> Result<(), NoMemory>
+    ensures { OnOk result (code.new ≡ code.old ++ steps_of line.NeedIntegers) }
+{
+    need_integer(code, alloc, 0)?;
+    need_integer(code, alloc, 1)
+}
+
+/// The first argument has to be an integer that is not negative.
+pub fn need_length(code: &mut Code, alloc: Global) -> Result<(), NoMemory>
+    ensures { OnOk result (code.new ≡ code.old ++ steps_of line.NeedLength) }
+{
+    need_integer(code, alloc, 0)?;
+    code.push(constant(6, 0))?;
+    need_test(
+        code,
+        alloc,
+        comparing(Comparison::AtLeast, 0, 6),
+        0,
+        INTEGER_CLASS,
+    )
+}
+
+/// A register has to hold an index of the string or vector in another one.
+pub fn need_index(
+    code: &mut Code,
+    alloc: Global,
+    of: Register,
+    index: Register,
+) -> Result<(), NoMemory>
+    ensures { OnOk result (code.new ≡ code.old ++ steps_of (line.NeedIndex of index)) }
+{
+    let below = signal_unless(
+        alloc,
+        comparing(Comparison::LessUnsigned, index, 7),
+        PROGRAM_ERROR,
+    )?;
+    need_integer(code, alloc, index)?;
+    code.push(load(7, of, SECOND))?;
+    Ok(code.push(below)?)
 }
 
 /// It has to be a character.
@@ -89,7 +141,7 @@ pub fn need_instance(
     of: Register,
     class: i32,
 ) -> Result<(), NoMemory>
-    ensures { OnOk result (code.new ≡ code.old ++ steps_of (line.NeedInstance of class)) }
+    ensures { OnOk result (code.new ≡ code.old ++ steps.need_instance of class) }
 {
     need_tag(code, alloc, of, OBJECT_BITS, class)?;
     code.push(load(7, of, HEADER))?;

@@ -2,166 +2,48 @@
 
 use crate::line::Line;
 use crate::line::Line::{
-    Compute, ComputeBy, Copy, Fill, Load, NeedHeader, NeedTag, NeedTest, Request, Return, Set,
-    SignalUnless, Store,
+    Compute, ComputeBy, Copy, Fill, Load, NeedHeader, NeedIndex, NeedLength, Request, Return, Set,
+    Store,
 };
-use crate::words::{
-    INTEGER_BITS, INTEGER_CLASS, OBJECT, PROGRAM_ERROR, SECOND, THIRD, VECTOR, VECTOR_CLASS,
-};
-use isl_mid::{Arithmetic, Comparison, Test};
+use crate::words::{OBJECT, SECOND, THIRD, VECTOR, VECTOR_CLASS};
+use isl_mid::Arithmetic::{Add, ShiftRight};
 
 /// The word of a length is four times the length: so far does the last element stand from the first.
 pub const MAKE_VECTOR: &[Line] = &[
-    NeedTag {
-        of: 0,
-        bits: INTEGER_BITS,
-        class: INTEGER_CLASS,
-    },
-    Set { to: 6, word: 0 },
-    NeedTest {
-        test: Test {
-            comparison: Comparison::AtLeast,
-            first: 0,
-            second: 6,
-        },
-        of: 0,
-        class: INTEGER_CLASS,
-    },
-    ComputeBy {
-        to: 5,
-        which: Arithmetic::ShiftRight,
-        first: 0,
-        word: 2,
-    },
-    ComputeBy {
-        to: 5,
-        which: Arithmetic::Add,
-        first: 5,
-        word: 2,
-    },
-    Request { to: 3, words: 5 },
-    Set {
-        to: 4,
-        word: VECTOR,
-    },
-    Store {
-        from: 4,
-        base: 3,
-        offset: 0,
-    },
-    Store {
-        from: 0,
-        base: 3,
-        offset: 4,
-    },
-    Compute {
-        to: 5,
-        which: Arithmetic::Add,
-        first: 0,
-        second: 3,
-    },
-    Copy { to: 4, from: 1 },
-    Copy { to: 7, from: 3 },
+    NeedLength,
+    ComputeBy(5, ShiftRight, 0, 2),
+    ComputeBy(5, Add, 5, 2),
+    Request(3, 5),
+    Set(4, VECTOR),
+    Store(4, 3, 0),
+    Store(0, 3, 4),
+    Compute(5, Add, 0, 3),
+    Copy(4, 1),
+    Copy(7, 3),
     Fill,
-    ComputeBy {
-        to: 3,
-        which: Arithmetic::Add,
-        first: 3,
-        word: OBJECT,
-    },
-    Return { from: 3 },
+    ComputeBy(3, Add, 3, OBJECT),
+    Return(3),
 ];
 
 pub const VECTOR_LENGTH: &[Line] = &[
-    NeedHeader {
-        of: 0,
-        header: VECTOR,
-        count: 1,
-        class: VECTOR_CLASS,
-    },
-    Load {
-        to: 5,
-        base: 0,
-        offset: SECOND,
-    },
-    Return { from: 5 },
+    NeedHeader(0, VECTOR, 1, VECTOR_CLASS),
+    Load(5, 0, SECOND),
+    Return(5),
 ];
 
 /// A negative index is greater than each length as a number without a sign.
 pub const VECTOR_REF: &[Line] = &[
-    NeedHeader {
-        of: 0,
-        header: VECTOR,
-        count: 1,
-        class: VECTOR_CLASS,
-    },
-    NeedTag {
-        of: 1,
-        bits: INTEGER_BITS,
-        class: INTEGER_CLASS,
-    },
-    Load {
-        to: 7,
-        base: 0,
-        offset: SECOND,
-    },
-    SignalUnless {
-        test: Test {
-            comparison: Comparison::LessUnsigned,
-            first: 1,
-            second: 7,
-        },
-        class: PROGRAM_ERROR,
-    },
-    Compute {
-        to: 5,
-        which: Arithmetic::Add,
-        first: 0,
-        second: 1,
-    },
-    Load {
-        to: 5,
-        base: 5,
-        offset: THIRD,
-    },
-    Return { from: 5 },
+    NeedHeader(0, VECTOR, 1, VECTOR_CLASS),
+    NeedIndex(0, 1),
+    Compute(5, Add, 0, 1),
+    Load(5, 5, THIRD),
+    Return(5),
 ];
 
 pub const SET_VECTOR_REF: &[Line] = &[
-    NeedHeader {
-        of: 1,
-        header: VECTOR,
-        count: 1,
-        class: VECTOR_CLASS,
-    },
-    NeedTag {
-        of: 2,
-        bits: INTEGER_BITS,
-        class: INTEGER_CLASS,
-    },
-    Load {
-        to: 7,
-        base: 1,
-        offset: SECOND,
-    },
-    SignalUnless {
-        test: Test {
-            comparison: Comparison::LessUnsigned,
-            first: 2,
-            second: 7,
-        },
-        class: PROGRAM_ERROR,
-    },
-    Compute {
-        to: 5,
-        which: Arithmetic::Add,
-        first: 1,
-        second: 2,
-    },
-    Store {
-        from: 0,
-        base: 5,
-        offset: THIRD,
-    },
-    Return { from: 0 },
+    NeedHeader(1, VECTOR, 1, VECTOR_CLASS),
+    NeedIndex(1, 2),
+    Compute(5, Add, 1, 2),
+    Store(0, 5, THIRD),
+    Return(0),
 ];

@@ -15,9 +15,16 @@ use crate::class_words::class_word;
 use crate::code::lines;
 use crate::line::Line;
 use crate::loops::{copy_words, fill, search_class, search_slot};
-use crate::signals::signal;
-use crate::steps::{compute, compute_by, constant, either, give, load, return_if, store};
-use crate::tests::{need_character, need_header, need_instance, need_symbol, need_tag, need_test};
+use crate::signals::{signal, signal_unless};
+use crate::slot_words::{need_place, slot_word};
+use crate::steps::{
+    comparing, compute, compute_by, constant, either, give, load, return_if, store,
+};
+use crate::tests::{
+    need_character, need_header, need_index, need_instance, need_integers, need_length,
+    need_symbol, need_tag, need_test,
+};
+use crate::truths::{says, says_header};
 use isl_base::NoMemory;
 use isl_meaning::Primitive;
 use isl_mid::{Code, Counted, MidProcedure, Operation, Step, StepKind};
@@ -41,66 +48,68 @@ fn write(code: &mut Code, alloc: Global, line: Line) -> Result<(), NoMemory>
     ensures { OnOk result (code.new ≡ code.old ++ steps_of line) }
 {
     match line {
-        Line::Set { to, word } => Ok(code.push(constant(to, word))?),
-        Line::Copy { to, from } => operation(code, Operation::Move { to, from }),
-        Line::SetIf { test, to, word } => {
+        Line::Set(to, word) => Ok(code.push(constant(to, word))?),
+        Line::Copy(to, from) => operation(code, Operation::Move { to, from }),
+        Line::SetIf(how, first, second, to, word) => {
             let mut setting = Code::new(alloc);
             setting.push(constant(to, word))?;
+            let test = comparing(how, first, second);
             Ok(code.push(either(test, setting, Code::new(alloc)))?)
         }
-        Line::Compute {
-            to,
-            which,
-            first,
-            second,
-        } => Ok(code.push(compute(to, which, first, second))?),
-        Line::ComputeBy {
-            to,
-            which,
-            first,
-            word,
-        } => compute_by(code, to, which, first, word),
-        Line::Load { to, base, offset } => Ok(code.push(load(to, base, offset))?),
-        Line::Store { from, base, offset } => Ok(code.push(store(from, base, offset))?),
-        Line::LoadFixed { to, address } => {
+        Line::Compute(to, which, first, second) => Ok(code.push(compute(
+            to, which, first, second,
+        ))?),
+        Line::ComputeBy(to, which, first, word) => compute_by(code, to, which, first, word),
+        Line::Load(to, base, offset) => Ok(code.push(load(to, base, offset))?),
+        Line::Store(from, base, offset) => Ok(code.push(store(from, base, offset))?),
+        Line::LoadFixed(to, address) => {
             code.push(constant(to, 0))?;
             Ok(code.push(load(to, to, address))?)
         }
-        Line::StoreFixed { from, address } => {
+        Line::StoreFixed(from, address) => {
             code.push(constant(6, 0))?;
             Ok(code.push(store(from, 6, address))?)
         }
-        Line::Request { to, words } => operation(code, Operation::Request { to, words }),
-        Line::Put { from } => operation(code, Operation::Put { from }),
-        Line::Get { to } => operation(code, Operation::Get { to }),
-        Line::Return { from } => Ok(code.push(give(from))?),
-        Line::ReturnIf { test, from } => {
-            let ending = return_if(alloc, test, from)?;
+        Line::Request(to, words) => operation(code, Operation::Request { to, words }),
+        Line::Put(from) => operation(code, Operation::Put { from }),
+        Line::Get(to) => operation(code, Operation::Get { to }),
+        Line::Return(from) => Ok(code.push(give(from))?),
+        Line::ReturnIf(how, first, second, from) => {
+            let ending = return_if(alloc, comparing(how, first, second), from)?;
             Ok(code.push(ending)?)
         }
-        Line::NeedTag { of, bits, class } => need_tag(code, alloc, of, bits, class),
-        Line::NeedCharacter { of } => need_character(code, alloc, of),
-        Line::NeedHeader {
-            of,
-            header,
-            count,
-            class,
-        } => need_header(code, alloc, of, header, count, class),
-        Line::NeedInstance { of, class } => need_instance(code, alloc, of, class),
-        Line::NeedSymbol { of } => need_symbol(code, alloc, of),
-        Line::NeedTest { test, of, class } => need_test(code, alloc, test, of, class),
-        Line::SignalUnless { test, class } => {
-            let error = signal(alloc, class)?;
-            Ok(code.push(either(test, Code::new(alloc), error))?)
+        Line::Says(how, first, second) => says(code, alloc, comparing(how, first, second)),
+        Line::SaysHeader(header, count) => {
+            let answering = says_header(alloc, header, count)?;
+            Ok(code.append_list(answering)?)
         }
-        Line::Signal { class } => {
+        Line::NeedTag(of, bits, class) => need_tag(code, alloc, of, bits, class),
+        Line::NeedIntegers => need_integers(code, alloc),
+        Line::NeedLength => need_length(code, alloc),
+        Line::NeedCharacter(of) => need_character(code, alloc, of),
+        Line::NeedHeader(of, header, count, class) => need_header(
+            code, alloc, of, header, count, class,
+        ),
+        Line::NeedInstance(of, class) => need_instance(code, alloc, of, class),
+        Line::NeedSymbol(of) => need_symbol(code, alloc, of),
+        Line::NeedIndex(of, index) => need_index(code, alloc, of, index),
+        Line::NeedPlace(of, place) => need_place(code, alloc, of, place),
+        Line::NeedTest(how, first, second, of, class) => {
+            need_test(code, alloc, comparing(how, first, second), of, class)
+        }
+        Line::SignalUnless(how, first, second, class) => {
+            let step = signal_unless(alloc, comparing(how, first, second), class)?;
+            Ok(code.push(step)?)
+        }
+        Line::Signal(class) => {
             let error = signal(alloc, class)?;
             Ok(code.append_list(error)?)
         }
-        Line::ClassWord { to, of } => {
+        Line::ClassWord(to, of) => {
             let found = class_word(alloc, to, of)?;
             Ok(code.append_list(found)?)
         }
+        Line::SlotWord(offset) => slot_word(code, offset),
         Line::Fill => fill(code, alloc),
         Line::CopyWords => copy_words(code, alloc),
         Line::SearchClass => search_class(code, alloc),

@@ -4,7 +4,7 @@ use Rattle.isl_mid.specs.Arena.{Block, activation_frame}
 use Rattle.isl_mid.specs.State.{State}
 use Rattle.isl_arena.specs.Tags.{nil_word, unbound_word, string_header, vector_header, instance_header, function_header, generic_header, class_header, input_header, output_header, symbol_header, fresh_header}
 use Rattle.isl_arena.specs.Codes.{frame_words}
-use Rattle.isl_arena_worked.specs.Addresses.{cons_at, object_at, number, symbol_t, symbol_x, symbol_y, symbol_point, symbol_abcd, symbol_cons, symbol_empty, next_pair, abc, input, output, x_initargs, x_initform, points, dots, mishaps, domain_errors, integers, heap_begin, made, class_words}
+use Rattle.isl_arena_worked.specs.Addresses.{cons_at, object_at, number, symbol_t, symbol_x, symbol_y, symbol_point, symbol_abcd, symbol_cons, symbol_empty, next_pair, abc, a_function, input, output, x_initargs, x_initform, points, dots, mishaps, domain_errors, integers, heap_begin, made, class_words}
 
 -- four bytes in a word, the first one lowest
 abbrev pub four : (first second third last : ℕ) → ℕ
@@ -82,9 +82,9 @@ built_in_class_words =
 
 abbrev pub own_class_words : List ℕ
 own_class_words =
-    -- points: x with an initarg and an initform, y with neither
+    -- points: x with an initarg and an initform, y with an initform alone
     class 34 (object_at symbol_point) (object_at symbol_t) nil_word (34 ∷ 17 ∷ 0 ∷ [])
-    (object_at symbol_x ∷ cons_at x_initargs ∷ object_at x_initform ∷ object_at symbol_y ∷ nil_word ∷ nil_word ∷ [])
+    (object_at symbol_x ∷ cons_at x_initargs ∷ object_at x_initform ∷ object_at symbol_y ∷ nil_word ∷ object_at a_function ∷ [])
     -- shapes, dots, mishaps
     ++ class 35 (object_at symbol_abcd) nil_word nil_word (35 ∷ 17 ∷ 0 ∷ []) []
     ++ class 36 (object_at symbol_y) (object_at symbol_t) nil_word (36 ∷ 35 ∷ 17 ∷ 0 ∷ []) []

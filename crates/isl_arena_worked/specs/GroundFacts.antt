@@ -41,8 +41,8 @@ pub record GroundFacts : Type 0 where
       ∷ domain_errors ∷ points ∷ shapes ∷ dots ∷ mishaps ∷ [])
   -- a class's number stands behind its header
   pub class_numbers :
-      words_at (map (λ address. address + 4) (object_class ∷ vectors ∷ strings ∷ characters ∷ functions ∷ generics ∷ lists ∷ conses ∷ symbols ∷ nulls
-      ∷ integers ∷ streams ∷ built_in_ones ∷ standard_ones ∷ standard_objects ∷ serious_conditions ∷ program_errors ∷ divisions_by_zero
+      words_at (map (λ address. address + 4) (object_class ∷ vectors ∷ strings ∷ characters ∷ functions ∷ generics ∷ lists ∷ conses ∷ symbols
+      ∷ nulls ∷ integers ∷ streams ∷ built_in_ones ∷ standard_ones ∷ standard_objects ∷ serious_conditions ∷ program_errors ∷ divisions_by_zero
       ∷ integer_overflows ∷ domain_errors ∷ points ∷ shapes ∷ dots ∷ mishaps ∷ []))
       ≡ map (λ n. Some (number n)) (0 ∷ 3 ∷ 4 ∷ 5 ∷ 6 ∷ 7 ∷ 8 ∷ 9 ∷ 10 ∷ 11 ∷ 13 ∷ 14 ∷ 15 ∷ 16 ∷ 17 ∷ 18 ∷ 24 ∷ 27 ∷ 28 ∷ 29 ∷ 34 ∷ 35 ∷ 36 ∷ 37 ∷ [])
   pub instances_stand :

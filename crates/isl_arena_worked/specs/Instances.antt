@@ -4,7 +4,7 @@ use Rattle.isl_meaning.specs.declared.primitive.Primitive.{Primitive}
 use Rattle.isl_meaning.specs.declared.primitive.Primitive.TheVariants.{Allocate, SlotCount, SlotPlace, SlotRef, SlotSet, SlotBound, SlotInitargs, SlotInitform, Continuable}
 use Rattle.isl_meaning.specs.Objects.{symbol_class, integer_class, standard_class_class, standard_object_class, serious_condition_class, program_error_class}
 use Rattle.isl_arena.specs.Tags.{object_tag, nil_word, unbound_word, instance_header}
-use Rattle.isl_arena_worked.specs.Addresses.{cons_at, object_at, number, minus, symbol_x, symbol_y, symbol_point, fresh, pair, next_pair, abc, x_initargs, x_initform, object_class, conses, integers, standard_objects, program_errors, domain_errors, points, shapes, dots, mishaps, a_point, a_dot, a_mishap, an_error, made}
+use Rattle.isl_arena_worked.specs.Addresses.{cons_at, object_at, number, minus, symbol_x, symbol_y, symbol_point, fresh, pair, next_pair, abc, a_function, x_initargs, x_initform, object_class, conses, integers, standard_objects, program_errors, domain_errors, points, shapes, dots, mishaps, a_point, a_dot, a_mishap, an_error, made}
 use Rattle.isl_arena_worked.specs.Kinds.{some_integers, some_symbols, some_classes, some_conditions, some_instances, others_than}
 use Rattle.isl_arena_worked.specs.Rows.{gives, stores, makes, refuses, signals, Does, DoesThen, RefusesEach, FitsError, FitsCondition, FitsObject}
 use Rattle.isl_arena_worked.specs.Sums.{greatest, least}
@@ -138,7 +138,8 @@ pub record SlotInitargsRows : Type 0 where
 
 pub record SlotInitformRows : Type 0 where
   pub first : Does SlotInitform (object_at a_point ∷ number 0 ∷ []) (gives (object_at x_initform))
-  pub last : Does SlotInitform (object_at a_point ∷ number 1 ∷ []) (gives nil_word)
+  pub last : Does SlotInitform (object_at a_point ∷ number 1 ∷ []) (gives (object_at a_function))
+  -- a slot without one
   pub of_mishap : Does SlotInitform (object_at a_mishap ∷ number 0 ∷ []) (gives nil_word)
   pub place : NeedsPlace SlotInitform
 
