@@ -1,3 +1,7 @@
+pub mod Joins
+pub mod FunctionObjects
+pub mod NameData
+pub mod Steps
 pub mod Keys
 pub mod Segments
 pub mod Shapes

@@ -1,0 +1,81 @@
+-- Results, sums and lists, step by step.
+use Rattle.std.proofs.Common.{◌≡◌, ℕ, zero, suc, ◌+◌, ◌*◌, ◌<◌, ◌≤◌, List, [], ◌∷◌, ◌++◌, length, map, take, Some, Result, Ok, Err, refl, sym, ◌∙◌, ap, subst, append_assoc, get_or, arith}
+use Rattle.std.specs.Prelude.{slice_get, OnOk, IfOk}
+use Rattle.std.specs.List.{sum_by}
+use Rattle.std.proofs.lemmas.List.{take_all}
+use Rattle.std.proofs.lemmas.List.Sums.{sum_by_more, sum_by_more_le}
+use Rattle.std.proofs.lemmas.Option.{slice_get_within, get_or_from_slice_get}
+use Rattle.isl_laying.specs.declared.words.ArenaWords.{ArenaWords}
+use Rattle.isl_laying.specs.Laying.{HasRoom, Grown}
+use Rattle.isl_start.specs.declared.slots.SlotWords.{SlotWords}
+use Rattle.isl_start.specs.Making.{IsWithin}
+use Rattle.isl_start.specs.Settling.{slot_words, precedence_words}
+
+pub if_ok : {X E : Type 0} (r : Result X E) (P Q : X → Type 0) → ((x : X) → P x → Q x) → IfOk r P → IfOk r Q
+if_ok (Ok x) P Q f h = f x h
+if_ok (Err e) P Q f h = tt
+
+pub on_ok : {X E : Type 0} (r : Result X E) (P Q : Type 0) → (P → Q) → OnOk r P → OnOk r Q
+on_ok (Ok x) P Q f h = f h
+on_ok (Err e) P Q f h = tt
+
+pub on_ok_both : {X E : Type 0} (r : Result X E) (P Q R : Type 0) → (P → Q → R) → OnOk r P → OnOk r Q → OnOk r R
+on_ok_both (Ok x) P Q R f h g = f h g
+on_ok_both (Err e) P Q R f h g = tt
+
+-- sums
+
+pub sum_next : {X : Type 0} (f : X → ℕ) (xs : List X) (i : ℕ) (x : X) → slice_get xs i ≡ Some x → sum_by f (take (i + 1) xs) ≡ sum_by f (take i xs) + f x
+sum_next f xs i x e =
+    let here : f (get_or xs i x) ≡ f x = ap f (get_or_from_slice_get xs i x x e) in
+    let more : sum_by f (take (i + 1) xs) ≡ sum_by f (take i xs) + f (get_or xs i x) = sum_by_more f xs i x (slice_get_within xs i x e) in
+    omega (arith, here, more)
+
+pub sum_within : {X : Type 0} (f : X → ℕ) (xs : List X) (i : ℕ) (x : X) → slice_get xs i ≡ Some x → sum_by f (take i xs) + f x ≤ sum_by f xs
+sum_within f xs i x e =
+    let here : f (get_or xs i x) ≡ f x = ap f (get_or_from_slice_get xs i x x e) in
+    let more : sum_by f (take i xs) + f (get_or xs i x) ≤ sum_by f xs = sum_by_more_le f xs i x (slice_get_within xs i x e) in
+    omega (arith, here, more)
+
+-- words so far, and how many more there is room for
+
+pub room_next :
+    {X : Type 0} (f : X → ℕ) (xs : List X) (i : ℕ) (x : X) (before now : ArenaWords) → slice_get xs i ≡ Some x
+    → HasRoom before (160 * sum_by f xs) → IsWithin before now (160 * sum_by f (take i xs)) → HasRoom now (160 * f x)
+room_next f xs i x before now e room within =
+    let some = sum_within f xs i x e in
+    omega (arith, room, within.first, within.count)
+
+pub within_next :
+    {X : Type 0} (f : X → ℕ) (xs : List X) (i : ℕ) (x : X) (before now after : ArenaWords) → slice_get xs i ≡ Some x
+    → IsWithin before now (160 * sum_by f (take i xs)) → IsWithin now after (160 * f x) → IsWithin before after (160 * sum_by f (take (i + 1) xs))
+within_next f xs i x before now after e p q =
+    let more = sum_next f xs i x e in
+    record { first = q.first ∙ p.first; count = omega (arith, p.count, q.count) }
+
+pub within_all : {X : Type 0} (f : X → ℕ) (xs : List X) (i : ℕ) (before now : ArenaWords) → length xs ≤ i
+    → IsWithin before now (160 * sum_by f (take i xs)) → IsWithin before now (160 * sum_by f xs)
+within_all f xs i before now h p = subst (λ ys. IsWithin before now (160 * sum_by f ys)) (take_all i xs h) p
+
+-- what was laid for a datum
+pub within_grown : (before after : ArenaWords) (n : ℕ) → Grown before after → length after.words ≤ length before.words + n → IsWithin before after n
+within_grown before after n g h = record { first = g.first; count = h }
+
+-- words pushed one after another
+pub pushed_more : {X : Type 0} (front : List X) (words more : List X) (x : X) (now : List X) → words ≡ front ++ more → now ≡ words ++ x ∷ [] → now ≡ front ++ (more ++ x ∷ [])
+pushed_more front words more x now e h = h ∙ ap (λ xs. xs ++ x ∷ []) e ∙ append_assoc front more (x ∷ [])
+
+pub precedence_more : (cs : List ℕ) (c : ℕ) → precedence_words (cs ++ c ∷ []) ≡ precedence_words cs ++ 4 * c ∷ []
+precedence_more [] c = refl
+precedence_more (d ∷ cs) c = ap (λ ws. 4 * d ∷ ws) (precedence_more cs c)
+
+pub slots_more : (ss : List SlotWords) (s : SlotWords) → slot_words (ss ++ s ∷ []) ≡ slot_words ss ++ s.name ∷ s.initargs ∷ s.initform ∷ []
+slots_more [] s = refl
+slots_more (r ∷ ss) s = ap (λ ws. r.name ∷ r.initargs ∷ r.initform ∷ ws) (slots_more ss s)
+
+pub three_pushed :
+    (front more one two three : List ℕ) (words : List ℕ) (x y z : ℕ) → words ≡ front ++ more → one ≡ words ++ x ∷ [] → two ≡ one ++ y ∷ [] → three ≡ two ++ z ∷ []
+    → three ≡ front ++ (more ++ x ∷ y ∷ z ∷ [])
+three_pushed front more one two three words x y z e a b c =
+    c ∙ ap (λ ws. ws ++ z ∷ []) b ∙ append_assoc one (y ∷ []) (z ∷ []) ∙ ap (λ ws. ws ++ y ∷ z ∷ []) a
+    ∙ append_assoc words (x ∷ []) (y ∷ z ∷ []) ∙ ap (λ ws. ws ++ x ∷ y ∷ z ∷ []) e ∙ append_assoc front more (x ∷ y ∷ z ∷ [])

@@ -1,0 +1,19 @@
+-- A datum.
+use Rattle.std.proofs.Common.{◌≡◌, refl, ap, sym, subst}
+use Rattle.isl_meaning.specs.declared.program.LiteralRow.TheVariants.{Datum}
+use Rattle.isl_meaning.specs.Literals.{lay}
+use Rattle.isl_laying.specs.Laying.{Lays}
+use Rattle.isl_start.specs.Recipes.{literal_recipe, laid}
+use Rattle.isl_start.specs.Making.{IsWord, Makes}
+use Rattle.isl_start.proofs.Joins.{makes_laid}
+use Rattle.isl_start.proofs.Steps.{if_ok}
+use Rattle.isl_start.proofs.literals.lay_literal.Goals as goal
+
+pub returns-in-Datum-clause-made : goal.returns-in-Datum-clause-made
+returns-in-Datum-clause-made c =
+    rw c.in-Datum.is
+    (if_ok c.lay_datum.result
+    (λ w. Lays c.args.names.now (lay c.args.names.now c.in-Datum.datum) c.args.words.now c.lay_datum.new.words w)
+    (λ w. Makes c.args.names.now IsWord (literal_recipe c.args.names.now (Datum c.in-Datum.datum)) c.args.words.now c.lay_datum.new.words w)
+    (λ w p. makes_laid c.args.names.now (lay c.args.names.now c.in-Datum.datum) c.args.words.now c.lay_datum.new.words w p)
+    c.lay_datum.ensures.lays)
