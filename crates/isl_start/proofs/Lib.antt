@@ -1,5 +1,7 @@
 pub mod Joins
 pub mod FunctionObjects
+pub mod SlotCounts
+pub mod Settle
 pub mod NameData
 pub mod Steps
 pub mod Keys

@@ -53,6 +53,13 @@ pub record SlotsStand (names : List (List ℕ)) (program : ProgramRows) (places 
       (i : ℕ) (row : SlotRow) (slot : SlotWords) → slice_get rows i ≡ Some row → slice_get slots i ≡ Some slot
       → SlotStands names program places class i row slot
 
+-- each class has words for as many slots as it has
+pub record AreCounted (classes : List ClassRow) (slots : List (List SlotWords)) : Type 0 where
+  pub many : length slots ≡ length classes
+  pub each :
+      (class : ℕ) (row : ClassRow) (ss : List SlotWords) → slice_get classes class ≡ Some row → slice_get slots class ≡ Some ss
+      → length ss ≡ length row.slots
+
 -- ---- one object gets a spot
 
 -- each word is as before

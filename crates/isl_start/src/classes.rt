@@ -9,7 +9,7 @@ ghost use Rattle.isl_laying.specs.Laying.{HasRoom};
 ghost use Rattle.isl_start.specs.Making.{IsWithin};
 ghost use Rattle.isl_start.specs.Rows.{ClassFits, class_size};
 ghost use Rattle.isl_start.specs.Settling as settling;
-ghost use Rattle.isl_start.specs.Settling.{truth_word, slot_words, precedence_words, class_heading, class_words, Settles, ClassGiven, ClassesSettle};
+ghost use Rattle.isl_start.specs.Settling.{truth_word, slot_words, precedence_words, class_heading, class_words, AreCounted, Settles, ClassGiven, ClassesSettle};
 
 use crate::names::lay_name;
 use crate::slots::SlotWordsList;
@@ -57,9 +57,10 @@ pub fn lay_classes(
 ) -> Result<WordList, NoMemory>
     requires fits { (i : ℕ) (c : ClassRow) → slice_get rows.now i ≡ Some c → ClassFits (length names.now) (length rows.now) c }
     requires many { length rows.now < 2 ^ 28 }
+    requires counted { AreCounted rows.now slots.now }
     requires room { HasRoom words.old (160 * sum_by class_size rows.now) }
     ensures within { OnOk result (IsWithin words.old words.new (160 * sum_by class_size rows.now)) }
-    ensures settle { IfOk result (λ ws. (program : ProgramRows) → program.classes ≡ rows.now → length slots.now ≡ length rows.now
+    ensures settle { IfOk result (λ ws. (program : ProgramRows) → program.classes ≡ rows.now
         → ClassesSettle names.now program truth slots.now words.old words.new (length rows.now) ws) }
 {
     let mut laid = WordList::new(alloc);
@@ -67,10 +68,11 @@ pub fn lay_classes(
         let Some(row) = rows.get(class) else {
             unreachable!()
         };
-        if let Some(of_class) = slots.get(class) {
-            let word = lay_class(alloc, class, row, of_class, truth, names, words)?;
-            laid.push(word)?;
-        }
+        let Some(of_class) = slots.get(class) else {
+            unreachable!()
+        };
+        let word = lay_class(alloc, class, row, of_class, truth, names, words)?;
+        laid.push(word)?;
     }
     Ok(laid)
 }

@@ -12,6 +12,7 @@ ghost use Rattle.isl_meaning.specs.State.{no_place};
 ghost use Rattle.isl_laying.specs.Laying.{HasRoom};
 ghost use Rattle.isl_start.specs.Recipes.{initargs_recipe, initform_recipe, slot_recipe, slots_recipe, in_turn};
 ghost use Rattle.isl_start.specs.Making.{IsWord, IsSlot, Each, Makes, IsWithin};
+ghost use Rattle.isl_start.specs.Settling.{AreCounted};
 ghost use Rattle.isl_start.specs.Rows.{SlotFits, slot_size, slots_size};
 
 use crate::functions::lay_function;
@@ -45,6 +46,7 @@ pub fn lay_slots(
         → SlotFits (length names.now) s }
     requires room { HasRoom words.old (160 * sum_by slots_size classes.now) }
     ensures within { OnOk result (IsWithin words.old words.new (160 * sum_by slots_size classes.now)) }
+    ensures counted { IfOk result (λ wss. AreCounted classes.now wss) }
     ensures made { IfOk result (λ wss. Makes names.now (Each (Each IsSlot)) (in_turn (slots_recipe names.now) classes.now) words.old words.new wss) }
 {
     let mut laid = ItemList::new(alloc);
@@ -68,6 +70,7 @@ fn lay_slots_of(
     requires fits { (i : ℕ) (s : SlotRow) → slice_get rows.now i ≡ Some s → SlotFits (length names.now) s }
     requires room { HasRoom words.old (160 * sum_by slot_size rows.now) }
     ensures within { OnOk result (IsWithin words.old words.new (160 * sum_by slot_size rows.now)) }
+    ensures many { IfOk result (λ ws. length ws ≡ length rows.now) }
     ensures made { IfOk result (λ ws. Makes names.now (Each IsSlot) (in_turn (slot_recipe names.now) rows.now) words.old words.new ws) }
 {
     let mut laid = SlotWordsList::new(alloc);
