@@ -2,6 +2,8 @@ pub mod Joins
 pub mod FunctionObjects
 pub mod SlotCounts
 pub mod Settle
+pub mod ClassObjects
+pub mod ClassSteps
 pub mod NameData
 pub mod Steps
 pub mod Keys
@@ -11,3 +13,5 @@ pub mod Found
 pub mod LiteralPlaces
 pub mod SlotPlaces
 pub mod Whole
+pub mod ClassPlaces
+pub mod SlotStanding

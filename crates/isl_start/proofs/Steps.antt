@@ -79,3 +79,8 @@ pub three_pushed :
 three_pushed front more one two three words x y z e a b c =
     c ∙ ap (λ ws. ws ++ z ∷ []) b ∙ append_assoc one (y ∷ []) (z ∷ []) ∙ ap (λ ws. ws ++ y ∷ z ∷ []) a
     ∙ append_assoc words (x ∷ []) (y ∷ z ∷ []) ∙ ap (λ ws. ws ++ x ∷ y ∷ z ∷ []) e ∙ append_assoc front more (x ∷ y ∷ z ∷ [])
+
+-- the words of a class, pushed part by part
+pub parts_pushed : (words one two three a b c : List ℕ) → one ≡ words ++ a → two ≡ one ++ b → three ≡ two ++ c → three ≡ words ++ (a ++ b ++ c)
+parts_pushed words one two three a b c e f g =
+    g ∙ ap (λ ws. ws ++ c) (f ∙ ap (λ ws. ws ++ b) e) ∙ ap (λ ws. ws ++ c) (append_assoc words a b) ∙ append_assoc words (a ++ b) c
