@@ -5,7 +5,7 @@ use Rattle.std.specs.List.{range_with_len}
 use Rattle.std.proofs.lemmas.Bool.Decides.{nat_tests}
 use Rattle.isl_base.specs.Names.{slice_get-front}
 use Rattle.isl_meaning.specs.declared.program.ProgramRows.{ProgramRows}
-use Rattle.isl_meaning.specs.Values.{object}
+use Rattle.isl_meaning.specs.Values.{Value, object}
 use Rattle.isl_meaning.specs.Objects.{Object, class_object, input_stream, output_stream, built_in_classes}
 use Rattle.isl_meaning.specs.Layout.{class_value, standard_input, standard_output}
 use Rattle.isl_laying.proofs.Lists.{item_behind}
@@ -83,8 +83,10 @@ module _ (names : List (List ℕ)) (program : ProgramRows) where
   pub class_value_is : (c : ℕ) → c < length program.classes → class_value names program c ≡ object (class_number c)
   class_value_is c within = sym (class_whole names built_in_classes program c) ∙ by
     where
+      first : List Value
       first = (in_turn class_recipe (range_with_len 0 built_in_classes) 0).1
 
+      others : List Value
       others = (in_turn class_recipe (range_with_len built_in_classes (length program.classes - built_in_classes)) (0 + length built_in + 2)).1
 
       many : length first ≡ 34

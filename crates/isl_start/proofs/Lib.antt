@@ -15,3 +15,4 @@ pub mod SlotPlaces
 pub mod Whole
 pub mod ClassPlaces
 pub mod SlotStanding
+pub mod FixedFront

@@ -60,6 +60,7 @@ pub fn lay_classes(
     requires counted { AreCounted rows.now slots.now }
     requires room { HasRoom words.old (160 * sum_by class_size rows.now) }
     ensures within { OnOk result (IsWithin words.old words.new (160 * sum_by class_size rows.now)) }
+    ensures many { IfOk result (λ ws. length ws ≡ length rows.now) }
     ensures settle { IfOk result (λ ws. (program : ProgramRows) → program.classes ≡ rows.now
         → ClassesSettle names.now program truth slots.now words.old words.new (length rows.now) ws) }
 {
