@@ -16,3 +16,4 @@ pub mod Whole
 pub mod ClassPlaces
 pub mod SlotStanding
 pub mod FixedFront
+pub mod Chain
