@@ -17,3 +17,4 @@ pub mod ClassPlaces
 pub mod SlotStanding
 pub mod FixedFront
 pub mod Chain
+pub mod Law

@@ -3,12 +3,14 @@ use Rattle.std.proofs.Common.{◌≡◌, ℕ, zero, suc, ◌+◌, ◌*◌, ◌<�
 use Rattle.std.specs.Prelude.{slice_get, OnOk, IfOk}
 use Rattle.std.specs.List.{sum_by}
 use Rattle.std.proofs.lemmas.List.{take_all}
-use Rattle.std.proofs.lemmas.List.Sums.{sum_by_more, sum_by_more_le}
+use Rattle.std.proofs.lemmas.List.Sums.{sum_by-cons, sum_by_more, sum_by_more_le}
 use Rattle.std.proofs.lemmas.Option.{slice_get_within, get_or_from_slice_get}
 use Rattle.isl_laying.specs.declared.words.ArenaWords.{ArenaWords}
 use Rattle.isl_laying.specs.Laying.{HasRoom, Grown}
 use Rattle.isl_start.specs.declared.slots.SlotWords.{SlotWords}
+use Rattle.isl_meaning.specs.declared.program.ClassRow.{ClassRow}
 use Rattle.isl_start.specs.Making.{IsWithin}
+use Rattle.isl_start.specs.Rows.{class_size}
 use Rattle.isl_start.specs.Settling.{slot_words, precedence_words}
 
 pub if_ok : {X E : Type 0} (r : Result X E) (P Q : X → Type 0) → ((x : X) → P x → Q x) → IfOk r P → IfOk r Q
@@ -84,3 +86,11 @@ three_pushed front more one two three words x y z e a b c =
 pub parts_pushed : (words one two three a b c : List ℕ) → one ≡ words ++ a → two ≡ one ++ b → three ≡ two ++ c → three ≡ words ++ (a ++ b ++ c)
 parts_pushed words one two three a b c e f g =
     g ∙ ap (λ ws. ws ++ c) (f ∙ ap (λ ws. ws ++ b) e) ∙ ap (λ ws. ws ++ c) (append_assoc words a b) ∙ append_assoc words (a ++ b) c
+
+-- no list of classes is longer than the size of its classes
+pub classes_within : (cs : List ClassRow) → length cs ≤ sum_by class_size cs
+classes_within [] = omega arith
+classes_within (c ∷ cs) =
+    let others : length cs ≤ sum_by class_size cs = classes_within cs in
+    let step : sum_by class_size (c ∷ cs) ≡ class_size c + sum_by class_size cs = sum_by-cons class_size c cs in
+    omega (arith, others, step)
