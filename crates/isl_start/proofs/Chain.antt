@@ -12,7 +12,7 @@ use Rattle.isl_meaning.specs.Facts.{is_row, begins_with_built_in}
 use Rattle.isl_meaning.specs.Values.{Value, object, symbol, named, t}
 use Rattle.isl_meaning.specs.Objects.{Object, input_stream, output_stream, class_object, built_in_classes}
 use Rattle.isl_meaning.specs.Lookup.{text}
-use Rattle.isl_meaning.specs.Layout.{objects_at_start, class_value, standard_input, standard_output}
+use Rattle.isl_meaning.specs.Layout.{objects_at_start, class_value, function_value, literal_value, standard_input, standard_output}
 use Rattle.isl_arena.specs.Places.{Spot, Places, Owner, of_object, of_symbol, of_other, spot_in, spot_of, word_of}
 use Rattle.isl_arena.specs.FixedWords.{nil_text}
 use Rattle.isl_arena.proofs.Keeping.{Extends}
@@ -27,12 +27,14 @@ use Rattle.isl_start.specs.Recipes.{Recipe, in_turn, name_recipe, function_recip
 use Rattle.isl_start.specs.Making.{IsWord, IsSlot, Each, Made, Makes}
 use Rattle.isl_start.specs.Settling.{AreCounted, StillWords, Settled, Settles, class_number, ClassesWait, ClassesSettled, ClassesSettle}
 use Rattle.isl_start.specs.Start.{fixed_contents, Start}
-use Rattle.isl_start.proofs.Joins.{lasts_slot, lasts_each, Lasts}
+use Rattle.isl_start.proofs.Joins.{lasts_word, lasts_slot, lasts_each, Lasts}
 use Rattle.isl_start.proofs.Settle.{extends_of}
-use Rattle.isl_start.proofs.Whole.{at_slots, all_objects}
+use Rattle.isl_start.proofs.Whole.{at_functions, at_literals, at_slots, all_objects, function_whole, literal_whole}
+use Rattle.isl_start.proofs.Found.{function_found, word_in}
+use Rattle.isl_start.proofs.LiteralPlaces.{literal_found}
 use Rattle.isl_start.proofs.ClassPlaces.{first_objects, first_count, input_object, output_object, class_number_is, class_there, input_is, output_is, class_value_is}
 use Rattle.isl_start.proofs.SlotStanding.{slots_stand_there}
-use Rattle.isl_start.proofs.FixedFront.{with_fixed_spot, no_nil_there, front_laid, fixed_count, fixed_stand}
+use Rattle.isl_start.proofs.FixedFront.{with_fixed_spot, same_values, no_nil_there, front_laid, fixed_count, fixed_stand}
 
 -- a program has at least the classes that are built in
 both_true : (a b : Bool) → (a && b) ≡ true → b ≡ true
@@ -226,7 +228,35 @@ module _
     of_classes : (class w : ℕ) → slice_get cs class ≡ Some w → class < length program.classes → word_of places (class_value names program class) ≡ Some w
     of_classes class w there within = ap (word_of places) (class_value_is names program class within) ∙ settled.of_classes class w there
 
-    pub starts : Start names program words
+    -- what was laid earlier has its words at last
+    at_last : (m : Places) → Longer m laid → Extends m places
+    at_last m more = record {
+      word = λ v w there. settled.words.word v w (still.word v w ((extends_longer m laid more).word v w there));
+    }
+
+    functions_at : length at_first ≡ at_functions names built_in_classes program
+    functions_at = sym (zero-add (length at_first))
+
+    literals_at : length with_functions ≡ at_literals names built_in_classes program
+    literals_at = sym (ap (λ (os : List Object). 0 + length os) functions_same ∙ zero-add (length with_functions))
+
+    functions_words : Each IsWord places (in_turn function_recipe program.functions (at_functions names built_in_classes program)).1 fs
+    functions_words =
+        subst (λ n. Each IsWord places (in_turn function_recipe program.functions n).1 fs) functions_at
+        ((lasts_each IsWord lasts_word).kept functions_made.places_after places
+        (at_last functions_made.places_after
+        (longer_both functions_made.places_after literals_made.places_after laid literals_made.longer
+        (longer_both literals_made.places_after slots_made.places_after laid slots_made.longer true_made.longer)))
+        (in_turn function_recipe program.functions (length at_first)).1 fs functions_made.words)
+
+    literals_words : Each IsWord places (in_turn (literal_recipe names) program.literals (at_literals names built_in_classes program)).1 ls
+    literals_words =
+        subst (λ n. Each IsWord places (in_turn (literal_recipe names) program.literals n).1 ls) literals_at
+        ((lasts_each IsWord lasts_word).kept literals_made.places_after places
+        (at_last literals_made.places_after (longer_both literals_made.places_after slots_made.places_after laid slots_made.longer true_made.longer))
+        (in_turn (literal_recipe names) program.literals (length with_functions)).1 ls literals_made.words)
+
+    pub starts : Start names program (record { arena = words; classes = cs; functions = fs; literals = ls })
     starts = record {
       places = with_fixed_spot places;
       first = first;
@@ -241,4 +271,16 @@ module _
           (ap (word_of places) (input_is names program) ∙ settled.words.word (object 34) input (output_settled.words.word (object 34) input input_settled.of_object))
           (ap (word_of places) (output_is names program) ∙ settled.words.word (object 35) output output_settled.of_object)
           (settled.words.word t truth classes_wait.truth_stands) left;
+      class_count = settled.many;
+      class_words = λ class w there.
+          let within = slice_get_within cs class w there in
+          (same_values places).word (class_value names program class) w (of_classes class w there (omega (arith, settled.many)));
+      function_words = λ name w there.
+          (same_values places).word (function_value names program name) w
+          (ap (word_of places) (sym (function_whole names built_in_classes program name))
+          ∙ function_found names places program.functions fs (at_functions names built_in_classes program) name w functions_words there);
+      literal_words = λ literal w d here there.
+          (same_values places).word (literal_value names program literal d) w
+          (ap (word_of places) (sym (literal_found names program (at_literals names built_in_classes program) literal d here (literal_whole names built_in_classes program literal)))
+          ∙ word_in places (in_turn (literal_recipe names) program.literals (at_literals names built_in_classes program)).1 ls literal w literals_words there);
     }

@@ -1,6 +1,6 @@
 -- What stands for classes and for functions of names.
 use Rattle.std.proofs.Common.{◌≡◌, ℕ, zero, suc, ◌+◌, ◌<◌, ◌≤◌, ◌==◌, Bool, true, false, List, [], ◌∷◌, ◌++◌, length, Some, refl, sym, ◌∙◌, ap, add-zero, zero-add, arith, eq-eqb}
-use Rattle.std.specs.Prelude.{if◌then◌else◌, option_map}
+use Rattle.std.specs.Prelude.{if◌then◌else◌, slice_get}
 use Rattle.std.specs.List.{range_with_len}
 use Rattle.std.specs.Str.{bytes_eq}
 use Rattle.std.proofs.lemmas.Bool.{ne_eqb}
@@ -9,6 +9,9 @@ use Rattle.isl_meaning.specs.Values.{Value, nil, object}
 use Rattle.isl_meaning.specs.Lookup.{text}
 use Rattle.isl_meaning.specs.Literals.{function_row}
 use Rattle.isl_meaning.specs.Layout.{class, function_of, laid_out, under_key, class_things, function_things}
+use Rattle.isl_arena.specs.Places.{Places, word_of}
+use Rattle.isl_start.specs.Making.{IsWord, Each}
+use Rattle.isl_start.specs.Start.{word_of_text}
 use Rattle.isl_start.specs.Recipes.{in_turn}
 use Rattle.isl_start.specs.Recipes.{class_recipe, function_recipe}
 use Rattle.isl_start.proofs.Keys.{AreOthers}
@@ -63,3 +66,26 @@ range_before c a (suc len) h = (ne_eqb c a (λ e. omega arith), range_before c (
 pub range_behind : (c a len : ℕ) → a + len ≤ c → AreOthers (class c) (class_things (range_with_len a len))
 range_behind c a zero h = tt
 range_behind c a (suc len) h = (ne_eqb c a (λ e. omega arith), range_behind c (a + 1) len (omega arith))
+
+-- functions of names
+
+pub function_found : (names : List (List ℕ)) (places : Places) (rows : List FunctionRow) (ws : List ℕ) (n : ℕ) (name : List ℕ) (w : ℕ)
+    → Each IsWord places (in_turn function_recipe rows n).1 ws → word_of_text names rows ws name ≡ Some w
+    → word_of places (under_key (function_of name) (laid_out (function_things names rows) n) n) ≡ Some w
+function_found names places [] ws n name w h e = absurd (cc e)
+function_found names places (f ∷ fs) [] n name w h e = absurd h
+function_found names places (f ∷ fs) (x ∷ xs) n name w h e = by (bytes_eq name (text names f.name.0)) e (function_found names places fs xs (n + 1) name w h.1)
+  where
+    by : (b : Bool) → (if b then Some x else word_of_text names fs xs name) ≡ Some w
+        → (word_of_text names fs xs name ≡ Some w → word_of places (under_key (function_of name) (laid_out (function_things names fs) (n + 1)) (n + 1)) ≡ Some w)
+        → word_of places (if b then object n else under_key (function_of name) (laid_out (function_things names fs) (n + 1)) (n + 1)) ≡ Some w
+    by true here others = h.0 ∙ here
+    by false here others = others here
+
+-- the words of values by their places
+pub word_in : (places : Places) (vs : List Value) (ws : List ℕ) (i w : ℕ) → Each IsWord places vs ws → slice_get ws i ≡ Some w → word_of places (value_in vs i) ≡ Some w
+word_in places [] [] i w h e = absurd (cc e)
+word_in places [] (x ∷ xs) i w h e = absurd h
+word_in places (v ∷ vs) [] i w h e = absurd h
+word_in places (v ∷ vs) (x ∷ xs) zero w h e = h.0 ∙ e
+word_in places (v ∷ vs) (x ∷ xs) (suc i) w h e = word_in places vs xs i w h.1 e

@@ -8,7 +8,9 @@ use Rattle.isl_meaning.specs.declared.program.ProgramRows.{ProgramRows}
 use Rattle.isl_meaning.specs.BuiltIn.{built_in_precedence, built_in_slots}
 use Rattle.isl_meaning.specs.Facts.{begins_with_built_in}
 use Rattle.isl_meaning.specs.State.{first_state}
-use Rattle.isl_meaning.specs.Layout.{objects_at_start}
+use Rattle.isl_meaning.specs.Classes.{fetch}
+use Rattle.isl_meaning.specs.Objects.{class_object}
+use Rattle.isl_meaning.specs.Layout.{objects_at_start, class_value}
 use Rattle.isl_mid.specs.Arena.{Arena, words_of, is_lent, word_in, word_at}
 use Rattle.isl_mid.specs.State.{State}
 use Rattle.isl_arena.specs.Places.{Spot, Places, of_object, of_symbol, of_other, spot_of}
@@ -23,7 +25,9 @@ use Rattle.isl_arena.proofs.Representing.{fixed_kept}
 use Rattle.isl_laying.specs.declared.words.ArenaWords.{ArenaWords}
 use Rattle.isl_laying.specs.LaidArena.{end_address, memory_of, arena_of}
 use Rattle.isl_laying.proofs.LaidWords.{word_laid, IsAmong, spot_among}
+use Rattle.isl_start.specs.declared.start.StartWords.{StartWords}
 use Rattle.isl_start.specs.Start.{fixed_spot, Start, Begins}
+use Rattle.isl_start.proofs.ClassPlaces.{class_value_is, class_at_start}
 use Rattle.isl_start.proofs.FixedFront.{none_between}
 
 found : (a : Arena) (at : ℕ) → is_lent a at ≡ true → word_at a at ≡ word_in (slice_get a.memory (at / 4))
@@ -80,26 +84,33 @@ module _ (words : ArenaWords) (input : List ℕ) (y : State) (first : words.firs
   }
 
 pub law_start :
-    (names : List (List ℕ)) (program : ProgramRows) (words : ArenaWords) (input : List ℕ) (y : State)
-    → begins_with_built_in program.classes built_in_precedence built_in_slots ≡ true → (start : Start names program words) → AreBytes input → Begins words input y
+    (names : List (List ℕ)) (program : ProgramRows) (words : StartWords) (input : List ℕ) (y : State)
+    → begins_with_built_in program.classes built_in_precedence built_in_slots ≡ true → (start : Start names program words) → AreBytes input → Begins words.arena input y
     → Represents names program start.places (first_state (objects_at_start names program) input) y
 law_start names program words input y built_in start bytes begins = record {
   built_in = built_in;
-  arena = arena_stands words input y start.first begins;
-  spots = λ p s e. spot_stands words input y start.first begins s (start.stands.spots p s e);
+  arena = arena_stands words.arena input y start.first begins;
+  spots = λ p s e. spot_stands words.arena input y start.first begins s (start.stands.spots p s e);
   apart = start.stands.apart;
   count = start.stands.count;
   objects = λ i o s stored e.
-      object_kept (arena_of words) y.arena s (same_words words input y start.first begins s (start.stands.spots (of_object i) s e)) start.places start.places
+      object_kept (arena_of words.arena) y.arena s (same_words words.arena input y start.first begins s (start.stands.spots (of_object i) s e)) start.places start.places
       (extends_same start.places) names program o (start.stands.objects i o s stored e);
   symbols = λ v s e.
-      symbol_kept (arena_of words) y.arena s (same_words words input y start.first begins s (start.stands.spots (of_symbol v) s e)) v (start.stands.symbols v s e);
+      symbol_kept (arena_of words.arena) y.arena s (same_words words.arena input y start.first begins s (start.stands.spots (of_symbol v) s e)) v (start.stands.symbols v s e);
   no_nil = start.no_nil;
   fixed =
-      let fixed : FixedStand names program start.places (arena_of words) 0 [] input input = start.fixed input in
+      let fixed : FixedStand names program start.places (arena_of words.arena) 0 [] input input = start.fixed input in
       rw (begins.input_left)
-      (fixed_kept names program start.places start.places (arena_of words) y.arena 0 [] input input (extends_same start.places) refl
-      (same_words words input y start.first begins fixed_spot (start.stands.spots (of_other 0) fixed_spot fixed.spot)) fixed);
+      (fixed_kept names program start.places start.places (arena_of words.arena) y.arena 0 [] input input (extends_same start.places) refl
+      (same_words words.arena input y start.first begins fixed_spot (start.stands.spots (of_other 0) fixed_spot fixed.spot)) fixed);
   input = bytes;
   printed = begins.printed;
 }
+
+-- what stands for a class is its object
+pub class_fetched :
+    (names : List (List ℕ)) (program : ProgramRows) (input : List ℕ) (class : ℕ) → class < length program.classes
+    → fetch (first_state (objects_at_start names program) input) (class_value names program class) ≡ Some (class_object class)
+class_fetched names program input class within =
+    ap (fetch (first_state (objects_at_start names program) input)) (class_value_is names program class within) ∙ class_at_start names program class within

@@ -48,7 +48,7 @@ pub fn lay_start(
     rows: &ProgramRows,
 ) -> Result<StartWords, StartFault>
     requires { RowsFit names.now true_name rows.now.classes rows.now.functions rows.now.literals }
-    ensures start { IfOk result (λ s. Start names.now rows.now s.arena) }
+    ensures start { IfOk result (λ s. Start names.now rows.now s) }
     ensures size { IfOk result (λ s. length s.arena.words ≤ 2 ^ 24) }
     ensures too_large { result ≡ Err StartFault.TooLarge → 2 ^ 24 < 46 + 160 * start_size rows.now.classes rows.now.functions rows.now.literals }
 {
@@ -73,7 +73,7 @@ pub fn lay_rows(
 ) -> Result<StartWords, StartFault>
     requires { RowsFit names.now true_name classes.now functions.now literals.now }
     ensures start { IfOk result (λ s. (program : ProgramRows) → program.classes ≡ classes.now → program.functions ≡ functions.now
-        → program.literals ≡ literals.now → Start names.now program s.arena) }
+        → program.literals ≡ literals.now → Start names.now program s) }
     ensures size { IfOk result (λ s. length s.arena.words ≤ 2 ^ 24) }
     ensures too_large { result ≡ Err StartFault.TooLarge → 2 ^ 24 < 46 + 160 * start_size classes.now functions.now literals.now }
 {
@@ -99,7 +99,7 @@ fn lay_all(
 ) -> Result<StartWords, NoMemory>
     requires { RowsFit names.now true_name classes.now functions.now literals.now }
     ensures start { IfOk result (λ s. (program : ProgramRows) → program.classes ≡ classes.now → program.functions ≡ functions.now
-        → program.literals ≡ literals.now → Start names.now program s.arena) }
+        → program.literals ≡ literals.now → Start names.now program s) }
     ensures count { IfOk result (λ s. length s.arena.words ≤ 46 + 160 * start_size classes.now functions.now literals.now) }
 {
     let mut words = ArenaWords::new(alloc, FIXED_END);
