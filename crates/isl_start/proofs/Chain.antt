@@ -80,6 +80,7 @@ nothing_stands names program os words aligned symbols = record {
   objects = λ i o s stored e. absurd (none_owned os (of_object i) s e);
   symbols = λ v s e. absurd (none_owned os (of_symbol v) s e);
   listed = rw symbols tt;
+  once = λ i j p q here there same. absurd (cc here);
 }
 
 -- ---- one behind another

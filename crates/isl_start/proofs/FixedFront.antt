@@ -167,6 +167,7 @@ module _
           object_kept (arena_of laid) (arena_of words) s (kept (of_object i) s e) places (with_fixed_spot places) (same_values places) names program o (h.objects i o s stored e);
       symbols = λ v s e. symbol_kept (arena_of laid) (arena_of words) s (kept (of_symbol v) s e) v (h.symbols v s e);
       listed = rw symbols h.listed;
+      once = h.once;
     }
 
 -- ---- the fixed words

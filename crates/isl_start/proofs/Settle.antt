@@ -119,6 +119,7 @@ module _
           let at = h.symbols v found e in
           symbol_kept (arena_of before) (arena_of after) found (same_words (of_symbol v) found e) v at;
       listed = rw more.symbols h.listed;
+      once = h.once;
     }
       where
         by : (j : ℕ) (p : Object) (found : Spot) → slice_get store j ≡ Some p → OneMore places (of_object i) new (of_object j) found → ObjectAt names program now (arena_of after) found p
