@@ -1,14 +1,14 @@
 -- Data are laid one after another; a list is its items, its end and its conses.
-use Rattle.std.proofs.Common.{◌≡◌, ℕ, ◌+◌, ◌*◌, ◌≤◌, List, [], ◌∷◌, ◌++◌, length, take, drop, Some, refl, sym, ◌∙◌, ap, subst, append_assoc, append-nil, add-zero, length-append, arith}
+use Rattle.std.proofs.Common.{◌≡◌, ℕ, ◌+◌, ◌≤◌, List, [], ◌∷◌, ◌++◌, length, take, drop, Some, refl, sym, ◌∙◌, ap, subst, append_assoc, append-nil, add-zero, length-append, arith}
 use Rattle.std.specs.Prelude.{slice_get}
 use Rattle.std.proofs.lemmas.List.{drop_all, take_all}
-use Rattle.isl_base.specs.Data.{Item, Items, Tail, item, items_of, no_item, item_and, list}
+use Rattle.isl_base.specs.Data.{Item, Tail, items_of, no_item, list}
 use Rattle.isl_base.specs.DataMeasures.{size_of, sizes_of}
 use Rattle.isl_base.specs.model.DataRest.{take_at, items_at}
 use Rattle.isl_meaning.specs.declared.program.ProgramRows.{ProgramRows}
 use Rattle.isl_meaning.specs.Values.{Value, object}
 use Rattle.isl_meaning.specs.Objects.{Object, cons}
-use Rattle.isl_meaning.specs.Literals.{Laid, no_object, after_parts, lay, lay_content, lay_items, lay_list, lay_tail}
+use Rattle.isl_meaning.specs.Literals.{Laid, after_parts, lay, lay_content, lay_items, lay_list, lay_tail}
 use Rattle.isl_arena.specs.Places.{Places, word_of, WordsOf}
 use Rattle.isl_arena.proofs.Keeping.{words_extended}
 use Rattle.isl_laying.specs.declared.words.ArenaWords.{ArenaWords}
@@ -169,8 +169,8 @@ list_laid names ds t old mid next new ws e w items tail links = record { there =
         let all : length ((store ++ a.0) ++ b.objects) ≡ length store + length (a.0 ++ b.objects) =
         omega (arith, length-append (store ++ a.0) b.objects, length-append store a.0, length-append a.0 b.objects) in
         let linked = rw all at
-            (links.there names program last.places_after ((store ++ a.0) ++ b.objects) a.1 b.value last.stands
-            (words_extended it.places_after last.places_after (extends_longer it.places_after last.places_after last.longer) a.1 ws it.of_values) last.of_value) in
+        (links.there names program last.places_after ((store ++ a.0) ++ b.objects) a.1 b.value last.stands
+        (words_extended it.places_after last.places_after (extends_longer it.places_after last.places_after last.longer) a.1 ws it.of_values) last.of_value) in
         let c = conses a.1 b.value (length store + length (a.0 ++ b.objects)) in
         let together : LaidThere names program places store new (in_line (lay_items names (items_of ds)) (lay_tail names t) (length store)) w =
         record {

@@ -1,15 +1,13 @@
 -- One owner more has a spot, behind all others.
-use Rattle.std.proofs.Common.{◌≡◌, ℕ, ◌+◌, ◌*◌, ◌<◌, ◌≤◌, Bool, true, false, List, [], ◌∷◌, ◌++◌, length, Option, Some, None, refl, sym, ◌∙◌, ap, length-append, arith}
+use Rattle.std.proofs.Common.{◌≡◌, ℕ, zero, suc, ◌+◌, ◌<◌, ◌≤◌, Bool, true, false, List, [], ◌∷◌, ◌++◌, length, Option, Some, None, refl, sym, ◌∙◌, ap, length-append, arith}
 use Rattle.std.specs.Prelude.{◌==◌, ◌&&◌, if◌then◌else◌, slice_get}
-use Rattle.std.specs.Str.{bytes_eq}
 use Rattle.std.proofs.lemmas.Slice.Eq.{bytes_eq-Decides}
 use Rattle.std.proofs.lemmas.Bool.Decides.{nat_tests}
 use Rattle.std.proofs.lemmas.Option.{slice_get_within}
-use Rattle.isl_base.specs.Names.{slice_get-behind}
 use Rattle.isl_meaning.specs.declared.program.ProgramRows.{ProgramRows}
 use Rattle.isl_meaning.specs.Values.{SymbolValue, named, unnamed, same_symbol, Value, integer, character, symbol, nil, object}
 use Rattle.isl_meaning.specs.Objects.{Object}
-use Rattle.isl_arena.specs.Places.{Spot, end_of, pointer_to, Places, Owner, of_object, of_symbol, of_other, same_owner, spot_in, spot_of_symbol, spot_of, with_object, pointer_in, word_of}
+use Rattle.isl_arena.specs.Places.{Spot, end_of, Places, Owner, of_object, of_symbol, of_other, same_owner, spot_in, spot_of_symbol, spot_of, with_object, pointer_in, word_of}
 use Rattle.isl_arena.specs.Standing.{of_laid, SpotStands, Apart, in_front, behind, AllApart, SameWords}
 use Rattle.isl_arena.specs.Layouts.{ObjectAt, SymbolAt}
 use Rattle.isl_arena.proofs.Keeping.{spot_in_tells, pointer_tells, Extends, symbol_kept, object_kept}
@@ -17,9 +15,9 @@ use Rattle.isl_arena.proofs.Owners.{FrontOrEnd, at_front, at_end, front_or_end, 
 use Rattle.isl_laying.specs.declared.symbol_words.SymbolWord.{SymbolWord}
 use Rattle.isl_laying.specs.declared.words.ArenaWords.{ArenaWords}
 use Rattle.isl_laying.specs.LaidArena.{end_address, arena_of}
-use Rattle.isl_laying.specs.LaidWell.{IsSymbolThere, AreSymbolsThere, LaidWell}
+use Rattle.isl_laying.specs.LaidWell.{IsSymbolThere, AreSymbolsThere, AreDistinct, LaidWell}
 use Rattle.isl_laying.specs.Laying.{Grown, Longer}
-use Rattle.isl_laying.proofs.Lists.{beginning_same, beginning_more, beginning_both, item_stays, no_shorter}
+use Rattle.isl_laying.proofs.Lists.{beginning_same, beginning_more, beginning_both, item_stays}
 use Rattle.isl_laying.proofs.LaidWords.{spot_among, spot_grown, words_grown}
 
 -- ---- places that only grow
@@ -161,6 +159,37 @@ new_symbol_found v s (x ∷ xs) e = by (same_symbol v x.0) _ _ e (new_symbol_fou
     by true old new h f = absurd (cc h)
     by false old new h f = f h
 
+-- a choice that comes to nothing
+chosen_none : (b : Bool) (r : Spot) (rest : Option Spot) → (if b then Some r else rest) ≡ None → (b ≡ false) × (rest ≡ None)
+chosen_none true r rest e = absurd (cc e)
+chosen_none false r rest e = (refl, e)
+
+-- a symbol that has no spot is none of those that have one
+not_there :
+    (v : SymbolValue) (xs : List (SymbolValue × Spot)) (i : ℕ) (x : SymbolValue × Spot) → spot_of_symbol v xs ≡ None → slice_get xs i ≡ Some x
+    → x.0 ≡ v → ⊥
+not_there v [] i x none at same = absurd (cc at)
+not_there v (y ∷ ys) zero x none at same =
+    let other : same_symbol v y.0 ≡ false = (chosen_none (same_symbol v y.0) y.1 _ none).0 in
+    let one : y.0 ≡ v = ap (λ (z : SymbolValue × Spot). z.0) (got y x at) ∙ same in
+    let itself : same_symbol v y.0 ≡ true = rw one (symbol_itself v) in
+    absurd (cc)
+  where
+    got : (a b : SymbolValue × Spot) → ◌≡◌ {A = Option (SymbolValue × Spot)} (Some a) (Some b) → a ≡ b
+    got a b e = cc e
+not_there v (y ∷ ys) (suc i) x none at same = not_there v ys i x (chosen_none (same_symbol v y.0) y.1 _ none).1 at same
+
+-- so with it they are distinct
+distinct_and_one :
+    (v : SymbolValue) (s : Spot) (xs : List (SymbolValue × Spot)) → AreDistinct xs → spot_of_symbol v xs ≡ None → AreDistinct (xs ++ (v, s) ∷ [])
+distinct_and_one v s xs once absent i j p q first second same = by (front_or_end xs (v, s) i p first) (front_or_end xs (v, s) j q second)
+  where
+    by : FrontOrEnd xs (v, s) i p → FrontOrEnd xs (v, s) j q → i ≡ j
+    by (at_front d) (at_front e) = once i j p q d e same
+    by (at_front d) (at_end e is) = absurd (not_there v xs i p absent d (same ∙ ap (λ (z : SymbolValue × Spot). z.0) is))
+    by (at_end d is) (at_front e) = absurd (not_there v xs j q absent e (sym same ∙ ap (λ (z : SymbolValue × Spot). z.0) is))
+    by (at_end d is) (at_end e is') = d ∙ sym e
+
 module _
     (names : List (List ℕ)) (program : ProgramRows) (places more : Places) (store : List Object) (before after : ArenaWords) (owner : Owner) (s : Spot)
     (h : LaidWell names program places store before) (g : Grown before after) (j : Joins places more owner s)
@@ -219,6 +248,7 @@ module _
       objects = λ i one found stored e. by i one found (front_or_end store o i one stored) (j.cases (of_object i) found e);
       symbols = λ v found e. symbol_at_stays v found (ap (spot_of_symbol v) (sym same_places) ∙ e);
       listed = rw (same_places, same_symbols) h.listed;
+      once = rw same_places h.once;
     }
       where
         by : (i : ℕ) (one : Object) (found : Spot) → FrontOrEnd store o i one → OneMore places owner s (of_object i) found
@@ -234,9 +264,9 @@ module _
 
     pub symbol_laid :
         (v : SymbolValue) (x : SymbolWord) → owner ≡ of_symbol v → more.objects ≡ places.objects → more.symbols ≡ places.symbols ++ (v, s) ∷ []
-        → after.symbols ≡ before.symbols ++ x ∷ [] → IsSymbolThere names x v s
+        → after.symbols ≡ before.symbols ++ x ∷ [] → spot_of_symbol v places.symbols ≡ None → IsSymbolThere names x v s
         → SymbolAt (arena_of after) s v → LaidWell names program more store after
-    symbol_laid v x own same_objects more_symbols more_listed there made = record {
+    symbol_laid v x own same_objects more_symbols more_listed absent there made = record {
       aligned = rw g.first h.aligned;
       spots = λ p found e. spots_stand p found (j.cases p found e);
       apart = all_apart;
@@ -244,6 +274,7 @@ module _
       objects = λ i one found stored e. object_stays i one found stored (ap (λ xs. spot_in (slice_get xs i)) (sym same_objects) ∙ e);
       symbols = λ r found e. by r found (j.cases (of_symbol r) found e);
       listed = rw (more_symbols, more_listed) (one_more before.symbols places.symbols h.listed);
+      once = rw more_symbols (distinct_and_one v s places.symbols h.once absent);
     }
       where
         by : (r : SymbolValue) (found : Spot) → OneMore places owner s (of_symbol r) found → SymbolAt (arena_of after) found r

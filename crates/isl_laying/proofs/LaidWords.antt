@@ -1,5 +1,5 @@
 -- What stands where in laid words, and that it stays there where more words are laid.
-use Rattle.std.proofs.Common.{◌≡◌, ℕ, zero, suc, ◌+◌, ◌-◌, ◌*◌, ◌/◌, ◌%◌, ◌<◌, ◌≤◌, Bool, true, false, List, [], ◌∷◌, ◌++◌, length, Option, Some, None, map, refl, sym, ◌∙◌, ap, length-append, arith}
+use Rattle.std.proofs.Common.{◌≡◌, ℕ, ◌+◌, ◌-◌, ◌*◌, ◌/◌, ◌%◌, ◌<◌, ◌≤◌, Bool, true, false, List, ◌++◌, length, Option, Some, None, map, refl, sym, ◌∙◌, ap, arith}
 use Rattle.std.specs.Prelude.{◌==◌, ◌&&◌, ◌||◌, if◌then◌else◌, option_map, replicate, slice_get}
 use Rattle.std.proofs.lemmas.Option.{slice_get-map, slice_get_within}
 use Rattle.std.proofs.lemmas.List.{length-replicate}
@@ -11,7 +11,7 @@ use Rattle.isl_arena.proofs.Memory.{lent_in_laid}
 use Rattle.isl_arena.proofs.Arguments.{item_there}
 use Rattle.isl_laying.specs.declared.words.ArenaWords.{ArenaWords}
 use Rattle.isl_laying.specs.LaidArena.{end_address, memory_of, arena_of}
-use Rattle.isl_laying.specs.Laying.{Grown}
+use Rattle.isl_laying.specs.Laying.{Grown, with_more}
 use Rattle.isl_laying.proofs.Lists.{no_shorter, item_stays, item_behind, beginning_same, beginning_of, beginning_both}
 
 word_found : (a : Arena) (x : ℕ) → is_lent a x ≡ true → word_at a x ≡ word_in (slice_get a.memory (x / 4))
@@ -119,3 +119,6 @@ words_grown before after s e g h x low high = by (x % 4 == 0) refl
         let exact : x % 4 ≡ 0 = grind (arith, nat_tests) in
         let address : x ≡ before.first + 4 * ((x - before.first) / 4) = omega (arith, among.low) in
         rw address (laid_same before after ((x - before.first) / 4) e g (omega (arith, among.low, among.high)))
+
+pub appended_of : (before after : ArenaWords) (ws : List ℕ) → after ≡ with_more ws before → Appended before after ws
+appended_of before after ws e = record { first = ap (λ (a : ArenaWords). a.first) e; symbols = ap (λ (a : ArenaWords). a.symbols) e; words = ap (λ (a : ArenaWords). a.words) e }

@@ -5,3 +5,6 @@ pub mod Joining
 pub mod Made
 pub mod MadeSymbols
 pub mod Data
+pub mod Parts
+pub mod Atoms
+pub mod Beginning

@@ -1,5 +1,5 @@
 -- An object is laid behind its parts: a string, a vector, a cons.
-use Rattle.std.proofs.Common.{◌≡◌, ℕ, zero, suc, ◌+◌, ◌*◌, ◌/◌, ◌%◌, ◌<◌, ◌≤◌, List, [], ◌∷◌, ◌++◌, length, Option, Some, None, ⊎_elim, refl, sym, ◌∙◌, ap, append_assoc, append-nil, add-zero, length-append, arith}
+use Rattle.std.proofs.Common.{◌≡◌, ℕ, zero, suc, ◌+◌, ◌*◌, ◌%◌, ◌<◌, ◌≤◌, List, [], ◌∷◌, ◌++◌, length, Some, ⊎_elim, refl, sym, ◌∙◌, ap, append_assoc, append-nil, add-zero, length-append, arith}
 use Rattle.std.specs.Prelude.{slice_get, slice_index_or}
 use Rattle.std.proofs.lemmas.Bool.{cases_lt}
 use Rattle.isl_base.specs.Data as datum
@@ -8,18 +8,17 @@ use Rattle.isl_meaning.specs.declared.program.ProgramRows.{ProgramRows}
 use Rattle.isl_meaning.specs.Values.{Value, nil, object}
 use Rattle.isl_meaning.specs.Objects.{Object, cons, string, vector}
 use Rattle.isl_meaning.specs.Literals.{Laid, no_object, after_parts, lay_content, lay_items}
-use Rattle.isl_mid.specs.Arena.{Arena, word_at}
+use Rattle.isl_mid.specs.Arena.{word_at}
 use Rattle.isl_arena.specs.Tags.{cons_tag, object_tag, string_header, vector_header}
-use Rattle.isl_arena.specs.Places.{Spot, end_of, pointer_to, Places, of_object, spot_of, with_object, pointer_in, word_of, WordsOf}
-use Rattle.isl_arena.specs.Standing.{ValueAt}
-use Rattle.isl_arena.specs.Layouts.{HasSize, byte_words, packed, AreBytes, TextAt, ConsAt, VectorAt, PairAt, ObjectAt}
-use Rattle.isl_arena.proofs.Keeping.{Extends, extends_one, words_extended}
+use Rattle.isl_arena.specs.Places.{Spot, end_of, Places, of_object, with_object, pointer_in, word_of, WordsOf}
+use Rattle.isl_arena.specs.Layouts.{byte_words, packed, AreBytes, TextAt, ConsAt, VectorAt, ObjectAt}
+use Rattle.isl_arena.proofs.Keeping.{extends_one, words_extended}
 use Rattle.isl_arena.proofs.Owners.{new_spot_found}
 use Rattle.isl_laying.specs.declared.words.ArenaWords.{ArenaWords}
 use Rattle.isl_laying.specs.LaidArena.{end_address, arena_of}
 use Rattle.isl_laying.specs.LaidWell.{LaidWell}
 use Rattle.isl_laying.specs.Contents.{packed_words, text_words}
-use Rattle.isl_laying.specs.Laying.{Longer, LaidThere, AllLaidThere, Lays, LaysAll, conses, LaysConses}
+use Rattle.isl_laying.specs.Laying.{Longer, LaidThere, Lays, LaysAll, conses, LaysConses}
 use Rattle.isl_laying.proofs.LaidWords.{Appended, appended_grown, word_behind}
 use Rattle.isl_laying.proofs.Joining.{longer_same, longer_both, longer_object, extends_longer, joins_object, object_laid}
 

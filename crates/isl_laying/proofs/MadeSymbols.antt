@@ -13,22 +13,22 @@ use Rattle.isl_base.specs.declared.datum.Symbol.{Symbol}
 use Rattle.isl_base.specs.declared.datum.Symbol.TheVariants.{Named, Fresh}
 use Rattle.isl_meaning.specs.declared.program.ProgramRows.{ProgramRows}
 use Rattle.isl_meaning.specs.Lookup.{text}
-use Rattle.isl_meaning.specs.Values.{SymbolValue, named, unnamed, same_symbol, symbol}
+use Rattle.isl_meaning.specs.Values.{SymbolValue, same_symbol, symbol}
 use Rattle.isl_meaning.specs.Objects.{Object}
 use Rattle.isl_meaning.specs.Literals.{symbol_of, no_object, lay_content}
 use Rattle.isl_mid.specs.Arena.{word_at}
 use Rattle.isl_arena.specs.Tags.{object_tag, symbol_header, fresh_header}
-use Rattle.isl_arena.specs.Places.{Spot, end_of, Places, of_symbol, spot_of_symbol, spot_of, pointer_in, word_of}
-use Rattle.isl_arena.specs.Layouts.{AreBytes, byte_words, SymbolAt}
+use Rattle.isl_arena.specs.Places.{Spot, end_of, Places, of_symbol, spot_of_symbol, pointer_in}
+use Rattle.isl_arena.specs.Layouts.{SymbolAt}
 use Rattle.isl_arena.proofs.WordFacts.{same_truth}
 use Rattle.isl_laying.specs.declared.symbol_words.SymbolWord.{SymbolWord}
 use Rattle.isl_laying.specs.declared.words.ArenaWords.{ArenaWords}
 use Rattle.isl_laying.specs.Symbols.{is_same_symbol, word_of_symbol}
 use Rattle.isl_laying.specs.LaidArena.{end_address, arena_of}
-use Rattle.isl_laying.specs.LaidWell.{IsSymbolThere, AreSymbolsThere, LaidWell}
+use Rattle.isl_laying.specs.LaidWell.{AreSymbolsThere, LaidWell}
 use Rattle.isl_laying.specs.Contents.{symbol_words, HasBytes}
 use Rattle.isl_laying.specs.Laying.{LaidThere, Lays}
-use Rattle.isl_laying.proofs.Lists.{beginning_of, beginning_more}
+use Rattle.isl_laying.proofs.Lists.{beginning_of}
 use Rattle.isl_laying.proofs.LaidWords.{word_behind}
 use Rattle.isl_laying.proofs.Joining.{with_symbol, longer_symbol, joins_symbol, new_symbol_found, symbol_laid}
 use Rattle.isl_laying.proofs.Made.{spot_behind, nothing_laid, text_count, text_stands}
@@ -146,7 +146,7 @@ new_symbol_laid names s before after w table below new bytes added = record { th
                 words = beginning_of before.words (symbol_words names s) after.words added.words;
                 symbols = beginning_of before.symbols (record { word = w; symbol = s } ∷ []) after.symbols added.symbols;
               })
-              (joins_symbol v spot places) refl high (symbol_some names s) (omega arith) v (record { word = w; symbol = s }) refl refl refl added.symbols
+              (joins_symbol v spot places) refl high (symbol_some names s) (omega arith) v (record { word = w; symbol = s }) refl refl refl added.symbols absent
               (record { named = below; symbol = refl; word = added.word }) (symbol_stands names s before after h.aligned added.first added.words bytes));
           of_value = ap pointer_in (new_symbol_found v spot places.symbols absent) ∙ ap (λ n. Some n) (sym added.word);
         }

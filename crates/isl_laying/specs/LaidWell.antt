@@ -25,6 +25,10 @@ AreSymbolsThere names [] (p ∷ ps) = ⊥
 AreSymbolsThere names (x ∷ xs) [] = ⊥
 AreSymbolsThere names (x ∷ xs) (p ∷ ps) = IsSymbolThere names x p.0 p.1 × AreSymbolsThere names xs ps
 
+-- no symbol has two spots
+abbrev pub AreDistinct : List (SymbolValue × Spot) → Type 0
+AreDistinct ps = (i j : ℕ) (p q : SymbolValue × Spot) → slice_get ps i ≡ Some p → slice_get ps j ≡ Some q → p.0 ≡ q.0 → i ≡ j
+
 -- The words represent these objects and the symbols laid so far. All spots are among the words, and those of different owners are apart.
 pub record LaidWell (names : List (List ℕ)) (program : ProgramRows) (places : Places) (store : List Object) (words : ArenaWords) : Type 0 where
   pub aligned : words.first % 4 ≡ 0
@@ -36,3 +40,4 @@ pub record LaidWell (names : List (List ℕ)) (program : ProgramRows) (places : 
       → ObjectAt names program places (arena_of words) s o
   pub symbols : (v : SymbolValue) (s : Spot) → spot_of places (of_symbol v) ≡ Some s → SymbolAt (arena_of words) s v
   pub listed : AreSymbolsThere names words.symbols places.symbols
+  pub once : AreDistinct places.symbols

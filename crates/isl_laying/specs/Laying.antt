@@ -1,10 +1,10 @@
 -- What is laid behind the words that are there: objects, which the words represent afterwards, and a value, which has a word.
-use Rattle.std.specs.Prelude.{◌≡◌, ℕ, ◌+◌, ◌/◌, ◌≤◌, List, [], ◌∷◌, ◌++◌, length, Option, Some}
+use Rattle.std.specs.Prelude.{◌≡◌, ℕ, ◌+◌, ◌/◌, ◌≤◌, List, [], ◌∷◌, ◌++◌, length, Some}
 use Rattle.isl_meaning.specs.declared.program.ProgramRows.{ProgramRows}
-use Rattle.isl_meaning.specs.Values.{SymbolValue, Value}
+use Rattle.isl_meaning.specs.Values.{Value}
 use Rattle.isl_meaning.specs.Objects.{Object, cons}
 use Rattle.isl_meaning.specs.Literals.{Laid, no_object, after_parts}
-use Rattle.isl_arena.specs.Places.{Spot, Places, word_of, WordsOf}
+use Rattle.isl_arena.specs.Places.{Places, word_of, WordsOf}
 use Rattle.isl_laying.specs.declared.words.ArenaWords.{ArenaWords}
 use Rattle.isl_laying.specs.Lists.{IsBeginning}
 use Rattle.isl_laying.specs.LaidWell.{LaidWell}

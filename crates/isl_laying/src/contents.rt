@@ -25,7 +25,7 @@ pub fn word_of_byte(byte: u8) -> u32
 
 /// Appends a header, the number of bytes as an integer, and the bytes, four in a word.
 pub fn push_text(words: &mut WordList, header: u32, bytes: &[u8]) -> Result<(), NoMemory>
-    requires { length bytes.now < 2 ^ 28 }
+    requires { length bytes.now < 2 ^ 30 }
     ensures ok { OnOk result (words.new ≡ words.old ++ text_words header bytes.now) }
     ensures grown { IsBeginning words.old words.new }
     ensures bytes { AreBytes bytes.now }

@@ -103,11 +103,7 @@ impl SymbolWords {
 }
 
 // The symbol at the place that stands under the name's number, if it is this one.
-fn find_named(
-    list: &ItemList<SymbolWord>,
-    places: &ItemList<usize>,
-    name: Name,
-) -> Option<u32>
+fn find_named(list: &ItemList<SymbolWord>, places: &ItemList<usize>, name: Name) -> Option<u32>
     requires { IsIndexed list.now places.now }
     ensures { result ≡ word_of_symbol (Named name) list.now }
 {

@@ -1,5 +1,5 @@
 -- The conses from a word on are laid.
-use Rattle.std.proofs.Common.{◌≡◌, ◌+◌, ◌*◌, ◌-◌, ◌≤◌, length, drop}
+use Rattle.std.proofs.Common.{◌≡◌, ◌+◌, ◌*◌, ◌≤◌, length, drop}
 use Rattle.isl_laying.specs.Laying.{Grown, LaysConses}
 use Rattle.isl_laying.proofs.laying.lay_conses.Given as goal
 

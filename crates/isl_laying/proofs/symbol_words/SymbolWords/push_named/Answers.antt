@@ -1,5 +1,5 @@
 -- The name has its place where its symbol stands behind the others.
-use Rattle.std.proofs.Common.{◌≡◌, None, subst, sym, ◌∙◌, ap}
+use Rattle.std.proofs.Common.{◌≡◌, None, ◌∙◌, ap}
 use Rattle.isl_base.specs.declared.datum.Symbol.TheVariants.{Named}
 use Rattle.isl_laying.specs.Symbols.{word_of_symbol, IsIndexed}
 use Rattle.isl_laying.proofs.SymbolLists.{indexed_longer, indexed_named}
