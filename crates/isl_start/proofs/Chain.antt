@@ -24,7 +24,7 @@ use Rattle.isl_laying.proofs.Lists.{item_stays}
 use Rattle.isl_laying.proofs.Joining.{longer_both, extends_longer}
 use Rattle.isl_start.specs.declared.slots.SlotWords.{SlotWords}
 use Rattle.isl_start.specs.Recipes.{Recipe, in_turn, name_recipe, function_recipe, literal_recipe, slots_recipe}
-use Rattle.isl_start.specs.Making.{IsWord, IsSlot, Each, Made, Makes}
+use Rattle.isl_start.specs.Making.{IsWord, IsSlot, Each, AreNumbered, Made, Makes}
 use Rattle.isl_start.specs.Settling.{AreCounted, StillWords, Settled, Settles, class_number, ClassesWait, ClassesSettled, ClassesSettle}
 use Rattle.isl_start.specs.Start.{fixed_contents, Start}
 use Rattle.isl_start.proofs.Joins.{lasts_word, lasts_slot, lasts_each, Lasts}
@@ -34,7 +34,7 @@ use Rattle.isl_start.proofs.Found.{function_found, word_in}
 use Rattle.isl_start.proofs.LiteralPlaces.{literal_found}
 use Rattle.isl_start.proofs.ClassPlaces.{first_objects, first_count, input_object, output_object, class_number_is, class_there, input_is, output_is, class_value_is}
 use Rattle.isl_start.proofs.SlotStanding.{slots_stand_there}
-use Rattle.isl_start.proofs.FixedFront.{with_fixed_spot, same_values, no_nil_there, front_laid, fixed_count, fixed_stand}
+use Rattle.isl_start.proofs.FixedFront.{with_fixed_spot, same_values, no_nil_there, front_laid, front_numbered, fixed_count, fixed_stand}
 
 -- a program has at least the classes that are built in
 both_true : (a b : Bool) → (a && b) ≡ true → b ≡ true
@@ -140,16 +140,16 @@ module _
 
     -- what is laid in turn
 
-    functions_made : Made names program (Each IsWord) (no_spots at_first) at_first b (in_turn function_recipe program.functions (length at_first)) fs
+    functions_made : Made names program (Each IsWord) (no_spots at_first) at_first a b (in_turn function_recipe program.functions (length at_first)) fs
     functions_made = functions.there program (no_spots at_first) at_first (nothing_stands names program at_first a (ap (λ n. n % 4) from) none)
 
-    literals_made : Made names program (Each IsWord) functions_made.places_after with_functions c (in_turn (literal_recipe names) program.literals (length with_functions)) ls
+    literals_made : Made names program (Each IsWord) functions_made.places_after with_functions b c (in_turn (literal_recipe names) program.literals (length with_functions)) ls
     literals_made = literals.there program functions_made.places_after with_functions functions_made.stands
 
-    slots_made : Made names program (Each (Each IsSlot)) literals_made.places_after with_literals d (in_turn (slots_recipe names) program.classes (length with_literals)) ss
+    slots_made : Made names program (Each (Each IsSlot)) literals_made.places_after with_literals c d (in_turn (slots_recipe names) program.classes (length with_literals)) ss
     slots_made = slots.there program literals_made.places_after with_literals literals_made.stands
 
-    true_made : Made names program IsWord slots_made.places_after store e ([], symbol (named (text names true_name.0))) truth
+    true_made : Made names program IsWord slots_made.places_after store d e ([], symbol (named (text names true_name.0))) truth
     true_made = true_laid.there program slots_made.places_after store slots_made.stands
 
     abbrev laid : Places
@@ -177,10 +177,10 @@ module _
     first_length : length at_first ≡ length program.classes + 2
     first_length = first_count (length program.classes) enough
 
-    input_settled : Settled names program laid store 34 f input
+    input_settled : Settled names program laid store 34 e f input
     input_settled = input_laid.there laid store 34 laid_stands (front 34 input_stream (input_object (length program.classes))) (waits 34 (omega (arith, first_length))) tt
 
-    output_settled : Settled names program input_settled.places_after store 35 g output
+    output_settled : Settled names program input_settled.places_after store 35 f g output
     output_settled =
         output_laid.there input_settled.places_after store 35 input_settled.stands (front 35 output_stream (output_object (length program.classes)))
         (input_settled.waiting 35 (λ same. omega arith) (waits 35 (omega (arith, first_length)))) tt
@@ -217,7 +217,7 @@ module _
           output_settled.waiting (class_number class) apart.1 (input_settled.waiting (class_number class) apart.0 (waits (class_number class) there));
     }
 
-    settled : ClassesSettled names program truth ss streams store h (length program.classes) cs
+    settled : ClassesSettled names program truth ss streams store g h (length program.classes) cs
     settled = classes.there streams store output_settled.stands classes_wait
 
     abbrev places : Places
@@ -234,6 +234,18 @@ module _
     at_last m more = record {
       word = λ v w there. settled.words.word v w (still.word v w ((extends_longer m laid more).word v w there));
     }
+
+    -- functions have their numbers
+    none_numbered : AreNumbered (no_spots at_first) at_first a
+    none_numbered = record { each = λ i p s there e. absurd (none_owned at_first (of_object i) s e) }
+
+    all_numbered : AreNumbered places store h
+    all_numbered =
+        settled.numbered
+        (output_settled.numbered
+        (input_settled.numbered
+        (subst (λ os. AreNumbered laid os e) (append-nil store)
+        (true_made.numbered (slots_made.numbered (literals_made.numbered (functions_made.numbered none_numbered)))))))
 
     functions_at : length at_first ≡ at_functions names built_in_classes program
     functions_at = sym (zero-add (length at_first))
@@ -272,6 +284,10 @@ module _
           (ap (word_of places) (input_is names program) ∙ settled.words.word (object 34) input (output_settled.words.word (object 34) input input_settled.of_object))
           (ap (word_of places) (output_is names program) ∙ settled.words.word (object 35) output output_settled.of_object)
           (settled.words.word t truth classes_wait.truth_stands) left;
+      numbered =
+          subst (λ os. AreNumbered (with_fixed_spot places) os words) store_same
+          (front_numbered names program places store (fixed_contents cs input output truth) h words (fixed_count cs input output truth enough_words) same_from first all symbols settled.stands
+          all_numbered);
       class_count = settled.many;
       class_words = λ class w there.
           let within = slice_get_within cs class w there in

@@ -29,6 +29,7 @@ use Rattle.isl_laying.proofs.Made.{spot_behind}
 use Rattle.isl_start.specs.declared.slots.SlotWords.{SlotWords}
 use Rattle.isl_start.specs.Settling.{is_condition, can_be_made, truth_word, slot_words, precedence_words, class_heading, class_words, SlotStands, SlotsStand, Settles, ClassGiven}
 use Rattle.isl_start.proofs.FunctionObjects.{first_behind, later_behind}
+use Rattle.isl_start.proofs.Numbered.{IsNoFunction}
 use Rattle.isl_start.proofs.Settle.{settled}
 
 -- ---- streams
@@ -36,24 +37,24 @@ use Rattle.isl_start.proofs.Settle.{settled}
 stream_settles :
     (names : List (List ℕ)) (program : ProgramRows) (o : Object) (header : ℕ) (before after : ArenaWords) (w : ℕ) → Appended before after (header ∷ [])
     → ((places : Places) (s : Spot) → s.words ≡ 1 → s.tag ≡ object_tag → word_at (arena_of after) s.address ≡ Some header → ObjectAt names program places (arena_of after) s o)
-    → w ≡ end_address before + 2 → Settles names program o (λ places. Unit {0}) before after w
-stream_settles names program o header before after w more made word = record {
+    → IsNoFunction o → w ≡ end_address before + 2 → Settles names program o (λ places. Unit {0}) before after w
+stream_settles names program o header before after w more made no_function word = record {
   there = λ places store i h stored none given.
       settled names program places store before after i o (header ∷ []) object_tag h stored none more (lit≤ tt) (lit< tt) w
-      (made _ _ refl refl (first_behind before after (header ∷ []) h.aligned more header refl)) word;
+      (made _ _ refl refl (first_behind before after (header ∷ []) h.aligned more header refl)) no_function word;
 }
 
 pub input_settles :
     (names : List (List ℕ)) (program : ProgramRows) (before after : ArenaWords) (w : ℕ) → Appended before after (input_header ∷ []) → w ≡ end_address before + 2
     → Settles names program input_stream (λ places. Unit {0}) before after w
 input_settles names program before after w more word =
-    stream_settles names program input_stream input_header before after w more (λ places s n k e. record { size = record { words = n; tag = k }; header = e }) word
+    stream_settles names program input_stream input_header before after w more (λ places s n k e. record { size = record { words = n; tag = k }; header = e }) tt word
 
 pub output_settles :
     (names : List (List ℕ)) (program : ProgramRows) (before after : ArenaWords) (w : ℕ) → Appended before after (output_header ∷ []) → w ≡ end_address before + 2
     → Settles names program output_stream (λ places. Unit {0}) before after w
 output_settles names program before after w more word =
-    stream_settles names program output_stream output_header before after w more (λ places s n k e. record { size = record { words = n; tag = k }; header = e }) word
+    stream_settles names program output_stream output_header before after w more (λ places s n k e. record { size = record { words = n; tag = k }; header = e }) tt word
 
 -- ---- classes
 

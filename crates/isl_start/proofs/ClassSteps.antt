@@ -24,7 +24,7 @@ use Rattle.isl_laying.proofs.Joining.{extends_longer}
 use Rattle.isl_laying.proofs.Made.{spot_behind}
 use Rattle.isl_start.specs.declared.slots.SlotWords.{SlotWords}
 use Rattle.isl_start.specs.Recipes.{name_recipe}
-use Rattle.isl_start.specs.Making.{IsWord, Made, Makes}
+use Rattle.isl_start.specs.Making.{IsWord, AreNumbered, Made, Makes}
 use Rattle.isl_start.specs.Settling.{class_words, SlotStands, SlotsStand, StillWords, Settled, Settles, ClassGiven, class_number, ClassesWait, ClassesSettled, ClassesSettle}
 use Rattle.isl_start.proofs.Settle.{with_spot, settled, words_stay}
 use Rattle.isl_start.proofs.ClassObjects.{class_at, words_length}
@@ -63,9 +63,9 @@ class_settles names program class row name truth ss before mid after w here p mo
 
     there :
         (places : Places) (store : List Object) (i : ℕ) → LaidWell names program places store before → slice_get store i ≡ Some (class_object class)
-        → slice_get places.objects i ≡ Some None → ClassGiven names program class row truth ss places → Settled names program places store i after w
+        → slice_get places.objects i ≡ Some None → ClassGiven names program class row truth ss places → Settled names program places store i before after w
     there places store i h stored none given =
-        let m : Made names program IsWord places store mid ([], symbol (named (text names row.name.0))) name = p.there program places store h in
+        let m : Made names program IsWord places store before mid ([], symbol (named (text names row.name.0))) name = p.there program places store h in
         let stands : LaidWell names program m.places_after store mid = subst (λ os. LaidWell names program m.places_after os mid) (append-nil store) m.stands in
         let gone : slice_get m.places_after.objects i ≡ Some None = item_stays places.objects m.places_after.objects i None m.longer.objects none in
         let named_still : StillWords places m.places_after = record { word = (extends_longer places m.places_after m.longer).word } in
@@ -73,10 +73,10 @@ class_settles names program class row name truth ss before mid after w here p mo
         let still : StillWords m.places_after (with_spot i (spot_behind mid (length (class_words class name truth row ss)) object_tag) m.places_after) = record { word = kept.word } in
         let given_now = given_still names program m.places_after (with_spot i (spot_behind mid (length (class_words class name truth row ss)) object_tag) m.places_after) still class row truth ss
         (given_still names program places m.places_after named_still class row truth ss given) in
-        let one : Settled names program m.places_after store i after w =
+        let one : Settled names program m.places_after store i mid after w =
         settled names program m.places_after store mid after i (class_object class) (class_words class name truth row ss) object_tag stands stored gone more some_words (lit< tt) w
         (class_at names program class row name truth ss mid after (with_spot i (spot_behind mid (length (class_words class name truth row ss)) object_tag) m.places_after)
-        here stands.aligned more given_now (still.word (symbol (named (text names row.name.0))) name m.words)) word in
+        here stands.aligned more given_now (still.word (symbol (named (text names row.name.0))) name m.words)) tt word in
         record {
           places_after = one.places_after;
           words = still_both places m.places_after one.places_after named_still one.words;
@@ -84,6 +84,7 @@ class_settles names program class row name truth ss before mid after w here p mo
           others = one.others ∙ m.longer.others;
           stands = one.stands;
           of_object = one.of_object;
+          numbered = λ numbered. one.numbered (subst (λ os. AreNumbered m.places_after os mid) (append-nil store) (m.numbered numbered));
         }
 
 -- ---- one class more
@@ -120,6 +121,7 @@ module _ (names : List (List ℕ)) (program : ProgramRows) (truth : ℕ) (slots 
       many = refl;
       of_classes = λ class w e. absurd (cc e);
       wait = wait;
+      numbered = λ numbered. numbered;
     };
   }
 
@@ -135,10 +137,10 @@ module _ (names : List (List ℕ)) (program : ProgramRows) (truth : ℕ) (slots 
 
       there :
           (places : Places) (store : List Object) → LaidWell names program places store before → ClassesWait names program truth slots 0 places store
-          → ClassesSettled names program truth slots places store after (n + 1) us
+          → ClassesSettled names program truth slots places store before after (n + 1) us
       there places store h wait =
-          let first : ClassesSettled names program truth slots places store mid n ws = p.there places store h wait in
-          let one : Settled names program first.places_after store (class_number n) after w =
+          let first : ClassesSettled names program truth slots places store before mid n ws = p.there places store h wait in
+          let one : Settled names program first.places_after store (class_number n) mid after w =
           q.there first.places_after store (class_number n) first.stands (first.wait.objects n low) (first.wait.waiting n (omega arith) low)
           (record { truth_stands = first.wait.truth_stands; slots_stand = first.wait.slots_stand n row ss here found }) in
           record {
@@ -156,6 +158,7 @@ module _ (names : List (List ℕ)) (program : ProgramRows) (truth : ℕ) (slots 
                 wait_still n first.places_after one.places_after store one.words
                 (λ class from within. one.waiting (class_number class) (λ same. class_number_apart class n (λ e. omega arith) same) (first.wait.waiting class (omega arith) within))
                 first.wait;
+            numbered = λ numbered. one.numbered (first.numbered numbered);
           }
         where
           last :

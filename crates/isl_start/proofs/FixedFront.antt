@@ -30,6 +30,8 @@ use Rattle.isl_laying.specs.LaidArena.{end_address, arena_of}
 use Rattle.isl_laying.specs.LaidWell.{IsSymbolThere, AreSymbolsThere, LaidWell}
 use Rattle.isl_laying.proofs.Lists.{item_behind}
 use Rattle.isl_laying.proofs.LaidWords.{word_laid, IsAmong, spot_among}
+use Rattle.isl_start.specs.Making.{AreNumbered}
+use Rattle.isl_start.proofs.Numbered.{number_kept}
 use Rattle.isl_start.specs.Start.{fixed_spot, fixed_contents}
 
 -- ---- no symbol is nil
@@ -168,6 +170,12 @@ module _
       symbols = λ v s e. symbol_kept (arena_of laid) (arena_of words) s (kept (of_symbol v) s e) v (h.symbols v s e);
       listed = rw symbols h.listed;
       once = h.once;
+    }
+
+    -- functions keep their numbers
+    pub front_numbered : AreNumbered places store laid → AreNumbered (with_fixed_spot places) store words
+    front_numbered numbered = record {
+      each = λ i p s there e. number_kept laid words s p (kept (of_object i) s e) (numbered.each i p s there e);
     }
 
 -- ---- the fixed words

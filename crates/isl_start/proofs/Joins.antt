@@ -10,11 +10,12 @@ use Rattle.isl_arena.specs.Places.{Places, word_of}
 use Rattle.isl_arena.proofs.Keeping.{Extends}
 use Rattle.isl_laying.specs.declared.words.ArenaWords.{ArenaWords}
 use Rattle.isl_laying.specs.LaidWell.{LaidWell}
-use Rattle.isl_laying.specs.Laying.{Longer, LaidThere, Lays}
+use Rattle.isl_laying.specs.Laying.{Longer, Grown, LaidThere, Lays}
 use Rattle.isl_laying.proofs.Joining.{longer_same, longer_both, extends_longer}
 use Rattle.isl_start.specs.declared.slots.SlotWords.{SlotWords}
 use Rattle.isl_start.specs.Recipes.{Recipe, SlotValues, no_more, joined, in_turn, laid, name_recipe, initargs_recipe, initform_recipe, slot_recipe}
 use Rattle.isl_start.specs.Making.{IsWord, IsSlot, Each, Made, Makes, IsWithin}
+use Rattle.isl_start.proofs.Numbered.{NoFunctions, none_numbered}
 
 -- ---- what stays where more is laid
 
@@ -60,7 +61,7 @@ pub makes_as :
     → ((n : ℕ) → r n ≡ s n) → Makes names means r before after w → Makes names means s before after w
 makes_as names means r s before after w same p = record {
   there = λ program places store h.
-      subst (λ made. Made names program means places store after made w) (same (length store)) (p.there program places store h);
+      subst (λ made. Made names program means places store before after made w) (same (length store)) (p.there program places store h);
 }
 
 -- nothing is laid
@@ -73,6 +74,7 @@ makes_none names means v w words h = record {
     longer = longer_same places;
     stands = rw (append-nil store) stands;
     words = h places;
+    numbered = λ numbered. rw (append-nil store) numbered;
   };
 }
 
@@ -86,31 +88,39 @@ makes_joined {U} {V} {W} {X} {Y} {Z} names one two both join r s before mid afte
   where
     there :
         (program : ProgramRows) (places : Places) (store : List Object) → LaidWell names program places store before
-        → Made names program both places store after (joined join r s (length store)) z
+        → Made names program both places store before after (joined join r s (length store)) z
     there program places store h =
         let a = r (length store) in
-        let first : Made names program one places store mid a x = p.there program places store h in
-        let second : Made names program two first.places_after (store ++ a.0) after (s (length (store ++ a.0))) y =
+        let first : Made names program one places store before mid a x = p.there program places store h in
+        let second : Made names program two first.places_after (store ++ a.0) mid after (s (length (store ++ a.0))) y =
         q.there program first.places_after (store ++ a.0) first.stands in
         let count : length (store ++ a.0) ≡ length store + length a.0 = length-append store a.0 in
-        let next : Made names program two first.places_after (store ++ a.0) after (s (length store + length a.0)) y =
-        subst (λ n. Made names program two first.places_after (store ++ a.0) after (s n) y) count second in
+        let next : Made names program two first.places_after (store ++ a.0) mid after (s (length store + length a.0)) y =
+        subst (λ n. Made names program two first.places_after (store ++ a.0) mid after (s n) y) count second in
         record {
           places_after = next.places_after;
           longer = longer_both places first.places_after next.places_after first.longer next.longer;
           stands = rw (← append_assoc store a.0 (s (length store + length a.0)).0) next.stands;
           words = join_means next.places_after a.1 (s (length store + length a.0)).1
               (lasts.kept first.places_after next.places_after (extends_longer first.places_after next.places_after next.longer) a.1 x first.words) next.words;
+          numbered = λ numbered. rw (← append_assoc store a.0 (s (length store + length a.0)).0) (next.numbered (first.numbered numbered));
         }
 
 -- what a datum makes
 pub makes_laid :
-    (names : List (List ℕ)) (lay : ℕ → Laid) (before after : ArenaWords) (w : ℕ) → Lays names lay before after w
+    (names : List (List ℕ)) (lay : ℕ → Laid) (before after : ArenaWords) (w : ℕ) → ((n : ℕ) → NoFunctions (lay n).objects) → Grown before after → Lays names lay before after w
     → Makes names IsWord (laid lay) before after w
-makes_laid names lay before after w p = record {
+makes_laid names lay before after w none grown p = record {
   there = λ program places store h.
       let l : LaidThere names program places store after (lay (length store)) w = p.there program places store h in
-      record { places_after = l.places_after; longer = l.longer; stands = l.stands; words = l.of_value };
+      record {
+        places_after = l.places_after;
+        longer = l.longer;
+        stands = l.stands;
+        words = l.of_value;
+        numbered = λ numbered.
+            none_numbered names program places l.places_after store before after h l.longer grown numbered (lay (length store)).objects (none (length store));
+      };
 }
 
 -- ---- lists

@@ -1,3 +1,4 @@
+pub mod Numbered
 pub mod Joins
 pub mod FunctionObjects
 pub mod SlotCounts

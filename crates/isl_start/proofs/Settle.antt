@@ -6,7 +6,7 @@ use Rattle.std.proofs.lemmas.Option.{slice_get_within}
 use Rattle.std.proofs.lemmas.Bool.Decides.{nat_tests}
 use Rattle.isl_meaning.specs.declared.program.ProgramRows.{ProgramRows}
 use Rattle.isl_meaning.specs.Values.{SymbolValue, Value, integer, character, symbol, nil, object}
-use Rattle.isl_meaning.specs.Objects.{Object}
+use Rattle.isl_meaning.specs.Objects.{Object, function}
 use Rattle.isl_arena.specs.Places.{Spot, end_of, pointer_to, Places, Owner, of_object, of_symbol, of_other, same_owner, spot_in, spot_of, pointer_in, word_of}
 use Rattle.isl_arena.specs.Standing.{of_laid, SpotStands, Apart, in_front, behind, AllApart, SameWords}
 use Rattle.isl_arena.specs.Layouts.{ObjectAt, SymbolAt}
@@ -19,7 +19,9 @@ use Rattle.isl_laying.proofs.Lists.{set_here, set_elsewhere}
 use Rattle.isl_laying.proofs.LaidWords.{Appended, appended_grown, spot_among, spot_grown, words_grown}
 use Rattle.isl_laying.proofs.Joining.{OneMore, as_before, joined}
 use Rattle.isl_laying.proofs.Made.{spot_behind}
+use Rattle.isl_start.specs.Making.{IsNumbered, AreNumbered}
 use Rattle.isl_start.specs.Settling.{StillWords, Settled}
+use Rattle.isl_start.proofs.Numbered.{IsNoFunction, number_kept}
 
 -- with a spot for an object that is there
 abbrev pub with_spot : ℕ → Spot → Places → Places
@@ -131,8 +133,8 @@ module _
             rw (same, object_same) made
 
     -- it has the word that points there, and the others that wait still do
-    pub settled : (w : ℕ) → ObjectAt names program now (arena_of after) new o → w ≡ end_address before + tag → Settled names program places store i after w
-    settled w made word = record {
+    pub settled : (w : ℕ) → ObjectAt names program now (arena_of after) new o → IsNoFunction o → w ≡ end_address before + tag → Settled names program places store i before after w
+    settled w made no_function word = record {
       places_after = now;
       words = still_of places now words_stay;
       waiting = λ j other e. set_elsewhere places.objects i j (Some new) (λ same. other (sym same)) ∙ e;
@@ -141,4 +143,13 @@ module _
       of_object =
           ap (λ x. pointer_in (spot_in x)) (set_here places.objects i (Some new) (slice_get_within places.objects i None none))
           ∙ ap (λ n. Some n) (sym word);
+      numbered = λ numbered. record { each = λ j p s there e. by numbered j p s there (cases (of_object j) s e) };
     }
+      where
+        by : AreNumbered places store before → (j p : ℕ) (s : Spot) → slice_get store j ≡ Some (function p) → OneMore places (of_object i) new (of_object j) s → IsNumbered after s p
+        by numbered j p s there (as_before e) = number_kept before after s p (same_words (of_object j) s e) (numbered.each j p s there e)
+        by numbered j p s there (joined e same) =
+            let number : j ≡ i = cc in
+            let got : Some o ≡ Some (function p) = sym stored ∙ ap (slice_get store) (sym number) ∙ there in
+            let is : o ≡ function p = cc in
+            absurd (subst IsNoFunction is no_function)

@@ -25,6 +25,10 @@ pub on_ok_both : {X E : Type 0} (r : Result X E) (P Q R : Type 0) → (P → Q �
 on_ok_both (Ok x) P Q R f h g = f h g
 on_ok_both (Err e) P Q R f h g = tt
 
+pub if_ok_on : {X E : Type 0} (r : Result X E) (P Q : X → Type 0) (R : Type 0) → ((x : X) → R → P x → Q x) → OnOk r R → IfOk r P → IfOk r Q
+if_ok_on (Ok x) P Q R f g h = f x g h
+if_ok_on (Err e) P Q R f g h = tt
+
 -- sums
 
 pub sum_next : {X : Type 0} (f : X → ℕ) (xs : List X) (i : ℕ) (x : X) → slice_get xs i ≡ Some x → sum_by f (take (i + 1) xs) ≡ sum_by f (take i xs) + f x

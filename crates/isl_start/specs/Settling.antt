@@ -12,6 +12,7 @@ use Rattle.isl_arena.specs.Places.{Places, word_of}
 use Rattle.isl_laying.specs.declared.words.ArenaWords.{ArenaWords}
 use Rattle.isl_laying.specs.LaidWell.{LaidWell}
 use Rattle.isl_start.specs.declared.slots.SlotWords.{SlotWords}
+use Rattle.isl_start.specs.Making.{AreNumbered}
 
 -- ---- the words of a class
 
@@ -67,19 +68,20 @@ pub record StillWords (before after : Places) : Type 0 where
   pub word : (v : Value) (w : ℕ) → word_of before v ≡ Some w → word_of after v ≡ Some w
 
 -- the object with that number has this word, and no other object got a spot
-pub record Settled (names : List (List ℕ)) (program : ProgramRows) (places : Places) (store : List Object) (i : ℕ) (after : ArenaWords) (word : ℕ) : Type 0 where
+pub record Settled (names : List (List ℕ)) (program : ProgramRows) (places : Places) (store : List Object) (i : ℕ) (before after : ArenaWords) (word : ℕ) : Type 0 where
   pub places_after : Places
   pub words : StillWords places places_after
   pub waiting : (j : ℕ) → (j ≡ i → ⊥) → slice_get places.objects j ≡ Some None → slice_get places_after.objects j ≡ Some None
   pub others : places_after.others ≡ places.others
   pub stands : LaidWell names program places_after store after
   pub of_object : word_of places_after (object i) ≡ Some word
+  pub numbered : AreNumbered places store before → AreNumbered places_after store after
 
 -- wherever the words before represent objects, of which this one has no spot, and what is given holds, the words after represent the same objects, and this one has that word
 pub record Settles (names : List (List ℕ)) (program : ProgramRows) (o : Object) (Given : Places → Type 0) (before after : ArenaWords) (word : ℕ) : Type 0 where
   pub there :
       (places : Places) (store : List Object) (i : ℕ) → LaidWell names program places store before → slice_get store i ≡ Some o
-      → slice_get places.objects i ≡ Some None → Given places → Settled names program places store i after word
+      → slice_get places.objects i ≡ Some None → Given places → Settled names program places store i before after word
 
 -- what the words of a class need
 pub record ClassGiven (names : List (List ℕ)) (program : ProgramRows) (class : ℕ) (row : ClassRow) (truth : ℕ) (slots : List SlotWords) (places : Places) : Type 0 where
@@ -103,7 +105,7 @@ pub record ClassesWait (names : List (List ℕ)) (program : ProgramRows) (truth 
   pub waiting : (class : ℕ) → from ≤ class → class < length program.classes → slice_get places.objects (class_number class) ≡ Some None
 
 -- the first classes have these words
-pub record ClassesSettled (names : List (List ℕ)) (program : ProgramRows) (truth : ℕ) (slots : List (List SlotWords)) (places : Places) (store : List Object) (after : ArenaWords) (count : ℕ) (ws : List ℕ) : Type 0 where
+pub record ClassesSettled (names : List (List ℕ)) (program : ProgramRows) (truth : ℕ) (slots : List (List SlotWords)) (places : Places) (store : List Object) (before after : ArenaWords) (count : ℕ) (ws : List ℕ) : Type 0 where
   pub places_after : Places
   pub words : StillWords places places_after
   pub others : places_after.others ≡ places.others
@@ -111,9 +113,10 @@ pub record ClassesSettled (names : List (List ℕ)) (program : ProgramRows) (tru
   pub many : length ws ≡ count
   pub of_classes : (class w : ℕ) → slice_get ws class ≡ Some w → word_of places_after (object (class_number class)) ≡ Some w
   pub wait : ClassesWait names program truth slots count places_after store
+  pub numbered : AreNumbered places store before → AreNumbered places_after store after
 
 -- wherever the words before represent objects, and all classes wait, the words after represent the same objects, and the first classes have these words
 pub record ClassesSettle (names : List (List ℕ)) (program : ProgramRows) (truth : ℕ) (slots : List (List SlotWords)) (before after : ArenaWords) (count : ℕ) (ws : List ℕ) : Type 0 where
   pub there :
       (places : Places) (store : List Object) → LaidWell names program places store before → ClassesWait names program truth slots 0 places store
-      → ClassesSettled names program truth slots places store after count ws
+      → ClassesSettled names program truth slots places store before after count ws

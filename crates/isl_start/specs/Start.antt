@@ -15,6 +15,7 @@ use Rattle.isl_arena.specs.FixedWords.{fixed_words, nil_text, FixedStand}
 use Rattle.isl_laying.specs.declared.words.ArenaWords.{ArenaWords}
 use Rattle.isl_laying.specs.LaidArena.{end_address, memory_of, arena_of}
 use Rattle.isl_laying.specs.LaidWell.{LaidWell}
+use Rattle.isl_start.specs.Making.{AreNumbered}
 use Rattle.isl_start.specs.declared.start.StartWords.{StartWords}
 
 abbrev pub fixed_spot : Spot
@@ -42,6 +43,7 @@ pub record Start (names : List (List ℕ)) (program : ProgramRows) (start : Star
   pub no_nil : spot_of places (of_symbol (named nil_text)) ≡ None
   pub stands : LaidWell names program places (objects_at_start names program) start.arena
   pub fixed : (input : List ℕ) → FixedStand names program places (arena_of start.arena) 0 [] input input
+  pub numbered : AreNumbered places (objects_at_start names program) start.arena
   pub class_count : length start.classes ≡ length program.classes
   pub class_words : (class w : ℕ) → slice_get start.classes class ≡ Some w → word_of places (class_value names program class) ≡ Some w
   pub function_words :

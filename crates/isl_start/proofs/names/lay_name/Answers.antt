@@ -8,7 +8,8 @@ use Rattle.isl_start.specs.Recipes.{laid, name_recipe}
 use Rattle.isl_start.specs.Making.{IsWord, Makes, IsWithin}
 use Rattle.isl_start.proofs.Joins.{makes_as, makes_laid}
 use Rattle.isl_start.proofs.NameData.{name_item, symbol_good, symbol_size}
-use Rattle.isl_start.proofs.Steps.{if_ok, on_ok_both, within_grown}
+use Rattle.isl_start.proofs.Numbered.{data_no_functions}
+use Rattle.isl_start.proofs.Steps.{if_ok_on, on_ok_both, within_grown}
 use Rattle.isl_start.proofs.names.lay_name.Goals as goal
 
 pub lay_datum-requires-clause-good : goal.lay_datum-requires-clause-good
@@ -29,11 +30,12 @@ returns-clause-within c =
 
 pub returns-clause-made : goal.returns-clause-made
 returns-clause-made c =
-    if_ok c.lay_datum.result
+    if_ok_on c.lay_datum.result
     (λ w. Lays c.args.names.now (lay c.args.names.now c.symbol_of_name-symbol.result) c.args.words.now c.lay_datum.new.words w)
     (λ w. Makes c.args.names.now IsWord (name_recipe c.args.names.now c.args.name) c.args.words.now c.lay_datum.new.words w)
-    (λ w p.
+    (Grown c.args.words.now c.lay_datum.new.words)
+    (λ w g p.
     makes_as c.args.names.now IsWord (laid (lay c.args.names.now c.symbol_of_name-symbol.result)) (name_recipe c.args.names.now c.args.name)
     c.args.words.now c.lay_datum.new.words w (λ n. ap (λ d. laid (lay c.args.names.now d) n) c.symbol_of_name-symbol.ensures)
-    (makes_laid c.args.names.now (lay c.args.names.now c.symbol_of_name-symbol.result) c.args.words.now c.lay_datum.new.words w p))
-    c.lay_datum.ensures.lays
+    (makes_laid c.args.names.now (lay c.args.names.now c.symbol_of_name-symbol.result) c.args.words.now c.lay_datum.new.words w (λ n. data_no_functions c.args.names.now c.symbol_of_name-symbol.result n) g p))
+    c.lay_datum.ensures.grown c.lay_datum.ensures.lays

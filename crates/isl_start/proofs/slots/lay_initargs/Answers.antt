@@ -8,7 +8,8 @@ use Rattle.isl_start.specs.Recipes.{laid, initargs_recipe}
 use Rattle.isl_start.specs.Making.{IsWord, Makes, IsWithin}
 use Rattle.isl_start.proofs.Joins.{makes_as, makes_laid}
 use Rattle.isl_start.proofs.NameData.{name_list, list_good, list_size}
-use Rattle.isl_start.proofs.Steps.{if_ok, on_ok_both, within_grown}
+use Rattle.isl_start.proofs.Numbered.{data_no_functions}
+use Rattle.isl_start.proofs.Steps.{if_ok_on, on_ok_both, within_grown}
 use Rattle.isl_start.proofs.slots.lay_initargs.Goals as goal
 
 pub lay_datum-requires-clause-good : goal.lay_datum-requires-clause-good
@@ -31,11 +32,12 @@ returns-clause-within c =
 
 pub returns-clause-made : goal.returns-clause-made
 returns-clause-made c =
-    if_ok c.lay_datum.result
+    if_ok_on c.lay_datum.result
     (λ w. Lays c.args.names.now (lay c.args.names.now c.in_ok-list.list) c.args.words.now c.lay_datum.new.words w)
     (λ w. Makes c.args.names.now IsWord (initargs_recipe c.args.names.now c.args.row.now) c.args.words.now c.lay_datum.new.words w)
-    (λ w p.
+    (Grown c.args.words.now c.lay_datum.new.words)
+    (λ w g p.
     makes_as c.args.names.now IsWord (laid (lay c.args.names.now c.in_ok-list.list)) (initargs_recipe c.args.names.now c.args.row.now)
     c.args.words.now c.lay_datum.new.words w (λ n. ap (λ d. laid (lay c.args.names.now d) n) c.in_ok-list.ensures)
-    (makes_laid c.args.names.now (lay c.args.names.now c.in_ok-list.list) c.args.words.now c.lay_datum.new.words w p))
-    c.lay_datum.ensures.lays
+    (makes_laid c.args.names.now (lay c.args.names.now c.in_ok-list.list) c.args.words.now c.lay_datum.new.words w (λ n. data_no_functions c.args.names.now c.in_ok-list.list n) g p))
+    c.lay_datum.ensures.grown c.lay_datum.ensures.lays
