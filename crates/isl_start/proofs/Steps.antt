@@ -10,7 +10,11 @@ use Rattle.isl_laying.specs.Laying.{HasRoom, Grown}
 use Rattle.isl_start.specs.declared.slots.SlotWords.{SlotWords}
 use Rattle.isl_meaning.specs.declared.program.ClassRow.{ClassRow}
 use Rattle.isl_start.specs.Making.{IsWithin}
-use Rattle.isl_start.specs.Rows.{class_size}
+use Rattle.isl_meaning.specs.declared.program.SlotRow.{SlotRow}
+use Rattle.isl_meaning.specs.declared.program.LiteralRow.{LiteralRow}
+use Rattle.isl_meaning.specs.declared.program.LiteralRow.TheVariants as row
+use Rattle.isl_meaning.specs.ProgramCounts.{row_nodes, slot_nodes, class_nodes}
+use Rattle.isl_start.specs.Rows.{literal_size, slot_size, slots_size, class_size}
 use Rattle.isl_start.specs.Settling.{slot_words, precedence_words}
 
 pub if_ok : {X E : Type 0} (r : Result X E) (P Q : X → Type 0) → ((x : X) → P x → Q x) → IfOk r P → IfOk r Q
@@ -98,3 +102,27 @@ classes_within (c ∷ cs) =
     let others : length cs ≤ sum_by class_size cs = classes_within cs in
     let step : sum_by class_size (c ∷ cs) ≡ class_size c + sum_by class_size cs = sum_by-cons class_size c cs in
     omega (arith, others, step)
+
+-- the sizes of all parts are within the size of the start
+pub literals_within : (ls : List LiteralRow) → sum_by literal_size ls ≤ sum_by row_nodes ls
+literals_within [] = omega arith
+literals_within (l ∷ ls) =
+    let others : sum_by literal_size ls ≤ sum_by row_nodes ls = literals_within ls in
+    omega (arith, others, one l, sum_by-cons literal_size l ls, sum_by-cons row_nodes l ls)
+  where
+    one : (l : LiteralRow) → literal_size l ≤ row_nodes l
+    one (row.Datum d) = omega arith
+    one (row.Class c) = omega arith
+    one (row.Function name) = omega arith
+
+slots_of_class : (ss : List SlotRow) → sum_by slot_size ss + length ss ≤ 4 * sum_by slot_nodes ss
+slots_of_class [] = omega arith
+slots_of_class (s ∷ ss) =
+    let others : sum_by slot_size ss + length ss ≤ 4 * sum_by slot_nodes ss = slots_of_class ss in
+    omega (arith, others, sum_by-cons slot_size s ss, sum_by-cons slot_nodes s ss)
+
+pub all_classes_within : (cs : List ClassRow) → sum_by slots_size cs + sum_by class_size cs ≤ 4 * sum_by class_nodes cs + 2 * length cs
+all_classes_within [] = omega arith
+all_classes_within (c ∷ cs) =
+    let others : sum_by slots_size cs + sum_by class_size cs ≤ 4 * sum_by class_nodes cs + 2 * length cs = all_classes_within cs in
+    omega (arith, others, slots_of_class c.slots, sum_by-cons slots_size c cs, sum_by-cons class_size c cs, sum_by-cons class_nodes c cs)

@@ -13,6 +13,7 @@ use Rattle.isl_meaning.specs.declared.program.LiteralRow.{LiteralRow}
 use Rattle.isl_meaning.specs.declared.program.LiteralRow.TheVariants as row
 use Rattle.isl_meaning.specs.BuiltIn.{built_in_precedence, built_in_slots}
 use Rattle.isl_meaning.specs.Facts.{begins_with_built_in}
+use Rattle.isl_meaning.specs.ProgramCounts.{row_nodes, class_nodes}
 use Rattle.isl_arena.specs.FixedWords.{nil_text}
 
 -- ---- sizes: each unit takes at most 160 words
@@ -33,10 +34,10 @@ slots_size c = sum_by slot_size c.slots
 abbrev pub class_size : ClassRow → ℕ
 class_size c = 2 + length c.precedence + length c.slots
 
--- all together, with the symbol t and the streams
+-- all together, with the symbol t and the streams: at most so many, by the nodes of the literals and of the classes
 abbrev pub start_size : List ClassRow → List FunctionRow → List LiteralRow → ℕ
 start_size classes functions literals =
-    2 + length functions + sum_by literal_size literals + sum_by slots_size classes + sum_by class_size classes
+    2 + length functions + sum_by row_nodes literals + 4 * sum_by class_nodes classes + 2 * length classes
 
 -- ---- rows
 
@@ -71,4 +72,3 @@ pub record RowsFit (names : List (List ℕ)) (true_name : Name) (classes : List 
   pub class_rows : (i : ℕ) (c : ClassRow) → slice_get classes i ≡ Some c → ClassFits (length names) (length classes) c
   pub function_rows : (i : ℕ) (f : FunctionRow) → slice_get functions i ≡ Some f → CalleeFits f.callee
   pub literal_rows : (i : ℕ) (l : LiteralRow) → slice_get literals i ≡ Some l → LiteralFits (length names) l
-  pub size : 46 + 160 * start_size classes functions literals ≤ 2 ^ 28

@@ -1,6 +1,6 @@
 // The words of all objects before the first form, behind the fixed words.
 
-ghost use Rattle.std.specs.Prelude.{◌≡◌, ◌+◌, ◌*◌, ◌^◌, ◌<◌, ◌≤◌, ◌++◌, Err, length, IfOk};
+ghost use Rattle.std.specs.Prelude.{◌≡◌, ◌+◌, ◌*◌, ◌^◌, ◌<◌, ◌≤◌, ◌++◌, Err, length, min, IfOk};
 ghost use Rattle.isl_meaning.specs.declared.program.ProgramRows.{ProgramRows};
 ghost use Rattle.isl_start.specs.Rows.{RowsFit, start_size};
 ghost use Rattle.isl_start.specs.Start.{Start};
@@ -13,7 +13,9 @@ use crate::names::lay_name;
 use crate::slots::lay_slots;
 use isl_base::{Name, Names, NoMemory, WordList};
 use isl_laying::ArenaWords;
-use isl_meaning::{ClassRows, FunctionRows, LiteralRows, ProgramRows};
+use isl_meaning::{
+    ClassRows, FunctionRows, LiteralRows, ProgramRows, class_list_nodes, literal_list_nodes,
+};
 use std::alloc::Global;
 
 // The address behind the fixed words.
@@ -21,6 +23,9 @@ const FIXED_END: u32 = 184;
 
 // No arena has more words.
 const MOST_WORDS: usize = 16_777_216;
+
+// Units of 160 words that end below the address 2^30.
+const MOST_UNITS: u64 = 1_677_721;
 
 /// The words before the first form, and among them those of all classes by their numbers, of the
 /// functions by their rows, and of the literals by theirs: of nil for those that are no data.
@@ -77,6 +82,9 @@ pub fn lay_rows(
     ensures size { IfOk result (λ s. length s.arena.words ≤ 2 ^ 24) }
     ensures too_large { result ≡ Err StartFault.TooLarge → 2 ^ 24 < 46 + 160 * start_size classes.now functions.now literals.now }
 {
+    if size_of_rows(classes, functions, literals) > MOST_UNITS {
+        return Err(StartFault::TooLarge);
+    }
     match lay_all(alloc, names, true_name, classes, functions, literals) {
         Ok(laid) => {
             if laid.arena.words.len() > MOST_WORDS {
@@ -88,6 +96,17 @@ pub fn lay_rows(
     }
 }
 
+// How many units of 160 words the objects take at most; 2^64 - 1 where that is more.
+fn size_of_rows(classes: &ClassRows, functions: &FunctionRows, literals: &LiteralRows) -> u64
+    ensures { result ≡ min (start_size classes.now functions.now literals.now) 18446744073709551615 }
+{
+    literal_list_nodes(literals, 0)
+        .saturating_add(class_list_nodes(classes).saturating_mul(4))
+        .saturating_add((classes.len() as u64).saturating_mul(2))
+        .saturating_add(functions.len() as u64)
+        .saturating_add(2)
+}
+
 // Classes are laid last, since their words name slots and symbols; their objects come first.
 fn lay_all(
     alloc: Global,
@@ -97,7 +116,8 @@ fn lay_all(
     functions: &FunctionRows,
     literals: &LiteralRows,
 ) -> Result<StartWords, NoMemory>
-    requires { RowsFit names.now true_name classes.now functions.now literals.now }
+    requires fits { RowsFit names.now true_name classes.now functions.now literals.now }
+    requires size { start_size classes.now functions.now literals.now ≤ 1677721 }
     ensures start { IfOk result (λ s. (program : ProgramRows) → program.classes ≡ classes.now → program.functions ≡ functions.now
         → program.literals ≡ literals.now → Start names.now program s) }
     ensures count { IfOk result (λ s. length s.arena.words ≤ 46 + 160 * start_size classes.now functions.now literals.now) }
