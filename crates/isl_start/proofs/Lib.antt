@@ -19,3 +19,4 @@ pub mod SlotStanding
 pub mod FixedFront
 pub mod Chain
 pub mod Law
+pub mod WholeRows

@@ -2,8 +2,10 @@
 use Rattle.std.specs.Prelude.{◌≡◌, ℕ, ◌+◌, ◌*◌, ◌^◌, ◌<◌, ◌≤◌, true, List, [], ◌∷◌, length, Some, slice_get}
 use Rattle.std.specs.List.{sum_by}
 use Rattle.isl_base.specs.declared.datum.Name.{Name}
-use Rattle.isl_base.specs.DataMeasures.{size_of}
+use Rattle.isl_base.specs.DataMeasures.{NamesBelow, size_of}
+use Rattle.isl_base.specs.Data.{Item}
 use Rattle.isl_base.specs.GoodData.{Good}
+use Rattle.isl_meaning.specs.declared.program.ProgramRows.{ProgramRows}
 use Rattle.isl_meaning.specs.declared.program.SlotRow.{SlotRow}
 use Rattle.isl_meaning.specs.declared.program.ClassRow.{ClassRow}
 use Rattle.isl_meaning.specs.declared.program.Callee.{Callee}
@@ -72,3 +74,15 @@ pub record RowsFit (names : List (List ℕ)) (true_name : Name) (classes : List 
   pub class_rows : (i : ℕ) (c : ClassRow) → slice_get classes i ≡ Some c → ClassFits (length names) (length classes) c
   pub function_rows : (i : ℕ) (f : FunctionRow) → slice_get functions i ≡ Some f → CalleeFits f.callee
   pub literal_rows : (i : ℕ) (l : LiteralRow) → slice_get literals i ≡ Some l → LiteralFits (length names) l
+
+-- the names of a program's classes, slots and data are in the table, t has that name, and no name has the text of nil
+pub record NamesThere (names : List (List ℕ)) (true_name : Name) (program : ProgramRows) : Type 0 where
+  pub true_text : slice_get names true_name.0 ≡ Some (116 ∷ [])
+  pub no_nil : (i : ℕ) → slice_get names i ≡ Some nil_text → ⊥
+  pub classes : (i : ℕ) (c : ClassRow) → slice_get program.classes i ≡ Some c → c.name.0 < length names
+  pub slots :
+      (i j : ℕ) (c : ClassRow) (s : SlotRow) → slice_get program.classes i ≡ Some c → slice_get c.slots j ≡ Some s → s.name.0 < length names
+  pub initargs :
+      (i j k : ℕ) (c : ClassRow) (s : SlotRow) (a : Name) → slice_get program.classes i ≡ Some c → slice_get c.slots j ≡ Some s
+      → slice_get s.initargs k ≡ Some a → a.0 < length names
+  pub literals : (i : ℕ) (d : Item) → slice_get program.literals i ≡ Some (row.Datum d) → NamesBelow (length names) d
