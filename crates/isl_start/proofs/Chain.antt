@@ -1,5 +1,5 @@
 -- All that is laid, one after another, and the classes and streams at last: **the words are those of the objects at the start**.
-use Rattle.std.proofs.Common.{◌≡◌, ℕ, zero, suc, ◌+◌, ◌%◌, ◌<◌, ◌≤◌, Bool, true, false, List, [], ◌∷◌, ◌++◌, length, Option, Some, None, refl, sym, ◌∙◌, ap, subst, append-nil, zero-add, length-append, arith}
+use Rattle.std.proofs.Common.{◌≡◌, ℕ, zero, suc, ◌+◌, ◌%◌, ◌<◌, ◌≤◌, Bool, true, false, List, [], ◌∷◌, ◌++◌, length, Option, Some, None, refl, sym, ◌∙◌, ap, subst, append-nil, zero-add, arith}
 use Rattle.std.specs.Prelude.{slice_get, replicate, ◌&&◌}
 use Rattle.std.proofs.lemmas.List.{length-replicate}
 use Rattle.std.proofs.lemmas.Option.{slice_get_within, get_or_from_slice_get}
@@ -9,15 +9,14 @@ use Rattle.isl_meaning.specs.declared.program.ProgramRows.{ProgramRows}
 use Rattle.isl_meaning.specs.declared.program.ClassRow.{ClassRow}
 use Rattle.isl_meaning.specs.BuiltIn.{built_in_precedence, built_in_slots}
 use Rattle.isl_meaning.specs.Facts.{is_row, begins_with_built_in}
-use Rattle.isl_meaning.specs.Values.{Value, object, symbol, named, t}
+use Rattle.isl_meaning.specs.Values.{object, symbol, named, t}
 use Rattle.isl_meaning.specs.Objects.{Object, input_stream, output_stream, class_object, built_in_classes}
 use Rattle.isl_meaning.specs.Lookup.{text}
-use Rattle.isl_meaning.specs.Layout.{objects_at_start, class_value, function_value, literal_value, standard_input, standard_output}
+use Rattle.isl_meaning.specs.Layout.{objects_at_start, class_value, function_value, literal_value}
 use Rattle.isl_arena.specs.Places.{Spot, Places, Owner, of_object, of_symbol, of_other, spot_in, spot_of, word_of}
 use Rattle.isl_arena.specs.FixedWords.{nil_text}
 use Rattle.isl_arena.proofs.Keeping.{Extends}
 use Rattle.isl_laying.specs.declared.words.ArenaWords.{ArenaWords}
-use Rattle.isl_laying.specs.LaidArena.{arena_of}
 use Rattle.isl_laying.specs.LaidWell.{LaidWell}
 use Rattle.isl_laying.specs.Laying.{Longer}
 use Rattle.isl_laying.proofs.Lists.{item_stays}

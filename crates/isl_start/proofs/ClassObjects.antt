@@ -1,5 +1,5 @@
 -- The words of streams and classes.
-use Rattle.std.proofs.Common.{◌≡◌, ℕ, zero, suc, ◌+◌, ◌*◌, ◌%◌, ◌<◌, ◌≤◌, Bool, true, false, List, [], ◌∷◌, ◌++◌, length, map, Option, Some, None, refl, sym, ◌∙◌, ap, subst, append-nil, append_assoc, length-append, lit<, lit≤, arith}
+use Rattle.std.proofs.Common.{◌≡◌, ℕ, zero, suc, ◌+◌, ◌*◌, ◌%◌, ◌<◌, Bool, true, false, List, [], ◌∷◌, ◌++◌, length, Some, refl, sym, ◌∙◌, ap, subst, append_assoc, length-append, lit<, lit≤, arith}
 use Rattle.std.specs.Prelude.{slice_get, slice_index_or, option_map}
 use Rattle.std.proofs.lemmas.List.{length-map}
 use Rattle.std.proofs.lemmas.Option.{slice_get_within, slice_get-get_or, slice_get-map}
@@ -7,27 +7,25 @@ use Rattle.isl_base.specs.Names.{slice_get-front}
 use Rattle.isl_meaning.specs.declared.program.ProgramRows.{ProgramRows}
 use Rattle.isl_meaning.specs.declared.program.ClassRow.{ClassRow}
 use Rattle.isl_meaning.specs.declared.program.SlotRow.{SlotRow}
-use Rattle.isl_meaning.specs.Values.{Value, t, nil, truth, symbol, named}
-use Rattle.isl_meaning.specs.Objects.{Object, class_object, input_stream, output_stream, serious_condition_class}
+use Rattle.isl_meaning.specs.Values.{Value, t, truth, symbol, named}
+use Rattle.isl_meaning.specs.Objects.{Object, input_stream, output_stream, serious_condition_class}
 use Rattle.isl_meaning.specs.Lookup.{text, is_in}
 use Rattle.isl_meaning.specs.Classes.{precedence, precedence_of, slots, slots_of, is_below}
 use Rattle.isl_meaning.specs.Primitives.{class_name}
 use Rattle.isl_meaning.specs.Primitives as primitives
-use Rattle.isl_meaning.specs.Layout.{initargs_value, initform_value}
-use Rattle.isl_mid.specs.Arena.{Arena, word_at}
-use Rattle.isl_arena.specs.Tags.{object_tag, class_header, input_header, output_header, nil_word}
+use Rattle.isl_mid.specs.Arena.{word_at}
+use Rattle.isl_arena.specs.Tags.{object_tag, class_header, input_header, output_header}
 use Rattle.isl_arena.specs.Places.{Spot, Places, word_of}
 use Rattle.isl_arena.specs.Standing.{ValueAt}
 use Rattle.isl_arena.specs.Layouts.{ClassAt, SlotRowAt, ObjectAt}
 use Rattle.isl_arena.proofs.Arguments.{item_there}
 use Rattle.isl_laying.specs.declared.words.ArenaWords.{ArenaWords}
 use Rattle.isl_laying.specs.LaidArena.{end_address, arena_of}
-use Rattle.isl_laying.specs.LaidWell.{LaidWell}
 use Rattle.isl_laying.proofs.Lists.{item_behind}
 use Rattle.isl_laying.proofs.LaidWords.{Appended}
 use Rattle.isl_laying.proofs.Made.{spot_behind}
 use Rattle.isl_start.specs.declared.slots.SlotWords.{SlotWords}
-use Rattle.isl_start.specs.Settling.{is_condition, can_be_made, truth_word, slot_words, precedence_words, class_heading, class_words, SlotStands, SlotsStand, Settles, ClassGiven}
+use Rattle.isl_start.specs.Settling.{is_condition, can_be_made, truth_word, slot_words, precedence_words, class_heading, class_words, SlotStands, Settles, ClassGiven}
 use Rattle.isl_start.proofs.FunctionObjects.{first_behind, later_behind}
 use Rattle.isl_start.proofs.Numbered.{IsNoFunction}
 use Rattle.isl_start.proofs.Settle.{settled}
@@ -109,8 +107,14 @@ module _
     pub words_length : length words ≡ 7 + length row.precedence + 3 * length row.slots
     words_length =
         let heading = class_heading class name truth_of_t row in
-        omega (arith, length-append (heading ++ precedence_words row.precedence) (slot_words ss), length-append heading (precedence_words row.precedence),
-        length-map row.precedence (λ c. 4 * c), slots_length ss, given.slots_stand.count)
+        omega (
+          arith,
+          length-append (heading ++ precedence_words row.precedence) (slot_words ss),
+          length-append heading (precedence_words row.precedence),
+          length-map row.precedence (λ c. 4 * c),
+          slots_length ss,
+          given.slots_stand.count,
+        )
 
     value_at : (address i w : ℕ) (v : Value) → address ≡ base + 4 * i → slice_get words i ≡ Some w → word_of places v ≡ Some w → ValueAt places (arena_of after) address v
     value_at address i w v same e of = record { word = w; of_value = of; stands = later_behind before after words aligned more address i w same e }

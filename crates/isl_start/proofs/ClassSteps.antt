@@ -1,5 +1,5 @@
 -- One class after another gets its words.
-use Rattle.std.proofs.Common.{◌≡◌, ℕ, zero, suc, ◌+◌, ◌*◌, ◌<◌, ◌≤◌, ◌⊎◌, Bool, true, false, List, [], ◌∷◌, ◌++◌, length, Some, None, ⊎_elim, refl, sym, ◌∙◌, ap, subst, append_assoc, append-nil, length-append, lit<, arith}
+use Rattle.std.proofs.Common.{◌≡◌, ℕ, ◌+◌, ◌<◌, ◌≤◌, Bool, true, false, List, [], ◌∷◌, ◌++◌, length, Some, None, ⊎_elim, refl, sym, ◌∙◌, ap, subst, append-nil, length-append, lit<, arith}
 use Rattle.std.specs.Prelude.{slice_get, nat_lt, if◌then◌else◌}
 use Rattle.std.proofs.lemmas.Bool.Decides.{nat_tests}
 use Rattle.std.proofs.lemmas.Option.{slice_get_within}
@@ -7,17 +7,15 @@ use Rattle.isl_base.specs.Names.{slice_get-push}
 use Rattle.isl_meaning.specs.declared.program.ProgramRows.{ProgramRows}
 use Rattle.isl_meaning.specs.declared.program.ClassRow.{ClassRow}
 use Rattle.isl_meaning.specs.declared.program.SlotRow.{SlotRow}
-use Rattle.isl_meaning.specs.Values.{Value, t, symbol, named, object}
+use Rattle.isl_meaning.specs.Values.{t, symbol, named, object}
 use Rattle.isl_meaning.specs.Objects.{Object, class_object, built_in_classes}
 use Rattle.isl_meaning.specs.Lookup.{text}
 use Rattle.isl_meaning.specs.Layout.{initargs_value, initform_value}
 use Rattle.isl_arena.specs.Tags.{object_tag}
 use Rattle.isl_arena.specs.Places.{Places, word_of}
-use Rattle.isl_arena.proofs.Keeping.{Extends}
 use Rattle.isl_laying.specs.declared.words.ArenaWords.{ArenaWords}
 use Rattle.isl_laying.specs.LaidArena.{end_address}
 use Rattle.isl_laying.specs.LaidWell.{LaidWell}
-use Rattle.isl_laying.specs.Laying.{Longer}
 use Rattle.isl_laying.proofs.Lists.{item_stays}
 use Rattle.isl_laying.proofs.LaidWords.{Appended}
 use Rattle.isl_laying.proofs.Joining.{extends_longer}
@@ -27,7 +25,7 @@ use Rattle.isl_start.specs.Recipes.{name_recipe}
 use Rattle.isl_start.specs.Making.{IsWord, AreNumbered, Made, Makes}
 use Rattle.isl_start.specs.Settling.{class_words, SlotStands, SlotsStand, StillWords, Settled, Settles, ClassGiven, class_number, ClassesWait, ClassesSettled, ClassesSettle}
 use Rattle.isl_start.proofs.Settle.{with_spot, settled, words_stay}
-use Rattle.isl_start.proofs.ClassObjects.{class_at, words_length}
+use Rattle.isl_start.proofs.ClassObjects.{class_at}
 
 -- ---- what stays
 

@@ -1,25 +1,26 @@
 -- The fixed words in front of those that were laid behind them.
-use Rattle.std.proofs.Common.{◌≡◌, ℕ, zero, suc, ◌+◌, ◌-◌, ◌*◌, ◌/◌, ◌%◌, ◌<◌, ◌≤◌, Bool, true, false, List, [], ◌∷◌, ◌++◌, length, map, take, Option, Some, None, refl, sym, ◌∙◌, ap, subst, append_assoc, length-append, lit<, lit≤, arith}
-use Rattle.std.specs.Prelude.{◌==◌, ◌&&◌, ◌||◌, slice_get, slice_index_or, if◌then◌else◌}
+use Rattle.std.proofs.Common.{◌≡◌, ℕ, zero, suc, ◌+◌, ◌-◌, ◌*◌, ◌/◌, ◌%◌, ◌<◌, ◌≤◌, Bool, true, false, List, [], ◌∷◌, ◌++◌, length}
+use Rattle.std.proofs.Common.{take, Some, None, refl, sym, ◌∙◌, ap, length-append, lit<, lit≤, arith}
+use Rattle.std.specs.Prelude.{◌==◌, ◌&&◌, ◌||◌, slice_get, if◌then◌else◌}
 use Rattle.std.specs.Str.{bytes_eq}
 use Rattle.std.proofs.lemmas.Slice.Eq.{bytes_eq-Decides}
 use Rattle.std.proofs.lemmas.Bool.Decides.{nat_tests}
 use Rattle.std.proofs.lemmas.List.{length-take-le}
-use Rattle.std.proofs.lemmas.Option.{slice_get_within, slice_get-get_or}
+use Rattle.std.proofs.lemmas.Option.{slice_get-get_or}
 use Rattle.isl_base.specs.Names.{slice_get-front}
 use Rattle.isl_base.specs.DataMeasures.{SymbolBelow}
 use Rattle.isl_base.specs.declared.datum.Symbol.{Symbol}
 use Rattle.isl_base.specs.declared.datum.Symbol.TheVariants.{Named, Fresh}
 use Rattle.isl_meaning.specs.declared.program.ProgramRows.{ProgramRows}
-use Rattle.isl_meaning.specs.Values.{SymbolValue, named, unnamed, same_symbol, Value, integer, character, symbol, nil, object, t}
-use Rattle.isl_meaning.specs.Objects.{Object, built_in_classes}
+use Rattle.isl_meaning.specs.Values.{SymbolValue, named, same_symbol, Value, integer, character, symbol, nil, object, t}
+use Rattle.isl_meaning.specs.Objects.{Object}
 use Rattle.isl_meaning.specs.Lookup.{text}
 use Rattle.isl_meaning.specs.Literals.{symbol_of}
 use Rattle.isl_meaning.specs.Layout.{class_value, standard_input, standard_output}
-use Rattle.isl_mid.specs.Arena.{Arena, is_within, is_in_record, is_lent, word_in, word_at}
+use Rattle.isl_mid.specs.Arena.{Arena, is_within, is_in_record, word_in, word_at}
 use Rattle.isl_arena.specs.Tags.{nil_word, symbol_header}
-use Rattle.isl_arena.specs.Places.{Spot, end_of, Places, Owner, of_object, of_symbol, of_other, same_owner, spot_of_symbol, spot_of, word_of}
-use Rattle.isl_arena.specs.Standing.{of_laid, SpotStands, Apart, in_front, behind, AllApart, SameWords, ValueAt}
+use Rattle.isl_arena.specs.Places.{Spot, Places, Owner, of_object, of_symbol, of_other, same_owner, spot_of_symbol, spot_of, word_of}
+use Rattle.isl_arena.specs.Standing.{of_laid, SpotStands, Apart, in_front, behind, SameWords}
 use Rattle.isl_arena.specs.FixedWords.{nil_text, FixedStand, untouched}
 use Rattle.isl_arena.specs.Layouts.{AreBytes, byte_words, packed}
 use Rattle.isl_arena.proofs.Keeping.{Extends, symbol_kept, object_kept}
@@ -27,9 +28,9 @@ use Rattle.isl_arena.proofs.Arguments.{item_there}
 use Rattle.isl_laying.specs.declared.symbol_words.SymbolWord.{SymbolWord}
 use Rattle.isl_laying.specs.declared.words.ArenaWords.{ArenaWords}
 use Rattle.isl_laying.specs.LaidArena.{end_address, arena_of}
-use Rattle.isl_laying.specs.LaidWell.{IsSymbolThere, AreSymbolsThere, LaidWell}
+use Rattle.isl_laying.specs.LaidWell.{AreSymbolsThere, LaidWell}
 use Rattle.isl_laying.proofs.Lists.{item_behind}
-use Rattle.isl_laying.proofs.LaidWords.{word_laid, IsAmong, spot_among}
+use Rattle.isl_laying.proofs.LaidWords.{word_laid, spot_among}
 use Rattle.isl_start.specs.Making.{AreNumbered}
 use Rattle.isl_start.proofs.Numbered.{number_kept}
 use Rattle.isl_start.specs.Start.{fixed_spot, fixed_contents}
@@ -182,8 +183,11 @@ module _
 
 pub fixed_count : (classes : List ℕ) (input output truth : ℕ) → 34 ≤ length classes → length (fixed_contents classes input output truth) ≡ 46
 fixed_count classes input output truth enough =
-    omega (arith, length-take-le 34 classes enough,
-    length-append (take 34 classes) (input ∷ output ∷ truth ∷ 0 ∷ truth ∷ nil_word ∷ nil_word ∷ symbol_header ∷ 12 ∷ 7104878 ∷ symbol_header ∷ 0 ∷ []))
+    omega (
+      arith,
+      length-take-le 34 classes enough,
+      length-append (take 34 classes) (input ∷ output ∷ truth ∷ 0 ∷ truth ∷ nil_word ∷ nil_word ∷ symbol_header ∷ 12 ∷ 7104878 ∷ symbol_header ∷ 0 ∷ []),
+    )
 
 taken_at : {X : Type 0} (n : ℕ) (xs : List X) (i : ℕ) → i < n → slice_get (take n xs) i ≡ slice_get xs i
 taken_at zero xs i h = absurd (omega arith)

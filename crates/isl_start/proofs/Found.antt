@@ -7,7 +7,6 @@ use Rattle.std.proofs.lemmas.Bool.{ne_eqb}
 use Rattle.isl_meaning.specs.declared.program.FunctionRow.{FunctionRow}
 use Rattle.isl_meaning.specs.Values.{Value, nil, object}
 use Rattle.isl_meaning.specs.Lookup.{text}
-use Rattle.isl_meaning.specs.Literals.{function_row}
 use Rattle.isl_meaning.specs.Layout.{class, function_of, laid_out, under_key, class_things, function_things}
 use Rattle.isl_arena.specs.Places.{Places, word_of}
 use Rattle.isl_start.specs.Making.{IsWord, Each}

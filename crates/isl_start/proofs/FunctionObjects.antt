@@ -1,11 +1,10 @@
 -- A function is laid.
-use Rattle.std.proofs.Common.{◌≡◌, ℕ, zero, suc, ◌+◌, ◌*◌, ◌%◌, ◌<◌, ◌≤◌, List, [], ◌∷◌, ◌++◌, length, Some, refl, sym, ◌∙◌, ap, append-nil, add-zero, length-append, lit<, lit≤, arith}
+use Rattle.std.proofs.Common.{◌≡◌, ℕ, zero, suc, ◌+◌, ◌*◌, ◌%◌, ◌≤◌, List, [], ◌∷◌, ◌++◌, length, Some, refl, sym, ◌∙◌, ap, append-nil, add-zero, length-append, lit<, lit≤, arith}
 use Rattle.std.specs.Prelude.{slice_get}
 use Rattle.isl_base.specs.Names.{slice_get-behind}
 use Rattle.isl_meaning.specs.declared.program.ProgramRows.{ProgramRows}
 use Rattle.isl_meaning.specs.declared.program.Callee.{Callee}
 use Rattle.isl_meaning.specs.declared.program.Callee.TheVariants.{Procedure, Generic}
-use Rattle.isl_meaning.specs.Values.{object}
 use Rattle.isl_meaning.specs.Objects.{Object, function}
 use Rattle.isl_meaning.specs.Literals.{Laid, after_parts}
 use Rattle.isl_meaning.specs.Layout.{function_object}
@@ -16,7 +15,7 @@ use Rattle.isl_arena.specs.Layouts.{ObjectAt}
 use Rattle.isl_laying.specs.declared.words.ArenaWords.{ArenaWords}
 use Rattle.isl_laying.specs.LaidArena.{end_address, arena_of}
 use Rattle.isl_laying.specs.LaidWell.{LaidWell}
-use Rattle.isl_laying.specs.Laying.{LaidThere, Lays}
+use Rattle.isl_laying.specs.Laying.{LaidThere}
 use Rattle.isl_laying.proofs.LaidWords.{Appended, appended_grown, spot_among, word_behind}
 use Rattle.isl_laying.proofs.Joining.{longer_same}
 use Rattle.isl_laying.proofs.Made.{spot_behind, object_after}

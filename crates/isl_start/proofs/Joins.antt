@@ -1,18 +1,17 @@
 -- What is made one behind another.
-use Rattle.std.proofs.Common.{◌≡◌, ℕ, zero, suc, ◌+◌, ◌*◌, ◌<◌, ◌≤◌, List, [], ◌∷◌, ◌++◌, length, take, Some, refl, sym, ◌∙◌, ap, subst, append_assoc, append-nil, add-zero, length-append, arith}
+use Rattle.std.proofs.Common.{◌≡◌, ℕ, zero, suc, ◌+◌, ◌≤◌, List, [], ◌∷◌, ◌++◌, length, take, Some, refl, ◌∙◌, ap, subst, append_assoc, append-nil, add-zero, length-append, arith}
 use Rattle.std.specs.Prelude.{slice_get}
 use Rattle.isl_meaning.specs.declared.program.ProgramRows.{ProgramRows}
 use Rattle.isl_meaning.specs.declared.program.SlotRow.{SlotRow}
 use Rattle.isl_meaning.specs.Values.{Value}
 use Rattle.isl_meaning.specs.Objects.{Object}
 use Rattle.isl_meaning.specs.Literals.{Laid}
-use Rattle.isl_arena.specs.Places.{Places, word_of}
+use Rattle.isl_arena.specs.Places.{Places}
 use Rattle.isl_arena.proofs.Keeping.{Extends}
 use Rattle.isl_laying.specs.declared.words.ArenaWords.{ArenaWords}
 use Rattle.isl_laying.specs.LaidWell.{LaidWell}
-use Rattle.isl_laying.specs.Laying.{Longer, Grown, LaidThere, Lays}
+use Rattle.isl_laying.specs.Laying.{Grown, LaidThere, Lays}
 use Rattle.isl_laying.proofs.Joining.{longer_same, longer_both, extends_longer}
-use Rattle.isl_start.specs.declared.slots.SlotWords.{SlotWords}
 use Rattle.isl_start.specs.Recipes.{Recipe, SlotValues, no_more, joined, in_turn, laid, name_recipe, initargs_recipe, initform_recipe, slot_recipe}
 use Rattle.isl_start.specs.Making.{IsWord, IsSlot, Each, Made, Makes, IsWithin}
 use Rattle.isl_start.proofs.Numbered.{NoFunctions, none_numbered}

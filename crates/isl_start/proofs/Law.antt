@@ -1,5 +1,5 @@
 -- **A state of middle code that begins with the words at the start represents the state before the first form.**
-use Rattle.std.proofs.Common.{◌≡◌, ℕ, zero, suc, ◌+◌, ◌-◌, ◌*◌, ◌/◌, ◌%◌, ◌^◌, ◌<◌, ◌≤◌, Bool, true, false, List, [], ◌∷◌, ◌++◌, length, map, Option, Some, None, refl, sym, ◌∙◌, ap, subst, length-append, lit≤, arith}
+use Rattle.std.proofs.Common.{◌≡◌, ℕ, ◌/◌, ◌%◌, ◌<◌, Bool, true, false, List, [], length, map, Option, Some, None, refl, sym, ◌∙◌, ap, length-append, arith}
 use Rattle.std.specs.Prelude.{◌==◌, if◌then◌else◌, replicate, slice_get}
 use Rattle.std.proofs.lemmas.List.{length-replicate, length-map}
 use Rattle.std.proofs.lemmas.Bool.Decides.{nat_tests}
@@ -11,9 +11,9 @@ use Rattle.isl_meaning.specs.State.{first_state}
 use Rattle.isl_meaning.specs.Classes.{fetch}
 use Rattle.isl_meaning.specs.Objects.{class_object}
 use Rattle.isl_meaning.specs.Layout.{objects_at_start, class_value}
-use Rattle.isl_mid.specs.Arena.{Arena, words_of, is_lent, word_in, word_at}
+use Rattle.isl_mid.specs.Arena.{Arena, is_lent, word_in, word_at}
 use Rattle.isl_mid.specs.State.{State}
-use Rattle.isl_arena.specs.Places.{Spot, Places, of_object, of_symbol, of_other, spot_of}
+use Rattle.isl_arena.specs.Places.{Spot, of_object, of_symbol, of_other}
 use Rattle.isl_arena.specs.Standing.{ArenaStands, of_laid, SpotStands, SameWords}
 use Rattle.isl_arena.specs.FixedWords.{FixedStand}
 use Rattle.isl_arena.specs.Layouts.{AreBytes}
@@ -24,7 +24,7 @@ use Rattle.isl_arena.proofs.Arguments.{item_there}
 use Rattle.isl_arena.proofs.Representing.{fixed_kept}
 use Rattle.isl_laying.specs.declared.words.ArenaWords.{ArenaWords}
 use Rattle.isl_laying.specs.LaidArena.{end_address, memory_of, arena_of}
-use Rattle.isl_laying.proofs.LaidWords.{word_laid, IsAmong, spot_among}
+use Rattle.isl_laying.proofs.LaidWords.{spot_among}
 use Rattle.isl_start.specs.declared.start.StartWords.{StartWords}
 use Rattle.isl_start.specs.Start.{fixed_spot, Start, Begins}
 use Rattle.isl_start.proofs.ClassPlaces.{class_value_is, class_at_start}

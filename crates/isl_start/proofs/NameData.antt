@@ -1,9 +1,9 @@
 -- The data of names: symbols, and lists of them.
-use Rattle.std.proofs.Common.{◌≡◌, ℕ, zero, suc, ◌+◌, ◌*◌, ◌<◌, ◌≤◌, List, [], ◌∷◌, ◌++◌, length, map, take, Some, refl, sym, ◌∙◌, ap, subst, arith}
+use Rattle.std.proofs.Common.{◌≡◌, ℕ, suc, ◌+◌, ◌<◌, List, [], ◌∷◌, ◌++◌, length, map, Some, refl, ap, arith}
 use Rattle.std.specs.Prelude.{◌≢◌, slice_get}
 use Rattle.isl_base.specs.declared.datum.Name.{Name}
 use Rattle.isl_base.specs.declared.datum.Symbol.TheVariants.{Named}
-use Rattle.isl_base.specs.Data.{Item, item, symbol, list, Items, items_of, no_item, item_and, no_tail}
+use Rattle.isl_base.specs.Data.{Item, item, symbol, list, Items, items_of, no_item, no_tail}
 use Rattle.isl_base.specs.DataMeasures.{Formed, AllFormed, NamesBelow, AllNamesBelow, size_of, sizes_of}
 use Rattle.isl_base.specs.GoodData.{Good}
 use Rattle.isl_meaning.specs.State.{no_place}

@@ -1,13 +1,12 @@
 -- Functions keep their numbers, and data make no functions.
-use Rattle.std.proofs.Common.{◌≡◌, ℕ, zero, suc, ◌+◌, ◌-◌, ◌*◌, ◌%◌, ◌<◌, ◌≤◌, List, [], ◌∷◌, ◌++◌, length, Option, Some, None, refl, sym, ◌∙◌, ap, subst, length-append, arith}
+use Rattle.std.proofs.Common.{◌≡◌, ℕ, zero, suc, ◌+◌, ◌<◌, List, [], ◌∷◌, ◌++◌, length, Some, refl, sym, ◌∙◌, ap, subst, arith}
 use Rattle.std.specs.Prelude.{slice_get}
 use Rattle.std.proofs.lemmas.Option.{slice_get_within}
 use Rattle.isl_base.specs.Data as datum
 use Rattle.isl_meaning.specs.declared.program.ProgramRows.{ProgramRows}
 use Rattle.isl_meaning.specs.Objects.{Object, cons, string, vector, instance, function, closure, generic_function, class_object, input_stream, output_stream, fresh_symbol}
-use Rattle.isl_meaning.specs.Literals.{Laid, after_parts, lay, lay_content, lay_items, lay_list, lay_tail}
-use Rattle.isl_mid.specs.Arena.{word_at}
-use Rattle.isl_arena.specs.Places.{Spot, end_of, Places, of_object, spot_in, spot_of}
+use Rattle.isl_meaning.specs.Literals.{Laid, lay, lay_content, lay_items, lay_list, lay_tail}
+use Rattle.isl_arena.specs.Places.{Spot, Places, of_object, spot_in, spot_of}
 use Rattle.isl_arena.specs.Standing.{SameWords}
 use Rattle.isl_laying.specs.declared.words.ArenaWords.{ArenaWords}
 use Rattle.isl_laying.specs.LaidArena.{arena_of}

@@ -1,15 +1,14 @@
 -- An object that was in the store without a spot gets one, behind all that is laid.
-use Rattle.std.proofs.Common.{◌≡◌, ℕ, zero, suc, ◌+◌, ◌*◌, ◌%◌, ◌<◌, ◌≤◌, true, false, List, [], ◌∷◌, ◌++◌, length, Option, Some, None, refl, sym, ◌∙◌, ap, subst, length-append, eq-eqb, arith}
-use Rattle.std.specs.Prelude.{◌==◌, slice_get, slice_set}
+use Rattle.std.proofs.Common.{◌≡◌, ℕ, ◌+◌, ◌<◌, ◌≤◌, true, false, List, length, Some, None, refl, sym, ◌∙◌, ap, subst, length-append, eq-eqb, arith}
+use Rattle.std.specs.Prelude.{slice_get, slice_set}
 use Rattle.std.proofs.Math.ListN.{length-set}
 use Rattle.std.proofs.lemmas.Option.{slice_get_within}
-use Rattle.std.proofs.lemmas.Bool.Decides.{nat_tests}
 use Rattle.isl_meaning.specs.declared.program.ProgramRows.{ProgramRows}
-use Rattle.isl_meaning.specs.Values.{SymbolValue, Value, integer, character, symbol, nil, object}
+use Rattle.isl_meaning.specs.Values.{Value, integer, character, symbol, nil, object}
 use Rattle.isl_meaning.specs.Objects.{Object, function}
-use Rattle.isl_arena.specs.Places.{Spot, end_of, pointer_to, Places, Owner, of_object, of_symbol, of_other, same_owner, spot_in, spot_of, pointer_in, word_of}
-use Rattle.isl_arena.specs.Standing.{of_laid, SpotStands, Apart, in_front, behind, AllApart, SameWords}
-use Rattle.isl_arena.specs.Layouts.{ObjectAt, SymbolAt}
+use Rattle.isl_arena.specs.Places.{Spot, end_of, Places, Owner, of_object, of_symbol, of_other, same_owner, spot_in, spot_of, pointer_in, word_of}
+use Rattle.isl_arena.specs.Standing.{of_laid, SpotStands, Apart, in_front, behind, SameWords}
+use Rattle.isl_arena.specs.Layouts.{ObjectAt}
 use Rattle.isl_arena.proofs.Keeping.{spot_in_tells, pointer_tells, Extends, symbol_kept, object_kept}
 use Rattle.isl_arena.proofs.Owners.{SetOrNot, at_place, elsewhere, set_or_not}
 use Rattle.isl_laying.specs.declared.words.ArenaWords.{ArenaWords}

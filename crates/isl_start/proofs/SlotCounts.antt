@@ -1,5 +1,5 @@
 -- As many words as slots, class by class.
-use Rattle.std.proofs.Common.{◌≡◌, ℕ, ◌+◌, ◌⊎◌, List, [], ◌∷◌, ◌++◌, length, Some, ⊎_elim, refl, sym, ◌∙◌, ap, subst, arith}
+use Rattle.std.proofs.Common.{◌≡◌, ℕ, List, [], ◌∷◌, ◌++◌, length, Some, ⊎_elim, sym, ◌∙◌, ap}
 use Rattle.std.specs.Prelude.{slice_get}
 use Rattle.isl_base.specs.Names.{slice_get-push}
 use Rattle.isl_meaning.specs.declared.program.ClassRow.{ClassRow}

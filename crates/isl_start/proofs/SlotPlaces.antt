@@ -1,6 +1,6 @@
 -- What stands for the initargs and the initforms of slots.
 use Rattle.std.proofs.Common.{◌≡◌, ℕ, zero, suc, ◌+◌, ◌<◌, ◌==◌, Bool, true, false, List, [], ◌∷◌, length, map, refl, sym, ◌∙◌, ap, add-zero, zero-add, arith, eq-eqb}
-use Rattle.std.specs.Prelude.{slice_get, ◌&&◌}
+use Rattle.std.specs.Prelude.{◌&&◌}
 use Rattle.std.proofs.lemmas.Bool.{ne_eqb}
 use Rattle.isl_base.specs.Data.{item, symbol}
 use Rattle.isl_base.specs.declared.datum.Symbol.TheVariants.{Named}

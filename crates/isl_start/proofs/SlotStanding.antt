@@ -4,10 +4,7 @@ use Rattle.std.specs.Prelude.{slice_get}
 use Rattle.isl_meaning.specs.declared.program.ProgramRows.{ProgramRows}
 use Rattle.isl_meaning.specs.declared.program.ClassRow.{ClassRow}
 use Rattle.isl_meaning.specs.declared.program.SlotRow.{SlotRow}
-use Rattle.isl_meaning.specs.Values.{Value, symbol, named}
 use Rattle.isl_meaning.specs.Objects.{built_in_classes}
-use Rattle.isl_meaning.specs.Lookup.{text}
-use Rattle.isl_meaning.specs.Layout.{initargs_value, initform_value}
 use Rattle.isl_arena.specs.Places.{Places, word_of}
 use Rattle.isl_start.specs.declared.slots.SlotWords.{SlotWords}
 use Rattle.isl_start.specs.Recipes.{Recipe, SlotValues, in_turn, slot_recipe, slots_recipe}

@@ -10,7 +10,8 @@ use Rattle.isl_meaning.specs.declared.program.LiteralRow.{LiteralRow}
 use Rattle.isl_meaning.specs.Values.{Value, object}
 use Rattle.isl_meaning.specs.Objects.{Object, class_object, input_stream, output_stream}
 use Rattle.isl_meaning.specs.Lookup.{text, numbered}
-use Rattle.isl_meaning.specs.Layout.{Key, Thing, part, class, input, output, function_of, literal, initargs, initform, same_key, single, class_things, function_things, function_object, slot_things, laid_out, under_key}
+use Rattle.isl_meaning.specs.Layout.{Key, Thing, part, class, input, output, function_of, literal, initargs, initform, same_key}
+use Rattle.isl_meaning.specs.Layout.{single, class_things, function_things, function_object, slot_things, laid_out, under_key}
 use Rattle.isl_start.specs.Recipes.{Recipe, SlotValues, joined, in_turn}
 use Rattle.isl_start.specs.Recipes.{class_recipe, classes_recipe, function_recipe, literal_recipe, slots_recipe}
 use Rattle.isl_start.proofs.Keys.{AreOthers, others_append, others_mapped, others_flat, absent_others, laid_append, passed_over, none_behind, still_found}
@@ -73,7 +74,8 @@ objects_first_kind built_in classes n =
     objects_append (built_in_things built_in ++ stream_things) (other_things built_in classes) n
     ∙ ap (λ k. objects_in (built_in_things built_in ++ stream_things) n ++ objects_in (other_things built_in classes) k) (streams_count built_in n)
     ∙ ap (λ os. objects_in (built_in_things built_in ++ stream_things) n ++ os) (objects_of_range built_in (classes - built_in) (n + length first + 2))
-    ∙ ap (λ os. os ++ (others (n + length first + 2)).0) (objects_append (built_in_things built_in) stream_things n ∙ ap (λ os. os ++ input_stream ∷ output_stream ∷ []) (objects_of_range 0 built_in n))
+    ∙ ap (λ os. os ++ (others (n + length first + 2)).0)
+    (objects_append (built_in_things built_in) stream_things n ∙ ap (λ os. os ++ input_stream ∷ output_stream ∷ []) (objects_of_range 0 built_in n))
     ∙ append_assoc first (input_stream ∷ output_stream ∷ []) (others (n + length first + 2)).0
 
 -- all things
@@ -101,12 +103,14 @@ objects_with_functions names built_in rows n =
 objects_with_literals : (names : List (List ℕ)) (built_in : ℕ) (rows : ProgramRows) (n : ℕ)
     → objects_in (first_things built_in (length rows.classes) ++ function_things names rows.functions ++ literals_from names rows.literals 0) n ≡ (with_literals names built_in rows n).0
 objects_with_literals names built_in rows n =
-    objects_both (with_functions built_in rows) (in_turn (literal_recipe names) rows.literals) (first_things built_in (length rows.classes) ++ function_things names rows.functions) (literals_from names rows.literals 0)
+    objects_both (with_functions built_in rows) (in_turn (literal_recipe names) rows.literals) (first_things built_in (length rows.classes) ++ function_things names rows.functions)
+    (literals_from names rows.literals 0)
     (objects_with_functions names built_in rows) (objects_of_literals names rows.literals 0) n
 
 pub all_objects : (names : List (List ℕ)) (built_in : ℕ) (rows : ProgramRows) (n : ℕ) → objects_in (all_things names built_in rows) n ≡ (all_recipe names built_in rows n).0
 all_objects names built_in rows n =
-    objects_both (with_literals names built_in rows) (in_turn (slots_recipe names) rows.classes) (first_things built_in (length rows.classes) ++ function_things names rows.functions ++ literals_from names rows.literals 0) (all_slots_of names rows.classes 0)
+    objects_both (with_literals names built_in rows) (in_turn (slots_recipe names) rows.classes)
+    (first_things built_in (length rows.classes) ++ function_things names rows.functions ++ literals_from names rows.literals 0) (all_slots_of names rows.classes 0)
     (objects_with_literals names built_in rows) (objects_of_classes names rows.classes 0) n
 
 -- kinds of keys
@@ -165,7 +169,8 @@ module _ (names : List (List ℕ)) (built_in : ℕ) (rows : ProgramRows) where
       (ap (λ ts. under_key (function_of name) (laid_out ts 0) 0) (append_assoc (firsts ++ functions) literals slots)
       ∙ middle (function_of name) firsts functions (literals ++ slots) 0 refl
       (others_first (function_of name) built_in (length rows.classes) (λ c. refl) refl refl)
-      (others_append (function_of name) literals slots (others_literals (function_of name) names rows.literals (λ i. refl)) (others_slots (function_of name) names rows.classes (λ c i. refl) (λ c i. refl)))
+      (others_append (function_of name) literals slots (others_literals (function_of name) names rows.literals (λ i. refl))
+      (others_slots (function_of name) names rows.classes (λ c i. refl) (λ c i. refl)))
       ∙ ap (λ (os : List Object). under_key (function_of name) (laid_out functions (0 + length os)) (0 + length os)) (objects_first_kind built_in (length rows.classes) 0))
 
   pub literal_whole : (i : ℕ) → found (literal i) ≡ under_key (literal i) (laid_out literals at_literals) at_literals
@@ -213,7 +218,8 @@ module _ (names : List (List ℕ)) (built_in : ℕ) (rows : ProgramRows) where
       ∙ append_assoc firsts functions (literals ++ slots)
       ∙ append_assoc (built_in_things built_in ++ stream_things) others (functions ++ (literals ++ slots))
 
-  stream_whole : (key : Key) → same_key key part ≡ false → ((c : ℕ) → same_key key (class c) ≡ false) → ((name : List ℕ) → same_key key (function_of name) ≡ false) → ((i : ℕ) → same_key key (literal i) ≡ false)
+  stream_whole : (key : Key) → same_key key part ≡ false → ((c : ℕ) → same_key key (class c) ≡ false) → ((name : List ℕ) → same_key key (function_of name) ≡ false) →
+      ((i : ℕ) → same_key key (literal i) ≡ false)
       → ((c i : ℕ) → same_key key (initargs c i) ≡ false) → ((c i : ℕ) → same_key key (initform c i) ≡ false)
       → found key ≡ under_key key (laid_out stream_things at_streams) at_streams
   stream_whole key inner c f l a b =
@@ -248,7 +254,8 @@ module _ (names : List (List ℕ)) (built_in : ℕ) (rows : ProgramRows) where
       ∙ middle (class (built_in + i)) (built_in_things built_in ++ stream_things) others (functions ++ (literals ++ slots)) 0 refl
       (others_append (class (built_in + i)) (built_in_things built_in) stream_things (range_behind (built_in + i) 0 built_in (omega arith)) (refl, (refl, tt)))
       (others_append (class (built_in + i)) functions (literals ++ slots) (others_functions (class (built_in + i)) names rows.functions (λ name. refl))
-      (others_append (class (built_in + i)) literals slots (others_literals (class (built_in + i)) names rows.literals (λ j. refl)) (others_slots (class (built_in + i)) names rows.classes (λ c j. refl) (λ c j. refl))))
+      (others_append (class (built_in + i)) literals slots (others_literals (class (built_in + i)) names rows.literals (λ j. refl))
+      (others_slots (class (built_in + i)) names rows.classes (λ c j. refl) (λ c j. refl))))
       ∙ ap (λ k. under_key (class (built_in + i)) (laid_out others k) k) (streams_count built_in 0)
       ∙ range_found built_in (length rows.classes - built_in) i (at_streams + 2))
 

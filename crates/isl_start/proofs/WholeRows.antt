@@ -1,5 +1,5 @@
 -- A program that is whole, and whose names are in the table, has rows that fit.
-use Rattle.std.proofs.Common.{◌≡◌, ℕ, zero, suc, ◌+◌, ◌*◌, ◌^◌, ◌<◌, ◌≤◌, Bool, true, false, List, [], ◌∷◌, length, Option, Some, None, refl, sym, ◌∙◌, ap, subst, arith}
+use Rattle.std.proofs.Common.{◌≡◌, ℕ, zero, suc, ◌^◌, ◌<◌, ◌≤◌, Bool, true, false, List, [], ◌∷◌, length, Option, Some, None, refl, sym, ◌∙◌, ap, subst, arith}
 use Rattle.std.specs.Prelude.{◌&&◌, nat_lt, nat_le, slice_get}
 use Rattle.std.specs.List.{list_all, sum_by}
 use Rattle.std.proofs.lemmas.List.Sums.{sum_by-cons}
@@ -15,8 +15,7 @@ use Rattle.isl_meaning.specs.declared.program.Callee.{Callee}
 use Rattle.isl_meaning.specs.declared.program.Callee.TheVariants as callee
 use Rattle.isl_meaning.specs.declared.program.LiteralRow.{LiteralRow}
 use Rattle.isl_meaning.specs.declared.program.LiteralRow.TheVariants as row
-use Rattle.isl_meaning.specs.BuiltIn.{built_in_precedence, built_in_slots}
-use Rattle.isl_meaning.specs.Facts.{begins_with_built_in, literal_fits, initform_fits, class_fits, callee_fits, rows_fit, bodies_stand, is_whole}
+use Rattle.isl_meaning.specs.Facts.{literal_fits, initform_fits, class_fits, callee_fits, rows_fit, bodies_stand, is_whole}
 use Rattle.isl_meaning.specs.ProgramCounts.{procedure_nodes, program_nodes}
 use Rattle.isl_meaning.specs.Standing.{is_alone}
 use Rattle.isl_start.specs.Rows.{CalleeFits, LiteralFits, SlotFits, ClassFits, RowsFit, NamesThere}

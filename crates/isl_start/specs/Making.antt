@@ -40,7 +40,8 @@ pub record AreNumbered (places : Places) (store : List Object) (words : ArenaWor
       (i p : ℕ) (s : Spot) → slice_get store i ≡ Some (function p) → spot_of places (of_object i) ≡ Some s → IsNumbered words s p
 
 -- the words represent what was made behind the objects that were there, and this stands for it
-pub record Made {V W : Type 0} (names : List (List ℕ)) (program : ProgramRows) (means : Places → V → W → Type 0) (places : Places) (store : List Object) (before after : ArenaWords) (made : List Object × V) (w : W) : Type 0 where
+pub record Made {V W : Type 0} (names : List (List ℕ)) (program : ProgramRows) (means : Places → V → W → Type 0) (places : Places) (store : List Object) (before after : ArenaWords)
+    (made : List Object × V) (w : W) : Type 0 where
   pub places_after : Places
   pub longer : Longer places places_after
   pub stands : LaidWell names program places_after (store ++ made.0) after

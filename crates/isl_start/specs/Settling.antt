@@ -105,7 +105,8 @@ pub record ClassesWait (names : List (List ℕ)) (program : ProgramRows) (truth 
   pub waiting : (class : ℕ) → from ≤ class → class < length program.classes → slice_get places.objects (class_number class) ≡ Some None
 
 -- the first classes have these words
-pub record ClassesSettled (names : List (List ℕ)) (program : ProgramRows) (truth : ℕ) (slots : List (List SlotWords)) (places : Places) (store : List Object) (before after : ArenaWords) (count : ℕ) (ws : List ℕ) : Type 0 where
+pub record ClassesSettled (names : List (List ℕ)) (program : ProgramRows) (truth : ℕ) (slots : List (List SlotWords)) (places : Places) (store : List Object) (before after : ArenaWords)
+    (count : ℕ) (ws : List ℕ) : Type 0 where
   pub places_after : Places
   pub words : StillWords places places_after
   pub others : places_after.others ≡ places.others

@@ -1,5 +1,5 @@
 -- **The words before the first form**: when they are those of the objects at the start, and the states of middle code that begin with them.
-use Rattle.std.specs.Prelude.{◌≡◌, ℕ, ◌*◌, ◌%◌, ◌^◌, ◌<◌, ◌≤◌, List, [], ◌∷◌, ◌++◌, length, take, Option, Some, None, replicate, slice_get, if◌then◌else◌}
+use Rattle.std.specs.Prelude.{◌≡◌, ℕ, ◌*◌, ◌%◌, ◌^◌, ◌≤◌, List, [], ◌∷◌, ◌++◌, length, take, Option, Some, None, replicate, slice_get, if◌then◌else◌}
 use Rattle.std.specs.Str.{bytes_eq}
 use Rattle.isl_base.specs.Data.{Item}
 use Rattle.isl_meaning.specs.declared.program.ProgramRows.{ProgramRows}

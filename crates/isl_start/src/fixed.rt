@@ -27,18 +27,7 @@ pub fn fixed_words(
     let mut words = WordList::new(alloc);
     push_all(&mut words, &classes.as_slice()[..BUILT_IN_CLASSES])?;
     let others = [
-        input,
-        output,
-        truth,
-        0,
-        truth,
-        NIL,
-        NIL,
-        SYMBOL,
-        NIL_LENGTH,
-        NIL_TEXT,
-        SYMBOL,
-        0,
+        input, output, truth, 0, truth, NIL, NIL, SYMBOL, NIL_LENGTH, NIL_TEXT, SYMBOL, 0,
     ];
     push_all(&mut words, &others)?;
     Ok(words)

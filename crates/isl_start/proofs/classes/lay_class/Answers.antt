@@ -1,7 +1,7 @@
 -- The name is laid, and then the class behind it.
-use Rattle.std.proofs.Common.{◌≡◌, ℕ, ◌+◌, ◌*◌, ◌++◌, List, length, refl, ap, ◌∙◌, length-append, arith}
+use Rattle.std.proofs.Common.{◌+◌, ◌*◌, length, refl, ap, length-append, arith}
 use Rattle.std.proofs.lemmas.List.{length-map}
-use Rattle.isl_start.specs.Settling.{class_heading, precedence_words, slot_words, class_words}
+use Rattle.isl_start.specs.Settling.{class_heading, precedence_words, slot_words}
 use Rattle.isl_start.proofs.ClassObjects.{slots_length}
 use Rattle.isl_start.proofs.ClassSteps.{class_settles}
 use Rattle.isl_start.proofs.Steps.{parts_pushed}
@@ -15,9 +15,19 @@ returns-clause-within c =
     record {
       first = c.in_ok-name.ensures.within.first;
       count =
-          omega (arith, c.in_ok-name.ensures.within.count, ap (λ xs. length xs) c.in_ok-push_heading.ensures, length-append c.lay_name.new.words.words heading,
-          ap (λ xs. length xs) c.in_ok-push_precedence.ensures, length-append c.push_heading.new.words above, length-map c.args.row.now.precedence (λ d. 4 * d),
-          ap (λ xs. length xs) c.in_ok-push_slots.ensures, length-append c.push_precedence.new.words slots, slots_length c.args.slots.now, c.requires.slots);
+          omega (
+            arith,
+            c.in_ok-name.ensures.within.count,
+            ap (λ xs. length xs) c.in_ok-push_heading.ensures,
+            length-append c.lay_name.new.words.words heading,
+            ap (λ xs. length xs) c.in_ok-push_precedence.ensures,
+            length-append c.push_heading.new.words above,
+            length-map c.args.row.now.precedence (λ d. 4 * d),
+            ap (λ xs. length xs) c.in_ok-push_slots.ensures,
+            length-append c.push_precedence.new.words slots,
+            slots_length c.args.slots.now,
+            c.requires.slots,
+          );
     }
 
 pub returns-clause-settles : goal.returns-clause-settles

@@ -1,8 +1,6 @@
 -- One class more.
-use Rattle.std.proofs.Common.{◌≡◌, ℕ, ◌+◌, ◌*◌, ◌≤◌, List, [], ◌∷◌, Some, length, take, ap, sym, ◌∙◌, subst, length-append, arith}
+use Rattle.std.proofs.Common.{◌≡◌, ◌≤◌, [], ◌∷◌, Some, length, ap, ◌∙◌, subst, length-append, arith}
 use Rattle.std.specs.Prelude.{slice_get}
-use Rattle.isl_meaning.specs.declared.program.ProgramRows.{ProgramRows}
-use Rattle.isl_meaning.specs.declared.program.ClassRow.{ClassRow}
 use Rattle.isl_start.specs.Rows.{class_size}
 use Rattle.isl_start.specs.Settling.{ClassesSettle}
 use Rattle.isl_start.proofs.ClassSteps.{settle_more}
@@ -15,7 +13,8 @@ lay_class-requires-clause-room c =
 
 pub loop-class-preserved : goal.loop-class-preserved
 loop-class-preserved c = record {
-  within = within_next class_size c.args.rows.now c.loop-class.class c.in-Some.row.now c.args.words.now c.loop-class.words c.lay_class.new.words c.in-Some.ensures c.loop-class.invariant.within c.in_ok-word.ensures.within;
+  within = within_next class_size c.args.rows.now c.loop-class.class c.in-Some.row.now c.args.words.now c.loop-class.words c.lay_class.new.words c.in-Some.ensures
+      c.loop-class.invariant.within c.in_ok-word.ensures.within;
   many = omega (arith, ap (λ xs. length xs) c.in_ok-push.ensures.ok, length-append c.loop-class.laid (c.in_ok-word.word ∷ []), c.loop-class.invariant.many);
   settle = λ program same.
       let here : slice_get program.classes c.loop-class.class ≡ Some c.in-Some.row.now = ap (λ xs. slice_get xs c.loop-class.class) same ∙ c.in-Some.ensures in

@@ -1,5 +1,5 @@
 -- One number more.
-use Rattle.std.proofs.Common.{◌≡◌, ◌++◌, take, ap, ◌∙◌, sym}
+use Rattle.std.proofs.Common.{take}
 use Rattle.isl_start.specs.Settling.{precedence_words}
 use Rattle.isl_start.proofs.Joins.{taken_more}
 use Rattle.isl_start.proofs.Steps.{pushed_more, precedence_more}

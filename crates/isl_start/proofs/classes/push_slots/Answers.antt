@@ -1,5 +1,5 @@
 -- The words of one slot more.
-use Rattle.std.proofs.Common.{◌≡◌, ◌++◌, take, ap, ◌∙◌, sym}
+use Rattle.std.proofs.Common.{take}
 use Rattle.isl_start.specs.Settling.{slot_words}
 use Rattle.isl_start.proofs.Joins.{taken_more}
 use Rattle.isl_start.proofs.Steps.{three_pushed, slots_more}

@@ -1,5 +1,5 @@
 -- There are as many classes as are taken.
-use Rattle.std.proofs.Common.{◌≡◌, ◌≤◌, length, ap, sym, ◌∙◌, arith}
+use Rattle.std.proofs.Common.{◌≤◌, length, sym}
 use Rattle.std.proofs.lemmas.List.{length-take-le}
 use Rattle.isl_start.proofs.fixed.fixed_words.Goals as goal
 

@@ -1,7 +1,6 @@
 -- Two words are pushed.
-use Rattle.std.proofs.Common.{◌≡◌, ◌+◌, ◌*◌, ◌∷◌, [], ◌++◌, refl, ap, ◌∙◌, append_assoc}
-use Rattle.isl_laying.proofs.LaidWords.{Appended}
-use Rattle.isl_start.proofs.FunctionObjects.{function_words, function_made}
+use Rattle.std.proofs.Common.{◌+◌, ◌*◌, ◌∷◌, [], ◌++◌, refl, ap, ◌∙◌, append_assoc}
+use Rattle.isl_start.proofs.FunctionObjects.{function_made}
 use Rattle.isl_start.proofs.functions.lay_function.Goals as goal
 
 pub returns-in_ok-push-in-Procedure-2-clause-made :
@@ -12,7 +11,8 @@ returns-in_ok-push-in-Procedure-2-clause-made c names =
     (record {
       first = refl;
       symbols = refl;
-      words = c.in_ok-push-in-Procedure-2.ensures.ok ∙ ap (λ ws. ws ++ c.in-Procedure.procedure ∷ []) c.in_ok-push-in-Procedure.ensures.ok ∙ append_assoc c.args.words.now.words (4 ∷ []) (c.in-Procedure.procedure ∷ []);
+      words = c.in_ok-push-in-Procedure-2.ensures.ok ∙ ap (λ ws. ws ++ c.in-Procedure.procedure ∷ []) c.in_ok-push-in-Procedure.ensures.ok ∙ append_assoc c.args.words.now.words (4 ∷ [])
+          (c.in-Procedure.procedure ∷ []);
     }))
     (ap (λ n. n + 2) c.end_address-word.ensures)
 
@@ -23,6 +23,7 @@ returns-in_ok-push-in-Generic-2-clause-made c names =
     (record {
       first = refl;
       symbols = refl;
-      words = c.in_ok-push-in-Generic-2.ensures.ok ∙ ap (λ ws. ws ++ 4 * c.in-Generic.generic ∷ []) c.in_ok-push-in-Generic.ensures.ok ∙ append_assoc c.args.words.now.words (5 ∷ []) (4 * c.in-Generic.generic ∷ []);
+      words = c.in_ok-push-in-Generic-2.ensures.ok ∙ ap (λ ws. ws ++ 4 * c.in-Generic.generic ∷ []) c.in_ok-push-in-Generic.ensures.ok ∙ append_assoc c.args.words.now.words (5 ∷ [])
+          (4 * c.in-Generic.generic ∷ []);
     }))
     (ap (λ n. n + 2) c.end_address-word.ensures)

@@ -1,9 +1,8 @@
 -- A datum.
-use Rattle.std.proofs.Common.{◌≡◌, refl, ap, sym, subst}
 use Rattle.isl_meaning.specs.declared.program.LiteralRow.TheVariants.{Datum}
 use Rattle.isl_meaning.specs.Literals.{lay}
 use Rattle.isl_laying.specs.Laying.{Lays, Grown}
-use Rattle.isl_start.specs.Recipes.{literal_recipe, laid}
+use Rattle.isl_start.specs.Recipes.{literal_recipe}
 use Rattle.isl_start.specs.Making.{IsWord, Makes}
 use Rattle.isl_start.proofs.Joins.{makes_laid}
 use Rattle.isl_start.proofs.Numbered.{data_no_functions}

@@ -1,5 +1,5 @@
 -- One literal more.
-use Rattle.std.proofs.Common.{◌≡◌, ℕ, ◌+◌, ◌*◌, ◌≤◌, List, length, take, subst, arith}
+use Rattle.std.proofs.Common.{◌≤◌, length, subst, arith}
 use Rattle.std.proofs.lemmas.List.{take_all}
 use Rattle.isl_start.specs.Recipes.{literal_recipe, in_turn}
 use Rattle.isl_start.specs.Making.{IsWord, Each, Makes}
@@ -14,7 +14,8 @@ lay_literal-requires-clause-room c =
 
 pub loop-at-preserved : goal.loop-at-preserved
 loop-at-preserved c = record {
-  within = within_next literal_size c.args.rows.now c.loop-at.at c.in-Some.row.now c.args.words.now c.loop-at.words c.lay_literal.new.words c.in-Some.ensures c.loop-at.invariant.within c.in_ok-word.ensures.within;
+  within = within_next literal_size c.args.rows.now c.loop-at.at c.in-Some.row.now c.args.words.now c.loop-at.words c.lay_literal.new.words c.in-Some.ensures c.loop-at.invariant.within
+      c.in_ok-word.ensures.within;
   made =
       turns_more c.args.names.now IsWord (literal_recipe c.args.names.now) c.args.rows.now c.loop-at.at c.in-Some.row.now c.args.words.now c.loop-at.words c.lay_literal.new.words
       c.loop-at.laid c.push.new.self c.in_ok-word.word lasts_word c.in-Some.ensures c.in_ok-push.ensures.ok c.loop-at.invariant.made c.in_ok-word.ensures.made;

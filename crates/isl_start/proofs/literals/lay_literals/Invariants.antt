@@ -1,5 +1,5 @@
 -- The literals so far are laid.
-use Rattle.std.proofs.Common.{ℕ, ◌*◌, List, take}
+use Rattle.std.proofs.Common.{◌*◌, take}
 use Rattle.std.specs.List.{sum_by}
 use Rattle.isl_start.specs.Recipes.{literal_recipe, in_turn}
 use Rattle.isl_start.specs.Making.{IsWord, Each, Makes, IsWithin}

@@ -1,6 +1,5 @@
 -- The datum is a list of at least one symbol.
-use Rattle.std.proofs.Common.{◌≡◌, ℕ, ◌+◌, ◌*◌, ◌≤◌, List, length, refl, ap, subst, sym, ◌∙◌, arith}
-use Rattle.isl_base.specs.Data.{Item}
+use Rattle.std.proofs.Common.{◌≡◌, ◌+◌, ◌*◌, ◌≤◌, length, ap, ◌∙◌, arith}
 use Rattle.isl_base.specs.DataMeasures.{size_of}
 use Rattle.isl_meaning.specs.Literals.{lay}
 use Rattle.isl_laying.specs.Laying.{Lays, Grown}

@@ -1,9 +1,6 @@
 -- The function of a procedure.
-use Rattle.std.proofs.Common.{◌≡◌, ℕ, List, Some, refl, ap, sym, add-zero, ◌∙◌}
+use Rattle.std.proofs.Common.{ℕ, List, Some, refl, add-zero}
 use Rattle.isl_meaning.specs.declared.program.Callee.TheVariants.{Procedure}
-use Rattle.isl_meaning.specs.Values.{object}
-use Rattle.isl_meaning.specs.Objects.{function}
-use Rattle.isl_meaning.specs.Layout.{function_object}
 use Rattle.isl_start.specs.Recipes.{callee_recipe, initform_recipe}
 use Rattle.isl_start.specs.Making.{IsWord, Makes}
 use Rattle.isl_start.proofs.Joins.{makes_as}

@@ -1,5 +1,5 @@
 -- One more.
-use Rattle.std.proofs.Common.{◌≡◌, ℕ, ◌+◌, ◌*◌, ◌≤◌, List, length, [], ◌∷◌, take, ap, length-append, subst, arith}
+use Rattle.std.proofs.Common.{◌≤◌, length, [], ◌∷◌, ap, length-append, subst, arith}
 use Rattle.std.proofs.lemmas.List.{take_all}
 use Rattle.isl_start.specs.Recipes.{slots_recipe, in_turn}
 use Rattle.isl_start.specs.Making.{IsSlot, Each, Makes}
@@ -15,7 +15,8 @@ lay_slots_of-requires-clause-room c =
 
 pub loop-at-preserved : goal.loop-at-preserved
 loop-at-preserved c = record {
-  within = within_next slots_size c.args.classes.now c.loop-at.at c.in-Some.class.now c.args.words.now c.loop-at.words c.lay_slots_of.new.words c.in-Some.ensures c.loop-at.invariant.within c.in_ok-slots.ensures.within;
+  within = within_next slots_size c.args.classes.now c.loop-at.at c.in-Some.class.now c.args.words.now c.loop-at.words c.lay_slots_of.new.words c.in-Some.ensures c.loop-at.invariant.within
+      c.in_ok-slots.ensures.within;
   many = omega (arith, ap (λ xs. length xs) c.in_ok-push.ensures.ok, length-append c.loop-at.laid (c.in_ok-slots.slots ∷ []), c.loop-at.invariant.many);
   each = λ class row ss here there.
       counted_more c.args.classes.now c.loop-at.laid c.loop-at.at c.in-Some.class.now c.in_ok-slots.slots c.push.new.self c.in-Some.ensures c.loop-at.invariant.many c.in_ok-push.ensures.ok

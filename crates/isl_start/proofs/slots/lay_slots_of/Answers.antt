@@ -1,5 +1,5 @@
 -- One more.
-use Rattle.std.proofs.Common.{◌≡◌, ℕ, ◌+◌, ◌*◌, ◌≤◌, List, length, [], ◌∷◌, take, ap, length-append, subst, arith}
+use Rattle.std.proofs.Common.{◌≤◌, length, [], ◌∷◌, ap, length-append, subst, arith}
 use Rattle.std.proofs.lemmas.List.{take_all}
 use Rattle.isl_start.specs.Recipes.{slot_recipe, in_turn}
 use Rattle.isl_start.specs.Making.{IsSlot, Each, Makes}
@@ -14,7 +14,8 @@ lay_slot-requires-clause-room c =
 
 pub loop-at-preserved : goal.loop-at-preserved
 loop-at-preserved c = record {
-  within = within_next slot_size c.args.rows.now c.loop-at.at c.in-Some.row.now c.args.words.now c.loop-at.words c.lay_slot.new.words c.in-Some.ensures c.loop-at.invariant.within c.in_ok-slot.ensures.within;
+  within = within_next slot_size c.args.rows.now c.loop-at.at c.in-Some.row.now c.args.words.now c.loop-at.words c.lay_slot.new.words c.in-Some.ensures c.loop-at.invariant.within
+      c.in_ok-slot.ensures.within;
   many = omega (arith, ap (λ xs. length xs) c.in_ok-push.ensures.ok, length-append c.loop-at.laid (c.in_ok-slot.slot ∷ []), c.loop-at.invariant.many);
   made =
       turns_more c.args.names.now IsSlot (slot_recipe c.args.names.now) c.args.rows.now c.loop-at.at c.in-Some.row.now c.args.words.now c.loop-at.words c.lay_slot.new.words

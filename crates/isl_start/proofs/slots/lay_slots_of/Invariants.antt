@@ -1,5 +1,5 @@
 -- The slots so far are laid.
-use Rattle.std.proofs.Common.{◌≡◌, length, ℕ, ◌*◌, List, take}
+use Rattle.std.proofs.Common.{◌≡◌, length, ◌*◌, take}
 use Rattle.std.specs.List.{sum_by}
 use Rattle.isl_start.specs.Recipes.{slot_recipe, in_turn}
 use Rattle.isl_start.specs.Making.{IsSlot, Each, Makes, IsWithin}

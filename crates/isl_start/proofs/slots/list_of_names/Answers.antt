@@ -1,5 +1,5 @@
 -- One symbol more.
-use Rattle.std.proofs.Common.{◌≡◌, ◌++◌, ◌∷◌, [], map, take, ap, ◌∙◌, sym}
+use Rattle.std.proofs.Common.{◌++◌, ◌∷◌, [], map, take, ap, ◌∙◌}
 use Rattle.isl_start.proofs.Joins.{taken_more}
 use Rattle.isl_start.proofs.NameData.{name_item, one_more}
 use Rattle.isl_start.proofs.slots.list_of_names.Goals as goal
