@@ -1,0 +1,20 @@
+-- A datum.
+use Rattle.isl_meaning.specs.declared.program.LiteralRow.TheVariants.{Datum}
+use Rattle.isl_meaning.specs.Literals.{lay}
+use Rattle.isl_laying.specs.Laying.{Lays, Grown}
+use Rattle.isl_start.specs.Recipes.{literal_recipe}
+use Rattle.isl_start.specs.Making.{IsWord, Makes}
+use Rattle.isl_start.proofs.Joins.{makes_laid}
+use Rattle.isl_start.proofs.Numbered.{data_no_functions}
+use Rattle.isl_start.proofs.Steps.{if_ok_on}
+use Rattle.isl_start.proofs.literals.lay_literal.Goals as goal
+
+pub returns-in-Datum-clause-made : goal.returns-in-Datum-clause-made
+returns-in-Datum-clause-made c =
+    rw c.in-Datum.is
+    (if_ok_on c.lay_datum.result
+    (λ w. Lays c.args.names.now (lay c.args.names.now c.in-Datum.datum) c.args.words.now c.lay_datum.new.words w)
+    (λ w. Makes c.args.names.now IsWord (literal_recipe c.args.names.now (Datum c.in-Datum.datum)) c.args.words.now c.lay_datum.new.words w)
+    (Grown c.args.words.now c.lay_datum.new.words)
+    (λ w g p. makes_laid c.args.names.now (lay c.args.names.now c.in-Datum.datum) c.args.words.now c.lay_datum.new.words w (λ n. data_no_functions c.args.names.now c.in-Datum.datum n) g p)
+    c.lay_datum.ensures.grown c.lay_datum.ensures.lays)

@@ -1,0 +1,5 @@
+pub mod Recipes
+pub mod Making
+pub mod Rows
+pub mod Settling
+pub mod Start
