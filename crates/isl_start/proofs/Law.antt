@@ -18,6 +18,7 @@ use Rattle.isl_arena.specs.Standing.{ArenaStands, of_laid, SpotStands, SameWords
 use Rattle.isl_arena.specs.FixedWords.{FixedStand}
 use Rattle.isl_arena.specs.Layouts.{AreBytes}
 use Rattle.isl_arena.specs.Represents.{Represents}
+use Rattle.isl_arena.proofs.ClassesAtStart.{classes_at_start}
 use Rattle.isl_arena.proofs.Keeping.{extends_same, symbol_kept, object_kept}
 use Rattle.isl_arena.proofs.Memory.{lent_in_laid}
 use Rattle.isl_arena.proofs.Arguments.{item_there}
@@ -93,6 +94,7 @@ law_start names program words input y built_in start bytes begins = record {
   spots = λ p s e. spot_stands words.arena input y start.first begins s (start.stands.spots p s e);
   apart = start.stands.apart;
   count = start.stands.count;
+  classes = classes_at_start names program input;
   objects = λ i o s stored e.
       object_kept (arena_of words.arena) y.arena s (same_words words.arena input y start.first begins s (start.stands.spots (of_object i) s e)) start.places start.places
       (extends_same start.places) names program o (start.stands.objects i o s stored e);
