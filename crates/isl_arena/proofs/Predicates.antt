@@ -35,7 +35,7 @@ use Rattle.isl_arena.proofs.Telling.{integer_told, character_told, cons_told, sy
 use Rattle.isl_arena.proofs.Sameness.{same_value_same_word}
 use Rattle.isl_arena.proofs.Doing.{alike_self, Run, goes_on, returns_value, test_fails, first_answers}
 use Rattle.isl_arena.proofs.Checking.{header_bounded}
-use Rattle.isl_arena.proofs.Saying.{saying, says_run}
+use Rattle.isl_arena.proofs.Saying.{says_run}
 use Rattle.isl_arena.proofs.Taking.{does_one, does_two}
 use Rattle.std.proofs.lemmas.Bool.{or_from}
 
@@ -58,7 +58,7 @@ is_null_does = does_one IsNull refl (λ v w names program places z y procedures 
 
 -- the lines that say whether a word that is shifted to the left is that one
 abbrev shifted_is : (by bits : ℕ) → List MidStep
-shifted_is by bits = steps.compute_by 7 which.ShiftLeft 0 by ++ steps.constant 6 bits ∷ saying (steps.comparing comparison.Equal 7 6)
+shifted_is by bits = steps.compute_by 7 which.ShiftLeft 0 by ++ steps.constant 6 bits ∷ steps.says (steps.comparing comparison.Equal 7 6)
 
 module _
     (names : List (List ℕ)) (program : ProgramRows) (places : Places) (z : meaning.State) (y : State) (r : Represents names program places z y)
