@@ -204,7 +204,7 @@ made_known program c e = by (slice_get program.classes c) refl
 abbrev making : List MidStep
 making =
     steps.load 4 0 (pos 10) ∷ steps.constant 6 nil_word
-    ∷ steps.either (steps.comparing Different 4 6) [] (steps.signal (pos (class_address program_error_class))) ∷ allocating_code
+    ∷ steps.signal_unless (steps.comparing Different 4 6) (pos (class_address program_error_class)) ∷ allocating_code
 
 -- the units behind the answer, where an instance can be made
 units_of_instance :
@@ -242,7 +242,7 @@ module _
         by :
             (b : Bool) → can_be_made program c ≡ b
             → Run names program places z y procedures below n budget (allocation program c z)
-            (code_of (steps.either (steps.comparing Different 4 6) [] (steps.signal (pos (class_address program_error_class))) ∷ allocating_code))
+            (code_of (steps.signal_unless (steps.comparing Different 4 6) (pos (class_address program_error_class)) ∷ allocating_code))
             (Some w ∷ None ∷ None ∷ None ∷ Some it.stands.made.word ∷ None ∷ Some nil_word ∷ seven ∷ []) (k + 8 + 6)
         by true e =
             rw e

@@ -35,10 +35,6 @@ use Rattle.isl_arena.proofs.Registers.{Scratched, not_scratched, scratched_six, 
 
 -- ---- lengths and indices
 
--- the lines that an integer is an index, whose limit is in register 7
-abbrev pub index_test : (of : ℕ) → List MidStep → List MidStep
-index_test of rest = steps.either (steps.comparing LessUnsigned of 7) [] (steps.signal (pos (class_address program_error_class))) ∷ rest
-
 -- the lines that the integer in register 0 is a length
 abbrev pub length_test : List MidStep → List MidStep
 length_test rest = steps.constant 6 0 ∷ steps.either (steps.comparing AtLeast 0 6) [] (steps.domain_error 0 (pos (class_address integer_class))) ∷ rest
@@ -53,7 +49,7 @@ module _
         → register 7 rs ≡ Some (4 * count) → in_range i ≡ true → count < 2 ^ 29 → k + 142 + 250 * z.units ≤ budget + 250 * (z.units + 3)
         → ((j : ℕ) → j < count → integer_word i ≡ 4 * j → Run names program places z y procedures below n budget (next j) (code_of rest) rs (k + 12 + 2))
         → Run names program places z y procedures below n budget (an_index i count z next)
-        (code_of (index_test of rest)) rs k
+        (code_of (steps.need_below of 7 ∷ rest)) rs k
     index_needed n budget k of count i next rest rs size held limit range small cost more = by (index_of i count) refl
       where
         tested : (o : Option ℕ) → index_of i count ≡ o → compares LessUnsigned (integer_word i) (4 * count) ≡ is_some o
@@ -62,7 +58,7 @@ module _
         by :
             (o : Option ℕ) → index_of i count ≡ o
             → Run names program places z y procedures below n budget (needs (index_of i count) (program_error z) next)
-            (code_of (index_test of rest)) rs k
+            (code_of (steps.need_below of 7 ∷ rest)) rs k
         by None e =
             rw e
             (second_answers names program places z y procedures below held limit (tested None e)

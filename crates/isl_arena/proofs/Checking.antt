@@ -189,19 +189,19 @@ module _
         → word_of places v ≡ Some w → k + 210 + 250 * z.units ≤ budget + 250 * (z.units + 5)
         → ((i : ℤ) → v ≡ integer i → in_range i ≡ true → w ≡ integer_word i
         → Run names program places z y procedures below n budget (next i) (code_of rest) (tag_registers w 0 rs) (k + 6 + 10 + 6 + 12 + 2))
-        → Run names program places z y procedures below n budget (an_integer v z next) (code_of (steps.need_tag of 0 (pos (class_address integer_class)) ++ rest)) rs k
+        → Run names program places z y procedures below n budget (an_integer v z next) (code_of (steps.need_integer of ++ rest)) rs k
     integer_needed n budget k of w v next rest rs low size held word cost more = by (integer_told names program places z y r v w word)
       where
         by :
             IntegerTold v w
-            → Run names program places z y procedures below n budget (an_integer v z next) (code_of (steps.need_tag of 0 (pos (class_address integer_class)) ++ rest)) rs k
+            → Run names program places z y procedures below n budget (an_integer v z next) (code_of (steps.need_integer of ++ rest)) rs k
         by (integer_found i same found range at tag) =
             rw found
-            (part_then names program places z y procedures below (steps.need_tag of 0 (pos (class_address integer_class))) rest
+            (part_then names program places z y procedures below (steps.need_integer of) rest
             (tag_passes n of w integer_class v rs low size held word (omega arith) 0 k (tag_tested w 0 ∙ tag)) (more i same range at))
         by (no_integer none tag) =
             rw none
-            (part_answers names program places z y procedures below (steps.need_tag of 0 (pos (class_address integer_class))) rest
+            (part_answers names program places z y procedures below (steps.need_integer of) rest
             (tag_errs n of w integer_class v rs low size held word (omega arith) 0 budget k (tag_tested w 0 ∙ tag) cost))
 
     -- it is a cons

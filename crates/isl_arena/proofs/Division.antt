@@ -48,13 +48,13 @@ module _ (i j : ℤ) (g : in_range i ≡ true) (h : in_range j ≡ true) (some :
 -- the lines that the second integer is not zero
 abbrev need_divisor : List MidStep → List MidStep
 need_divisor rest =
-    steps.constant 6 0 ∷ steps.either (steps.comparing comparison.Different 1 6) [] (steps.signal (pos (class_address division_by_zero_class))) ∷ rest
+    steps.constant 6 0 ∷ steps.signal_unless (steps.comparing comparison.Different 1 6) (pos (class_address division_by_zero_class)) ∷ rest
 
 abbrev dividing : List MidStep
 dividing =
     steps.compute 3 which.Divide 0 1 ∷ steps.compute 4 which.Remainder 0 1 ∷ steps.compute 5 which.MultiplyHigh 4 1 ∷ steps.compute 5 which.Less 5 6
     ∷ steps.compute 3 which.Subtract 3 5 ∷ steps.constant 6 (2 ^ 29)
-    ∷ steps.either (steps.comparing comparison.Different 3 6) [] (steps.signal (pos (class_address integer_overflow_class)))
+    ∷ steps.signal_unless (steps.comparing comparison.Different 3 6) (pos (class_address integer_overflow_class))
     ∷ steps.constant 6 2 ∷ steps.compute 3 which.ShiftLeft 3 6 ∷ return_word 3 ∷ []
 
 abbrev taking_remainder : List MidStep

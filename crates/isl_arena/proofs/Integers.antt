@@ -4,7 +4,7 @@ use Rattle.std.specs.Prelude.{◌==◌, ◌+ℤ◌, ◌-ℤ◌, ◌*ℤ◌, int_
 use Rattle.isl_meaning.specs.declared.program.ProgramRows.{ProgramRows}
 use Rattle.isl_meaning.specs.declared.primitive.Primitive.TheVariants.{Add, Subtract, Multiply, NumberEqual, NumberNotEqual, NumberLess, NumberAtMost, NumberGreater, NumberAtLeast}
 use Rattle.isl_meaning.specs.Values.{Value, integer, in_range, int_equal}
-use Rattle.isl_meaning.specs.Objects.{integer_class, integer_overflow_class}
+use Rattle.isl_meaning.specs.Objects.{integer_overflow_class}
 use Rattle.isl_meaning.specs.State as meaning
 use Rattle.isl_meaning.specs.Primitives.{Answer, result, fails, an_integer, integer_result, of_integers, says}
 use Rattle.isl_mid.specs.declared.program.MidProcedure.{MidProcedure}
@@ -23,6 +23,7 @@ use Rattle.isl_arena.specs.Represents.{Represents}
 use Rattle.isl_arena.specs.Answers.{IsPrimitive}
 use Rattle.isl_arena.specs.Codes.{procedure_of}
 use Rattle.isl_arena.specs.Steps as steps
+use Rattle.isl_arena.specs.declared.line.Line.TheVariants as line
 use Rattle.isl_arena.proofs.WordFacts.{integers_compare_equal, integers_compare_different, integers_compare_less, integers_compare_at_least, integers_compare_at_most, not_below}
 use Rattle.isl_arena.proofs.ArithmeticSum.{sum_is, sum_in_range, difference_is, difference_in_range}
 use Rattle.isl_arena.proofs.ArithmeticProduct.{product_is, product_in_range}
@@ -31,16 +32,13 @@ use Rattle.isl_arena.proofs.Doing.{alike_self, Run, goes_on, returns_value, test
 use Rattle.isl_arena.proofs.Conditions.{PlainCondition, integer_overflow, signal_run}
 use Rattle.isl_arena.proofs.Checking.{tag_registers, integer_needed}
 use Rattle.isl_arena.proofs.Taking.{two_registers, does_two}
-use Rattle.isl_arena.proofs.Saying.{saying, says_run}
+use Rattle.isl_arena.proofs.Saying.{says_run}
 use Rattle.isl_arena.proofs.Arguments.{integer_word_there}
+use Rattle.isl_arena.specs.Steps.{steps_of}
 
 -- the registers where both arguments are integers
 abbrev pub integer_registers : ℕ → ℕ → Registers
 integer_registers a b = tag_registers b 0 (tag_registers a 0 (two_registers a b))
-
--- the lines that both arguments have to be integers
-abbrev pub need_integers : List MidStep → List MidStep
-need_integers rest = steps.need_tag 0 0 (pos (class_address integer_class)) ++ steps.need_tag 1 0 (pos (class_address integer_class)) ++ rest
 
 module _
     (names : List (List ℕ)) (program : ProgramRows) (places : Places) (z : meaning.State) (y : State) (r : Represents names program places z y)
@@ -53,10 +51,10 @@ module _
         → ((i j : ℤ) → in_range i ≡ true → in_range j ≡ true
         → Run names program places z y procedures below n budget (next i j z) (code_of rest) (integer_registers (integer_word i) (integer_word j))
         (k + 6 + 10 + 6 + 12 + 2 + 6 + 10 + 6 + 12 + 2))
-        → Run names program places z y procedures below n budget (of_integers next (v ∷ w ∷ []) z) (code_of (need_integers rest)) (two_registers a b) k
+        → Run names program places z y procedures below n budget (of_integers next (v ∷ w ∷ []) z) (code_of (steps_of line.NeedIntegers ++ rest)) (two_registers a b) k
     integers_needed n budget k a b v w next rest first second cost more =
         integer_needed names program places z y r procedures below n budget k 0 a v (λ i. an_integer w z (λ j. next i j z))
-        (steps.need_tag 1 0 (pos (class_address integer_class)) ++ rest) (two_registers a b) (omega arith) refl refl first (omega (arith, cost))
+        (steps.need_integer 1 ++ rest) (two_registers a b) (omega arith) refl refl first (omega (arith, cost))
         (λ i i_is i_range i_word.
         integer_needed names program places z y r procedures below n budget (k + 6 + 10 + 6 + 12 + 2) 1 b w (λ j. next i j z)
         rest (tag_registers a 0 (two_registers a b)) (omega arith) refl refl second (omega (arith, cost))
@@ -111,9 +109,9 @@ comparison_run :
     (below : Task → State → Outcome) (n : ℕ) (v w : Value) (a b : ℕ) (t : Test) (holds : ℤ → ℤ → Bool) → SaysOf t holds
     → Represents names program places z y → word_of places v ≡ Some a → word_of places w ≡ Some b
     → Run names program places z y procedures below n (y.cost + 130 + 244 * 2) (of_integers (λ i j. says (holds i j)) (v ∷ w ∷ []) z)
-    (code_of (need_integers (saying t))) (two_registers a b) y.cost
+    (code_of (steps_of line.NeedIntegers ++ steps.says t)) (two_registers a b) y.cost
 comparison_run names program places z y procedures below n v w a b t holds s r first second =
-    integers_needed names program places z y r procedures below n (y.cost + 130 + 244 * 2) y.cost a b v w (λ i j. says (holds i j)) (saying t) first second (omega arith)
+    integers_needed names program places z y r procedures below n (y.cost + 130 + 244 * 2) y.cost a b v w (λ i j. says (holds i j)) (steps.says t) first second (omega arith)
     (λ i j i_range j_range.
     says_run names program places z y r procedures below n (y.cost + 130 + 244 * 2) (y.cost + 6 + 10 + 6 + 12 + 2 + 6 + 10 + 6 + 12 + 2)
     (s.first (integer_word i) (integer_word j)) (s.second (integer_word i) (integer_word j)) (holds i j) t z (integer_registers (integer_word i) (integer_word j)) refl
@@ -150,7 +148,7 @@ number_at_least_does = does_two NumberAtLeast refl (λ v w a b names program pla
 
 -- the lines that a result in register 3 is in range where registers 4 and 5 are equal, and returned
 abbrev ending : List MidStep
-ending = steps.either (steps.comparing comparison.Equal 4 5) [] (steps.signal (pos (class_address integer_overflow_class))) ∷ return_word 3 ∷ []
+ending = steps.signal_unless (steps.comparing comparison.Equal 4 5) (pos (class_address integer_overflow_class)) ∷ return_word 3 ∷ []
 
 module _
     (names : List (List ℕ)) (program : ProgramRows) (places : Places) (z : meaning.State) (y : State) (r : Represents names program places z y)
@@ -162,12 +160,12 @@ module _
         → register t.first rs ≡ Some a → register t.second rs ≡ Some b → k + 142 + 250 * z.units ≤ budget + 250 * (z.units + 3)
         → (compares t.comparison a b ≡ true → Run names program places z y procedures below n budget answer (code_of rest) rs (k + 12 + 2))
         → (compares t.comparison a b ≡ false → answer ≡ fails class [] z)
-        → Run names program places z y procedures below n budget answer (code_of (steps.either t [] (steps.signal (pos (class_address class))) ∷ rest)) rs k
+        → Run names program places z y procedures below n budget answer (code_of (steps.signal_unless t (pos (class_address class)) ∷ rest)) rs k
     signals_unless n budget k a b class answer t rest rs size plain first second cost holds wrong = by (compares t.comparison a b) refl
       where
         by :
             (one : Bool) → compares t.comparison a b ≡ one
-            → Run names program places z y procedures below n budget answer (code_of (steps.either t [] (steps.signal (pos (class_address class))) ∷ rest)) rs k
+            → Run names program places z y procedures below n budget answer (code_of (steps.signal_unless t (pos (class_address class)) ∷ rest)) rs k
         by true e = test_passes names program places z y procedures below first second e (holds e)
         by false e =
             second_answers names program places z y procedures below first second e
@@ -179,7 +177,7 @@ module _
         → register t.first rs ≡ Some a → register t.second rs ≡ Some b → compares t.comparison a b ≡ in_range m → k + 142 ≤ budget
         → (in_range m ≡ true → Run names program places z y procedures below n budget (result (integer m) z) (code_of rest) rs (k + 12 + 2))
         → Run names program places z y procedures below n budget (integer_result m z)
-        (code_of (steps.either t [] (steps.signal (pos (class_address integer_overflow_class))) ∷ rest)) rs k
+        (code_of (steps.signal_unless t (pos (class_address integer_overflow_class)) ∷ rest)) rs k
     unless_overflow n budget k a b m t rest rs size first second tells cost more =
         signals_unless n budget k a b integer_overflow_class (integer_result m z) t rest rs size integer_overflow first second (omega (arith, cost))
         (λ e. let range : in_range m ≡ true = sym tells ∙ e in rw range (more range))

@@ -19,7 +19,6 @@ use Rattle.isl_arena.specs.FixedWords.{class_address}
 use Rattle.isl_arena.specs.Represents.{Represents}
 use Rattle.isl_arena.specs.Steps as steps
 use Rattle.isl_arena.specs.Steps.{steps_of}
-use Rattle.isl_arena.specs.declared.line.Line.TheVariants as line
 use Rattle.isl_arena.proofs.Keeping.{header_of}
 use Rattle.isl_arena.proofs.WordFacts.{tag_tested, low_four_bits_tested, equal_bit, two_headers_tested}
 use Rattle.isl_arena.proofs.HeaderKinds.{instance_of, stream_of}
@@ -120,9 +119,6 @@ module _
         (n of w expected : ℕ) (v : Value) (rs : Registers) (low : of < 3) (size : length rs ≡ 8) (held : register of rs ≡ Some w)
         (word : word_of places v ≡ Some w) (class : expected < 34)
       where
-        abbrev need_instance : List MidStep
-        need_instance = steps_of (line.NeedInstance of (pos (class_address expected)))
-
         -- what the test of the bits does, behind that of the tag
         module _ (h k : ℕ) (tag : (w % 4 == 2) ≡ true) (at : word_at y.arena (w - 2) ≡ Some h) where
           loaded : Scratched rs (slice_set (tag_registers w (2 ^ 31) rs) 7 (Some h))
@@ -136,7 +132,7 @@ module _
 
           pub instance_passes :
               (h % 16 == 3) ≡ true
-              → RunsTo (turning procedures below n) (code_of need_instance) rs (paid y k)
+              → RunsTo (turning procedures below n) (code_of (steps.need_instance of (pos (class_address expected)))) rs (paid y k)
               (ends falls (instance_registers w h rs) (paid y (k + 6 + 10 + 6 + 12 + 2 + 8 + 6 + 10 + 6 + 12 + 2)))
           instance_passes e =
               parts_then (steps.need_tag of (2 ^ 31) (pos (class_address expected))) (steps.need_instance_of of (pos (class_address expected)))
@@ -152,7 +148,7 @@ module _
 
           pub instance_errs :
               (budget : ℕ) → (h % 16 == 3) ≡ false → k + 250 + 250 * z.units ≤ budget + 250 * (z.units + 5)
-              → Run names program places z y procedures below n budget (domain_error v expected z) (code_of need_instance) rs k
+              → Run names program places z y procedures below n budget (domain_error v expected z) (code_of (steps.need_instance of (pos (class_address expected)))) rs k
           instance_errs budget e cost =
               part_then names program places z y procedures below (steps.need_tag of (2 ^ 31) (pos (class_address expected))) (steps.need_instance_of of (pos (class_address expected)))
               (tag_passes names program places z y r procedures below n of w expected v rs low size held word class (2 ^ 31) k (tag_tested w 2 ∙ tag))
@@ -174,20 +170,22 @@ module _
             → ((c : ℕ) (values : List (Option Value)) (mark : Value) → fetch z v ≡ Some (instance c values mark)
             → Run names program places z y procedures below n budget (next (c, values, mark)) (code_of rest) (instance_registers w (instance_header (length values)) rs)
             (k + 6 + 10 + 6 + 12 + 2 + 8 + 6 + 10 + 6 + 12 + 2))
-            → Run names program places z y procedures below n budget (needs (as_instance (fetch z v)) (domain_error v expected z) next) (code_of (need_instance ++ rest)) rs k
+            → Run names program places z y procedures below n budget (needs (as_instance (fetch z v)) (domain_error v expected z) next)
+            (code_of (steps.need_instance of (pos (class_address expected)) ++ rest)) rs k
         instance_needed budget k next rest cost more = by (instance_told names program places z y r v w word)
           where
             by :
                 FoundByHeader as_instance instance_of (λ h. h % 16 == 3) y.arena (fetch z v) w
-                → Run names program places z y procedures below n budget (needs (as_instance (fetch z v)) (domain_error v expected z) next) (code_of (need_instance ++ rest)) rs k
+                → Run names program places z y procedures below n budget (needs (as_instance (fetch z v)) (domain_error v expected z) next)
+                (code_of (steps.need_instance of (pos (class_address expected)) ++ rest)) rs k
             by (found_kind i same found tag at kind) =
                 rw found
-                (part_then names program places z y procedures below need_instance rest (instance_passes (instance_header (length i.1)) k tag at kind)
+                (part_then names program places z y procedures below (steps.need_instance of (pos (class_address expected))) rest (instance_passes (instance_header (length i.1)) k tag at kind)
                 (more i.0 i.1 i.2 same))
             by (found_other_kind h none tag at kind) =
-                rw none (part_answers names program places z y procedures below need_instance rest (instance_errs h k tag at budget kind cost))
+                rw none (part_answers names program places z y procedures below (steps.need_instance of (pos (class_address expected))) rest (instance_errs h k tag at budget kind cost))
             by (found_other_tag none tag) =
                 rw none
-                (part_answers names program places z y procedures below need_instance rest
+                (part_answers names program places z y procedures below (steps.need_instance of (pos (class_address expected))) rest
                 (part_answers names program places z y procedures below (steps.need_tag of (2 ^ 31) (pos (class_address expected))) (steps.need_instance_of of (pos (class_address expected)))
                 (tag_errs names program places z y r procedures below n of w expected v rs low size held word class (2 ^ 31) budget k (tag_tested w 2 ∙ tag) (omega (arith, cost)))))

@@ -35,7 +35,7 @@ use Rattle.isl_arena.proofs.Telling.{integer_told, character_told, cons_told, sy
 use Rattle.isl_arena.proofs.Sameness.{same_value_same_word}
 use Rattle.isl_arena.proofs.Doing.{alike_self, Run, goes_on, returns_value, test_fails, first_answers}
 use Rattle.isl_arena.proofs.Checking.{header_bounded}
-use Rattle.isl_arena.proofs.Saying.{saying, says_run}
+use Rattle.isl_arena.proofs.Saying.{says_run}
 use Rattle.isl_arena.proofs.Taking.{does_one, does_two}
 use Rattle.std.proofs.lemmas.Bool.{or_from}
 
@@ -58,7 +58,7 @@ is_null_does = does_one IsNull refl (λ v w names program places z y procedures 
 
 -- the lines that say whether a word that is shifted to the left is that one
 abbrev shifted_is : (by bits : ℕ) → List MidStep
-shifted_is by bits = steps.compute_by 7 which.ShiftLeft 0 by ++ steps.constant 6 bits ∷ saying (steps.comparing comparison.Equal 7 6)
+shifted_is by bits = steps.compute_by 7 which.ShiftLeft 0 by ++ steps.constant 6 bits ∷ steps.says (steps.comparing comparison.Equal 7 6)
 
 module _
     (names : List (List ℕ)) (program : ProgramRows) (places : Places) (z : meaning.State) (y : State) (r : Represents names program places z y)
@@ -104,14 +104,6 @@ is_character_does = does_one IsCharacter refl (λ v w names program places z y p
 
 -- ---- by the header
 
--- the lines that say whether a value has one of so many headers, from that one on
-abbrev header_is : (header count : ℕ) → List MidStep
-header_is header count =
-    steps.compute_by 7 which.ShiftLeft 0 30 ++ steps.constant 6 (2 ^ 31) ∷ steps.constant 5 nil_word ∷ steps.return_if (steps.comparing comparison.Different 7 6) 5
-    ∷ steps.load 7 0 (negsuc 1) ∷ steps.compute_by 7 which.Subtract 7 header
-    ++ steps.constant 6 count ∷ steps.return_if (steps.comparing comparison.AtLeastUnsigned 7 6) 5
-    ∷ steps.constant 5 0 ∷ steps.load 5 5 (pos true_address) ∷ return_word 5 ∷ []
-
 module _
     (names : List (List ℕ)) (program : ProgramRows) (places : Places) (z : meaning.State) (y : State) (r : Represents names program places z y)
     (procedures : List MidProcedure) (below : Task → State → Outcome)
@@ -124,7 +116,7 @@ module _
       header_says :
           (header count : ℕ) (is_kind : ℕ → Bool) (holds : Bool) → ((h : ℕ) → h < 2 ^ 32 → nat_lt (difference32 h header) count ≡ is_kind h)
           → ByHeader y.arena w is_kind holds → k + 140 ≤ budget
-          → Run names program places z y procedures below n budget (says holds z) (code_of (header_is header count)) argument_first k
+          → Run names program places z y procedures below n budget (says holds z) (code_of (steps.says_header header count)) argument_first k
       header_says header count is_kind holds tested told cost =
           goes_on names program places z y procedures below constant_falls
           (goes_on names program places z y procedures below (compute_falls refl refl)
@@ -186,7 +178,7 @@ module _
     kind_says :
         (n w : ℕ) (v : Value) (header count : ℕ) (p : Option Object → Bool) (is_kind : ℕ → Bool) → IsKindOf p is_kind
         → ((h : ℕ) → h < 2 ^ 32 → nat_lt (difference32 h header) count ≡ is_kind h) → word_of places v ≡ Some w
-        → Run names program places z y procedures below n (y.cost + 130 + 244) (says (p (fetch z v)) z) (code_of (header_is header count)) (first_registers 8 (w ∷ [])) y.cost
+        → Run names program places z y procedures below n (y.cost + 130 + 244) (says (p (fetch z v)) z) (code_of (steps.says_header header count)) (first_registers 8 (w ∷ [])) y.cost
     kind_says n w v header count p is_kind kind tested word =
         header_says n (y.cost + 130 + 244) y.cost w v word None None None None None None None header count is_kind (p (fetch z v)) tested
         (header_decides names program places z y r p is_kind kind v w word) (omega arith)
@@ -220,7 +212,7 @@ is_symbol_header h = h == symbol_header || h == fresh_header
 abbrev is_nil_or_symbol : List MidStep
 is_nil_or_symbol =
     steps.constant 6 nil_word ∷ steps.constant 5 0 ∷ steps.load 5 5 (pos true_address) ∷ steps.return_if (steps.comparing comparison.Equal 0 6) 5
-    ∷ header_is symbol_header 2
+    ∷ steps.says_header symbol_header 2
 
 module _
     (names : List (List ℕ)) (program : ProgramRows) (places : Places) (z : meaning.State) (y : State) (r : Represents names program places z y)

@@ -1,5 +1,5 @@
 -- The code that returns t where a test holds and nil where it does not, beside an answer that says so.
-use Rattle.std.proofs.Common.{◌≡◌, ℕ, ◌+◌, ◌*◌, ◌≤◌, pos, Bool, true, false, List, [], ◌∷◌, length, Some, refl, ◌∙◌, arith}
+use Rattle.std.proofs.Common.{◌≡◌, ℕ, ◌+◌, ◌*◌, ◌≤◌, Bool, true, false, List, [], ◌∷◌, length, Some, refl, ◌∙◌, arith}
 use Rattle.std.specs.Prelude.{slice_set}
 use Rattle.isl_meaning.specs.declared.program.ProgramRows.{ProgramRows}
 use Rattle.isl_meaning.specs.State as meaning
@@ -7,7 +7,7 @@ use Rattle.isl_meaning.specs.Primitives.{says}
 use Rattle.isl_mid.specs.declared.program.MidProcedure.{MidProcedure}
 use Rattle.isl_mid.specs.declared.operation.Test.{Test}
 use Rattle.isl_mid.specs.Words.{compares}
-use Rattle.isl_mid.specs.MidCode.{MidStep, return_word, code_of}
+use Rattle.isl_mid.specs.MidCode.{return_word, code_of}
 use Rattle.isl_mid.specs.State.{Registers, State, Outcome, register}
 use Rattle.isl_mid.specs.Meaning.{Task}
 use Rattle.isl_arena.specs.Tags.{nil_word}
@@ -19,11 +19,6 @@ use Rattle.isl_arena.proofs.Running.{constant_falls, load_falls, address_up}
 use Rattle.isl_arena.proofs.Doing.{Alike, Run, goes_on, returns_value, test_fails, first_answers}
 use Rattle.isl_arena.proofs.Registers.{register_beside, register_here, same_size}
 
--- the lines LoadFixed 5 TRUE_AT, ReturnIf t 5, Set 5 NIL, Return 5
-abbrev pub saying : Test → List MidStep
-saying t =
-    steps.constant 5 0 ∷ steps.load 5 5 (pos true_address) ∷ steps.return_if t 5 ∷ steps.constant 5 nil_word ∷ return_word 5 ∷ []
-
 module _
     (names : List (List ℕ)) (program : ProgramRows) (places : Places) (z : meaning.State) (y : State) (r : Represents names program places z y)
     (procedures : List MidProcedure) (below : Task → State → Outcome)
@@ -33,7 +28,7 @@ module _
         (n budget k a b : ℕ) (holds : Bool) (t : Test) (z' : meaning.State) (rs : Registers) → length rs ≡ 8 → (5 ≡ t.first → ⊥) → (5 ≡ t.second → ⊥)
         → register t.first rs ≡ Some a → register t.second rs ≡ Some b → compares t.comparison a b ≡ holds → Alike z z'
         → k + 48 + 250 * z.units ≤ budget + 250 * z'.units
-        → Run names program places z y procedures below n budget (says holds z') (code_of (saying t)) rs k
+        → Run names program places z y procedures below n budget (says holds z') (code_of (steps.says t)) rs k
     says_run n budget k a b holds t z' rs size other_first other_second first second tells alike cost =
         goes_on names program places z y procedures below constant_falls
         (goes_on names program places z y procedures below

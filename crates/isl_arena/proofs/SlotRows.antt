@@ -35,7 +35,7 @@ use Rattle.isl_arena.proofs.Conditions.{domain_error_run}
 use Rattle.isl_arena.proofs.Checking.{instance_registers}
 use Rattle.isl_arena.proofs.Needing.{instance_needed}
 use Rattle.isl_arena.specs.ClassesThere.{ClassesThere}
-use Rattle.isl_arena.proofs.Slots.{counting, slot_registers, slot_needed, instance_low}
+use Rattle.isl_arena.proofs.Slots.{slot_registers, slot_needed, instance_low}
 use Rattle.isl_arena.proofs.Taking.{does_one, does_two}
 use Rattle.isl_arena.proofs.WordFacts.{header_without_kind, four_times_count}
 use Rattle.isl_arena.proofs.Memory.{spot_low}
@@ -56,12 +56,6 @@ module _ (names : List (List ℕ)) (program : ProgramRows) (places : Places) (z 
   class_low v w c it =
       let high = spot_low r.arena it.spot_stands in
       omega (arith, it.word, it.stands.size.words, high)
-
--- the lines behind the test of a place: so far behind the word of the class, behind four times the classes above and twelve times the place
-abbrev rows_of : (offset : ℕ) → List MidStep
-rows_of offset =
-    steps.load 4 0 (pos 2) ∷ steps.load 5 4 (pos 18) ∷ steps.compute 4 which.Add 4 5 ∷ steps.compute_by 5 which.Multiply 1 3
-    ++ steps.compute 4 which.Add 4 5 ∷ steps.load 5 4 (pos offset) ∷ return_word 5 ∷ []
 
 module _
     (names : List (List ℕ)) (program : ProgramRows) (places : Places) (z : meaning.State) (y : State) (r : Represents names program places z y)
@@ -85,7 +79,7 @@ module _
     row_run :
         (extra : ℕ) (u : Value) (procedures : List MidProcedure) (below : Task → State → Outcome) (n budget k : ℕ) → extra < 9
         → ValueAt places y.arena (row_address + extra) u → k + 80 ≤ budget
-        → Run names program places z y procedures below n budget (result u z) (code_of (rows_of (26 + extra)))
+        → Run names program places z y procedures below n budget (result u z) (code_of (steps.slot_word (pos (26 + extra))))
         (slot_registers w x (length values) (first_registers 8 (w ∷ x ∷ []))) k
     row_run extra u procedures below n budget k small at cost =
         let low = instance_low names program places z y r v w c values mark it in
@@ -113,7 +107,7 @@ module _
 pub slot_initargs_does : IsPrimitive SlotInitargs (procedure_of SlotInitargs)
 slot_initargs_does = does_two SlotInitargs refl (λ v u w x names program places z y procedures below n r are units.
     slot_needed names program places z y r procedures below n (y.cost + 130 + 244 * 2) y.cost 0 1 w x v u (λ i at. result (initargs_value names program i.0 at) z)
-    (rows_of 30) (first_registers 8 (w ∷ x ∷ [])) (omega arith) (omega arith) refl refl refl are.0 are.1.0 (omega arith)
+    (steps.slot_word (pos 30)) (first_registers 8 (w ∷ x ∷ [])) (omega arith) (omega arith) refl refl refl are.0 are.1.0 (omega arith)
     (λ c values mark j it inside place.
     row_run names program places z y r r.classes w x c v values mark j it inside place 4 (initargs_value names program c j)
     procedures below n _ _ (omega arith)
@@ -122,7 +116,7 @@ slot_initargs_does = does_two SlotInitargs refl (λ v u w x names program places
 pub slot_initform_does : IsPrimitive SlotInitform (procedure_of SlotInitform)
 slot_initform_does = does_two SlotInitform refl (λ v u w x names program places z y procedures below n r are units.
     slot_needed names program places z y r procedures below n (y.cost + 130 + 244 * 2) y.cost 0 1 w x v u (λ i at. result (initform_value names program i.0 at) z)
-    (rows_of 34) (first_registers 8 (w ∷ x ∷ [])) (omega arith) (omega arith) refl refl refl are.0 are.1.0 (omega arith)
+    (steps.slot_word (pos 34)) (first_registers 8 (w ∷ x ∷ [])) (omega arith) (omega arith) refl refl refl are.0 are.1.0 (omega arith)
     (λ c values mark j it inside place.
     row_run names program places z y r r.classes w x c v values mark j it inside place 8 (initform_value names program c j)
     procedures below n _ _ (omega arith)
@@ -194,7 +188,7 @@ needing_condition =
     ∷ steps.either (steps.comparing Different 5 6) [] (steps.domain_error 0 (pos (class_address serious_condition_class))) ∷ []
 
 abbrev marking : List MidStep
-marking = counting 0 (steps.compute 7 which.Add 7 0 ∷ steps.load 5 7 (pos 6) ∷ return_word 5 ∷ [])
+marking = steps.slot_count 0 ++ steps.compute 7 which.Add 7 0 ∷ steps.load 5 7 (pos 6) ∷ return_word 5 ∷ []
 
 module _
     (names : List (List ℕ)) (program : ProgramRows) (places : Places) (z : meaning.State) (y : State) (r : Represents names program places z y)

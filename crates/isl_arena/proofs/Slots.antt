@@ -6,12 +6,12 @@ use Rattle.std.proofs.lemmas.Option.{slice_get-get_or}
 use Rattle.isl_meaning.specs.declared.program.ProgramRows.{ProgramRows}
 use Rattle.isl_meaning.specs.declared.primitive.Primitive.TheVariants.{SlotCount, SlotRef, SlotBound}
 use Rattle.isl_meaning.specs.Values.{Value, integer, character, symbol, nil, object, in_range}
-use Rattle.isl_meaning.specs.Objects.{instance, program_error_class, standard_object_class, integer_class}
+use Rattle.isl_meaning.specs.Objects.{instance, program_error_class, standard_object_class}
 use Rattle.isl_meaning.specs.State as meaning
 use Rattle.isl_meaning.specs.Primitives.{Answer, result, a_slot, an_integer, an_index, says, slot_value, has_value}
 use Rattle.isl_mid.specs.declared.program.MidProcedure.{MidProcedure}
 use Rattle.isl_mid.specs.declared.operation.Arithmetic.TheVariants as which
-use Rattle.isl_mid.specs.declared.operation.Comparison.TheVariants.{LessUnsigned, Different}
+use Rattle.isl_mid.specs.declared.operation.Comparison.TheVariants.{Different}
 use Rattle.isl_mid.specs.Words.{sum32, address}
 use Rattle.isl_mid.specs.Arena.{word_at}
 use Rattle.isl_mid.specs.MidCode.{MidStep, return_word, code_of}
@@ -35,7 +35,7 @@ use Rattle.isl_arena.proofs.Doing.{alike_self, Run, goes_on, returns_value, test
 use Rattle.isl_arena.proofs.Conditions.{program_error as of_program, signal_run}
 use Rattle.isl_arena.proofs.Checking.{tag_registers, instance_registers, integer_needed}
 use Rattle.isl_arena.proofs.Needing.{instance_needed}
-use Rattle.isl_arena.proofs.Saying.{saying, says_run}
+use Rattle.isl_arena.proofs.Saying.{says_run}
 use Rattle.isl_arena.proofs.Arrays.{index_needed}
 use Rattle.isl_arena.proofs.Taking.{does_one, does_two}
 use Rattle.isl_arena.proofs.Registers.{Scratched, not_scratched, register_here, scratched_seven, scratched_six, seven_behind_six, six_here}
@@ -77,17 +77,6 @@ place_paid k = instance_paid k + 6 + 10 + 6 + 12 + 2
 abbrev pub slot_paid : ℕ → ℕ
 slot_paid k = place_paid k + 8 + 6 + 10 + 6 + 10 + 12 + 2
 
--- four times the number of slots of an instance is put into register 7
-abbrev pub counting : (of : ℕ) → List MidStep → List MidStep
-counting of rest = steps.load 7 of (negsuc 1) ∷ steps.compute_by 7 which.ShiftRight 7 4 ++ steps.compute_by 7 which.ShiftLeft 7 2 ++ rest
-
--- an instance, and a place of its slots
-abbrev pub need_slot : (of at : ℕ) → List MidStep → List MidStep
-need_slot of at rest =
-    steps_of (line.NeedInstance of (pos (class_address standard_object_class)))
-    ++ steps.need_tag at 0 (pos (class_address integer_class))
-    ++ counting of (steps.either (steps.comparing LessUnsigned at 7) [] (steps.signal (pos (class_address program_error_class))) ∷ rest)
-
 module _ (names : List (List ℕ)) (program : ProgramRows) (places : Places) (z : meaning.State) (y : State) (r : Represents names program places z y) where
   -- an instance stands in the heap or beside the code, so its word and the number of its slots are not large
   pub instance_low :
@@ -117,25 +106,25 @@ module _
         → ((c : ℕ) (values : List (Option Value)) (mark : Value) (j : ℕ) → ObjectFound names program places z y r v w (instance c values mark)
         → j < length values → x ≡ 4 * j
         → Run names program places z y procedures below n budget (next (c, values, mark) j) (code_of rest) (slot_registers w x (length values) rs) (slot_paid k))
-        → Run names program places z y procedures below n budget (a_slot v place z next) (code_of (need_slot of at rest)) rs k
+        → Run names program places z y procedures below n budget (a_slot v place z next) (code_of (steps_of (line.NeedPlace of at) ++ rest)) rs k
     slot_needed n budget k of at w x v place next rest rs of_low at_low size of_held at_held of_word at_word cost more =
         instance_needed names program places z y r procedures below n of w standard_object_class v rs of_low size of_held of_word (omega arith) budget k
         (λ i. an_integer place z (λ m. an_index m (length i.1) z (λ j. next i j)))
-        (steps.need_tag at 0 (pos (class_address integer_class)) ++ counting of indexing) (omega (arith, cost))
+        (steps.need_integer at ++ steps.slot_count of ++ indexing) (omega (arith, cost))
         (λ c values mark found.
         let it = object_found names program places z y r v w (instance c values mark) of_word found in
         let scratched = instance_scratched w (instance_header (length values)) rs size in
         integer_needed names program places z y r procedures below n budget _ at x place (λ m. an_index m (length values) z (λ j. next (c, values, mark) j))
-        (counting of indexing) (instance_registers w (instance_header (length values)) rs) at_low scratched.size (scratched.others at (omega arith) ∙ at_held) at_word
+        (steps.slot_count of ++ indexing) (instance_registers w (instance_header (length values)) rs) at_low scratched.size (scratched.others at (omega arith) ∙ at_held) at_word
         (omega (arith, cost)) (λ m is range word. counted c values mark m it range word))
       where
         indexing : List MidStep
-        indexing = steps.either (steps.comparing LessUnsigned at 7) [] (steps.signal (pos (class_address program_error_class))) ∷ rest
+        indexing = steps.need_below at 7 ∷ rest
 
         counted :
             (c : ℕ) (values : List (Option Value)) (mark : Value) (m : ℤ) → ObjectFound names program places z y r v w (instance c values mark)
             → in_range m ≡ true → x ≡ integer_word m
-            → Run names program places z y procedures below n budget (an_index m (length values) z (λ j. next (c, values, mark) j)) (code_of (counting of indexing))
+            → Run names program places z y procedures below n budget (an_index m (length values) z (λ j. next (c, values, mark) j)) (code_of (steps.slot_count of ++ indexing))
             (place_registers w x (length values) rs) (place_paid k)
         counted c values mark m it range word =
             let low = instance_low names program places z y r v w c values mark it in
@@ -209,11 +198,11 @@ module _
 abbrev taking : List MidStep
 taking =
     steps.compute 5 which.Add 0 1 ∷ steps.load 5 5 (pos 6) ∷ steps.constant 6 unbound_word
-    ∷ steps.either (steps.comparing Different 5 6) [] (steps.signal (pos (class_address program_error_class))) ∷ return_word 5 ∷ []
+    ∷ steps.signal_unless (steps.comparing Different 5 6) (pos (class_address program_error_class)) ∷ return_word 5 ∷ []
 
 abbrev telling : List MidStep
 telling =
-    steps.compute 5 which.Add 0 1 ∷ steps.load 4 5 (pos 6) ∷ steps.constant 6 unbound_word ∷ saying (steps.comparing Different 4 6)
+    steps.compute 5 which.Add 0 1 ∷ steps.load 4 5 (pos 6) ∷ steps.constant 6 unbound_word ∷ steps.says (steps.comparing Different 4 6)
 
 -- registers where the address of the slot was computed, or the slot's word
 abbrev summed : (w x count : ℕ) → Registers
@@ -229,7 +218,7 @@ module _
         SlotHolds names program places z y r w x c v values mark j it inside place → k + 250 ≤ budget
         → Run names program places z y procedures below n budget (slot_value (slice_get values j) z)
         (code_of (steps.load 5 5 (pos 6) ∷ steps.constant 6 unbound_word
-        ∷ steps.either (steps.comparing Different 5 6) [] (steps.signal (pos (class_address program_error_class))) ∷ return_word 5 ∷ []))
+        ∷ steps.signal_unless (steps.comparing Different 5 6) (pos (class_address program_error_class)) ∷ return_word 5 ∷ []))
         (summed w x (length values)) k
     taken (no_value got at) cost =
         rw got
@@ -247,7 +236,7 @@ module _
     told :
         SlotHolds names program places z y r w x c v values mark j it inside place → k + 250 ≤ budget
         → Run names program places z y procedures below n budget (says (has_value (slice_get values j)) z)
-        (code_of (steps.load 4 5 (pos 6) ∷ steps.constant 6 unbound_word ∷ saying (steps.comparing Different 4 6))) (summed w x (length values)) k
+        (code_of (steps.load 4 5 (pos 6) ∷ steps.constant 6 unbound_word ∷ steps.says (steps.comparing Different 4 6))) (summed w x (length values)) k
     told (no_value got at) cost =
         rw got
         (goes_on names program places z y procedures below (load_falls refl (slot_word_address names program places z y r w x c v values mark j it inside place) at)

@@ -6,7 +6,7 @@ use Rattle.std.proofs.Math.ListN.{length-set}
 use Rattle.isl_meaning.specs.declared.program.ProgramRows.{ProgramRows}
 use Rattle.isl_meaning.specs.declared.primitive.Primitive.TheVariants.{StringLength, CharAt, SetCharAt}
 use Rattle.isl_meaning.specs.Values.{Value, integer, character}
-use Rattle.isl_meaning.specs.Objects.{string, string_class, integer_class}
+use Rattle.isl_meaning.specs.Objects.{string, string_class}
 use Rattle.isl_meaning.specs.State as meaning
 use Rattle.isl_meaning.specs.Primitives.{result, an_integer, a_string, an_index, change}
 use Rattle.isl_mid.specs.declared.program.MidProcedure.{MidProcedure}
@@ -35,7 +35,7 @@ use Rattle.isl_arena.proofs.Arguments.{ObjectFound, object_found, character_word
 use Rattle.isl_arena.proofs.Doing.{alike_self, paid, Run, goes_on, returns_value, part_then}
 use Rattle.isl_arena.proofs.Checking.{integer_needed, character_needed}
 use Rattle.isl_arena.proofs.Needing.{string_needed}
-use Rattle.isl_arena.proofs.Arrays.{index_test, index_needed, stores_changed}
+use Rattle.isl_arena.proofs.Arrays.{index_needed, stores_changed}
 use Rattle.isl_arena.proofs.Taking.{does_one, does_two, does_three}
 
 -- a string in whose spot the word with a byte was changed
@@ -206,14 +206,14 @@ pub char_at_does : IsPrimitive CharAt (procedure_of CharAt)
 char_at_does = does_two CharAt refl (λ v w a b names program places z y procedures below n r are units.
     string_needed names program places z y r procedures below n (y.cost + 130 + 244 * 2) y.cost 0 a v
     (λ bytes. an_integer w z (λ m. an_index m (length bytes) z (λ i. result (character (slice_index_or bytes i 0)) z)))
-    (steps.need_tag 1 0 (pos (class_address integer_class)) ++ steps.load 7 0 (pos 2) ∷ index_test 1 (word_before 1 0 character_taking))
+    (steps.need_integer 1 ++ steps.load 7 0 (pos 2) ∷ steps.need_below 1 7 ∷ (word_before 1 0 character_taking))
     (first_registers 8 (a ∷ b ∷ [])) (omega arith) refl refl are.0 (omega arith)
     (λ bytes found.
     let it = object_found names program places z y r v a (string bytes) are.0 found in
     let low = string_low names program places z y r v a bytes it in
     integer_needed names program places z y r procedures below n (y.cost + 130 + 244 * 2) _ 1 b w
     (λ m. an_index m (length bytes) z (λ i. result (character (slice_index_or bytes i 0)) z))
-    (steps.load 7 0 (pos 2) ∷ index_test 1 (word_before 1 0 character_taking)) _ (omega arith) refl refl are.1.0 (omega arith)
+    (steps.load 7 0 (pos 2) ∷ steps.need_below 1 7 ∷ (word_before 1 0 character_taking)) _ (omega arith) refl refl are.1.0 (omega arith)
     (λ m m_is range m_word.
     goes_on names program places z y procedures below
     (load_falls refl (address_above a 2 (it.spot.address + 4) (omega (arith, it.word)) (omega (arith, it.word, low))) it.stands.count)
@@ -227,19 +227,19 @@ set_char_at_does = does_three SetCharAt refl (λ v w u a b c names program place
     character_needed names program places z y r procedures below n (y.cost + 130 + 244 * 3) y.cost 0 a v
     (λ x. a_string w z (λ bytes. an_integer u z (λ m. an_index m (length bytes) z (λ i. result v (change w (string (slice_set bytes i x)) z)))))
     (steps.need_header 1 string_header 1 (pos (class_address string_class))
-    ++ (steps.need_tag 2 0 (pos (class_address integer_class)) ++ steps.load 7 1 (pos 2) ∷ index_test 2 (word_before 2 1 character_setting)))
+    ++ (steps.need_integer 2 ++ steps.load 7 1 (pos 2) ∷ steps.need_below 2 7 ∷ (word_before 2 1 character_setting)))
     (first_registers 8 (a ∷ b ∷ c ∷ [])) (omega arith) refl refl are.0 (omega arith)
     (λ x x_is x_low x_word.
     string_needed names program places z y r procedures below n (y.cost + 130 + 244 * 3) _ 1 b w
     (λ bytes. an_integer u z (λ m. an_index m (length bytes) z (λ i. result v (change w (string (slice_set bytes i x)) z))))
-    (steps.need_tag 2 0 (pos (class_address integer_class)) ++ steps.load 7 1 (pos 2) ∷ index_test 2 (word_before 2 1 character_setting))
+    (steps.need_integer 2 ++ steps.load 7 1 (pos 2) ∷ steps.need_below 2 7 ∷ (word_before 2 1 character_setting))
     _ (omega arith) refl refl are.1.0 (omega arith)
     (λ bytes found.
     let it = object_found names program places z y r w b (string bytes) are.1.0 found in
     let low = string_low names program places z y r w b bytes it in
     integer_needed names program places z y r procedures below n (y.cost + 130 + 244 * 3) _ 2 c u
     (λ m. an_index m (length bytes) z (λ i. result v (change w (string (slice_set bytes i x)) z)))
-    (steps.load 7 1 (pos 2) ∷ index_test 2 (word_before 2 1 character_setting)) _ (omega arith) refl refl are.1.1.0 (omega arith)
+    (steps.load 7 1 (pos 2) ∷ steps.need_below 2 7 ∷ (word_before 2 1 character_setting)) _ (omega arith) refl refl are.1.1.0 (omega arith)
     (λ m m_is range m_word.
     goes_on names program places z y procedures below
     (load_falls refl (address_above b 2 (it.spot.address + 4) (omega (arith, it.word)) (omega (arith, it.word, low))) it.stands.count)

@@ -7,7 +7,7 @@ use Rattle.std.proofs.Math.ListN.{length-set}
 use Rattle.isl_meaning.specs.declared.program.ProgramRows.{ProgramRows}
 use Rattle.isl_meaning.specs.declared.primitive.Primitive.TheVariants.{VectorLength, VectorRef, SetVectorRef}
 use Rattle.isl_meaning.specs.Values.{Value, integer, nil}
-use Rattle.isl_meaning.specs.Objects.{vector, integer_class}
+use Rattle.isl_meaning.specs.Objects.{vector}
 use Rattle.isl_meaning.specs.State as meaning
 use Rattle.isl_meaning.specs.Primitives.{result, an_integer, an_index, change}
 use Rattle.isl_mid.specs.declared.operation.Arithmetic.TheVariants as which
@@ -17,7 +17,6 @@ use Rattle.isl_mid.specs.MidCode.{MidStep, return_word}
 use Rattle.isl_mid.specs.State.{State, first_registers}
 use Rattle.isl_arena.specs.Places.{Spot, Places, word_of}
 use Rattle.isl_arena.specs.Standing.{ArenaStands, SpotStands, ValueAt}
-use Rattle.isl_arena.specs.FixedWords.{class_address}
 use Rattle.isl_arena.specs.Layouts.{VectorAt}
 use Rattle.isl_arena.specs.Represents.{Represents}
 use Rattle.isl_arena.specs.Answers.{IsPrimitive}
@@ -29,7 +28,7 @@ use Rattle.isl_arena.proofs.Arguments.{ObjectFound, object_found, length_word_is
 use Rattle.isl_arena.proofs.Doing.{alike_self, goes_on, returns_value}
 use Rattle.isl_arena.proofs.Checking.{integer_needed}
 use Rattle.isl_arena.proofs.Needing.{vector_needed}
-use Rattle.isl_arena.proofs.Arrays.{index_test, index_needed, stores_changed}
+use Rattle.isl_arena.proofs.Arrays.{index_needed, stores_changed}
 use Rattle.isl_arena.proofs.Taking.{does_one, does_two, does_three}
 
 -- a vector in whose spot one element was set
@@ -92,13 +91,13 @@ pub vector_ref_does : IsPrimitive VectorRef (procedure_of VectorRef)
 vector_ref_does = does_two VectorRef refl (λ v w a b names program places z y procedures below n r are units.
     vector_needed names program places z y r procedures below n (y.cost + 130 + 244 * 2) y.cost 0 a v
     (λ vs. an_integer w z (λ m. an_index m (length vs) z (λ i. result (slice_index_or vs i nil) z)))
-    (steps.need_tag 1 0 (pos (class_address integer_class)) ++ steps.load 7 0 (pos 2) ∷ index_test 1 taking)
+    (steps.need_integer 1 ++ steps.load 7 0 (pos 2) ∷ steps.need_below 1 7 ∷ taking)
     (first_registers 8 (a ∷ b ∷ [])) (omega arith) refl refl are.0 (omega arith)
     (λ vs found.
     let it = object_found names program places z y r v a (vector vs) are.0 found in
     let low = vector_low names program places z y r v a vs it in
     integer_needed names program places z y r procedures below n (y.cost + 130 + 244 * 2) _ 1 b w
-    (λ m. an_index m (length vs) z (λ i. result (slice_index_or vs i nil) z)) (steps.load 7 0 (pos 2) ∷ index_test 1 taking)
+    (λ m. an_index m (length vs) z (λ i. result (slice_index_or vs i nil) z)) (steps.load 7 0 (pos 2) ∷ steps.need_below 1 7 ∷ taking)
     _ (omega arith) refl refl are.1.0 (omega arith)
     (λ m m_is range m_word.
     goes_on names program places z y procedures below
@@ -121,13 +120,13 @@ pub set_vector_ref_does : IsPrimitive SetVectorRef (procedure_of SetVectorRef)
 set_vector_ref_does = does_three SetVectorRef refl (λ v w u a b c names program places z y procedures below n r are units.
     vector_needed names program places z y r procedures below n (y.cost + 130 + 244 * 3) y.cost 1 b w
     (λ vs. an_integer u z (λ m. an_index m (length vs) z (λ i. result v (change w (vector (slice_set vs i v)) z))))
-    (steps.need_tag 2 0 (pos (class_address integer_class)) ++ steps.load 7 1 (pos 2) ∷ index_test 2 setting)
+    (steps.need_integer 2 ++ steps.load 7 1 (pos 2) ∷ steps.need_below 2 7 ∷ setting)
     (first_registers 8 (a ∷ b ∷ c ∷ [])) (omega arith) refl refl are.1.0 (omega arith)
     (λ vs found.
     let it = object_found names program places z y r w b (vector vs) are.1.0 found in
     let low = vector_low names program places z y r w b vs it in
     integer_needed names program places z y r procedures below n (y.cost + 130 + 244 * 3) _ 2 c u
-    (λ m. an_index m (length vs) z (λ i. result v (change w (vector (slice_set vs i v)) z))) (steps.load 7 1 (pos 2) ∷ index_test 2 setting)
+    (λ m. an_index m (length vs) z (λ i. result v (change w (vector (slice_set vs i v)) z))) (steps.load 7 1 (pos 2) ∷ steps.need_below 2 7 ∷ setting)
     _ (omega arith) refl refl are.1.1.0 (omega arith)
     (λ m m_is range m_word.
     goes_on names program places z y procedures below
