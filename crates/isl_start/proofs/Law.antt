@@ -117,6 +117,9 @@ pub class_fetched :
 class_fetched names program input class within =
     ap (fetch (first_state (objects_at_start names program) input)) (class_value_is names program class within) ∙ class_at_start names program class within
 
+none_some : (o : Option ℕ) (w : ℕ) → o ≡ None → o ≡ Some w → ⊥
+none_some o w e f = cc
+
 -- no object is left without a spot
 pub no_gap :
     (names : List (List ℕ)) (program : ProgramRows) (words : StartWords) (start : Start names program words) (i : ℕ)
@@ -125,4 +128,4 @@ no_gap names program words start i gap =
     let inside = slice_get_within start.places.objects i None gap in
     let there = start.all i (omega (arith, inside, start.stands.count)) in
     let gone : word_of start.places (object i) ≡ None = ap (λ o. pointer_in (spot_in o)) gap in
-    absurd (cc)
+    none_some (word_of start.places (object i)) there.word gone there.of_value

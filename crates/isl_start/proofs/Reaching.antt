@@ -1,5 +1,5 @@
 -- All objects of a datum are reached from its value: where this has a word, each of them has one.
-use Rattle.std.proofs.Common.{◌≡◌, ℕ, zero, suc, ◌+◌, ◌-◌, ◌*◌, ◌<◌, ◌≤◌, List, [], ◌∷◌, ◌++◌, length, Some, ⊎_elim, refl, sym, ◌∙◌, ap, subst, length-append, arith}
+use Rattle.std.proofs.Common.{◌≡◌, ℕ, suc, ◌+◌, ◌-◌, ◌*◌, ◌<◌, ◌≤◌, List, [], ◌∷◌, ◌++◌, length, Some, ⊎_elim, sym, ◌∙◌, ap, subst, length-append, arith}
 use Rattle.std.specs.Prelude.{slice_get, slice_index_or}
 use Rattle.std.proofs.lemmas.Bool.{cases_lt}
 use Rattle.isl_base.specs.Data as datum
@@ -9,7 +9,7 @@ use Rattle.isl_meaning.specs.Values.{Value, nil, object}
 use Rattle.isl_meaning.specs.Objects.{Object, cons, string, vector}
 use Rattle.isl_meaning.specs.Literals.{Laid, lay, lay_content, lay_items, lay_list, lay_tail}
 use Rattle.isl_mid.specs.Arena.{Arena}
-use Rattle.isl_arena.specs.Places.{Spot, Places, of_object, spot_of, word_of}
+use Rattle.isl_arena.specs.Places.{Places, of_object, spot_of, word_of}
 use Rattle.isl_arena.specs.Standing.{ValueAt, ValuesAt}
 use Rattle.isl_arena.specs.Layouts.{ConsAt, VectorAt}
 use Rattle.isl_arena.proofs.Keeping.{Extends, pointer_tells}
