@@ -35,7 +35,7 @@ use Rattle.isl_start.proofs.Whole.{at_functions, at_literals, at_slots, all_obje
 use Rattle.isl_start.proofs.Found.{function_found, word_in}
 use Rattle.isl_start.proofs.LiteralPlaces.{literal_found}
 use Rattle.isl_start.proofs.ClassPlaces.{first_objects, first_count, input_object, output_object, class_number_is, class_there, input_is, output_is, class_value_is}
-use Rattle.isl_start.proofs.SlotStanding.{slots_stand_there}
+use Rattle.isl_start.proofs.SlotStanding.{turn_length, each_length, slots_stand_there}
 use Rattle.isl_start.proofs.FixedFront.{with_fixed_spot, same_values, no_nil_there, front_laid, front_numbered, fixed_count, fixed_stand}
 
 -- a program has at least the classes that are built in
@@ -357,6 +357,12 @@ module _
           (front_numbered names program places store (fixed_contents cs input output truth) h words (fixed_count cs input output truth enough_words) same_from first all symbols settled.stands
           all_numbered);
       class_count = settled.many;
+      function_count =
+          each_length IsWord functions_made.places_after (in_turn function_recipe program.functions (length at_first)).1 fs functions_made.words
+          ∙ turn_length function_recipe program.functions (length at_first);
+      literal_count =
+          each_length IsWord literals_made.places_after (in_turn (literal_recipe names) program.literals (length with_functions)).1 ls literals_made.words
+          ∙ turn_length (literal_recipe names) program.literals (length with_functions);
       class_words = λ class w there.
           let within = slice_get_within cs class w there in
           (same_values places).word (class_value names program class) w (of_classes class w there (omega (arith, settled.many)));

@@ -46,6 +46,8 @@ pub record Start (names : List (List ℕ)) (program : ProgramRows) (start : Star
   pub all : (i : ℕ) → i < length (objects_at_start names program) → HasWord places (object i)
   pub numbered : AreNumbered places (objects_at_start names program) start.arena
   pub class_count : length start.classes ≡ length program.classes
+  pub function_count : length start.functions ≡ length program.functions
+  pub literal_count : length start.literals ≡ length program.literals
   pub class_words : (class w : ℕ) → slice_get start.classes class ≡ Some w → word_of places (class_value names program class) ≡ Some w
   pub function_words :
       (name : List ℕ) (w : ℕ) → word_of_text names program.functions start.functions name ≡ Some w → word_of places (function_value names program name) ≡ Some w
