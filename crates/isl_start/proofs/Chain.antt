@@ -1,5 +1,5 @@
 -- All that is laid, one after another, and the classes and streams at last: **the words are those of the objects at the start**.
-use Rattle.std.proofs.Common.{◌≡◌, ℕ, zero, suc, ◌+◌, ◌%◌, ◌<◌, ◌≤◌, Bool, true, false, List, [], ◌∷◌, ◌++◌, length, Option, Some, None, refl, sym, ◌∙◌, ap, subst, append-nil, zero-add, arith}
+use Rattle.std.proofs.Common.{length-append, ◌≡◌, ℕ, zero, suc, ◌+◌, ◌%◌, ◌<◌, ◌≤◌, Bool, true, false, List, [], ◌∷◌, ◌++◌, length, Option, Some, None, refl, sym, ◌∙◌, ap, subst, append-nil, zero-add, arith, ◌-◌, ⊎_elim}
 use Rattle.std.specs.Prelude.{slice_get, replicate, ◌&&◌}
 use Rattle.std.proofs.lemmas.List.{length-replicate}
 use Rattle.std.proofs.lemmas.Option.{slice_get_within, get_or_from_slice_get}
@@ -23,7 +23,10 @@ use Rattle.isl_laying.proofs.Lists.{item_stays}
 use Rattle.isl_laying.proofs.Joining.{longer_both, extends_longer}
 use Rattle.isl_start.specs.declared.slots.SlotWords.{SlotWords}
 use Rattle.isl_start.specs.Recipes.{Recipe, in_turn, name_recipe, function_recipe, literal_recipe, slots_recipe}
-use Rattle.isl_start.specs.Making.{IsWord, IsSlot, Each, AreNumbered, Made, Makes}
+use Rattle.isl_start.specs.Making.{IsWord, IsSlot, Each, HasWord, HaveWords, AreNumbered, Made, Makes}
+use Rattle.isl_start.proofs.Reaching.{words_both, words_kept}
+use Rattle.isl_arena.proofs.Arguments.{item_there}
+use Rattle.std.proofs.lemmas.Bool.{cases_lt}
 use Rattle.isl_start.specs.Settling.{AreCounted, StillWords, Settled, Settles, class_number, ClassesWait, ClassesSettled, ClassesSettle}
 use Rattle.isl_start.specs.Start.{fixed_contents, Start}
 use Rattle.isl_start.proofs.Joins.{lasts_word, lasts_slot, lasts_each, Lasts}
@@ -32,7 +35,7 @@ use Rattle.isl_start.proofs.Whole.{at_functions, at_literals, at_slots, all_obje
 use Rattle.isl_start.proofs.Found.{function_found, word_in}
 use Rattle.isl_start.proofs.LiteralPlaces.{literal_found}
 use Rattle.isl_start.proofs.ClassPlaces.{first_objects, first_count, input_object, output_object, class_number_is, class_there, input_is, output_is, class_value_is}
-use Rattle.isl_start.proofs.SlotStanding.{slots_stand_there}
+use Rattle.isl_start.proofs.SlotStanding.{turn_length, each_length, slots_stand_there}
 use Rattle.isl_start.proofs.FixedFront.{with_fixed_spot, same_values, no_nil_there, front_laid, front_numbered, fixed_count, fixed_stand}
 
 -- a program has at least the classes that are built in
@@ -252,6 +255,68 @@ module _
     literals_at : length with_functions ≡ at_literals names built_in_classes program
     literals_at = sym (ap (λ (os : List Object). 0 + length os) functions_same ∙ zero-add (length with_functions))
 
+    -- each object has a word
+
+    first_words : HaveWords places 0 (length at_first)
+    first_words = record { each = λ i low. subst (λ n. HasWord places (object n)) (sym (zero-add i)) (of_place i (omega (arith, first_length))) }
+      where
+        class_word : (class : ℕ) → class < length program.classes → HasWord places (object (class_number class))
+        class_word class within =
+            let there = item_there cs class (omega (arith, settled.many)) in
+            record { word = there.0; of_value = settled.of_classes class there.0 there.1 }
+
+        at_number : (class i : ℕ) → class < length program.classes → (class < 34 → class ≡ i) → (34 ≤ class → class + 2 ≡ i) → HasWord places (object i)
+        at_number class i within low high =
+            class_number_is (λ n. HasWord places (object n) → HasWord places (object i)) class
+            (λ h w. subst (λ n. HasWord places (object n)) (low h) w) (λ h w. subst (λ n. HasWord places (object n)) (high h) w) (class_word class within)
+
+        in_word : HasWord places (object 34)
+        in_word = record { word = input; of_value = settled.words.word (object 34) input (output_settled.words.word (object 34) input input_settled.of_object) }
+
+        out_word : HasWord places (object 35)
+        out_word = record { word = output; of_value = settled.words.word (object 35) output output_settled.of_object }
+
+        of_place : (i : ℕ) → i < length program.classes + 2 → HasWord places (object i)
+        of_place i within =
+            ⊎_elim
+            (λ (low : i < 34). at_number i i (omega arith) (λ h. refl) (λ h. omega arith))
+            (λ (high : 34 ≤ i).
+            ⊎_elim
+            (λ (stream : i < 36). of_stream i high stream)
+            (λ (other : 36 ≤ i). at_number (i - 2) i (omega arith) (λ h. omega arith) (λ h. omega arith))
+            (cases_lt i 36))
+            (cases_lt i 34)
+          where
+            of_stream : (i : ℕ) → 34 ≤ i → i < 36 → HasWord places (object i)
+            of_stream i high low =
+                ⊎_elim
+                (λ (one : i < 35). let same : 34 ≡ i = omega arith in subst (λ n. HasWord places (object n)) same in_word)
+                (λ (two : 35 ≤ i). let same : 35 ≡ i = omega arith in subst (λ n. HasWord places (object n)) same out_word)
+                (cases_lt i 35)
+
+    all_words : HaveWords places 0 (length store)
+    all_words =
+        let fl = (in_turn function_recipe program.functions (length at_first)).0 in
+        let ll = (in_turn (literal_recipe names) program.literals (length with_functions)).0 in
+        let sl = (in_turn (slots_recipe names) program.classes (length with_literals)).0 in
+        let literals_longer : Longer slots_made.places_after laid = true_made.longer in
+        let after_slots : Longer literals_made.places_after laid = longer_both literals_made.places_after slots_made.places_after laid slots_made.longer literals_longer in
+        let after_functions : Longer functions_made.places_after laid =
+        longer_both functions_made.places_after literals_made.places_after laid literals_made.longer after_slots in
+        let one = words_kept functions_made.places_after places (at_last functions_made.places_after after_functions) (length at_first) (length fl) functions_made.all in
+        let two = words_kept literals_made.places_after places (at_last literals_made.places_after after_slots) (length with_functions) (length ll) literals_made.all in
+        let three = words_kept slots_made.places_after places (at_last slots_made.places_after literals_longer) (length with_literals) (length sl) slots_made.all in
+        let first : length with_functions ≡ length at_first + length fl = length-append at_first fl in
+        let second : length with_literals ≡ length with_functions + length ll = length-append with_functions ll in
+        let third : length store ≡ length with_literals + length sl = length-append with_literals sl in
+        rw third
+        (words_both places 0 (length with_literals) (length sl)
+        (rw second
+        (words_both places 0 (length with_functions) (length ll)
+        (rw first (words_both places 0 (length at_first) (length fl) first_words (subst (λ n. HaveWords places n (length fl)) (sym (zero-add (length at_first))) one)))
+        (subst (λ n. HaveWords places n (length ll)) (sym (zero-add (length with_functions))) two)))
+        (subst (λ n. HaveWords places n (length sl)) (sym (zero-add (length with_literals))) three))
+
     functions_words : Each IsWord places (in_turn function_recipe program.functions (at_functions names built_in_classes program)).1 fs
     functions_words =
         subst (λ n. Each IsWord places (in_turn function_recipe program.functions n).1 fs) functions_at
@@ -283,11 +348,21 @@ module _
           (ap (word_of places) (input_is names program) ∙ settled.words.word (object 34) input (output_settled.words.word (object 34) input input_settled.of_object))
           (ap (word_of places) (output_is names program) ∙ settled.words.word (object 35) output output_settled.of_object)
           (settled.words.word t truth classes_wait.truth_stands) left;
+      all = λ i low.
+          let within : i < length store = subst (λ (os : List Object). i < length os) (sym store_same) low in
+          let old : HasWord places (object i) = subst (λ n. HasWord places (object n)) (zero-add i) (all_words.each i within) in
+          record { word = old.word; of_value = (same_values places).word (object i) old.word old.of_value };
       numbered =
           subst (λ os. AreNumbered (with_fixed_spot places) os words) store_same
           (front_numbered names program places store (fixed_contents cs input output truth) h words (fixed_count cs input output truth enough_words) same_from first all symbols settled.stands
           all_numbered);
       class_count = settled.many;
+      function_count =
+          each_length IsWord functions_made.places_after (in_turn function_recipe program.functions (length at_first)).1 fs functions_made.words
+          ∙ turn_length function_recipe program.functions (length at_first);
+      literal_count =
+          each_length IsWord literals_made.places_after (in_turn (literal_recipe names) program.literals (length with_functions)).1 ls literals_made.words
+          ∙ turn_length (literal_recipe names) program.literals (length with_functions);
       class_words = λ class w there.
           let within = slice_get_within cs class w there in
           (same_values places).word (class_value names program class) w (of_classes class w there (omega (arith, settled.many)));

@@ -5,12 +5,13 @@ use Rattle.isl_base.specs.Names.{slice_get-behind}
 use Rattle.isl_meaning.specs.declared.program.ProgramRows.{ProgramRows}
 use Rattle.isl_meaning.specs.declared.program.Callee.{Callee}
 use Rattle.isl_meaning.specs.declared.program.Callee.TheVariants.{Procedure, Generic}
+use Rattle.isl_meaning.specs.Values.{object}
 use Rattle.isl_meaning.specs.Objects.{Object, function}
 use Rattle.isl_meaning.specs.Literals.{Laid, after_parts}
 use Rattle.isl_meaning.specs.Layout.{function_object}
 use Rattle.isl_mid.specs.Arena.{word_at}
 use Rattle.isl_arena.specs.Tags.{object_tag, function_header, generic_header}
-use Rattle.isl_arena.specs.Places.{Spot, end_of, Places, of_object, spot_of, pointer_in, with_object}
+use Rattle.isl_arena.specs.Places.{Spot, end_of, Places, of_object, spot_of, pointer_in, word_of, with_object}
 use Rattle.isl_arena.specs.Layouts.{ObjectAt}
 use Rattle.isl_laying.specs.declared.words.ArenaWords.{ArenaWords}
 use Rattle.isl_laying.specs.LaidArena.{end_address, arena_of}
@@ -22,6 +23,7 @@ use Rattle.isl_laying.proofs.Made.{spot_behind, object_after}
 use Rattle.isl_start.specs.Recipes.{single, laid, callee_recipe}
 use Rattle.isl_start.specs.Making.{IsWord, IsNumbered, AreNumbered, Made, Makes}
 use Rattle.isl_start.proofs.Numbered.{FrontOrBehind, at_front, further, front_or_behind, old_numbered}
+use Rattle.isl_start.proofs.Reaching.{one_word}
 use Rattle.isl_start.proofs.Joins.{makes_as}
 
 -- words behind those that were there, by their addresses
@@ -61,6 +63,7 @@ object_made names o before after ws w more some made number word =
           numbered = λ numbered. record {
             each = λ i p s found e. by l numbered i p s e (front_or_behind store (o ∷ []) i (function p) found);
           };
+          all = one_word l.places_after (length store) w (ap (λ n. word_of l.places_after (object n)) (sym (add-zero (length store))) ∙ l.of_value);
         }
       where
         by : (l : LaidThere names program places store after (lay (length store)) w) → AreNumbered places store before → (i p : ℕ) (s : Spot)

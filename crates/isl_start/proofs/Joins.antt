@@ -1,11 +1,12 @@
 -- What is made one behind another.
 use Rattle.std.proofs.Common.{◌≡◌, ℕ, zero, suc, ◌+◌, ◌≤◌, List, [], ◌∷◌, ◌++◌, length, take, Some, refl, ◌∙◌, ap, subst, append_assoc, append-nil, add-zero, length-append, arith}
 use Rattle.std.specs.Prelude.{slice_get}
+use Rattle.isl_base.specs.Data.{Item}
 use Rattle.isl_meaning.specs.declared.program.ProgramRows.{ProgramRows}
 use Rattle.isl_meaning.specs.declared.program.SlotRow.{SlotRow}
 use Rattle.isl_meaning.specs.Values.{Value}
 use Rattle.isl_meaning.specs.Objects.{Object}
-use Rattle.isl_meaning.specs.Literals.{Laid}
+use Rattle.isl_meaning.specs.Literals.{lay}
 use Rattle.isl_arena.specs.Places.{Places}
 use Rattle.isl_arena.proofs.Keeping.{Extends}
 use Rattle.isl_laying.specs.declared.words.ArenaWords.{ArenaWords}
@@ -13,8 +14,9 @@ use Rattle.isl_laying.specs.LaidWell.{LaidWell}
 use Rattle.isl_laying.specs.Laying.{Grown, LaidThere, Lays}
 use Rattle.isl_laying.proofs.Joining.{longer_same, longer_both, extends_longer}
 use Rattle.isl_start.specs.Recipes.{Recipe, SlotValues, no_more, joined, in_turn, laid, name_recipe, initargs_recipe, initform_recipe, slot_recipe}
-use Rattle.isl_start.specs.Making.{IsWord, IsSlot, Each, Made, Makes, IsWithin}
-use Rattle.isl_start.proofs.Numbered.{NoFunctions, none_numbered}
+use Rattle.isl_start.specs.Making.{IsWord, IsSlot, Each, HaveWords, Made, Makes, IsWithin}
+use Rattle.isl_start.proofs.Numbered.{data_no_functions, none_numbered}
+use Rattle.isl_start.proofs.Reaching.{no_words, words_both, words_kept, lies_behind, datum_reached}
 
 -- ---- what stays where more is laid
 
@@ -74,6 +76,7 @@ makes_none names means v w words h = record {
     stands = rw (append-nil store) stands;
     words = h places;
     numbered = λ numbered. rw (append-nil store) numbered;
+    all = no_words places (length store);
   };
 }
 
@@ -103,22 +106,30 @@ makes_joined {U} {V} {W} {X} {Y} {Z} names one two both join r s before mid afte
           words = join_means next.places_after a.1 (s (length store + length a.0)).1
               (lasts.kept first.places_after next.places_after (extends_longer first.places_after next.places_after next.longer) a.1 x first.words) next.words;
           numbered = λ numbered. rw (← append_assoc store a.0 (s (length store + length a.0)).0) (next.numbered (first.numbered numbered));
+          all =
+              let one : HaveWords next.places_after (length store) (length a.0) =
+              words_kept first.places_after next.places_after (extends_longer first.places_after next.places_after next.longer) (length store) (length a.0) first.all in
+              let last = (s (length store + length a.0)).0 in
+              rw (length-append a.0 last)
+              (words_both next.places_after (length store) (length a.0) (length last) one (subst (λ n. HaveWords next.places_after n (length last)) count next.all));
         }
 
 -- what a datum makes
-pub makes_laid :
-    (names : List (List ℕ)) (lay : ℕ → Laid) (before after : ArenaWords) (w : ℕ) → ((n : ℕ) → NoFunctions (lay n).objects) → Grown before after → Lays names lay before after w
-    → Makes names IsWord (laid lay) before after w
-makes_laid names lay before after w none grown p = record {
+pub makes_datum :
+    (names : List (List ℕ)) (d : Item) (before after : ArenaWords) (w : ℕ) → Grown before after → Lays names (lay names d) before after w
+    → Makes names IsWord (laid (lay names d)) before after w
+makes_datum names d before after w grown p = record {
   there = λ program places store h.
-      let l : LaidThere names program places store after (lay (length store)) w = p.there program places store h in
+      let l : LaidThere names program places store after (lay names d (length store)) w = p.there program places store h in
+      let objects = (lay names d (length store)).objects in
       record {
         places_after = l.places_after;
         longer = l.longer;
         stands = l.stands;
         words = l.of_value;
         numbered = λ numbered.
-            none_numbered names program places l.places_after store before after h l.longer grown numbered (lay (length store)).objects (none (length store));
+            none_numbered names program places l.places_after store before after h l.longer grown numbered objects (data_no_functions names d (length store));
+        all = datum_reached names program l.places_after (store ++ objects) after l.stands d (length store) w (lies_behind store objects) l.of_value;
       };
 }
 

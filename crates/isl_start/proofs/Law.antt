@@ -13,7 +13,9 @@ use Rattle.isl_meaning.specs.Objects.{class_object}
 use Rattle.isl_meaning.specs.Layout.{objects_at_start, class_value}
 use Rattle.isl_mid.specs.Arena.{Arena, is_lent, word_in, word_at}
 use Rattle.isl_mid.specs.State.{State}
-use Rattle.isl_arena.specs.Places.{Spot, of_object, of_symbol, of_other}
+use Rattle.std.proofs.lemmas.Option.{slice_get_within}
+use Rattle.isl_meaning.specs.Values.{object}
+use Rattle.isl_arena.specs.Places.{spot_in, pointer_in, word_of, Spot, of_object, of_symbol, of_other}
 use Rattle.isl_arena.specs.Standing.{ArenaStands, of_laid, SpotStands, SameWords}
 use Rattle.isl_arena.specs.FixedWords.{FixedStand}
 use Rattle.isl_arena.specs.Layouts.{AreBytes}
@@ -116,3 +118,16 @@ pub class_fetched :
     → fetch (first_state (objects_at_start names program) input) (class_value names program class) ≡ Some (class_object class)
 class_fetched names program input class within =
     ap (fetch (first_state (objects_at_start names program) input)) (class_value_is names program class within) ∙ class_at_start names program class within
+
+none_some : (o : Option ℕ) (w : ℕ) → o ≡ None → o ≡ Some w → ⊥
+none_some o w e f = cc
+
+-- no object is left without a spot
+pub no_gap :
+    (names : List (List ℕ)) (program : ProgramRows) (words : StartWords) (start : Start names program words) (i : ℕ)
+    → slice_get start.places.objects i ≡ Some None → ⊥
+no_gap names program words start i gap =
+    let inside = slice_get_within start.places.objects i None gap in
+    let there = start.all i (omega (arith, inside, start.stands.count)) in
+    let gone : word_of start.places (object i) ≡ None = ap (λ o. pointer_in (spot_in o)) gap in
+    none_some (word_of start.places (object i)) there.word gone there.of_value

@@ -1,4 +1,5 @@
 pub mod Numbered
+pub mod Reaching
 pub mod Joins
 pub mod FunctionObjects
 pub mod SlotCounts

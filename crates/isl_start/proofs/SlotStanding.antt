@@ -13,6 +13,11 @@ use Rattle.isl_start.specs.Settling.{SlotStands, SlotsStand, AreCounted}
 use Rattle.isl_start.proofs.SlotPlaces.{Part, args, form, value_of, value_at, value_in_class, slot_under}
 use Rattle.isl_start.proofs.Whole.{at_slots, initargs_whole, initform_whole}
 
+-- as many values as there are in the list
+pub turn_length : {X V : Type 0} (f : X → Recipe V) (xs : List X) (n : ℕ) → length (in_turn f xs n).1 ≡ length xs
+turn_length f [] n = refl
+turn_length f (x ∷ xs) n = ap (λ k. suc k) (turn_length f xs (n + length (f x n).0))
+
 -- what is made of the one at a place of a list
 pub turn_at : {X V : Type 0} (f : X → Recipe V) (xs : List X) (n i : ℕ) (x : X) → slice_get xs i ≡ Some x → (m : ℕ) × (slice_get (in_turn f xs n).1 i ≡ Some (f x m).1)
 turn_at f [] n i x e = absurd (cc)
@@ -27,7 +32,7 @@ each_at means places (u ∷ us) [] i v w h e f = absurd (cc)
 each_at means places (u ∷ us) (x ∷ xs) zero v w h e f = let one : u ≡ v = cc in let other : x ≡ w = cc in rw (← one, ← other) h.0
 each_at means places (u ∷ us) (x ∷ xs) (suc i) v w h e f = each_at means places us xs i v w h.1 e f
 
-each_length : {V W : Type 0} (means : Places → V → W → Type 0) (places : Places) (vs : List V) (ws : List W) → Each means places vs ws → length ws ≡ length vs
+pub each_length : {V W : Type 0} (means : Places → V → W → Type 0) (places : Places) (vs : List V) (ws : List W) → Each means places vs ws → length ws ≡ length vs
 each_length means places [] [] h = refl
 each_length means places [] (w ∷ ws) h = absurd h
 each_length means places (v ∷ vs) [] h = absurd h

@@ -1,7 +1,7 @@
 -- When words that are laid are what a recipe makes, wherever the words before represent objects.
-use Rattle.std.specs.Prelude.{◌≡◌, ℕ, ◌+◌, ◌≤◌, List, [], ◌∷◌, ◌++◌, length, Some, slice_get}
+use Rattle.std.specs.Prelude.{◌≡◌, ℕ, ◌+◌, ◌<◌, ◌≤◌, List, [], ◌∷◌, ◌++◌, length, Some, slice_get}
 use Rattle.isl_meaning.specs.declared.program.ProgramRows.{ProgramRows}
-use Rattle.isl_meaning.specs.Values.{Value}
+use Rattle.isl_meaning.specs.Values.{Value, object}
 use Rattle.isl_meaning.specs.Objects.{Object, function}
 use Rattle.isl_mid.specs.Arena.{word_at}
 use Rattle.isl_arena.specs.Places.{Spot, Places, of_object, spot_of, word_of}
@@ -29,6 +29,15 @@ Each means places [] (w ∷ ws) = ⊥
 Each means places (v ∷ vs) [] = ⊥
 Each means places (v ∷ vs) (w ∷ ws) = means places v w × Each means places vs ws
 
+-- a value has a word: an object that is a value has a spot
+pub record HasWord (places : Places) (v : Value) : Type 0 where
+  pub word : ℕ
+  pub of_value : word_of places v ≡ Some word
+
+-- so many objects from a number on have words
+pub record HaveWords (places : Places) (from count : ℕ) : Type 0 where
+  pub each : (i : ℕ) → i < count → HasWord places (object (from + i))
+
 -- a function has two words, of which the second is its procedure's number
 pub record IsNumbered (words : ArenaWords) (s : Spot) (procedure : ℕ) : Type 0 where
   pub size : s.words ≡ 2
@@ -47,6 +56,7 @@ pub record Made {V W : Type 0} (names : List (List ℕ)) (program : ProgramRows)
   pub stands : LaidWell names program places_after (store ++ made.0) after
   pub words : means places_after made.1 w
   pub numbered : AreNumbered places store before → AreNumbered places_after (store ++ made.0) after
+  pub all : HaveWords places_after (length store) (length made.0)
 
 -- wherever the words before represent objects, the words after represent them and what the recipe makes behind them
 pub record Makes {V W : Type 0} (names : List (List ℕ)) (means : Places → V → W → Type 0) (recipe : Recipe V) (before after : ArenaWords) (w : W) : Type 0 where

@@ -1,11 +1,11 @@
 -- **The words before the first form**: when they are those of the objects at the start, and the states of middle code that begin with them.
-use Rattle.std.specs.Prelude.{◌≡◌, ℕ, ◌*◌, ◌%◌, ◌^◌, ◌≤◌, List, [], ◌∷◌, ◌++◌, length, take, Option, Some, None, replicate, slice_get, if◌then◌else◌}
+use Rattle.std.specs.Prelude.{◌≡◌, ℕ, ◌*◌, ◌%◌, ◌^◌, ◌<◌, ◌≤◌, List, [], ◌∷◌, ◌++◌, length, take, Option, Some, None, replicate, slice_get, if◌then◌else◌}
 use Rattle.std.specs.Str.{bytes_eq}
 use Rattle.isl_base.specs.Data.{Item}
 use Rattle.isl_meaning.specs.declared.program.ProgramRows.{ProgramRows}
 use Rattle.isl_meaning.specs.declared.program.FunctionRow.{FunctionRow}
 use Rattle.isl_meaning.specs.declared.program.LiteralRow.TheVariants.{Datum}
-use Rattle.isl_meaning.specs.Values.{named}
+use Rattle.isl_meaning.specs.Values.{named, object}
 use Rattle.isl_meaning.specs.Lookup.{text}
 use Rattle.isl_meaning.specs.Layout.{objects_at_start, class_value, function_value, literal_value}
 use Rattle.isl_mid.specs.State.{State}
@@ -15,7 +15,7 @@ use Rattle.isl_arena.specs.FixedWords.{fixed_words, nil_text, FixedStand}
 use Rattle.isl_laying.specs.declared.words.ArenaWords.{ArenaWords}
 use Rattle.isl_laying.specs.LaidArena.{end_address, memory_of, arena_of}
 use Rattle.isl_laying.specs.LaidWell.{LaidWell}
-use Rattle.isl_start.specs.Making.{AreNumbered}
+use Rattle.isl_start.specs.Making.{HasWord, AreNumbered}
 use Rattle.isl_start.specs.declared.start.StartWords.{StartWords}
 
 abbrev pub fixed_spot : Spot
@@ -34,7 +34,7 @@ word_of_text names [] ws name = None
 word_of_text names (f ∷ fs) [] name = None
 word_of_text names (f ∷ fs) (w ∷ ws) name = if bytes_eq name (text names f.name.0) then Some w else word_of_text names fs ws name
 
--- The words represent the objects that are there before the first form, in these places, with the fixed words in front; and the words
+-- The words represent the objects that are there before the first form, each in its spot, with the fixed words in front; and the words
 -- that are given are those of the classes, of the functions of names, and of the literals that are data.
 pub record Start (names : List (List ℕ)) (program : ProgramRows) (start : StartWords) : Type 0 where
   pub places : Places
@@ -43,8 +43,11 @@ pub record Start (names : List (List ℕ)) (program : ProgramRows) (start : Star
   pub no_nil : spot_of places (of_symbol (named nil_text)) ≡ None
   pub stands : LaidWell names program places (objects_at_start names program) start.arena
   pub fixed : (input : List ℕ) → FixedStand names program places (arena_of start.arena) 0 [] input input
+  pub all : (i : ℕ) → i < length (objects_at_start names program) → HasWord places (object i)
   pub numbered : AreNumbered places (objects_at_start names program) start.arena
   pub class_count : length start.classes ≡ length program.classes
+  pub function_count : length start.functions ≡ length program.functions
+  pub literal_count : length start.literals ≡ length program.literals
   pub class_words : (class w : ℕ) → slice_get start.classes class ≡ Some w → word_of places (class_value names program class) ≡ Some w
   pub function_words :
       (name : List ℕ) (w : ℕ) → word_of_text names program.functions start.functions name ≡ Some w → word_of places (function_value names program name) ≡ Some w

@@ -45,7 +45,8 @@ pub enum StartFault {
 }
 
 /// The words before the first form of a program, where t has that name: the fixed words, and behind
-/// them the objects that are there. `TooLarge` comes only where they would be more than 2^24 words.
+/// them the objects that are there. `TooLarge` comes only where 46 words, and 160 for each unit of
+/// the rows' size, are more than 2^24.
 pub fn lay_start(
     alloc: Global,
     names: &Names,

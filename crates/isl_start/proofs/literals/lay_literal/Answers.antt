@@ -4,8 +4,7 @@ use Rattle.isl_meaning.specs.Literals.{lay}
 use Rattle.isl_laying.specs.Laying.{Lays, Grown}
 use Rattle.isl_start.specs.Recipes.{literal_recipe}
 use Rattle.isl_start.specs.Making.{IsWord, Makes}
-use Rattle.isl_start.proofs.Joins.{makes_laid}
-use Rattle.isl_start.proofs.Numbered.{data_no_functions}
+use Rattle.isl_start.proofs.Joins.{makes_datum}
 use Rattle.isl_start.proofs.Steps.{if_ok_on}
 use Rattle.isl_start.proofs.literals.lay_literal.Goals as goal
 
@@ -16,5 +15,5 @@ returns-in-Datum-clause-made c =
     (λ w. Lays c.args.names.now (lay c.args.names.now c.in-Datum.datum) c.args.words.now c.lay_datum.new.words w)
     (λ w. Makes c.args.names.now IsWord (literal_recipe c.args.names.now (Datum c.in-Datum.datum)) c.args.words.now c.lay_datum.new.words w)
     (Grown c.args.words.now c.lay_datum.new.words)
-    (λ w g p. makes_laid c.args.names.now (lay c.args.names.now c.in-Datum.datum) c.args.words.now c.lay_datum.new.words w (λ n. data_no_functions c.args.names.now c.in-Datum.datum n) g p)
+    (λ w g p. makes_datum c.args.names.now c.in-Datum.datum c.args.words.now c.lay_datum.new.words w g p)
     c.lay_datum.ensures.grown c.lay_datum.ensures.lays)

@@ -5,9 +5,8 @@ use Rattle.isl_meaning.specs.Literals.{lay}
 use Rattle.isl_laying.specs.Laying.{Lays, Grown}
 use Rattle.isl_start.specs.Recipes.{laid, name_recipe}
 use Rattle.isl_start.specs.Making.{IsWord, Makes, IsWithin}
-use Rattle.isl_start.proofs.Joins.{makes_as, makes_laid}
+use Rattle.isl_start.proofs.Joins.{makes_as, makes_datum}
 use Rattle.isl_start.proofs.NameData.{symbol_good, symbol_size}
-use Rattle.isl_start.proofs.Numbered.{data_no_functions}
 use Rattle.isl_start.proofs.Steps.{if_ok_on, on_ok_both, within_grown}
 use Rattle.isl_start.proofs.names.lay_name.Goals as goal
 
@@ -36,6 +35,5 @@ returns-clause-made c =
     (λ w g p.
     makes_as c.args.names.now IsWord (laid (lay c.args.names.now c.symbol_of_name-symbol.result)) (name_recipe c.args.names.now c.args.name)
     c.args.words.now c.lay_datum.new.words w (λ n. ap (λ d. laid (lay c.args.names.now d) n) c.symbol_of_name-symbol.ensures)
-    (makes_laid c.args.names.now (lay c.args.names.now c.symbol_of_name-symbol.result) c.args.words.now c.lay_datum.new.words w
-    (λ n. data_no_functions c.args.names.now c.symbol_of_name-symbol.result n) g p))
+    (makes_datum c.args.names.now c.symbol_of_name-symbol.result c.args.words.now c.lay_datum.new.words w g p))
     c.lay_datum.ensures.grown c.lay_datum.ensures.lays

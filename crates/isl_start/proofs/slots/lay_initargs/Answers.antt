@@ -5,9 +5,8 @@ use Rattle.isl_meaning.specs.Literals.{lay}
 use Rattle.isl_laying.specs.Laying.{Lays, Grown}
 use Rattle.isl_start.specs.Recipes.{laid, initargs_recipe}
 use Rattle.isl_start.specs.Making.{IsWord, Makes, IsWithin}
-use Rattle.isl_start.proofs.Joins.{makes_as, makes_laid}
+use Rattle.isl_start.proofs.Joins.{makes_as, makes_datum}
 use Rattle.isl_start.proofs.NameData.{name_list, list_good, list_size}
-use Rattle.isl_start.proofs.Numbered.{data_no_functions}
 use Rattle.isl_start.proofs.Steps.{if_ok_on, on_ok_both, within_grown}
 use Rattle.isl_start.proofs.slots.lay_initargs.Goals as goal
 
@@ -38,5 +37,5 @@ returns-clause-made c =
     (λ w g p.
     makes_as c.args.names.now IsWord (laid (lay c.args.names.now c.in_ok-list.list)) (initargs_recipe c.args.names.now c.args.row.now)
     c.args.words.now c.lay_datum.new.words w (λ n. ap (λ d. laid (lay c.args.names.now d) n) c.in_ok-list.ensures)
-    (makes_laid c.args.names.now (lay c.args.names.now c.in_ok-list.list) c.args.words.now c.lay_datum.new.words w (λ n. data_no_functions c.args.names.now c.in_ok-list.list n) g p))
+    (makes_datum c.args.names.now c.in_ok-list.list c.args.words.now c.lay_datum.new.words w g p))
     c.lay_datum.ensures.grown c.lay_datum.ensures.lays
