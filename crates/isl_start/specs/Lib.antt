@@ -3,3 +3,4 @@ pub mod Making
 pub mod Rows
 pub mod Settling
 pub mod Start
+pub mod Law
