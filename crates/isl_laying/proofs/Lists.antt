@@ -1,6 +1,6 @@
 -- Items of lists, and beginnings of lists.
-use Rattle.std.proofs.Common.{◌≡◌, ℕ, zero, suc, ◌+◌, ◌<◌, ◌≤◌, List, [], ◌∷◌, ◌++◌, length, take, Some, refl, sym, ◌∙◌, ap, append_assoc, append-nil, length-append, arith}
-use Rattle.std.specs.Prelude.{slice_get, slice_set}
+use Rattle.std.proofs.Common.{◌≡◌, ℕ, suc, ◌+◌, ◌≤◌, List, [], ◌∷◌, ◌++◌, length, take, Some, refl, sym, ◌∙◌, ap, append_assoc, append-nil, length-append, arith}
+use Rattle.std.specs.Prelude.{slice_get}
 use Rattle.isl_base.specs.Names.{slice_get-front}
 use Rattle.isl_laying.specs.Lists.{IsBeginning}
 
@@ -34,19 +34,6 @@ cut_back xs ys h = rw h.begins (taken xs h.added)
     taken : {Y : Type 0} (us vs : List Y) → take (length us) (us ++ vs) ≡ us
     taken [] vs = refl
     taken (u ∷ us) vs = ap (λ ws. u ∷ ws) (taken us vs)
-
--- an item that was set, and the others
-pub set_here : {X : Type 0} (xs : List X) (i : ℕ) (x : X) → i < length xs → slice_get (slice_set xs i x) i ≡ Some x
-set_here [] i x h = absurd (omega arith)
-set_here (y ∷ ys) zero x h = refl
-set_here (y ∷ ys) (suc i) x h = set_here ys i x (omega arith)
-
-pub set_elsewhere : {X : Type 0} (xs : List X) (i j : ℕ) (x : X) → (i ≡ j → ⊥) → slice_get (slice_set xs i x) j ≡ slice_get xs j
-set_elsewhere [] i j x h = refl
-set_elsewhere (y ∷ ys) zero zero x h = absurd (h refl)
-set_elsewhere (y ∷ ys) zero (suc j) x h = refl
-set_elsewhere (y ∷ ys) (suc i) zero x h = refl
-set_elsewhere (y ∷ ys) (suc i) (suc j) x h = set_elsewhere ys i j x (λ e. h (ap (λ n. suc n) e))
 
 -- an item of a list behind another, by its place there
 pub item_behind : {X : Type 0} (xs ys : List X) (i : ℕ) → slice_get (xs ++ ys) (length xs + i) ≡ slice_get ys i

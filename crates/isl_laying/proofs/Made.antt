@@ -12,7 +12,7 @@ use Rattle.isl_mid.specs.Arena.{word_at}
 use Rattle.isl_arena.specs.Tags.{cons_tag, object_tag, string_header, vector_header}
 use Rattle.isl_arena.specs.Places.{Spot, end_of, Places, of_object, with_object, pointer_in, word_of, WordsOf}
 use Rattle.isl_arena.specs.Layouts.{byte_words, packed, AreBytes, TextAt, ConsAt, VectorAt, ObjectAt}
-use Rattle.isl_arena.proofs.Keeping.{extends_one, words_extended}
+use Rattle.isl_arena.proofs.Keeping.{extends_one, words_extended, as_many_words}
 use Rattle.isl_arena.proofs.Owners.{new_spot_found}
 use Rattle.isl_laying.specs.declared.words.ArenaWords.{ArenaWords}
 use Rattle.isl_laying.specs.LaidArena.{end_address, arena_of}
@@ -104,12 +104,6 @@ string_laid names before after bytes w more are word = record {
 abbrev pub vector_words : List ℕ → List ℕ
 vector_words ws = vector_header ∷ 4 * length ws ∷ ws
 
-pub words_count : (places : Places) (vs : List Value) (ws : List ℕ) → WordsOf places vs ws → length ws ≡ length vs
-words_count places [] [] h = refl
-words_count places [] (w ∷ ws) h = absurd h
-words_count places (v ∷ vs) [] h = absurd h
-words_count places (v ∷ vs) (w ∷ ws) h = ap (λ n. suc n) (words_count places vs ws h.1)
-
 -- the word of a value at a place
 pub record WordThere (places : Places) (vs : List Value) (ws : List ℕ) (i : ℕ) : Type 0 where
   pub word : ℕ
@@ -129,7 +123,7 @@ pub vector_stands :
     → after.words ≡ before.words ++ vector_words ws → WordsOf places vs ws
     → VectorAt places (arena_of after) (spot_behind before (length (vector_words ws)) object_tag) vs
 vector_stands places before after vs ws e first words are =
-    let same = words_count places vs ws are in
+    let same = as_many_words places vs ws are in
     record {
       size = record { words = omega (arith, same); tag = refl };
       header = ap (word_at (arena_of after)) (sym (add-zero (end_address before))) ∙ word_behind before after (vector_words ws) 0 vector_header e first words refl;

@@ -9,7 +9,8 @@ use Rattle.isl_arena.proofs.Owners.{FrontOrEnd, at_front, at_end, front_or_end}
 use Rattle.isl_laying.specs.declared.symbol_words.SymbolWord.{SymbolWord}
 use Rattle.isl_laying.specs.Lists.{IsBeginning}
 use Rattle.isl_laying.specs.Symbols.{is_same_symbol, word_of_symbol, IsIndexed}
-use Rattle.isl_laying.proofs.Lists.{item_stays, set_here, set_elsewhere}
+use Rattle.isl_arena.proofs.Lists.{set_here, set_elsewhere}
+use Rattle.isl_laying.proofs.Lists.{item_stays}
 
 -- a symbol that is the one of a name
 pub named_told : (name : Name) (s : Symbol) → is_same_symbol (Named name) s ≡ true → s ≡ Named name

@@ -14,7 +14,7 @@ use Rattle.isl_arena.proofs.Owners.{SetOrNot, at_place, elsewhere, set_or_not}
 use Rattle.isl_laying.specs.declared.words.ArenaWords.{ArenaWords}
 use Rattle.isl_laying.specs.LaidArena.{end_address, arena_of}
 use Rattle.isl_laying.specs.LaidWell.{LaidWell}
-use Rattle.isl_laying.proofs.Lists.{set_here, set_elsewhere}
+use Rattle.isl_arena.proofs.Lists.{set_here, set_elsewhere}
 use Rattle.isl_laying.proofs.LaidWords.{Appended, appended_grown, spot_among, spot_grown, words_grown}
 use Rattle.isl_laying.proofs.Joining.{OneMore, as_before, joined}
 use Rattle.isl_laying.proofs.Made.{spot_behind}
