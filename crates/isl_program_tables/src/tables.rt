@@ -5,13 +5,13 @@ use isl_base::{Datum, Names};
 use isl_rows::{Answer, Table, read_data};
 
 /// A table, whose inputs are data.
-pub enum Data {
+pub enum ProgramTable {
     Classes,
     Methods,
     Programs,
 }
 
-impl Table for Data {
+impl Table for ProgramTable {
     fn put(&self, got: &mut Answer, input: &[u8]) -> Option<()> {
         let mut names = Names::new(got.alloc);
         let answered = self.put_text(got, &mut names, input);
@@ -20,7 +20,7 @@ impl Table for Data {
     }
 }
 
-impl Data {
+impl ProgramTable {
     fn put_text(&self, got: &mut Answer, names: &mut Names, text: &[u8]) -> Option<()> {
         let read = read_data(got, names, text)?;
         let answered = self.put_data(got, names, read.as_slice());
@@ -30,9 +30,9 @@ impl Data {
 
     fn put_data(&self, got: &mut Answer, names: &mut Names, data: &[Datum]) -> Option<()> {
         match self {
-            Data::Classes => classes::put(got, names, data),
-            Data::Methods => methods::put(got, names, data),
-            Data::Programs => programs::put(got, names, data),
+            ProgramTable::Classes => classes::put(got, names, data),
+            ProgramTable::Methods => methods::put(got, names, data),
+            ProgramTable::Programs => programs::put(got, names, data),
         }
     }
 }

@@ -1,4 +1,4 @@
-// Puts the rows of the tables of the base, the reader and derived forms to the calls that they are of.
+// Puts the rows of the tables to the calls that they are of.
 #![tactic(auto)]
 
 mod data;
@@ -15,11 +15,14 @@ mod tables;
 mod texts;
 
 use isl_base::Origin;
-use isl_rows::put_table;
+use isl_program_tables::ProgramTable;
+use isl_rows::{Table, put_table};
+use isl_scope_tables::{Files, Preludes, Told};
+use rv_tables::MachineTable;
 use std::io;
 use tables::{Data, Lines, Rows};
 
-// The file of each table.
+// The file of each table of the base, the reader and derived forms.
 const TABLES: &[(&str, Rows)] = &[
     // The base: reasons, lists, the outside, names and data.
     ("reasons.txt", Rows::Lines(Lines::Reasons)),
@@ -37,9 +40,48 @@ const TABLES: &[(&str, Rows)] = &[
     ("serials.txt", Rows::Data(Data::Serials)),
 ];
 
+// The file of each table of classes, generic functions and programs.
+const PROGRAM_TABLES: &[(&str, ProgramTable)] = &[
+    ("classes.txt", ProgramTable::Classes),
+    ("methods.txt", ProgramTable::Methods),
+    ("programs.txt", ProgramTable::Programs),
+];
+
+// The file of each table of files.
+const FILE_TABLES: &[(&str, Files)] = &[
+    ("verdicts.txt", Files(Told::Taken)),
+    ("refusals.txt", Files(Told::Taken)),
+    ("checked.txt", Files(Told::Wholeness)),
+    ("core_forms.txt", Files(Told::Program)),
+    ("sites.txt", Files(Told::Sites)),
+];
+
+// The file of each table of files with a prelude before them.
+const PRELUDE_TABLES: &[(&str, Preludes)] = &[
+    ("files.txt", Preludes(Told::Counts)),
+    ("file_programs.txt", Preludes(Told::Program)),
+    ("definitions.txt", Preludes(Told::Definitions)),
+];
+
+// The file of each table of instructions, the machine and images.
+const MACHINE_TABLES: &[(&str, MachineTable)] = &[
+    ("words.txt", MachineTable::Words),
+    ("fields.txt", MachineTable::Fields),
+    ("runs.txt", MachineTable::Runs),
+    ("images.txt", MachineTable::Images),
+];
+
 fn main(rt: HostRuntime) -> io::Result<()> {
-    for (name, table) in TABLES {
-        put_table(&rt, name, table)?;
+    put_tables(&rt, TABLES)?;
+    put_tables(&rt, PROGRAM_TABLES)?;
+    put_tables(&rt, FILE_TABLES)?;
+    put_tables(&rt, PRELUDE_TABLES)?;
+    put_tables(&rt, MACHINE_TABLES)
+}
+
+fn put_tables<T: Table>(rt: &HostRuntime, tables: &[(&str, T)]) -> io::Result<()> {
+    for (name, table) in tables {
+        put_table(rt, name, table)?;
     }
     Ok(())
 }

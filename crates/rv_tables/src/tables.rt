@@ -5,21 +5,21 @@ use isl_rows::{Answer, Table};
 use std::str;
 
 /// A table, whose inputs are lines.
-pub enum Lines {
+pub enum MachineTable {
     Words,
     Fields,
     Runs,
     Images,
 }
 
-impl Table for Lines {
+impl Table for MachineTable {
     fn put(&self, got: &mut Answer, input: &[u8]) -> Option<()> {
         let line = str::from_utf8(input).ok()?;
         match self {
-            Lines::Words => words::put(got, line),
-            Lines::Fields => fields::put(got, line),
-            Lines::Runs => runs::put(got, line),
-            Lines::Images => images::put(got, line),
+            MachineTable::Words => words::put(got, line),
+            MachineTable::Fields => fields::put(got, line),
+            MachineTable::Runs => runs::put(got, line),
+            MachineTable::Images => images::put(got, line),
         }
     }
 }
