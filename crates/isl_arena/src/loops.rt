@@ -56,10 +56,9 @@ pub fn search_class(code: &mut Code, alloc: Global) -> Result<(), NoMemory>
 pub fn search_slot(code: &mut Code, alloc: Global) -> Result<(), NoMemory>
     ensures { OnOk result (code.new ≡ code.old ++ steps_of line.SearchSlot) }
 {
-    let found = return_if(alloc, comparing(Comparison::Equal, 4, 1), 3)?;
     let mut body = Code::new(alloc);
     body.push(load(4, 5, 0))?;
-    body.push(found)?;
+    body.push(return_if(alloc, comparing(Comparison::Equal, 4, 1), 3)?)?;
     compute_by(&mut body, 5, Arithmetic::Add, 5, 12)?;
     compute_by(&mut body, 3, Arithmetic::Add, 3, 4)?;
     code.push(while_below(alloc, 5, 7, body))?;

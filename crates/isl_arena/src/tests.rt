@@ -84,14 +84,10 @@ pub fn need_index(
 ) -> Result<(), NoMemory>
     ensures { OnOk result (code.new ≡ code.old ++ steps_of (line.NeedIndex of index)) }
 {
-    let below = signal_unless(
-        alloc,
-        comparing(Comparison::LessUnsigned, index, 7),
-        PROGRAM_ERROR,
-    )?;
     need_integer(code, alloc, index)?;
     code.push(load(7, of, SECOND))?;
-    Ok(code.push(below)?)
+    let below = comparing(Comparison::LessUnsigned, index, 7);
+    Ok(code.push(signal_unless(alloc, below, PROGRAM_ERROR)?)?)
 }
 
 /// It has to be a character.

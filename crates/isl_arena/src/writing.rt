@@ -75,13 +75,11 @@ fn write(code: &mut Code, alloc: Global, line: Line) -> Result<(), NoMemory>
         Line::Get(to) => operation(code, Operation::Get { to }),
         Line::Return(from) => Ok(code.push(give(from))?),
         Line::ReturnIf(how, first, second, from) => {
-            let ending = return_if(alloc, comparing(how, first, second), from)?;
-            Ok(code.push(ending)?)
+            Ok(code.push(return_if(alloc, comparing(how, first, second), from)?)?)
         }
         Line::Says(how, first, second) => says(code, alloc, comparing(how, first, second)),
         Line::SaysHeader(header, count) => {
-            let answering = says_header(alloc, header, count)?;
-            Ok(code.append_list(answering)?)
+            Ok(code.append_list(says_header(alloc, header, count)?)?)
         }
         Line::NeedTag(of, bits, class) => need_tag(code, alloc, of, bits, class),
         Line::NeedIntegers => need_integers(code, alloc),
@@ -98,16 +96,13 @@ fn write(code: &mut Code, alloc: Global, line: Line) -> Result<(), NoMemory>
             need_test(code, alloc, comparing(how, first, second), of, class)
         }
         Line::SignalUnless(how, first, second, class) => {
-            let step = signal_unless(alloc, comparing(how, first, second), class)?;
-            Ok(code.push(step)?)
+            Ok(code.push(signal_unless(alloc, comparing(how, first, second), class)?)?)
         }
         Line::Signal(class) => {
-            let error = signal(alloc, class)?;
-            Ok(code.append_list(error)?)
+            Ok(code.append_list(signal(alloc, class)?)?)
         }
         Line::ClassWord(to, of) => {
-            let found = class_word(alloc, to, of)?;
-            Ok(code.append_list(found)?)
+            Ok(code.append_list(class_word(alloc, to, of)?)?)
         }
         Line::SlotWord(offset) => slot_word(code, offset),
         Line::Fill => fill(code, alloc),
