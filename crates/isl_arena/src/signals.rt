@@ -18,8 +18,7 @@ fn hand_over(code: &mut Code) -> Result<(), NoMemory>
     code.push(compute(3, Arithmetic::Add, 3, 4))?;
     code.push(store(3, 5, PENDING_AT))?;
     code.push(constant(4, SIGNAL))?;
-    code.push(give(4))?;
-    Ok(())
+    code.push(give(4))
 }
 
 /// So many words for an instance, with its header and its class, whose word stands at that address.
@@ -32,8 +31,7 @@ fn begin_instance(code: &mut Code, words: u32, header: u32, class: i32) -> Resul
     code.push(constant(4, header))?;
     code.push(store(4, 3, 0))?;
     code.push(load(4, 5, class))?;
-    code.push(store(4, 3, 4))?;
-    Ok(())
+    code.push(store(4, 3, 4))
 }
 
 /// A condition without slots is signalled.

@@ -28,7 +28,7 @@ pub fn need_place(
     compute_by(code, 7, Arithmetic::ShiftRight, 7, 4)?;
     compute_by(code, 7, Arithmetic::ShiftLeft, 7, 2)?;
     let below = comparing(Comparison::LessUnsigned, place, 7);
-    Ok(code.push(signal_unless(alloc, below, PROGRAM_ERROR)?)?)
+    code.push(signal_unless(alloc, below, PROGRAM_ERROR)?)
 }
 
 /// Ends with the word at an offset from where the slot stands in its class.
@@ -41,5 +41,5 @@ pub fn slot_word(code: &mut Code, offset: i32) -> Result<(), NoMemory>
     compute_by(code, 5, Arithmetic::Multiply, 1, 3)?;
     code.push(compute(4, Arithmetic::Add, 4, 5))?;
     code.push(load(5, 4, offset))?;
-    Ok(code.push(give(5))?)
+    code.push(give(5))
 }
