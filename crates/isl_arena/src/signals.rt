@@ -31,7 +31,8 @@ fn begin_instance(code: &mut Code, words: u32, header: u32, class: i32) -> Resul
     code.push(constant(4, header))?;
     code.push(store(4, 3, 0))?;
     code.push(load(4, 5, class))?;
-    code.push(store(4, 3, 4))
+    code.push(store(4, 3, 4))?;
+    Ok(())
 }
 
 /// A condition without slots is signalled.

@@ -41,5 +41,6 @@ pub fn slot_word(code: &mut Code, offset: i32) -> Result<(), NoMemory>
     compute_by(code, 5, Arithmetic::Multiply, 1, 3)?;
     code.push(compute(4, Arithmetic::Add, 4, 5))?;
     code.push(load(5, 4, offset))?;
-    code.push(give(5))
+    code.push(give(5))?;
+    Ok(())
 }
