@@ -19,8 +19,7 @@ pub fn fill(code: &mut Code, alloc: Global) -> Result<(), NoMemory>
     let mut body = Code::new(alloc);
     body.push(store(4, 7, 8))?;
     compute_by(&mut body, 7, Arithmetic::Add, 7, 4)?;
-    code.push(while_below(alloc, 7, 5, body))?;
-    Ok(())
+    code.push(while_below(alloc, 7, 5, body))
 }
 
 /// Copies words.
@@ -32,8 +31,7 @@ pub fn copy_words(code: &mut Code, alloc: Global) -> Result<(), NoMemory>
     body.push(store(6, 7, 8))?;
     compute_by(&mut body, 7, Arithmetic::Add, 7, 4)?;
     compute_by(&mut body, 4, Arithmetic::Add, 4, 4)?;
-    code.push(while_below(alloc, 7, 5, body))?;
-    Ok(())
+    code.push(while_below(alloc, 7, 5, body))
 }
 
 /// Ends with t where the word is found.
@@ -48,20 +46,17 @@ pub fn search_class(code: &mut Code, alloc: Global) -> Result<(), NoMemory>
     body.push(load(7, 5, 0))?;
     body.push(either(comparing(Comparison::Equal, 7, 4), found, Code::new(alloc)))?;
     compute_by(&mut body, 5, Arithmetic::Add, 5, 4)?;
-    code.push(while_below(alloc, 5, 3, body))?;
-    Ok(())
+    code.push(while_below(alloc, 5, 3, body))
 }
 
 /// Ends with the place where the word is found.
 pub fn search_slot(code: &mut Code, alloc: Global) -> Result<(), NoMemory>
     ensures { OnOk result (code.new ≡ code.old ++ steps_of line.SearchSlot) }
 {
-    let found = return_if(alloc, comparing(Comparison::Equal, 4, 1), 3)?;
     let mut body = Code::new(alloc);
     body.push(load(4, 5, 0))?;
-    body.push(found)?;
+    body.push(return_if(alloc, comparing(Comparison::Equal, 4, 1), 3)?)?;
     compute_by(&mut body, 5, Arithmetic::Add, 5, 12)?;
     compute_by(&mut body, 3, Arithmetic::Add, 3, 4)?;
-    code.push(while_below(alloc, 5, 7, body))?;
-    Ok(())
+    code.push(while_below(alloc, 5, 7, body))
 }

@@ -18,8 +18,7 @@ fn hand_over(code: &mut Code) -> Result<(), NoMemory>
     code.push(compute(3, Arithmetic::Add, 3, 4))?;
     code.push(store(3, 5, PENDING_AT))?;
     code.push(constant(4, SIGNAL))?;
-    code.push(give(4))?;
-    Ok(())
+    code.push(give(4))
 }
 
 /// So many words for an instance, with its header and its class, whose word stands at that address.

@@ -22,17 +22,13 @@ pub fn need_place(
 ) -> Result<(), NoMemory>
     ensures { OnOk result (code.new ≡ code.old ++ steps_of (line.NeedPlace of place)) }
 {
-    let below = signal_unless(
-        alloc,
-        comparing(Comparison::LessUnsigned, place, 7),
-        PROGRAM_ERROR,
-    )?;
     need_instance(code, alloc, of, STANDARD_OBJECT)?;
     need_integer(code, alloc, place)?;
     code.push(load(7, of, HEADER))?;
     compute_by(code, 7, Arithmetic::ShiftRight, 7, 4)?;
     compute_by(code, 7, Arithmetic::ShiftLeft, 7, 2)?;
-    Ok(code.push(below)?)
+    let below = comparing(Comparison::LessUnsigned, place, 7);
+    code.push(signal_unless(alloc, below, PROGRAM_ERROR)?)
 }
 
 /// Ends with the word at an offset from where the slot stands in its class.
@@ -45,5 +41,6 @@ pub fn slot_word(code: &mut Code, offset: i32) -> Result<(), NoMemory>
     compute_by(code, 5, Arithmetic::Multiply, 1, 3)?;
     code.push(compute(4, Arithmetic::Add, 4, 5))?;
     code.push(load(5, 4, offset))?;
-    Ok(code.push(give(5))?)
+    code.push(give(5))?;
+    Ok(())
 }

@@ -98,6 +98,5 @@ pub fn compute_by(
     ensures { OnOk result (code.new ≡ code.old ++ steps.compute_by to which first word) }
 {
     code.push(constant(6, word))?;
-    code.push(compute(to, which, first, 6))?;
-    Ok(())
+    code.push(compute(to, which, first, 6))
 }

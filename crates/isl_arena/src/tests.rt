@@ -26,8 +26,7 @@ pub fn need_test(
     ensures { OnOk result (code.new ≡ code.old ++ steps.either test [] (steps.domain_error of class) ∷ []) }
 {
     let error = domain_error(alloc, of, class)?;
-    code.push(either(test, Code::new(alloc), error))?;
-    Ok(())
+    code.push(either(test, Code::new(alloc), error))
 }
 
 /// The argument has to have that tag.
@@ -84,14 +83,10 @@ pub fn need_index(
 ) -> Result<(), NoMemory>
     ensures { OnOk result (code.new ≡ code.old ++ steps_of (line.NeedIndex of index)) }
 {
-    let below = signal_unless(
-        alloc,
-        comparing(Comparison::LessUnsigned, index, 7),
-        PROGRAM_ERROR,
-    )?;
     need_integer(code, alloc, index)?;
     code.push(load(7, of, SECOND))?;
-    Ok(code.push(below)?)
+    let below = comparing(Comparison::LessUnsigned, index, 7);
+    code.push(signal_unless(alloc, below, PROGRAM_ERROR)?)
 }
 
 /// It has to be a character.
@@ -157,6 +152,5 @@ pub fn need_symbol(code: &mut Code, alloc: Global, of: Register) -> Result<(), N
     let mut other = Code::new(alloc);
     need_header(&mut other, alloc, of, SYMBOL, 2, SYMBOL_CLASS)?;
     code.push(constant(6, NIL))?;
-    code.push(either(comparing(Comparison::Equal, of, 6), Code::new(alloc), other))?;
-    Ok(())
+    code.push(either(comparing(Comparison::Equal, of, 6), Code::new(alloc), other))
 }

@@ -13,29 +13,26 @@ use std::alloc::Global;
 pub fn says(code: &mut Code, alloc: Global, test: Test) -> Result<(), NoMemory>
     ensures { OnOk result (code.new ≡ code.old ++ steps.says test) }
 {
-    let ending = return_if(alloc, test, 5)?;
     code.push(constant(5, 0))?;
     code.push(load(5, 5, TRUE_AT))?;
-    code.push(ending)?;
+    code.push(return_if(alloc, test, 5)?)?;
     code.push(constant(5, NIL))?;
-    Ok(code.push(give(5))?)
+    code.push(give(5))
 }
 
 /// Ends with t where the argument is an object with one of so many headers, else with nil.
 pub fn says_header(alloc: Global, header: u32, count: u32) -> Result<Code, NoMemory>
     ensures { IfOk result (λ code. code ≡ steps.says_header header count) }
 {
-    let other_tag = return_if(alloc, comparing(Comparison::Different, 7, 6), 5)?;
-    let other_header = return_if(alloc, comparing(Comparison::AtLeastUnsigned, 7, 6), 5)?;
     let mut code = Code::new(alloc);
     compute_by(&mut code, 7, Arithmetic::ShiftLeft, 0, 30)?;
     code.push(constant(6, OBJECT_BITS))?;
     code.push(constant(5, NIL))?;
-    code.push(other_tag)?;
+    code.push(return_if(alloc, comparing(Comparison::Different, 7, 6), 5)?)?;
     code.push(load(7, 0, HEADER))?;
     compute_by(&mut code, 7, Arithmetic::Subtract, 7, header)?;
     code.push(constant(6, count))?;
-    code.push(other_header)?;
+    code.push(return_if(alloc, comparing(Comparison::AtLeastUnsigned, 7, 6), 5)?)?;
     code.push(constant(5, 0))?;
     code.push(load(5, 5, TRUE_AT))?;
     code.push(give(5))?;

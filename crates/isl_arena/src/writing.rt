@@ -39,8 +39,7 @@ pub const FRAME_WORDS: u32 = 10;
 fn operation(code: &mut Code, operation: Operation) -> Result<(), NoMemory>
     ensures { OnOk result (code.new ≡ code.old ++ perform operation ∷ []) }
 {
-    code.push(Step::new(StepKind::Do(operation)))?;
-    Ok(())
+    code.push(Step::new(StepKind::Do(operation)))
 }
 
 // Appends the steps of a line.
@@ -48,41 +47,35 @@ fn write(code: &mut Code, alloc: Global, line: Line) -> Result<(), NoMemory>
     ensures { OnOk result (code.new ≡ code.old ++ steps_of line) }
 {
     match line {
-        Line::Set(to, word) => Ok(code.push(constant(to, word))?),
+        Line::Set(to, word) => code.push(constant(to, word)),
         Line::Copy(to, from) => operation(code, Operation::Move { to, from }),
         Line::SetIf(how, first, second, to, word) => {
             let mut setting = Code::new(alloc);
             setting.push(constant(to, word))?;
             let test = comparing(how, first, second);
-            Ok(code.push(either(test, setting, Code::new(alloc)))?)
+            code.push(either(test, setting, Code::new(alloc)))
         }
-        Line::Compute(to, which, first, second) => Ok(code.push(compute(
-            to, which, first, second,
-        ))?),
+        Line::Compute(to, which, first, second) => code.push(compute(to, which, first, second)),
         Line::ComputeBy(to, which, first, word) => compute_by(code, to, which, first, word),
-        Line::Load(to, base, offset) => Ok(code.push(load(to, base, offset))?),
-        Line::Store(from, base, offset) => Ok(code.push(store(from, base, offset))?),
+        Line::Load(to, base, offset) => code.push(load(to, base, offset)),
+        Line::Store(from, base, offset) => code.push(store(from, base, offset)),
         Line::LoadFixed(to, address) => {
             code.push(constant(to, 0))?;
-            Ok(code.push(load(to, to, address))?)
+            code.push(load(to, to, address))
         }
         Line::StoreFixed(from, address) => {
             code.push(constant(6, 0))?;
-            Ok(code.push(store(from, 6, address))?)
+            code.push(store(from, 6, address))
         }
         Line::Request(to, words) => operation(code, Operation::Request { to, words }),
         Line::Put(from) => operation(code, Operation::Put { from }),
         Line::Get(to) => operation(code, Operation::Get { to }),
-        Line::Return(from) => Ok(code.push(give(from))?),
+        Line::Return(from) => code.push(give(from)),
         Line::ReturnIf(how, first, second, from) => {
-            let ending = return_if(alloc, comparing(how, first, second), from)?;
-            Ok(code.push(ending)?)
+            code.push(return_if(alloc, comparing(how, first, second), from)?)
         }
         Line::Says(how, first, second) => says(code, alloc, comparing(how, first, second)),
-        Line::SaysHeader(header, count) => {
-            let answering = says_header(alloc, header, count)?;
-            Ok(code.append_list(answering)?)
-        }
+        Line::SaysHeader(header, count) => code.append_list(says_header(alloc, header, count)?),
         Line::NeedTag(of, bits, class) => need_tag(code, alloc, of, bits, class),
         Line::NeedIntegers => need_integers(code, alloc),
         Line::NeedLength => need_length(code, alloc),
@@ -98,17 +91,10 @@ fn write(code: &mut Code, alloc: Global, line: Line) -> Result<(), NoMemory>
             need_test(code, alloc, comparing(how, first, second), of, class)
         }
         Line::SignalUnless(how, first, second, class) => {
-            let step = signal_unless(alloc, comparing(how, first, second), class)?;
-            Ok(code.push(step)?)
+            code.push(signal_unless(alloc, comparing(how, first, second), class)?)
         }
-        Line::Signal(class) => {
-            let error = signal(alloc, class)?;
-            Ok(code.append_list(error)?)
-        }
-        Line::ClassWord(to, of) => {
-            let found = class_word(alloc, to, of)?;
-            Ok(code.append_list(found)?)
-        }
+        Line::Signal(class) => code.append_list(signal(alloc, class)?),
+        Line::ClassWord(to, of) => code.append_list(class_word(alloc, to, of)?),
         Line::SlotWord(offset) => slot_word(code, offset),
         Line::Fill => fill(code, alloc),
         Line::CopyWords => copy_words(code, alloc),

@@ -13,8 +13,9 @@ use Rattle.isl_meaning.specs.Literals as literals
 use Rattle.isl_arena.specs.Tags.{integer_word}
 use Rattle.isl_laying.specs.Laying.{Lays}
 use Rattle.isl_laying.proofs.LaidWords.{grown_both}
-use Rattle.isl_laying.proofs.Made.{vector_laid}
-use Rattle.isl_laying.proofs.Data.{item_more, sizes_at, list_laid}
+use Rattle.isl_laying.proofs.Lists.{beginning_same}
+use Rattle.isl_laying.proofs.Made.{vector_words, vector_laid}
+use Rattle.isl_laying.proofs.Data.{item_more, items_done, sizes_at, list_laid}
 use Rattle.isl_laying.proofs.Parts.{datum_is, some_size, integer_in_range, symbol_below, elements_good, items_good}
 use Rattle.isl_laying.proofs.Parts.{tail_good, string_size, vector_size, list_size, dotted_good, dotted_size, number_back}
 use Rattle.isl_laying.proofs.Atoms.{integer_laid}
@@ -115,6 +116,14 @@ lay_items-lay_item-requires t c =
       ),
     )
 
+pub lay_items-returns-in_err-word-clause-grown : goal.lay_items-returns-in_err-word-clause-grown
+lay_items-returns-in_err-word-clause-grown t c =
+    grown_both c.args.words.now c.loop-at.words c.lay_item.new.words c.loop-at.invariant.grown c.lay_item.ensures.grown
+
+pub lay_items-returns-in_err-push-clause-grown : goal.lay_items-returns-in_err-push-clause-grown
+lay_items-returns-in_err-push-clause-grown t c =
+    grown_both c.args.words.now c.loop-at.words c.lay_item.new.words c.loop-at.invariant.grown c.lay_item.ensures.grown
+
 pub lay_items-loop-at-preserved : goal.lay_items-loop-at-preserved
 lay_items-loop-at-preserved t c = record {
   grown = grown_both c.args.words.now c.loop-at.words c.lay_item.new.words c.loop-at.invariant.grown c.in_ok-word.ensures.grown;
@@ -125,6 +134,20 @@ lay_items-loop-at-preserved t c = record {
       (item_more c.args.names.now c.args.items.now c.loop-at.at c.in-Some.item.now c.args.words.now c.loop-at.words c.lay_item.new.words c.loop-at.laid
       c.in_ok-word.word c.in-Some.ensures c.loop-at.invariant.laid c.in_ok-word.ensures.lays);
 }
+
+pub lay_items-returns-clause-lays : goal.lay_items-returns-clause-lays
+lay_items-returns-clause-lays t c =
+    items_done c.args.names.now c.args.items.now c.loop-at.at c.args.words.now c.loop-at.words c.loop-at.laid
+    (omega (arith, c.loop-at-test.false, c.len-at-end.ensures)) c.loop-at.invariant.laid
+
+pub lay_list-returns-in_err-end-clause-grown : goal.lay_list-returns-in_err-end-clause-grown
+lay_list-returns-in_err-end-clause-grown t c =
+    grown_both c.args.words.now c.lay_items.new.words c.lay_tail.new.words c.lay_items.ensures.grown c.lay_tail.ensures.grown
+
+pub lay_list-returns-clause-grown : goal.lay_list-returns-clause-grown
+lay_list-returns-clause-grown t c =
+    grown_both c.args.words.now c.lay_tail.new.words c.lay_conses.new.words
+    (grown_both c.args.words.now c.lay_items.new.words c.lay_tail.new.words c.lay_items.ensures.grown c.lay_tail.ensures.grown) c.lay_conses.ensures.grown
 
 pub lay_list-returns-clause-lays : goal.lay_list-returns-clause-lays
 lay_list-returns-clause-lays t c =
@@ -148,6 +171,26 @@ pub lay_tail-returns-in-Some-clause-count : goal.lay_tail-returns-in-Some-clause
 lay_tail-returns-in-Some-clause-count t c =
     let is : tail_of c.args.tail.now ≡ datum.dotted c.deref.result.now = ap tail_of c.in-Some.is ∙ ap datum.dotted (sym c.deref.ensures) in
     on_ok_weaker c.lay_item.result (λ h. omega (arith, h, dotted_size (tail_of c.args.tail.now) c.deref.result.now is)) c.lay_item.ensures.count
+
+pub lay_vector-returns-in_err-push_vector-clause-grown : goal.lay_vector-returns-in_err-push_vector-clause-grown
+lay_vector-returns-in_err-push_vector-clause-grown t c =
+    grown_both c.args.words.now c.lay_items.new.words _ c.lay_items.ensures.grown
+    (record { first = refl; words = c.push_vector.ensures.grown; symbols = beginning_same c.lay_items.new.words.symbols })
+
+pub lay_vector-returns-clause-grown : goal.lay_vector-returns-clause-grown
+lay_vector-returns-clause-grown t c =
+    grown_both c.args.words.now c.lay_items.new.words _ c.lay_items.ensures.grown
+    (record { first = refl; words = c.push_vector.ensures.grown; symbols = beginning_same c.lay_items.new.words.symbols })
+
+pub lay_vector-returns-clause-count : goal.lay_vector-returns-clause-count
+lay_vector-returns-clause-count t c =
+    omega (
+      arith,
+      ap (λ ws. length ws) c.in_ok-push_vector.ensures.ok,
+      length-append c.lay_items.new.words.words (vector_words c.in_ok-elements.elements),
+      c.in_ok-elements.ensures.each,
+      c.in_ok-elements.ensures.count,
+    )
 
 pub lay_vector-returns-clause-lays : goal.lay_vector-returns-clause-lays
 lay_vector-returns-clause-lays t c =
