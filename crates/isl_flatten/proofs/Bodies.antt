@@ -1,6 +1,6 @@
 -- Bodies in which new variables are bound, and procedures.
 use Rattle.std.proofs.Common.{◌≡◌, ◌≤◌, ℕ, suc, ◌+◌, List, [], ◌∷◌, ◌++◌, refl, sym, ap, ◌∙◌, Option, Some, None, length, take, drop, arith, append_assoc, length-append}
-use Rattle.std.specs.Prelude.{slice_get, slice_set, option_to_list, option_map, Bool}
+use Rattle.std.specs.Prelude.{slice_get, slice_set, option_to_list, option_map, Bool, Result, Ok, Err, IfOk}
 use Rattle.std.proofs.Math.ListN.{length-set}
 use Rattle.std.proofs.Math.Seq.{set-append_seam, drop-append_seam}
 use Rattle.isl_meaning.specs.Form.{Form, parameters}
@@ -14,10 +14,14 @@ use Rattle.isl_flatten.specs.declared.places.Places.{Places}
 use Rattle.isl_flatten.specs.declared.variables.NewVariable.{NewVariable}
 use Rattle.isl_flatten.specs.NewVariables.{new_variable, new_variables, known_in_slot, homes_of_new, slots_of, with_new}
 use Rattle.isl_meaning.specs.declared.part.Part.{Part}
-use Rattle.isl_meaning.specs.Form.{BindingForms}
+use Rattle.isl_meaning.specs.Form.{BindingForms, let_form}
 use Rattle.isl_closure.specs.declared.place.CapturedKind.{CapturedKind}
 use Rattle.isl_closure.specs.declared.place.Home.{Home}
 use Rattle.isl_closure.specs.FlatForm.{FlatForm, FlatBindings}
+use Rattle.isl_closure.specs.FlatForm as form
+use Rattle.isl_closure.specs.declared.flat_core.FlatCoreForm.{FlatCoreForm}
+use Rattle.isl_closure.specs.model.View.{view_form}
+use Rattle.isl_base.specs.declared.faults.NoMemory.{NoMemory}
 use Rattle.isl_closure.specs.Scope.{kinds_of, seen}
 use Rattle.isl_closure.specs.Flatten.{flat, flat_bindings, flat_procedure, body_scope, functions_of_values, inner_procedures, procedures_of_values}
 use Rattle.isl_closure.specs.bridge.Counted.{values_counted}
@@ -28,7 +32,7 @@ use Rattle.isl_flatten.specs.NewVariables.{home_or_slot}
 use Rattle.isl_flatten.specs.Makes.{MakesSo, MakesForm, MakesInside, MakesValues, MakesLet, MakesFunction, MakesProcedure}
 use Rattle.isl_flatten.specs.Places.{scope_of, places_with}
 use Rattle.isl_flatten.specs.Progress.{ComesNext}
-use Rattle.isl_flatten.proofs.Made.{viewed, both_so, passed}
+use Rattle.isl_flatten.proofs.Made.{viewed, both_so, passed, formed}
 use Rattle.isl_flatten.proofs.Turns.{item}
 
 slots_same : (vs : List ℕ) (body : Form) (n : ℕ) → slots_of (new_variables vs body) n ≡ in_slots vs body n
@@ -132,6 +136,14 @@ let_made bs body table p q r before next between after own made more comes value
       (both_so (λ n. flat_bindings s n body bs) (λ n. procedures_of_values s n bs) (λ n. flat (with_bound vs body s) n body) (λ n. inner_procedures (with_bound vs body s) n body) (functions_of_values bs) table next between after made more (binders body rest) rest
       (λ n. values_counted s n bs) a (known_inside vs own.variables body table p q r between after more values.same are inside rest a.left_so));
 }
+
+-- the form of them, where it is made at all
+pub let_form_made : (bs : BindingForms) (body : Form) (table : List Binder) (p q : Places) (before after : Progress) (made : FlatBindings) (more : FlatForm) (r : Result FlatCoreForm NoMemory)
+    → IfOk r (λ m. view_form m ≡ form.let_form made more) → MakesLet bs body table p q before after (made, more) → IfOk r (λ m. MakesForm (let_form bs body) table p q before after (view_form m))
+unfolding flat
+let_form_made bs body table p q before after made more (Ok m) e g =
+    formed (let_form bs body) (λ (m : FlatBindings × FlatForm). form.let_form m.0 m.1) _ _ _ _ _ _ _ _ _ _ g e (record { same = λ n. refl; alike = λ n. refl; ahead = λ rest. refl })
+let_form_made bs body table p q before after made more (Err x) e g = tt
 
 -- a procedure
 abbrev a_procedure : List CapturedKind → List Home → Option Home → Bool → FlatForm → FlatProcedure

@@ -8,3 +8,4 @@ pub mod Bodies
 pub mod Whole
 pub mod Marking
 pub mod Listing
+pub mod Shaping

@@ -1,6 +1,8 @@
 -- What the walk makes of the parts of a form is what it makes of the form.
 use Rattle.std.proofs.Common.{◌≡◌, ℕ, ◌+◌, List, [], ◌++◌, refl, sym, ap, subst, ◌∙◌, Option, length, drop, arith, append_assoc}
 use Rattle.std.proofs.lemmas.List.{append-nil}
+use Rattle.std.specs.Prelude.{Result, IfOk}
+use Rattle.isl_base.specs.declared.faults.NoMemory.{NoMemory}
 use Rattle.isl_closure.specs.declared.program.FlatProcedure.{FlatProcedure}
 use Rattle.isl_closure.specs.Scope.{Scope, with_around}
 use Rattle.isl_closure.specs.bridge.Counted.{joined}
@@ -8,14 +10,14 @@ use Rattle.isl_flatten.specs.declared.places.Places.{Places}
 use Rattle.isl_flatten.specs.declared.progress.Progress.{Progress}
 use Rattle.isl_flatten.specs.declared.variables.Binder.{Binder}
 use Rattle.isl_flatten.specs.Places.{scope_of, places_around}
-use Rattle.isl_closure.specs.FlatForm.{FlatForm, FlatBindings, FlatDynamics}
-use Rattle.isl_meaning.specs.Form.{Form, BindingForms, DynamicForms}
-use Rattle.isl_meaning.specs.declared.part.Part.{Part}
+use Rattle.isl_closure.specs.FlatForm.{FlatForm}
+use Rattle.isl_meaning.specs.Form.{Form}
 use Rattle.isl_closure.specs.Flatten.{flat, inner_procedures}
-use Rattle.isl_meaning.specs.declared.core_form.CoreForm.{CoreForm}
-use Rattle.isl_meaning.specs.model.View.{view_form}
+use Rattle.isl_closure.specs.declared.flat_core.FlatCoreForm.{FlatCoreForm}
+use Rattle.isl_closure.specs.model.View.{view_form}
+use Rattle.isl_flatten.specs.Shapes.{IsMade}
 use Rattle.isl_flatten.specs.Binders.{binders}
-use Rattle.isl_flatten.specs.Makes.{MakesSo, Makes, MakesForm, MakesTwo, MakesLet, MakesDynamicLet, MakesFunction}
+use Rattle.isl_flatten.specs.Makes.{MakesSo, Makes, MakesForm}
 
 -- seen as something else
 pub viewed : {X Y : Type 0} (h : X → Y) (one : ℕ → X) (inside : ℕ → List FlatProcedure) (other : ℕ → Y) (behind : ℕ → List FlatProcedure) (table : List Binder) (before after : Progress) (made : X) (rest : List Binder)
@@ -111,42 +113,24 @@ passed one inside table before between after made rest e g = record {
   left_so = g.left_so;
 }
 
--- a row: what is made of a form that is seen as that, where the translation makes the form of what is made of its parts
-pub row : {X : Type 0} (x y : CoreForm) (make : Scope → X → FlatForm) (one : Scope → ℕ → X) (inside : Scope → ℕ → List FlatProcedure) (front : List Binder → List Binder) (table : List Binder) (p q : Places) (before after : Progress) (part : X) (made : FlatForm)
-    → x ≡ y → Makes one inside front table p q before after part → made ≡ make (scope_of p) part
-    → ((s : Scope) (n : ℕ) → make s (one s n) ≡ flat s n (view_form y)) → ((s : Scope) (n : ℕ) → inside s n ≡ inner_procedures s n (view_form y))
-    → ((rest : List Binder) → binders (view_form y) rest ≡ front rest) → MakesForm (view_form x) table p q before after made
-row x y make one inside front table p q before after part made seen g is same alike ahead = record {
+-- a form, of what is made of its parts
+pub formed : {X : Type 0} (f : Form) (make : X → FlatForm) (one : Scope → ℕ → X) (inside : Scope → ℕ → List FlatProcedure) (front : List Binder → List Binder) (table : List Binder) (p q : Places) (before after : Progress) (part : X) (made : FlatForm)
+    → Makes one inside front table p q before after part → made ≡ make part
+    → IsMade f (scope_of p) (λ n. make (one (scope_of p) n)) (inside (scope_of p)) front → MakesForm f table p q before after made
+formed f make one inside front table p q before after part made g is so = record {
   same = g.same;
   longer = g.longer;
   so = λ rest e.
       let s = scope_of p in
-      let m = viewed (make s) (one s) (inside s) (λ n. flat s n (view_form y)) (λ n. inner_procedures s n (view_form y)) table before after part rest (same s) (alike s)
-      (g.so rest (e ∙ ap (λ z. binders (view_form z) rest) seen ∙ ahead rest)) in
-      record {
-        made_so = is ∙ m.made_so ∙ ap (λ z. flat s (length before.lambdas) (view_form z)) (sym seen);
-        inside_so = m.inside_so ∙ ap (λ z. before.lambdas ++ inner_procedures s (length before.lambdas) (view_form z)) (sym seen);
-        left_so = m.left_so;
-      };
+      let m = viewed make (one s) (inside s) (λ n. flat s n f) (λ n. inner_procedures s n f) table before after part rest so.same so.alike (g.so rest (e ∙ so.ahead rest)) in
+      record { made_so = is ∙ m.made_so; inside_so = m.inside_so; left_so = m.left_so };
 }
 
 -- of parts that are the same
 pub at_form : (f g : Form) (table : List Binder) (p q : Places) (before after : Progress) (made : FlatForm) → f ≡ g → MakesForm f table p q before after made → MakesForm g table p q before after made
 at_form f g table p q before after made e h = let P : Form → Type 0 = λ x. MakesForm x table p q before after made in subst P e h
 
--- of two forms
-pub at_two : (f g x y : Form) (table : List Binder) (p q : Places) (before after : Progress) (made : FlatForm × FlatForm) → f ≡ x → g ≡ y → MakesTwo f g table p q before after made → MakesTwo x y table p q before after made
-at_two f g x y table p q before after made e d h =
-    let P : Form → Type 0 = λ z. MakesTwo z g table p q before after made in
-    let Q : Form → Type 0 = λ z. MakesTwo x z table p q before after made in
-    subst Q d (subst P e h)
-
--- of bodies
-pub at_let : (bs : BindingForms) (f g : Form) (table : List Binder) (p q : Places) (before after : Progress) (made : FlatBindings × FlatForm) → f ≡ g → MakesLet bs f table p q before after made → MakesLet bs g table p q before after made
-at_let bs f g table p q before after made e h = let P : Form → Type 0 = λ x. MakesLet bs x table p q before after made in subst P e h
-
-pub at_dynamic_let : (ds : DynamicForms) (f g : Form) (table : List Binder) (p q : Places) (before after : Progress) (made : FlatDynamics × FlatForm) → f ≡ g → MakesDynamicLet ds f table p q before after made → MakesDynamicLet ds g table p q before after made
-at_dynamic_let ds f g table p q before after made e h = let P : Form → Type 0 = λ x. MakesDynamicLet ds x table p q before after made in subst P e h
-
-pub at_function : (required : List ℕ) (rest : Option ℕ) (f g : Form) (parts : List Part) (table : List Binder) (p q : Places) (before after : Progress) (made : ℕ) → f ≡ g → MakesFunction required rest f parts table p q before after made → MakesFunction required rest g parts table p q before after made
-at_function required rest f g parts table p q before after made e h = let P : Form → Type 0 = λ x. MakesFunction required rest x parts table p q before after made in subst P e h
+-- where one is made at all
+pub at_ok : (f g : Form) (table : List Binder) (p q : Places) (before after : Progress) (r : Result FlatCoreForm NoMemory)
+    → f ≡ g → IfOk r (λ made. MakesForm f table p q before after (view_form made)) → IfOk r (λ made. MakesForm g table p q before after (view_form made))
+at_ok f g table p q before after r e h = let P : Form → Type 0 = λ x. IfOk r (λ made. MakesForm x table p q before after (view_form made)) in subst P e h

@@ -4,6 +4,7 @@ pub mod Places
 pub mod Found
 pub mod Binders
 pub mod Progress
+pub mod Shapes
 pub mod Makes
 pub mod Bodies
 pub mod Marks

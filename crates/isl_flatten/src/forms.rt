@@ -1,12 +1,15 @@
 // Forms made flat, with the functions inside.
 
 ghost use Rattle.std.specs.Prelude.{◌≡◌, take, IfOk};
+ghost use Rattle.isl_meaning.specs.Form.{let_form, lambda, dynamic_let};
 ghost use Rattle.isl_meaning.specs.model.View.{view_form, forms, clauses_of, bindings_of, dynamics_of};
+ghost use Rattle.isl_closure.specs.FlatForm.{let_form as flat_let_form};
 ghost use Rattle.isl_closure.specs.model.View as flat_view;
-ghost use Rattle.isl_flatten.specs.Makes.{MakesForm, MakesTwo, MakesForms, MakesClauses, MakesBody, MakesLet, MakesValues, MakesInside, MakesDynamicLet, MakesDynamics, MakesFunction, MakesProcedure};
+ghost use Rattle.isl_flatten.specs.Makes.{MakesForm, MakesTwo, MakesForms, MakesClauses, MakesBody, MakesValues, MakesInside, MakesDynamics, MakesProcedure};
 
 use crate::places::Places;
 use crate::progress::Progress;
+use crate::shapes::{Shape, shape_of};
 use crate::variables::{BinderList, NewVariables, first_homes, home_at, home_of_binding};
 use isl_base::NoMemory;
 use isl_closure::{
@@ -15,7 +18,7 @@ use isl_closure::{
     FlatProcedureList, HomeList,
 };
 use isl_meaning::{
-    BindingList, ClauseList, Core, CoreForm, CoreList, DynBindings, Part, PartList, Var, VarList,
+    BindingList, ClauseList, Core, CoreForm, CoreList, DynBindings, PartList, Var, VarList,
 };
 use std::alloc::Global;
 
@@ -44,119 +47,43 @@ fn flat_kind(
 ) -> Result<FlatCoreForm, NoMemory>
     ensures { IfOk result (λ made. MakesForm (view_form form.now) binders.now places.old places.new progress.old progress.new (flat_view.view_form made)) }
 {
-    match form {
-        CoreForm::Literal(id) => Ok(FlatCoreForm::Literal(*id)),
-        CoreForm::Local(var) => Ok(FlatCoreForm::Local(places.variable(*var))),
-        CoreForm::SetLocal(var, value) => {
-            let place = places.variable(*var);
-            Ok(FlatCoreForm::SetLocal(place, boxed(alloc, binders, places, progress, value)?))
+    match shape_of(places, form) {
+        Shape::Alone(leaf) => Ok(leaf.form()),
+        Shape::OverForm(kind, inner) => {
+            Ok(kind.form(boxed(alloc, binders, places, progress, inner)?))
         }
-        CoreForm::Global(name) => Ok(FlatCoreForm::Global(*name)),
-        CoreForm::SetGlobal(name, value) => {
-            Ok(FlatCoreForm::SetGlobal(*name, boxed(alloc, binders, places, progress, value)?))
+        Shape::OverTwo(kind, first, second) => {
+            let (first, second) = both(alloc, binders, places, progress, first, second)?;
+            Ok(kind.form(first, second))
         }
-        CoreForm::DefGlobal(name, value) => {
-            Ok(FlatCoreForm::DefGlobal(*name, boxed(alloc, binders, places, progress, value)?))
+        Shape::OverForms(kind, list) => {
+            Ok(kind.form(flat_forms(alloc, binders, places, progress, list)?))
         }
-        CoreForm::Clauses(list) => {
+        Shape::Clauses(list) => {
             Ok(FlatCoreForm::Clauses(flat_clauses(alloc, binders, places, progress, list)?))
         }
-        CoreForm::Sequence(list) => {
-            Ok(FlatCoreForm::Sequence(flat_forms(alloc, binders, places, progress, list)?))
+        Shape::Let(list, body) => flat_let(alloc, binders, places, progress, list, body),
+        Shape::Lambda(required, rest, body, parts) => {
+            function(
+                alloc, binders, places, progress, required, rest, body, parts,
+            )
         }
-        CoreForm::Let(list, body) => {
-            let (list, body) = flat_let(alloc, binders, places, progress, list, body)?;
-            match Box::new(alloc, body) {
-                Ok(body) => Ok(FlatCoreForm::Let(list, body)),
-                Err(refused) => {
-                    drop(refused);
-                    drop(list);
-                    Err(NoMemory)
-                }
-            }
-        }
-        CoreForm::Lambda(required, rest, body, parts) => {
-            let captured = places.parts(alloc, parts)?;
-            let number = function(
-                alloc, binders, places, progress, required, *rest, body, parts,
-            )?;
-            Ok(FlatCoreForm::MakeFunction(number, captured))
-        }
-        CoreForm::Call(name, list) => {
-            Ok(FlatCoreForm::Call(*name, flat_forms(alloc, binders, places, progress, list)?))
-        }
-        CoreForm::CallValue(list) => {
-            Ok(FlatCoreForm::CallValue(flat_forms(alloc, binders, places, progress, list)?))
-        }
-        CoreForm::Apply(first, second) => {
-            let (first, second) = both(alloc, binders, places, progress, first, second)?;
-            Ok(FlatCoreForm::Apply(first, second))
-        }
-        CoreForm::Prim(which, list) => {
-            Ok(FlatCoreForm::Prim(*which, flat_forms(alloc, binders, places, progress, list)?))
-        }
-        CoreForm::While(test, body) => {
-            let (test, body) = both(alloc, binders, places, progress, test, body)?;
-            Ok(FlatCoreForm::While(test, body))
-        }
-        CoreForm::Block(exit, body) => {
+        Shape::Block(exit, body) => {
             let own_exits = places.own_exits;
-            places.enter(*exit)?;
+            places.enter(exit)?;
             let body = boxed(alloc, binders, places, progress, body)?;
             places.leave(own_exits);
             Ok(FlatCoreForm::Block(body))
         }
-        CoreForm::Return(exit, value) => {
-            let place = places.exit(*exit);
-            Ok(FlatCoreForm::Return(place, boxed(alloc, binders, places, progress, value)?))
-        }
-        CoreForm::Tagbody(exit, list) => {
+        Shape::Tagbody(exit, list) => {
             let own_exits = places.own_exits;
-            places.enter(*exit)?;
+            places.enter(exit)?;
             let list = flat_forms(alloc, binders, places, progress, list)?;
             places.leave(own_exits);
             Ok(FlatCoreForm::Tagbody(list))
         }
-        CoreForm::Go(exit, segment) => Ok(FlatCoreForm::Go(places.exit(*exit), *segment)),
-        CoreForm::Catch(tag, body) => {
-            let (tag, body) = both(alloc, binders, places, progress, tag, body)?;
-            Ok(FlatCoreForm::Catch(tag, body))
-        }
-        CoreForm::Throw(tag, value) => {
-            let (tag, value) = both(alloc, binders, places, progress, tag, value)?;
-            Ok(FlatCoreForm::Throw(tag, value))
-        }
-        CoreForm::Unwind(form, cleanup) => {
-            let (form, cleanup) = both(alloc, binders, places, progress, form, cleanup)?;
-            Ok(FlatCoreForm::Unwind(form, cleanup))
-        }
-        CoreForm::DynamicLet(list, body) => {
-            let (list, body) = flat_dynamic_let(alloc, binders, places, progress, list, body)?;
-            Ok(FlatCoreForm::DynamicLet(list, body))
-        }
-        CoreForm::Dynamic(name) => Ok(FlatCoreForm::Dynamic(*name)),
-        CoreForm::SetDynamic(name, value) => {
-            Ok(FlatCoreForm::SetDynamic(*name, boxed(alloc, binders, places, progress, value)?))
-        }
-        CoreForm::DefDynamic(name, value) => {
-            Ok(FlatCoreForm::DefDynamic(*name, boxed(alloc, binders, places, progress, value)?))
-        }
-        CoreForm::WithHandler(handler, body) => {
-            let (handler, body) = both(alloc, binders, places, progress, handler, body)?;
-            Ok(FlatCoreForm::WithHandler(handler, body))
-        }
-        CoreForm::Signal(condition, mark) => {
-            let (condition, mark) = both(alloc, binders, places, progress, condition, mark)?;
-            Ok(FlatCoreForm::Signal(condition, mark))
-        }
-        CoreForm::Continue(condition, value) => {
-            let (condition, value) = both(alloc, binders, places, progress, condition, value)?;
-            Ok(FlatCoreForm::Continue(condition, value))
-        }
-        CoreForm::NextMethod => Ok(FlatCoreForm::NextMethod(places.method())),
-        CoreForm::HasNext => Ok(FlatCoreForm::HasNext(places.method())),
-        CoreForm::Sited(site, inner) => {
-            Ok(FlatCoreForm::Sited(*site, boxed(alloc, binders, places, progress, inner)?))
+        Shape::DynamicLet(list, body) => {
+            flat_dynamic_let(alloc, binders, places, progress, list, body)
         }
     }
 }
@@ -267,15 +194,29 @@ fn flat_let(
     progress: &mut Progress,
     list: &BindingList,
     body: &Core,
-) -> Result<(FlatBindingList, FlatCore), NoMemory>
-    ensures { IfOk result (λ made. MakesLet (bindings_of list.now) body.now binders.now places.old places.new progress.old progress.new (flat_view.bindings_of made.0, made.1)) }
+) -> Result<FlatCoreForm, NoMemory>
+    ensures { IfOk result (λ made. MakesForm (let_form (bindings_of list.now) body.now) binders.now places.old places.new progress.old progress.new (flat_view.view_form made)) }
 {
     let news = &progress.next(binders)?.variables;
     let made = flat_values(alloc, binders, places, progress, news, list)?;
     match flat_inside(alloc, binders, places, progress, news, body) {
-        Ok(body) => Ok((made, body)),
+        Ok(body) => bound(alloc, made, body),
         Err(_) => {
             drop(made);
+            Err(NoMemory)
+        }
+    }
+}
+
+// The form of those bindings and that body.
+fn bound(alloc: Global, list: FlatBindingList, body: FlatCore) -> Result<FlatCoreForm, NoMemory>
+    ensures { IfOk result (λ made. flat_view.view_form made ≡ flat_let_form (flat_view.bindings_of list) body) }
+{
+    match Box::new(alloc, body) {
+        Ok(body) => Ok(FlatCoreForm::Let(list, body)),
+        Err(refused) => {
+            drop(refused);
+            drop(list);
             Err(NoMemory)
         }
     }
@@ -336,12 +277,12 @@ fn flat_dynamic_let(
     progress: &mut Progress,
     list: &DynBindings,
     body: &Core,
-) -> Result<(FlatDynBindings, Box<FlatCore>), NoMemory>
-    ensures { IfOk result (λ made. MakesDynamicLet (dynamics_of list.now) body.now binders.now places.old places.new progress.old progress.new (flat_view.dynamics_of made.0, made.1.value)) }
+) -> Result<FlatCoreForm, NoMemory>
+    ensures { IfOk result (λ made. MakesForm (dynamic_let (dynamics_of list.now) body.now) binders.now places.old places.new progress.old progress.new (flat_view.view_form made)) }
 {
     let made = flat_dynamics(alloc, binders, places, progress, list)?;
     match boxed(alloc, binders, places, progress, body) {
-        Ok(body) => Ok((made, body)),
+        Ok(body) => Ok(FlatCoreForm::DynamicLet(made, body)),
         Err(_) => {
             drop(made);
             Err(NoMemory)
@@ -385,14 +326,14 @@ fn function(
     rest: Option<Var>,
     body: &Core,
     parts: &PartList,
-) -> Result<usize, NoMemory>
-    ensures { IfOk result (λ number. MakesFunction required.now rest body.now parts.now binders.now places.now places.now progress.old progress.new number) }
+) -> Result<FlatCoreForm, NoMemory>
+    ensures { IfOk result (λ made. MakesForm (lambda required.now rest body.now parts.now) binders.now places.now places.now progress.old progress.new (flat_view.view_form made)) }
 {
     let number = progress.lambdas.len();
     progress.lambdas.push(reserved(alloc))?;
     let kinds = places.kinds(alloc, parts)?;
     let mut inside = places.seen(alloc, parts)?;
-    let procedure = procedure(
+    let made = procedure(
         alloc,
         binders,
         &mut inside,
@@ -401,9 +342,10 @@ fn function(
         required,
         rest,
         body,
-    )?;
-    drop(progress.lambdas.replace(number, procedure));
-    Ok(number)
+    );
+    drop(inside);
+    drop(progress.lambdas.replace(number, made?));
+    Ok(FlatCoreForm::MakeFunction(number, places.parts(alloc, parts)?))
 }
 
 // A procedure made flat, where those places are around its variables.

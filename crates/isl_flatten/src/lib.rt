@@ -8,6 +8,7 @@ mod marks;
 mod places;
 pub mod program;
 mod progress;
+mod shapes;
 mod tables;
 mod variables;
 

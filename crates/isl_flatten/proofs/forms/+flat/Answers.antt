@@ -1,9 +1,9 @@
 -- What is made of forms, clauses and bindings, one after another; of bodies; and of functions.
-use Rattle.std.proofs.Common.{◌≡◌, ◌≤◌, ◌+◌, [], ◌∷◌, Option, refl, ap, ◌∙◌, length, arith, length-append}
+use Rattle.std.proofs.Common.{◌≡◌, ◌≤◌, ◌+◌, [], ◌∷◌, Option, refl, sym, ap, ◌∙◌, length, arith, length-append}
 use Rattle.std.specs.Prelude.{option_map}
 use Rattle.isl_meaning.specs.declared.core_form.Binding.{Binding}
 use Rattle.isl_meaning.specs.declared.core_form.DynBinding.{DynBinding}
-use Rattle.isl_meaning.specs.model.View.{maybe_form, bindings_of, dynamics_of}
+use Rattle.isl_meaning.specs.model.View.{forms, clauses_of, maybe_form, bindings_of, dynamics_of}
 use Rattle.isl_base.specs.declared.datum.Name.{Name}
 use Rattle.isl_closure.specs.declared.flat_core.FlatClause.{FlatClause}
 use Rattle.isl_closure.specs.declared.flat_core.FlatBinding.{FlatBinding}
@@ -11,16 +11,17 @@ use Rattle.isl_closure.specs.declared.flat_core.FlatDynBinding.{FlatDynBinding}
 use Rattle.isl_closure.specs.declared.place.Home.{Home}
 use Rattle.isl_closure.specs.FlatForm.{FlatForm, FlatForms, FlatClauses, FlatBindings, FlatDynamics}
 use Rattle.isl_closure.specs.FlatForm as form
-use Rattle.isl_closure.specs.Scope.{home_of, place_of, exit_place_of, method_place_of, flat_parts}
+use Rattle.isl_meaning.specs.Form as core
+use Rattle.isl_closure.specs.Scope.{home_of, flat_parts}
 use Rattle.isl_closure.specs.Flatten.{flat, flat_dynamics, functions, functions_of_dynamics, inner_procedures, procedures_of_body, procedures_of_dynamics}
-use Rattle.isl_closure.specs.model.View as flat_view
 use Rattle.isl_closure.specs.bridge.Counted.{all_counted, dynamics_counted}
 use Rattle.isl_flatten.specs.Binders.{binders, binders_of_body, binders_of_dynamics}
 use Rattle.isl_flatten.specs.declared.places.Places.{Places}
 use Rattle.isl_flatten.specs.Places.{scope_of}
-use Rattle.isl_flatten.proofs.Bodies.{enough_bound, home_found, inside_made, let_made, procedure_made, function_made}
+use Rattle.isl_flatten.specs.Shapes.{leaf_form, over_form, over_two, over_forms}
+use Rattle.isl_flatten.proofs.Bodies.{enough_bound, home_found, inside_made, let_made, let_form_made, procedure_made, function_made}
 use Rattle.isl_flatten.proofs.Going.{gone_on, one_clause, clause_inside, clause_count, clause_counted, clause_front, one_binding, binding_inside, binding_count, binding_front, one_dynamic, dynamic_inside, dynamic_count, dynamic_front, forms_so, clauses_so, bindings_so, dynamics_so}
-use Rattle.isl_flatten.proofs.Made.{viewed, mapped, both, seen_from, alone, around, row, at_form, at_two, at_let, at_dynamic_let, at_function}
+use Rattle.isl_flatten.proofs.Made.{viewed, mapped, both, seen_from, alone, around, formed, at_form, at_ok}
 use Rattle.isl_flatten.proofs.forms.+flat.Goals as goal
 
 abbrev a_clause : FlatForm → Option FlatForm → FlatClause
@@ -147,11 +148,13 @@ flat_dynamics-loop-at-preserved t c =
     }
 
 pub flat_dynamic_let-returns-in-Ok : goal.flat_dynamic_let-returns-in-Ok
+unfolding flat
 flat_dynamic_let-returns-in-Ok t c =
     let ds = dynamics_of c.args.list.now in
     let g = c.args.body.now in
-    both (λ s n. flat_dynamics s n ds) (λ s n. procedures_of_dynamics s n ds) (binders_of_dynamics ds) (λ s n. flat s n g) (λ s n. inner_procedures s n g) (binders g) (functions_of_dynamics ds)
-    c.args.binders.now _ _ _ _ _ _ _ _ (λ s n. dynamics_counted s n ds) c.in_ok-made.ensures c.in-Ok.ensures
+    formed (core.dynamic_let ds g) (λ (m : FlatDynamics × FlatForm). form.dynamic_let m.0 m.1) _ _ _ _ _ _ _ _ _ _
+    (both (λ s n. flat_dynamics s n ds) (λ s n. procedures_of_dynamics s n ds) (binders_of_dynamics ds) (λ s n. flat s n g) (λ s n. inner_procedures s n g) (binders g) (functions_of_dynamics ds)
+    c.args.binders.now _ _ _ _ _ _ _ _ (λ s n. dynamics_counted s n ds) c.in_ok-made.ensures c.in-Ok.ensures) refl (record { same = λ n. refl; alike = λ n. refl; ahead = λ rest. refl })
 
 -- new variables
 
@@ -168,19 +171,23 @@ flat_inside-returns t c =
 
 pub flat_let-returns-in-Ok : goal.flat_let-returns-in-Ok
 flat_let-returns-in-Ok t c =
-    let_made (bindings_of c.args.list.now) c.args.body.now c.args.binders.now c.args.places.now _ _ c.args.progress.now _ _ _ _ _ _
-    c.in_ok-news.ensures c.in_ok-made.ensures c.in-Ok.ensures
+    let_form_made (bindings_of c.args.list.now) c.args.body.now c.args.binders.now c.args.places.now _ _ _ _ _ c.bound.result c.bound.ensures
+    (let_made (bindings_of c.args.list.now) c.args.body.now c.args.binders.now c.args.places.now _ _ c.args.progress.now _ _ _ _ _ _
+    c.in_ok-news.ensures c.in_ok-made.ensures c.in-Ok.ensures)
 
 -- functions
 
 pub function-returns : goal.function-returns
+unfolding flat
 function-returns t c =
-    function_made _ c.args.required.now c.args.rest c.args.body.now c.args.parts.now c.args.binders.now c.args.places.now _ _ c.args.progress.now _ _ c.reserved.result _ _ _ _
-    c.len-number.ensures c.in_ok-push.ensures.ok c.in_ok-kinds.ensures c.in_ok-inside.ensures refl c.in_ok-procedure.ensures c.replace.ensures.now
+    formed (core.lambda c.args.required.now c.args.rest c.args.body.now c.args.parts.now) (λ m. form.make_function m (flat_parts (scope_of c.args.places.now) c.args.parts.now)) _ _ _ _ _ _ _ _ _ _
+    (function_made _ c.args.required.now c.args.rest c.args.body.now c.args.parts.now c.args.binders.now c.args.places.now _ _ c.args.progress.now _ _ c.reserved.result _ _ _ _
+    c.len-number.ensures c.in_ok-push.ensures.ok c.in_ok-kinds.ensures c.in_ok-inside.ensures refl c.in_ok-made.ensures c.replace.ensures.now)
+    (ap (form.make_function c.len-number.result) c.in_ok-parts.ensures) (record { same = λ n. refl; alike = λ n. refl; ahead = λ rest. refl })
 
 pub function-replace-requires : goal.function-replace-requires
 function-replace-requires t c =
-    omega (arith, c.len-number.ensures, c.in_ok-procedure.ensures.longer, ap length c.in_ok-push.ensures.ok, length-append c.args.progress.now.lambdas (c.reserved.result ∷ []))
+    omega (arith, c.len-number.ensures, c.in_ok-made.ensures.longer, ap length c.in_ok-push.ensures.ok, length-append c.args.progress.now.lambdas (c.reserved.result ∷ []))
 
 pub procedure-returns : goal.procedure-returns
 procedure-returns t c =
@@ -189,194 +196,48 @@ procedure-returns t c =
 
 -- forms
 
-pub flat_kind-returns-in-Literal : goal.flat_kind-returns-in-Literal
-unfolding flat
-flat_kind-returns-in-Literal t c =
-    row _ _ (λ s (m : FlatForm). m) _ _ _ _ _ _ _ _ _ _
-    c.in-Literal.is (alone (λ s n. form.literal c.in-Literal.id) c.args.binders.now c.args.places.now c.args.progress.now _ refl) refl (λ s n. refl) (λ s n. refl) (λ rest. refl)
+pub flat_kind-returns-in-Alone : goal.flat_kind-returns-in-Alone
+flat_kind-returns-in-Alone t c =
+    formed _ (λ (m : FlatForm). m) _ _ _ _ _ _ _ _ _ _
+    (alone (λ s n. leaf_form c.in-Alone.leaf) c.args.binders.now c.args.places.now c.args.progress.now _ refl) c.form.ensures c.in-Alone.ensures
 
-pub flat_kind-returns-in-Local : goal.flat_kind-returns-in-Local
-unfolding flat
-flat_kind-returns-in-Local t c =
-    row _ _ (λ s (m : FlatForm). m) _ _ _ _ _ _ _ _ _ _
-    c.in-Local.is (alone (λ s n. form.local (place_of s c.in-Local.var)) c.args.binders.now c.args.places.now c.args.progress.now _ (ap form.local c.variable.ensures)) refl (λ s n. refl) (λ s n. refl) (λ rest. refl)
+pub flat_kind-returns-in_ok-boxed-in-OverForm : goal.flat_kind-returns-in_ok-boxed-in-OverForm
+flat_kind-returns-in_ok-boxed-in-OverForm t c =
+    formed _ (λ (m : FlatForm). over_form c.in-OverForm.kind m) _ _ _ _ _ _ _ _ _ _ c.in_ok-boxed-in-OverForm.ensures c.form-in-OverForm.ensures c.in-OverForm.ensures.1
 
-pub flat_kind-returns-in_ok-boxed-in-SetLocal : goal.flat_kind-returns-in_ok-boxed-in-SetLocal
-unfolding flat
-flat_kind-returns-in_ok-boxed-in-SetLocal t c =
-    row _ _ (λ s (m : FlatForm). form.set_local (place_of s c.in-SetLocal.var) m) _ _ _ _ _ _ _ _ _ _
-    c.in-SetLocal.is (at_form _ _ _ _ _ _ _ _ c.deref.ensures c.in_ok-boxed-in-SetLocal.ensures) (ap (λ w. form.set_local w c.in_ok-boxed-in-SetLocal.field-0.value) c.variable-place.ensures) (λ s n. refl) (λ s n. refl) (λ rest. refl)
+pub flat_kind-returns-in_ok-first-in-OverTwo : goal.flat_kind-returns-in_ok-first-in-OverTwo
+flat_kind-returns-in_ok-first-in-OverTwo t c =
+    formed _ (λ (m : FlatForm × FlatForm). over_two c.in-OverTwo.kind m.0 m.1) _ _ _ _ _ _ _ _ _ _ c.in_ok-first-in-OverTwo.ensures c.form-in-OverTwo.ensures c.in-OverTwo.ensures.1
 
-pub flat_kind-returns-in-Global : goal.flat_kind-returns-in-Global
-unfolding flat
-flat_kind-returns-in-Global t c =
-    row _ _ (λ s (m : FlatForm). m) _ _ _ _ _ _ _ _ _ _
-    c.in-Global.is (alone (λ s n. form.global c.in-Global.name.0) c.args.binders.now c.args.places.now c.args.progress.now _ refl) refl (λ s n. refl) (λ s n. refl) (λ rest. refl)
-
-pub flat_kind-returns-in_ok-boxed-in-SetGlobal : goal.flat_kind-returns-in_ok-boxed-in-SetGlobal
-unfolding flat
-flat_kind-returns-in_ok-boxed-in-SetGlobal t c =
-    row _ _ (λ s (m : FlatForm). form.set_global c.in-SetGlobal.name.0 m) _ _ _ _ _ _ _ _ _ _
-    c.in-SetGlobal.is (at_form _ _ _ _ _ _ _ _ c.deref-in-SetGlobal.ensures c.in_ok-boxed-in-SetGlobal.ensures) refl (λ s n. refl) (λ s n. refl) (λ rest. refl)
-
-pub flat_kind-returns-in_ok-boxed-in-DefGlobal : goal.flat_kind-returns-in_ok-boxed-in-DefGlobal
-unfolding flat
-flat_kind-returns-in_ok-boxed-in-DefGlobal t c =
-    row _ _ (λ s (m : FlatForm). form.def_global c.in-DefGlobal.name.0 m) _ _ _ _ _ _ _ _ _ _
-    c.in-DefGlobal.is (at_form _ _ _ _ _ _ _ _ c.deref-in-DefGlobal.ensures c.in_ok-boxed-in-DefGlobal.ensures) refl (λ s n. refl) (λ s n. refl) (λ rest. refl)
+pub flat_kind-returns-in_ok-flat_forms-in-OverForms : goal.flat_kind-returns-in_ok-flat_forms-in-OverForms
+flat_kind-returns-in_ok-flat_forms-in-OverForms t c =
+    formed _ (λ (m : FlatForms). over_forms c.in-OverForms.kind m) _ _ _ _ _ _ _ _ _ _ c.in_ok-flat_forms-in-OverForms.ensures c.form-in-OverForms.ensures c.in-OverForms.ensures.1
 
 pub flat_kind-returns-in_ok-flat_clauses-in-Clauses : goal.flat_kind-returns-in_ok-flat_clauses-in-Clauses
 unfolding flat
 flat_kind-returns-in_ok-flat_clauses-in-Clauses t c =
-    row _ _ (λ s (m : FlatClauses). form.clauses m) _ _ _ _ _ _ _ _ _ _
-    c.in-Clauses.is c.in_ok-flat_clauses-in-Clauses.ensures refl (λ s n. refl) (λ s n. refl) (λ rest. refl)
+    at_form _ _ _ _ _ _ _ _ (sym c.in-Clauses.ensures)
+    (formed (core.clauses (clauses_of c.in-Clauses.list.now)) (λ (m : FlatClauses). form.clauses m) _ _ _ _ _ _ _ _ _ _ c.in_ok-flat_clauses-in-Clauses.ensures refl (record { same = λ n. refl; alike = λ n. refl; ahead = λ rest. refl }))
 
-pub flat_kind-returns-in_ok-flat_forms-in-Sequence : goal.flat_kind-returns-in_ok-flat_forms-in-Sequence
-unfolding flat
-flat_kind-returns-in_ok-flat_forms-in-Sequence t c =
-    row _ _ (λ s (m : FlatForms). form.sequence m) _ _ _ _ _ _ _ _ _ _
-    c.in-Sequence.is c.in_ok-flat_forms-in-Sequence.ensures refl (λ s n. refl) (λ s n. refl) (λ rest. refl)
+pub flat_kind-returns-in-Let : goal.flat_kind-returns-in-Let
+flat_kind-returns-in-Let t c = at_ok _ _ _ _ _ _ _ _ (sym c.in-Let.ensures) c.flat_let.ensures
 
-pub flat_kind-returns-in-Ok : goal.flat_kind-returns-in-Ok
-unfolding flat
-flat_kind-returns-in-Ok t c =
-    row _ _ (λ s (m : FlatBindings × FlatForm). form.let_form m.0 m.1) _ _ _ _ _ _ _ _ _ _
-    c.in-Let.is (at_let _ _ _ _ _ _ _ _ _ c.deref-in-Let.ensures c.in_ok-list-in-Let.ensures) (ap (form.let_form (flat_view.bindings_of c.in_ok-list-in-Let.list)) c.in-Ok.ensures.ok) (λ s n. refl) (λ s n. refl) (λ rest. refl)
+pub flat_kind-returns-in-Lambda : goal.flat_kind-returns-in-Lambda
+flat_kind-returns-in-Lambda t c = at_ok _ _ _ _ _ _ _ _ (sym c.in-Lambda.ensures) c.function.ensures
 
-pub flat_kind-returns-in_ok-number-in-Lambda : goal.flat_kind-returns-in_ok-number-in-Lambda
-unfolding flat
-flat_kind-returns-in_ok-number-in-Lambda t c =
-    row _ _ (λ s m. form.make_function m (flat_parts s c.in-Lambda.parts)) _ _ _ _ _ _ _ _ _ _
-    c.in-Lambda.is (at_function _ _ _ _ _ _ _ _ _ _ _ c.deref-in-Lambda.ensures c.in_ok-number-in-Lambda.ensures) (ap (form.make_function c.in_ok-number-in-Lambda.number) c.in_ok-captured-in-Lambda.ensures) (λ s n. refl) (λ s n. refl) (λ rest. refl)
-
-pub flat_kind-returns-in_ok-flat_forms-in-Call : goal.flat_kind-returns-in_ok-flat_forms-in-Call
-unfolding flat
-flat_kind-returns-in_ok-flat_forms-in-Call t c =
-    row _ _ (λ s (m : FlatForms). form.call c.in-Call.name.0 m) _ _ _ _ _ _ _ _ _ _
-    c.in-Call.is c.in_ok-flat_forms-in-Call.ensures refl (λ s n. refl) (λ s n. refl) (λ rest. refl)
-
-pub flat_kind-returns-in_ok-flat_forms-in-CallValue : goal.flat_kind-returns-in_ok-flat_forms-in-CallValue
-unfolding flat
-flat_kind-returns-in_ok-flat_forms-in-CallValue t c =
-    row _ _ (λ s (m : FlatForms). form.call_value m) _ _ _ _ _ _ _ _ _ _
-    c.in-CallValue.is c.in_ok-flat_forms-in-CallValue.ensures refl (λ s n. refl) (λ s n. refl) (λ rest. refl)
-
-pub flat_kind-returns-in_ok-first-in-Apply : goal.flat_kind-returns-in_ok-first-in-Apply
-unfolding flat
-flat_kind-returns-in_ok-first-in-Apply t c =
-    row _ _ (λ s (m : FlatForm × FlatForm). form.apply m.0 m.1) _ _ _ _ _ _ _ _ _ _
-    c.in-Apply.is (at_two _ _ _ _ _ _ _ _ _ _ c.deref-in-Apply.ensures c.deref-in-Apply-2.ensures c.in_ok-first-in-Apply.ensures) refl (λ s n. refl) (λ s n. refl) (λ rest. refl)
-
-pub flat_kind-returns-in_ok-flat_forms-in-Prim : goal.flat_kind-returns-in_ok-flat_forms-in-Prim
-unfolding flat
-flat_kind-returns-in_ok-flat_forms-in-Prim t c =
-    row _ _ (λ s (m : FlatForms). form.prim c.in-Prim.which m) _ _ _ _ _ _ _ _ _ _
-    c.in-Prim.is c.in_ok-flat_forms-in-Prim.ensures refl (λ s n. refl) (λ s n. refl) (λ rest. refl)
-
-pub flat_kind-returns-in_ok-test-in-While : goal.flat_kind-returns-in_ok-test-in-While
-unfolding flat
-flat_kind-returns-in_ok-test-in-While t c =
-    row _ _ (λ s (m : FlatForm × FlatForm). form.while_form m.0 m.1) _ _ _ _ _ _ _ _ _ _
-    c.in-While.is (at_two _ _ _ _ _ _ _ _ _ _ c.deref-in-While.ensures c.deref-in-While-2.ensures c.in_ok-test-in-While.ensures) refl (λ s n. refl) (λ s n. refl) (λ rest. refl)
+pub flat_kind-returns-in-DynamicLet : goal.flat_kind-returns-in-DynamicLet
+flat_kind-returns-in-DynamicLet t c = at_ok _ _ _ _ _ _ _ _ (sym c.in-DynamicLet.ensures) c.flat_dynamic_let.ensures
 
 pub flat_kind-returns-in_ok-body-in-Block : goal.flat_kind-returns-in_ok-body-in-Block
 unfolding flat
 flat_kind-returns-in_ok-body-in-Block t c =
-    row _ _ (λ s (m : FlatForm). form.block m) _ _ _ _ _ _ _ _ _ _
-    c.in-Block.is (around _ _ _ c.in-Block.exit _ _ _ _ _ _ _ _ c.in_ok-enter-in-Block.ensures c.leave.ensures (at_form _ _ _ _ _ _ _ _ c.deref-in-Block.ensures c.in_ok-body-in-Block.ensures)) refl (λ s n. refl) (λ s n. refl) (λ rest. refl)
-
-pub flat_kind-returns-in_ok-boxed-in-Return : goal.flat_kind-returns-in_ok-boxed-in-Return
-unfolding flat
-flat_kind-returns-in_ok-boxed-in-Return t c =
-    row _ _ (λ s (m : FlatForm). form.return_from (exit_place_of s c.in-Return.exit) m) _ _ _ _ _ _ _ _ _ _
-    c.in-Return.is (at_form _ _ _ _ _ _ _ _ c.deref-in-Return.ensures c.in_ok-boxed-in-Return.ensures) (ap (λ w. form.return_from w c.in_ok-boxed-in-Return.field-0.value) c.exit-place.ensures) (λ s n. refl) (λ s n. refl) (λ rest. refl)
+    at_form _ _ _ _ _ _ _ _ (sym c.in-Block.ensures)
+    (formed (core.block c.in-Block.exit c.in-Block.body.now) (λ (m : FlatForm). form.block m) _ _ _ _ _ _ _ _ _ _
+    (around _ _ _ c.in-Block.exit _ _ _ _ _ _ _ _ c.in_ok-enter-in-Block.ensures c.leave.ensures c.in_ok-body-in-Block.ensures) refl (record { same = λ n. refl; alike = λ n. refl; ahead = λ rest. refl }))
 
 pub flat_kind-returns-in_ok-list-in-Tagbody : goal.flat_kind-returns-in_ok-list-in-Tagbody
 unfolding flat
 flat_kind-returns-in_ok-list-in-Tagbody t c =
-    row _ _ (λ s (m : FlatForms). form.tagbody m) _ _ _ _ _ _ _ _ _ _
-    c.in-Tagbody.is (around _ _ _ c.in-Tagbody.exit _ _ _ _ _ _ _ _ c.in_ok-enter-in-Tagbody.ensures c.leave-in-Tagbody.ensures c.in_ok-list-in-Tagbody.ensures) refl (λ s n. refl) (λ s n. refl) (λ rest. refl)
-
-pub flat_kind-returns-in-Go : goal.flat_kind-returns-in-Go
-unfolding flat
-flat_kind-returns-in-Go t c =
-    row _ _ (λ s (m : FlatForm). m) _ _ _ _ _ _ _ _ _ _
-    c.in-Go.is (alone (λ s n. form.go (exit_place_of s c.in-Go.exit) c.in-Go.segment) c.args.binders.now c.args.places.now c.args.progress.now _ (ap (λ w. form.go w c.in-Go.segment) c.exit.ensures)) refl (λ s n. refl) (λ s n. refl) (λ rest. refl)
-
-pub flat_kind-returns-in_ok-tag-in-Catch : goal.flat_kind-returns-in_ok-tag-in-Catch
-unfolding flat
-flat_kind-returns-in_ok-tag-in-Catch t c =
-    row _ _ (λ s (m : FlatForm × FlatForm). form.catch_form m.0 m.1) _ _ _ _ _ _ _ _ _ _
-    c.in-Catch.is (at_two _ _ _ _ _ _ _ _ _ _ c.deref-in-Catch.ensures c.deref-in-Catch-2.ensures c.in_ok-tag-in-Catch.ensures) refl (λ s n. refl) (λ s n. refl) (λ rest. refl)
-
-pub flat_kind-returns-in_ok-tag-in-Throw : goal.flat_kind-returns-in_ok-tag-in-Throw
-unfolding flat
-flat_kind-returns-in_ok-tag-in-Throw t c =
-    row _ _ (λ s (m : FlatForm × FlatForm). form.throw m.0 m.1) _ _ _ _ _ _ _ _ _ _
-    c.in-Throw.is (at_two _ _ _ _ _ _ _ _ _ _ c.deref-in-Throw.ensures c.deref-in-Throw-2.ensures c.in_ok-tag-in-Throw.ensures) refl (λ s n. refl) (λ s n. refl) (λ rest. refl)
-
-pub flat_kind-returns-in_ok-form-in-Unwind : goal.flat_kind-returns-in_ok-form-in-Unwind
-unfolding flat
-flat_kind-returns-in_ok-form-in-Unwind t c =
-    row _ _ (λ s (m : FlatForm × FlatForm). form.unwind m.0 m.1) _ _ _ _ _ _ _ _ _ _
-    c.in-Unwind.is (at_two _ _ _ _ _ _ _ _ _ _ c.deref-in-Unwind.ensures c.deref-in-Unwind-2.ensures c.in_ok-form-in-Unwind.ensures) refl (λ s n. refl) (λ s n. refl) (λ rest. refl)
-
-pub flat_kind-returns-in_ok-list-in-DynamicLet : goal.flat_kind-returns-in_ok-list-in-DynamicLet
-unfolding flat
-flat_kind-returns-in_ok-list-in-DynamicLet t c =
-    row _ _ (λ s (m : FlatDynamics × FlatForm). form.dynamic_let m.0 m.1) _ _ _ _ _ _ _ _ _ _
-    c.in-DynamicLet.is (at_dynamic_let _ _ _ _ _ _ _ _ _ c.deref-in-DynamicLet.ensures c.in_ok-list-in-DynamicLet.ensures) refl (λ s n. refl) (λ s n. refl) (λ rest. refl)
-
-pub flat_kind-returns-in-Dynamic : goal.flat_kind-returns-in-Dynamic
-unfolding flat
-flat_kind-returns-in-Dynamic t c =
-    row _ _ (λ s (m : FlatForm). m) _ _ _ _ _ _ _ _ _ _
-    c.in-Dynamic.is (alone (λ s n. form.dynamic c.in-Dynamic.name.0) c.args.binders.now c.args.places.now c.args.progress.now _ refl) refl (λ s n. refl) (λ s n. refl) (λ rest. refl)
-
-pub flat_kind-returns-in_ok-boxed-in-SetDynamic : goal.flat_kind-returns-in_ok-boxed-in-SetDynamic
-unfolding flat
-flat_kind-returns-in_ok-boxed-in-SetDynamic t c =
-    row _ _ (λ s (m : FlatForm). form.set_dynamic c.in-SetDynamic.name.0 m) _ _ _ _ _ _ _ _ _ _
-    c.in-SetDynamic.is (at_form _ _ _ _ _ _ _ _ c.deref-in-SetDynamic.ensures c.in_ok-boxed-in-SetDynamic.ensures) refl (λ s n. refl) (λ s n. refl) (λ rest. refl)
-
-pub flat_kind-returns-in_ok-boxed-in-DefDynamic : goal.flat_kind-returns-in_ok-boxed-in-DefDynamic
-unfolding flat
-flat_kind-returns-in_ok-boxed-in-DefDynamic t c =
-    row _ _ (λ s (m : FlatForm). form.def_dynamic c.in-DefDynamic.name.0 m) _ _ _ _ _ _ _ _ _ _
-    c.in-DefDynamic.is (at_form _ _ _ _ _ _ _ _ c.deref-in-DefDynamic.ensures c.in_ok-boxed-in-DefDynamic.ensures) refl (λ s n. refl) (λ s n. refl) (λ rest. refl)
-
-pub flat_kind-returns-in_ok-handler-in-WithHandler : goal.flat_kind-returns-in_ok-handler-in-WithHandler
-unfolding flat
-flat_kind-returns-in_ok-handler-in-WithHandler t c =
-    row _ _ (λ s (m : FlatForm × FlatForm). form.with_handler m.0 m.1) _ _ _ _ _ _ _ _ _ _
-    c.in-WithHandler.is (at_two _ _ _ _ _ _ _ _ _ _ c.deref-in-WithHandler.ensures c.deref-in-WithHandler-2.ensures c.in_ok-handler-in-WithHandler.ensures) refl (λ s n. refl) (λ s n. refl) (λ rest. refl)
-
-pub flat_kind-returns-in_ok-condition-in-Signal : goal.flat_kind-returns-in_ok-condition-in-Signal
-unfolding flat
-flat_kind-returns-in_ok-condition-in-Signal t c =
-    row _ _ (λ s (m : FlatForm × FlatForm). form.signal_form m.0 m.1) _ _ _ _ _ _ _ _ _ _
-    c.in-Signal.is (at_two _ _ _ _ _ _ _ _ _ _ c.deref-in-Signal.ensures c.deref-in-Signal-2.ensures c.in_ok-condition-in-Signal.ensures) refl (λ s n. refl) (λ s n. refl) (λ rest. refl)
-
-pub flat_kind-returns-in_ok-condition-in-Continue : goal.flat_kind-returns-in_ok-condition-in-Continue
-unfolding flat
-flat_kind-returns-in_ok-condition-in-Continue t c =
-    row _ _ (λ s (m : FlatForm × FlatForm). form.continue_form m.0 m.1) _ _ _ _ _ _ _ _ _ _
-    c.in-Continue.is (at_two _ _ _ _ _ _ _ _ _ _ c.deref-in-Continue.ensures c.deref-in-Continue-2.ensures c.in_ok-condition-in-Continue.ensures) refl (λ s n. refl) (λ s n. refl) (λ rest. refl)
-
-pub flat_kind-returns-in-NextMethod : goal.flat_kind-returns-in-NextMethod
-unfolding flat
-flat_kind-returns-in-NextMethod t c =
-    row _ _ (λ s (m : FlatForm). m) _ _ _ _ _ _ _ _ _ _
-    c.in-NextMethod.is (alone (λ s n. form.next_method (method_place_of s)) c.args.binders.now c.args.places.now c.args.progress.now _ (ap form.next_method c.method.ensures)) refl (λ s n. refl) (λ s n. refl) (λ rest. refl)
-
-pub flat_kind-returns-in-HasNext : goal.flat_kind-returns-in-HasNext
-unfolding flat
-flat_kind-returns-in-HasNext t c =
-    row _ _ (λ s (m : FlatForm). m) _ _ _ _ _ _ _ _ _ _
-    c.in-HasNext.is (alone (λ s n. form.has_next (method_place_of s)) c.args.binders.now c.args.places.now c.args.progress.now _ (ap form.has_next c.method-in-HasNext.ensures)) refl (λ s n. refl) (λ s n. refl) (λ rest. refl)
-
-pub flat_kind-returns-in_ok-boxed-in-Sited : goal.flat_kind-returns-in_ok-boxed-in-Sited
-unfolding flat
-flat_kind-returns-in_ok-boxed-in-Sited t c =
-    row _ _ (λ s (m : FlatForm). form.sited c.in-Sited.site m) _ _ _ _ _ _ _ _ _ _
-    c.in-Sited.is (at_form _ _ _ _ _ _ _ _ c.deref-in-Sited.ensures c.in_ok-boxed-in-Sited.ensures) refl (λ s n. refl) (λ s n. refl) (λ rest. refl)
+    at_form _ _ _ _ _ _ _ _ (sym c.in-Tagbody.ensures)
+    (formed (core.tagbody c.in-Tagbody.exit (forms c.in-Tagbody.list.now)) (λ (m : FlatForms). form.tagbody m) _ _ _ _ _ _ _ _ _ _
+    (around _ _ _ c.in-Tagbody.exit _ _ _ _ _ _ _ _ c.in_ok-enter-in-Tagbody.ensures c.leave-in-Tagbody.ensures c.in_ok-list-in-Tagbody.ensures) refl (record { same = λ n. refl; alike = λ n. refl; ahead = λ rest. refl }))
