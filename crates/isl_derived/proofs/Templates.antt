@@ -1,7 +1,8 @@
 -- Quasiquotation, by the kinds of a template.
-use Rattle.std.specs.Prelude.{◌≡◌, ℕ, ◌+◌, ◌<◌, Bool, true, false, List, [], ◌∷◌, ◌++◌, Some, None, if◌then◌else◌, codes, length, refl}
-use Rattle.std.proofs.Common.{arith, ap, ◌∙◌, sym}
+use Rattle.std.specs.Prelude.{◌≡◌, ℕ, ◌+◌, ◌<◌, Bool, true, false, List, [], ◌∷◌, ◌++◌, Some, None, if◌then◌else◌, codes, length, refl, Result, Ok, Err, OnOk}
+use Rattle.std.proofs.Common.{arith, ap, ◌∙◌, sym, append-nil}
 use Rattle.isl_base.specs.Data.{Item, item, integer, character, symbol, string, vector, nil, list, no_item, item_and, items_of, no_tail, dotted, item_size, items_size}
+use Rattle.isl_base.specs.declared.faults.NoMemory.{NoMemory}
 use Rattle.isl_derived.specs.Pieces.{Piece, Pieces, no_piece, piece_and, pieces_of, form}
 use Rattle.isl_derived.specs.Asked.{is_word}
 use Rattle.isl_derived.specs.Quotation.{template, template_list, unquoted, spliced, part, parts, appended, one_piece}
@@ -77,8 +78,8 @@ pair_list names n x e (d ∷ d2 ∷ ds) b h = absurd (cc)
 
 -- another list
 pub other_list : (names : List (List ℕ)) (n : ℕ) (x : Item) (ds : List Item) (b : Pieces) → only_of ds b ≡ None
-    → template_list names n (items_of (x ∷ ds)) b ≡ appended (piece_and (part names n x) (parts names n (items_of ds) b))
-unfolding template_list
+    → template_list names n (items_of (x ∷ ds)) b ≡ appended (parts names n (items_of (x ∷ ds)) b)
+unfolding template_list parts
 other_list names n x [] b h = refl
 other_list names n x (d ∷ []) no_piece h = absurd (cc)
 other_list names n x (d ∷ []) (piece_and y ys) h = refl
@@ -156,22 +157,34 @@ parts_turn names n rest others x b goal xs ys y r h p l done =
     ∙ done)
 
 -- its last turn, where `unquote e` is left
-pub parts_last : (names : List (List ℕ)) (n : ℕ) (rest others : List Item) (x e : Item) (b goal : Pieces) (xs ys : List Piece) (y : Piece)
-    → rest ≡ x ∷ others → last_unquoted names x (only_of others b) ≡ Some e → y ≡ unquoted names n e → ys ≡ xs ++ y ∷ []
-    → pieces_before xs (parts names n (items_of rest) b) ≡ goal
-    → pieces_of ys ≡ goal
-parts_last names n rest others x e b goal xs ys y r h p l done =
+pub parts_last : (names : List (List ℕ)) (n : ℕ) (rest others : List Item) (x e : Item) (goal : Pieces) (xs ys behind : List Piece) (y : Piece)
+    → rest ≡ x ∷ others → last_unquoted names x (only_of others (pieces_of behind)) ≡ Some e → y ≡ unquoted names n e → ys ≡ xs ++ y ∷ []
+    → pieces_before xs (parts names n (items_of rest) (pieces_of behind)) ≡ goal
+    → pieces_of (ys ++ behind) ≡ goal
+parts_last names n rest others x e goal xs ys [] y r h p l done =
     rw (l, p)
-    (before_all xs (unquoted names n e ∷ [])
-    ∙ ap (pieces_before xs) (sym (parts_unquoted names n x e others b h))
-    ∙ ap (λ ds. pieces_before xs (parts names n (items_of ds) b)) (sym r)
+    (ap pieces_of (append-nil (xs ++ unquoted names n e ∷ []))
+    ∙ before_all xs (unquoted names n e ∷ [])
+    ∙ ap (pieces_before xs) (sym (parts_unquoted names n x e others no_piece h))
+    ∙ ap (λ ds. pieces_before xs (parts names n (items_of ds) no_piece)) (sym r)
     ∙ done)
+parts_last names n rest [] x e goal xs ys (b ∷ bs) y r h p l done = absurd (cc)
+parts_last names n rest (o ∷ []) x e goal xs ys (b ∷ bs) y r h p l done = absurd (cc)
+parts_last names n rest (o ∷ o2 ∷ os) x e goal xs ys (b ∷ bs) y r h p l done = absurd (cc)
+
+pub parts_last_pushed : {T : Type 0} (out : Result T NoMemory) (names : List (List ℕ)) (n : ℕ) (rest others : List Item) (x e : Item) (goal : Pieces) (xs ys behind : List Piece)
+    → rest ≡ x ∷ others → last_unquoted names x (only_of others (pieces_of behind)) ≡ Some e → OnOk out (ys ≡ xs ++ unquoted names n e ∷ [])
+    → pieces_before xs (parts names n (items_of rest) (pieces_of behind)) ≡ goal
+    → OnOk out (pieces_of (ys ++ behind) ≡ goal)
+parts_last_pushed (Ok z) names n rest others x e goal xs ys behind r h l done =
+    parts_last names n rest others x e goal xs ys behind (unquoted names n e) r h refl l done
+parts_last_pushed (Err stop) names n rest others x e goal xs ys behind r h l done = tt
 
 -- after the last item
-pub parts_end : (names : List (List ℕ)) (n : ℕ) (rest : List Item) (goal : Pieces) (xs ys behind : List Piece)
-    → length rest ≡ 0 → ys ≡ xs ++ behind
+pub parts_end : (names : List (List ℕ)) (n : ℕ) (rest : List Item) (goal : Pieces) (xs behind : List Piece)
+    → length rest ≡ 0
     → pieces_before xs (parts names n (items_of rest) (pieces_of behind)) ≡ goal
-    → pieces_of ys ≡ goal
+    → pieces_of (xs ++ behind) ≡ goal
 unfolding parts
-parts_end names n [] goal xs ys behind r l done = rw l (before_all xs behind ∙ done)
-parts_end names n (d ∷ ds) goal xs ys behind r l done = absurd (omega arith)
+parts_end names n [] goal xs behind r done = before_all xs behind ∙ done
+parts_end names n (d ∷ ds) goal xs behind r done = absurd (omega arith)

@@ -1,15 +1,16 @@
 // Quasiquotation (ISO/IEC 13816:2007, 16): the form that makes the datum of a template.
 
-ghost use Rattle.std.specs.Prelude.{◌≡◌, ◌≤◌, ◌∷◌, [], length, Some, IfOk, codes};
+ghost use Rattle.std.specs.Prelude.{◌≡◌, ◌≤◌, ◌∷◌, ◌++◌, [], length, Some, IfOk, OnOk, codes};
 ghost use Rattle.isl_derived.specs.Templates.{only_of, splicing, last_unquoted};
 ghost use Rattle.isl_derived.specs.Shown.{datum_shown};
 ghost use Rattle.isl_base.specs.Data.{items_of};
 ghost use Rattle.isl_base.specs.model.DataView.{tail_of};
 ghost use Rattle.isl_derived.specs.Pieces.{form, taken, pieces_of};
+ghost use Rattle.isl_derived.specs.Prefixes.{pieces_before};
 ghost use Rattle.isl_derived.specs.Quotation.{kept_prefix, quoted_word, appended, template, tail_part, template_list, unquoted, spliced, part, parts};
 
 use crate::piece::{
-    Piece, PieceList, form_front, form_one, form_two, nil, one, push_made, taken, word,
+    Piece, PieceList, form_list, form_one, form_two, nil, one, push_made, taken, word,
 };
 use crate::right::later;
 use crate::shape::{is_word, list_items};
@@ -102,11 +103,9 @@ pub(crate) fn template<'a>(
     ensures { IfOk result (λ piece. piece ≡ template names.now level datum.now) }
 {
     match &datum.kind {
-        Kind::Int(_) => quoted(alloc, datum),
-        Kind::Char(_) => quoted(alloc, datum),
-        Kind::Sym(_) => quoted(alloc, datum),
-        Kind::Str(_) => quoted(alloc, datum),
-        Kind::Nil => quoted(alloc, datum),
+        Kind::Int(_) | Kind::Char(_) | Kind::Sym(_) | Kind::Str(_) | Kind::Nil => {
+            quoted(alloc, datum)
+        }
         Kind::Vector(items) => {
             let behind = PieceList::new(alloc);
             let list = template_list(alloc, names, level, items.as_slice(), behind)?;
@@ -154,15 +153,10 @@ fn template_list<'a>(
     if let Some(second) = only_of(rest, &behind) {
         return template_pair(alloc, names, level, first, second);
     }
-    let Ok(first) = part(alloc, names, level, first) else {
-        drop(behind);
-        return Err(NoMemory);
-    };
-    let Ok(rest) = parts(alloc, names, level, rest, behind) else {
-        drop(first);
-        return Err(NoMemory);
-    };
-    form_front(alloc, b"%append", first, rest)
+    let mut list = PieceList::new(alloc);
+    parts(alloc, names, level, items, &behind, &mut list)?;
+    list.append_list(behind)?;
+    form_list(alloc, b"%append", list)
 }
 
 // A list of two items.
@@ -246,7 +240,7 @@ fn part<'a>(
     form_one(alloc, b"%list", template(alloc, names, level, datum)?)
 }
 
-// What the items behind the first one add.
+// Appends what these items add, before what stands behind the dot.
 #[cycle(quotation)]
 #[tactic(auto, using(crate::proofs::Templates::last_smaller))]
 fn parts<'a>(
@@ -254,20 +248,18 @@ fn parts<'a>(
     names: &Names,
     level: u64,
     items: &'a [Datum],
-    behind: PieceList<'a>,
-) -> Result<PieceList<'a>, NoMemory>
-    ensures { IfOk result (λ list. pieces_of list ≡ parts names.now level (items_of items.now) (pieces_of behind.entry)) }
+    behind: &PieceList<'a>,
+    list: &mut PieceList<'a>,
+) -> Result<(), NoMemory>
+    ensures { OnOk result (pieces_of (list.new ++ behind.now) ≡ pieces_before list.old (parts names.now level (items_of items.now) (pieces_of behind.now))) }
 {
-    let mut list = PieceList::new(alloc);
     let mut rest = items;
     while let Some((item, others)) = rest.split_first() {
-        if let Some(last) = unquote_left(names, item, others, &behind) {
-            push_made(&mut list, unquoted(alloc, names, level, last))?;
-            return Ok(list);
+        if let Some(last) = unquote_left(names, item, others, behind) {
+            return push_made(list, unquoted(alloc, names, level, last));
         }
-        push_made(&mut list, part(alloc, names, level, item))?;
+        push_made(list, part(alloc, names, level, item))?;
         rest = others;
     }
-    list.append_list(behind)?;
-    Ok(list)
+    Ok(())
 }

@@ -3,8 +3,8 @@ use Rattle.std.proofs.Common.{◌≡◌, [], ◌∷◌, ◌∙◌, arith, ap, sy
 use Rattle.isl_base.specs.Data.{items_of, items_size}
 use Rattle.isl_derived.specs.Pieces.{pieces_of, no_piece}
 use Rattle.isl_derived.specs.Quotation.{template_list}
-use Rattle.isl_derived.proofs.Lists.{pushed_ok}
-use Rattle.isl_derived.proofs.Templates.{pair_list, parts_turn, parts_last, parts_end}
+use Rattle.isl_derived.proofs.Lists.{pushed, pushed_ok}
+use Rattle.isl_derived.proofs.Templates.{pair_list, parts_turn, parts_last_pushed, parts_end}
 use Rattle.isl_derived.proofs.quotation.+quotation.Goals as goal
 
 pub template_list-returns-in-Some-only_of : goal.template_list-returns-in-Some-only_of
@@ -20,13 +20,14 @@ parts-loop-item-preserved t c =
     let size : items_size (items_of c.loop-item.rest.now) ≡ items_size (items_of (c.in-Some.item.now ∷ c.in-Some.others.now)) =
     ap (λ ds. items_size (items_of ds)) c.in-Some.ensures.cases.0 in
     record {
-      before = parts_turn _ _ _ _ c.in-Some.item.now _ _ c.loop-item.list _ _ c.in-Some.ensures.cases.0 (sym c.in_default-unquote_left.ensures) refl (pushed_ok _ _ _ c.part.result c.part.ensures c.in_ok-push_made-2.ensures) c.loop-item.invariant.before;
+      before = parts_turn _ _ _ _ c.in-Some.item.now _ _ c.loop-item.list _ _ c.in-Some.ensures.cases.0 (sym c.in_default-unquote_left.ensures) refl (pushed_ok _ _ _ c.part.result c.part.ensures c.in_ok-push_made.ensures) c.loop-item.invariant.before;
       smaller = omega arith;
     }
 
 pub parts-returns-in-Some-unquote_left : goal.parts-returns-in-Some-unquote_left
 parts-returns-in-Some-unquote_left t c =
-    parts_last _ _ _ _ c.in-Some.item.now _ _ _ c.loop-item.list _ _ c.in-Some.ensures.cases.0 (sym c.in-Some-unquote_left.ensures) refl (pushed_ok _ _ _ c.unquoted.result c.unquoted.ensures c.in_ok-push_made.ensures) c.loop-item.invariant.before
+    parts_last_pushed c.push_made.result _ _ _ _ c.in-Some.item.now _ _ c.loop-item.list _ c.args.behind.now c.in-Some.ensures.cases.0 (sym c.in-Some-unquote_left.ensures)
+    (pushed c.loop-item.list c.push_made.new.list _ c.unquoted.result c.push_made.result c.unquoted.ensures c.push_made.ensures) c.loop-item.invariant.before
 
 pub parts-returns : goal.parts-returns
-parts-returns t c = parts_end _ _ _ _ c.loop-item.list _ _ c.in_default.ensures.cases c.in_ok-append_list.ensures.ok c.loop-item.invariant.before
+parts-returns t c = parts_end _ _ _ _ c.loop-item.list c.args.behind.now c.in_default.ensures.cases c.loop-item.invariant.before

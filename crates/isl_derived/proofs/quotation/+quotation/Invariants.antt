@@ -14,7 +14,7 @@ abbrev pub decreases-tail_part : goal.decreases-tail_part
 decreases-tail_part l = 2 * tail_size (tail_of l.tail.now)
 
 abbrev pub decreases-template_list : goal.decreases-template_list
-decreases-template_list l = 2 * items_size (items_of l.items.now)
+decreases-template_list l = 2 * items_size (items_of l.items.now) + 1
 
 abbrev pub decreases-template_pair : goal.decreases-template_pair
 decreases-template_pair l = 2 * (item_size l.first.now + item_size l.second.now) + 2
@@ -33,8 +33,8 @@ decreases-parts l = 2 * items_size (items_of l.items.now)
 
 abbrev pub invariant-parts-loop-item : goal.invariant-parts-loop-item
 invariant-parts-loop-item l = record {
-  before : pieces_before l.list (parts l.names l.level (items_of l.rest) (pieces_of l.fn.behind))
-      ≡ parts l.names l.level (items_of l.items) (pieces_of l.fn.behind);
+  before : pieces_before l.list (parts l.names l.level (items_of l.rest) (pieces_of l.behind))
+      ≡ pieces_before l.initial.list (parts l.names l.level (items_of l.items) (pieces_of l.behind));
   smaller : items_size (items_of l.rest) ≤ items_size (items_of l.items);
 }
 
