@@ -1,6 +1,6 @@
 -- Lists of data, as contracts see them and as a datum holds them; lists of parts, with one more.
 use Rattle.std.specs.Prelude.{◌≡◌, ℕ, ◌<◌, List, [], ◌∷◌, ◌++◌, length, Result, Ok, Err, IfOk, OnOk, IsOkAnd}
-use Rattle.std.proofs.Common.{arith, ap, ◌∙◌}
+use Rattle.std.proofs.Common.{arith, ap, ◌∙◌, sym}
 use Rattle.isl_base.specs.declared.place.Place.{Place}
 use Rattle.isl_base.specs.Data.{Item, item, list, Tail, items_of, items_list}
 use Rattle.isl_base.specs.DataMeasures.{Formed, AllFormed, FormedTail, NamesBelow, AllNamesBelow, NamesBelowTail}
@@ -22,6 +22,12 @@ pub pushed_ok : (old new : List Piece) (x : Piece) (made : Result Piece NoMemory
     → IsOkAnd made (λ y. new ≡ old ++ y ∷ []) → new ≡ old ++ x ∷ []
 pushed_ok old new x (Ok y) h g = g ∙ ap (λ (w : Piece). old ++ w ∷ []) h
 pushed_ok old new x (Err stop) h g = absurd g
+
+pub pushed_single : {T : Type 0} (old new all : List Piece) (made : Result Piece NoMemory) (out : Result T NoMemory) → IfOk made (λ y. all ≡ y ∷ [])
+    → OnOk out (IsOkAnd made (λ y. new ≡ old ++ y ∷ [])) → OnOk out (new ≡ old ++ all)
+pushed_single old new all (Ok y) (Ok z) h g = g ∙ ap (λ (w : List Piece). old ++ w) (sym h)
+pushed_single old new all (Err stop) (Ok z) h g = absurd g
+pushed_single old new all made (Err stop) h g = tt
 
 -- a list with an item is in form where its items and its tail are
 pub list_formed : (n : ℕ) (p : Place) (d : Item) (ds es : List Item) (t : Tail) → d ≡ item p (list (items_of ds) t) → es ≡ ds → 0 < length ds

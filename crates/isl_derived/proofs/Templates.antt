@@ -1,10 +1,11 @@
 -- Quasiquotation, by the kinds of a template.
-use Rattle.std.specs.Prelude.{◌≡◌, ℕ, ◌+◌, ◌<◌, Bool, true, false, List, [], ◌∷◌, ◌++◌, Some, None, if◌then◌else◌, codes, length, refl}
-use Rattle.std.proofs.Common.{arith, ap, ◌∙◌, sym}
-use Rattle.isl_base.specs.Data.{Item, item, integer, character, symbol, string, vector, nil, list, no_item, item_and, items_of, no_tail, dotted, item_size, items_size}
+use Rattle.std.specs.Prelude.{◌≡◌, ℕ, ◌+◌, ◌<◌, Bool, true, false, List, [], ◌∷◌, ◌++◌, Some, None, if◌then◌else◌, codes, length, refl, Result, Ok, Err, OnOk}
+use Rattle.std.proofs.Common.{arith, ap, ◌∙◌, sym, append-nil}
+use Rattle.isl_base.specs.Data.{Item, item, integer, character, symbol, string, vector, nil, list, no_item, item_and, items_of, Tail, no_tail, dotted, item_size, items_size}
+use Rattle.isl_base.specs.declared.faults.NoMemory.{NoMemory}
 use Rattle.isl_derived.specs.Pieces.{Piece, Pieces, no_piece, piece_and, pieces_of, form}
 use Rattle.isl_derived.specs.Asked.{is_word}
-use Rattle.isl_derived.specs.Quotation.{template, template_list, unquoted, spliced, part, parts, appended, one_piece}
+use Rattle.isl_derived.specs.Quotation.{template, tail_part, template_list, unquoted, spliced, part, parts, appended, one_piece}
 use Rattle.isl_derived.specs.Templates.{only_of, splicing, last_unquoted}
 use Rattle.isl_derived.specs.Prefixes.{pieces_before}
 
@@ -67,61 +68,62 @@ spliced_smaller names (item p (list (item_and x (item_and y (item_and z ds))) no
 spliced_smaller names (item p (list ds (dotted t))) e h = absurd (cc)
 
 -- a list of two items
-pub pair_list : (names : List (List ℕ)) (n : ℕ) (x e : Item) (ds : List Item) (b : Pieces) → only_of ds b ≡ Some e
-    → template_list names n (items_of (x ∷ ds)) b ≡ template_list names n (items_of (x ∷ e ∷ [])) no_piece
-pair_list names n x e [] b h = absurd (cc)
-pair_list names n x e (d ∷ []) no_piece h =
+pub pair_list : (names : List (List ℕ)) (n : ℕ) (x e : Item) (ds : List Item) (t : Tail) → only_of ds t ≡ Some e
+    → template_list names n (items_of (x ∷ ds)) (tail_part names n t) ≡ template_list names n (items_of (x ∷ e ∷ [])) no_piece
+unfolding tail_part
+pair_list names n x e [] t h = absurd (cc)
+pair_list names n x e (d ∷ []) no_tail h =
     let same : d ≡ e = cc in ap (λ y. template_list names n (items_of (x ∷ y ∷ [])) no_piece) same
-pair_list names n x e (d ∷ []) (piece_and y ys) h = absurd (cc)
-pair_list names n x e (d ∷ d2 ∷ ds) b h = absurd (cc)
+pair_list names n x e (d ∷ []) (dotted y) h = absurd (cc)
+pair_list names n x e (d ∷ d2 ∷ ds) t h = absurd (cc)
 
 -- another list
-pub other_list : (names : List (List ℕ)) (n : ℕ) (x : Item) (ds : List Item) (b : Pieces) → only_of ds b ≡ None
-    → template_list names n (items_of (x ∷ ds)) b ≡ appended (piece_and (part names n x) (parts names n (items_of ds) b))
-unfolding template_list
-other_list names n x [] b h = refl
-other_list names n x (d ∷ []) no_piece h = absurd (cc)
-other_list names n x (d ∷ []) (piece_and y ys) h = refl
-other_list names n x (d ∷ d2 ∷ ds) b h = refl
+pub other_list : (names : List (List ℕ)) (n : ℕ) (x : Item) (ds : List Item) (t : Tail) → only_of ds t ≡ None
+    → template_list names n (items_of (x ∷ ds)) (tail_part names n t) ≡ appended (parts names n (items_of (x ∷ ds)) (tail_part names n t))
+unfolding template_list parts tail_part
+other_list names n x [] t h = refl
+other_list names n x (d ∷ []) no_tail h = absurd (cc)
+other_list names n x (d ∷ []) (dotted y) h = refl
+other_list names n x (d ∷ d2 ∷ ds) t h = refl
 
 -- the only datum that is left is smaller than the list
-pub only_smaller : (x e : Item) (ds : List Item) (b : Pieces) → only_of ds b ≡ Some e
+pub only_smaller : (x e : Item) (ds : List Item) (t : Tail) → only_of ds t ≡ Some e
     → item_size x + item_size e + 1 < items_size (items_of (x ∷ ds))
-only_smaller x e [] b h = absurd (cc)
-only_smaller x e (d ∷ []) no_piece h = let same : d ≡ e = cc in omega (arith, ap item_size same)
-only_smaller x e (d ∷ []) (piece_and y ys) h = absurd (cc)
-only_smaller x e (d ∷ d2 ∷ ds) b h = absurd (cc)
+only_smaller x e [] t h = absurd (cc)
+only_smaller x e (d ∷ []) no_tail h = let same : d ≡ e = cc in omega (arith, ap item_size same)
+only_smaller x e (d ∷ []) (dotted y) h = absurd (cc)
+only_smaller x e (d ∷ d2 ∷ ds) t h = absurd (cc)
 
 -- the last two items of a list
-pub parts_unquoted : (names : List (List ℕ)) (n : ℕ) (x e : Item) (ds : List Item) (b : Pieces) → last_unquoted names x (only_of ds b) ≡ Some e
-    → parts names n (items_of (x ∷ ds)) b ≡ one_piece (unquoted names n e)
-unfolding parts
-parts_unquoted names n x e [] b h = absurd (cc)
-parts_unquoted names n x e (d ∷ []) no_piece h =
+pub parts_unquoted : (names : List (List ℕ)) (n : ℕ) (x e : Item) (ds : List Item) (t : Tail) → last_unquoted names x (only_of ds t) ≡ Some e
+    → parts names n (items_of (x ∷ ds)) (tail_part names n t) ≡ one_piece (unquoted names n e)
+unfolding parts tail_part
+parts_unquoted names n x e [] t h = absurd (cc)
+parts_unquoted names n x e (d ∷ []) no_tail h =
     let c : (is_word names (codes "unquote") x ≡ true) × (d ≡ e) = chosen (is_word names (codes "unquote") x) d e h in
     rw c.0 (ap (λ y. one_piece (unquoted names n y)) c.1)
-parts_unquoted names n x e (d ∷ []) (piece_and y ys) h = absurd (cc)
-parts_unquoted names n x e (d ∷ d2 ∷ ds) b h = absurd (cc)
+parts_unquoted names n x e (d ∷ []) (dotted y) h = absurd (cc)
+parts_unquoted names n x e (d ∷ d2 ∷ ds) t h = absurd (cc)
 
 -- another item
-pub parts_other : (names : List (List ℕ)) (n : ℕ) (x : Item) (ds : List Item) (b : Pieces) → last_unquoted names x (only_of ds b) ≡ None
-    → parts names n (items_of (x ∷ ds)) b ≡ piece_and (part names n x) (parts names n (items_of ds) b)
-unfolding parts
-parts_other names n x [] b h = refl
-parts_other names n x (d ∷ []) no_piece h =
+pub parts_other : (names : List (List ℕ)) (n : ℕ) (x : Item) (ds : List Item) (t : Tail) → last_unquoted names x (only_of ds t) ≡ None
+    → parts names n (items_of (x ∷ ds)) (tail_part names n t) ≡ piece_and (part names n x) (parts names n (items_of ds) (tail_part names n t))
+unfolding parts tail_part
+parts_other names n x [] t h = refl
+parts_other names n x (d ∷ []) no_tail h =
     let c : is_word names (codes "unquote") x ≡ false = not_chosen (is_word names (codes "unquote") x) d h in
     rw c refl
-parts_other names n x (d ∷ []) (piece_and y ys) h = refl
-parts_other names n x (d ∷ d2 ∷ ds) b h = refl
+parts_other names n x (d ∷ []) (dotted y) h = refl
+parts_other names n x (d ∷ d2 ∷ ds) t h = refl
 
-pub last_smaller : (names : List (List ℕ)) (x e : Item) (ds : List Item) (b : Pieces) → last_unquoted names x (only_of ds b) ≡ Some e
+pub last_smaller : (names : List (List ℕ)) (x e : Item) (ds : List Item) (t : Tail) → last_unquoted names x (only_of ds t) ≡ Some e
     → item_size e + 1 < items_size (items_of (x ∷ ds))
-last_smaller names x e [] b h = absurd (cc)
-last_smaller names x e (d ∷ []) no_piece h =
+last_smaller names x e [] t h = absurd (cc)
+last_smaller names x e (d ∷ []) no_tail h =
     let c : (is_word names (codes "unquote") x ≡ true) × (d ≡ e) = chosen (is_word names (codes "unquote") x) d e h in
     omega (arith, ap item_size c.1)
-last_smaller names x e (d ∷ []) (piece_and y ys) h = absurd (cc)
-last_smaller names x e (d ∷ d2 ∷ ds) b h = absurd (cc)
+last_smaller names x e (d ∷ []) (dotted y) h = absurd (cc)
+last_smaller names x e (d ∷ d2 ∷ ds) t h = absurd (cc)
 
 -- parts in front of parts
 pub before_more : (xs : List Piece) (y : Piece) (ys : Pieces) → pieces_before (xs ++ y ∷ []) ys ≡ pieces_before xs (piece_and y ys)
@@ -132,46 +134,47 @@ pub before_all : (xs ys : List Piece) → pieces_of (xs ++ ys) ≡ pieces_before
 before_all [] ys = refl
 before_all (x ∷ xs) ys = ap (piece_and x) (before_all xs ys)
 
--- no part has only what a list of parts has
-pub no_pieces : (xs : List Piece) → length xs ≡ 0 → pieces_of xs ≡ no_piece
-no_pieces [] h = refl
-no_pieces (x ∷ xs) h = absurd (omega arith)
-
-pub only_none : (ds : List Item) (xs : List Piece) → 0 < length xs → only_of ds (pieces_of xs) ≡ None
-only_none [] xs h = refl
-only_none (d ∷ []) [] h = absurd (omega arith)
-only_none (d ∷ []) (x ∷ xs) h = refl
-only_none (d ∷ e ∷ ds) xs h = refl
-
--- a turn of the loop over the items behind the first one
-pub parts_turn : (names : List (List ℕ)) (n : ℕ) (rest others : List Item) (x : Item) (b goal : Pieces) (xs ys : List Piece) (y : Piece)
-    → rest ≡ x ∷ others → last_unquoted names x (only_of others b) ≡ None → y ≡ part names n x → ys ≡ xs ++ y ∷ []
-    → pieces_before xs (parts names n (items_of rest) b) ≡ goal
-    → pieces_before ys (parts names n (items_of others) b) ≡ goal
-parts_turn names n rest others x b goal xs ys y r h p l done =
+-- a turn of the loop over the items
+pub parts_turn : (names : List (List ℕ)) (n : ℕ) (rest others : List Item) (x : Item) (t : Tail) (goal : Pieces) (xs ys : List Piece) (y : Piece)
+    → rest ≡ x ∷ others → last_unquoted names x (only_of others t) ≡ None → y ≡ part names n x → ys ≡ xs ++ y ∷ []
+    → pieces_before xs (parts names n (items_of rest) (tail_part names n t)) ≡ goal
+    → pieces_before ys (parts names n (items_of others) (tail_part names n t)) ≡ goal
+parts_turn names n rest others x t goal xs ys y r h p l done =
     rw (l, p)
-    (before_more xs (part names n x) (parts names n (items_of others) b)
-    ∙ ap (pieces_before xs) (sym (parts_other names n x others b h))
-    ∙ ap (λ ds. pieces_before xs (parts names n (items_of ds) b)) (sym r)
+    (before_more xs (part names n x) (parts names n (items_of others) (tail_part names n t))
+    ∙ ap (pieces_before xs) (sym (parts_other names n x others t h))
+    ∙ ap (λ ds. pieces_before xs (parts names n (items_of ds) (tail_part names n t))) (sym r)
     ∙ done)
 
 -- its last turn, where `unquote e` is left
-pub parts_last : (names : List (List ℕ)) (n : ℕ) (rest others : List Item) (x e : Item) (b goal : Pieces) (xs ys : List Piece) (y : Piece)
-    → rest ≡ x ∷ others → last_unquoted names x (only_of others b) ≡ Some e → y ≡ unquoted names n e → ys ≡ xs ++ y ∷ []
-    → pieces_before xs (parts names n (items_of rest) b) ≡ goal
-    → pieces_of ys ≡ goal
-parts_last names n rest others x e b goal xs ys y r h p l done =
-    rw (l, p)
+pub parts_last : {T : Type 0} (out : Result T NoMemory) (names : List (List ℕ)) (n : ℕ) (rest others : List Item) (x e : Item) (t : Tail) (goal : Pieces) (xs ys : List Piece)
+    → rest ≡ x ∷ others → last_unquoted names x (only_of others t) ≡ Some e → OnOk out (ys ≡ xs ++ unquoted names n e ∷ [])
+    → pieces_before xs (parts names n (items_of rest) (tail_part names n t)) ≡ goal
+    → OnOk out (pieces_of ys ≡ goal)
+parts_last (Ok z) names n rest others x e t goal xs ys r h l done =
+    rw l
     (before_all xs (unquoted names n e ∷ [])
-    ∙ ap (pieces_before xs) (sym (parts_unquoted names n x e others b h))
-    ∙ ap (λ ds. pieces_before xs (parts names n (items_of ds) b)) (sym r)
+    ∙ ap (pieces_before xs) (sym (parts_unquoted names n x e others t h))
+    ∙ ap (λ ds. pieces_before xs (parts names n (items_of ds) (tail_part names n t))) (sym r)
     ∙ done)
+parts_last (Err stop) names n rest others x e t goal xs ys r h l done = tt
 
 -- after the last item
-pub parts_end : (names : List (List ℕ)) (n : ℕ) (rest : List Item) (goal : Pieces) (xs ys behind : List Piece)
-    → length rest ≡ 0 → ys ≡ xs ++ behind
-    → pieces_before xs (parts names n (items_of rest) (pieces_of behind)) ≡ goal
-    → pieces_of ys ≡ goal
-unfolding parts
-parts_end names n [] goal xs ys behind r l done = rw l (before_all xs behind ∙ done)
-parts_end names n (d ∷ ds) goal xs ys behind r l done = absurd (omega arith)
+pub parts_end : (names : List (List ℕ)) (n : ℕ) (rest : List Item) (t : Tail) (goal : Pieces) (xs : List Piece) → length rest ≡ 0 → t ≡ no_tail
+    → pieces_before xs (parts names n (items_of rest) (tail_part names n t)) ≡ goal
+    → pieces_of xs ≡ goal
+unfolding parts tail_part
+parts_end names n [] t goal xs r e done =
+    ap pieces_of (sym (append-nil xs)) ∙ before_all xs [] ∙ ap (λ s. pieces_before xs (parts names n (items_of []) (tail_part names n s))) (sym e) ∙ done
+parts_end names n (d ∷ ds) t goal xs r e done = absurd (omega arith)
+
+-- the same, with a dot behind it
+pub parts_dotted : {T : Type 0} (out : Result T NoMemory) (names : List (List ℕ)) (n : ℕ) (rest : List Item) (t : Tail) (d : Item) (goal : Pieces) (xs ys : List Piece)
+    → length rest ≡ 0 → t ≡ dotted d → OnOk out (ys ≡ xs ++ template names n d ∷ [])
+    → pieces_before xs (parts names n (items_of rest) (tail_part names n t)) ≡ goal
+    → OnOk out (pieces_of ys ≡ goal)
+unfolding parts tail_part
+parts_dotted (Ok z) names n [] t d goal xs ys r e l done =
+    rw l (before_all xs (template names n d ∷ []) ∙ ap (λ s. pieces_before xs (parts names n (items_of []) (tail_part names n s))) (sym e) ∙ done)
+parts_dotted (Ok z) names n (x ∷ es) t d goal xs ys r e l done = absurd (omega arith)
+parts_dotted (Err stop) names n rest t d goal xs ys r e l done = tt

@@ -15,3 +15,4 @@ pub mod Templates
 pub mod Ranks
 pub mod Steps
 pub mod GoodSteps
+pub mod Singles

@@ -1,15 +1,14 @@
 -- What tells the kinds of a template apart.
 use Rattle.std.specs.Prelude.{ℕ, List, [], ◌∷◌, Option, Some, None, if◌then◌else◌, codes}
-use Rattle.isl_base.specs.Data.{Item}
-use Rattle.isl_derived.specs.Pieces.{Pieces, no_piece, piece_and}
+use Rattle.isl_base.specs.Data.{Item, Tail, no_tail, dotted}
 use Rattle.isl_derived.specs.Asked.{is_word, list_items}
 
 -- the one datum that is left, with no dot behind it
-abbrev pub only_of : List Item → Pieces → Option Item
-only_of [] b = None
-only_of (e ∷ []) no_piece = Some e
-only_of (e ∷ []) (piece_and x xs) = None
-only_of (e ∷ d ∷ ds) b = None
+abbrev pub only_of : List Item → Tail → Option Item
+only_of [] t = None
+only_of (e ∷ []) no_tail = Some e
+only_of (e ∷ []) (dotted d) = None
+only_of (e ∷ d ∷ ds) t = None
 
 -- the e of `(unquote-splicing e)`
 abbrev pub spliced_by : List (List ℕ) → Option (List Item) → Option Item

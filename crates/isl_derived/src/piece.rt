@@ -158,29 +158,23 @@ pub(crate) fn form_one<'a>(
     requires { length name.now ≤ 263 }
     ensures { IfOk result (λ piece. piece ≡ form name.now (first.entry ∷ [])) }
 {
-    form_front(alloc, name, first, PieceList::new(alloc))
+    form_list(alloc, name, one(alloc, first)?)
 }
 
-/// A form with a part, and those behind it.
-pub(crate) fn form_front<'a>(
+/// A form with these parts.
+pub(crate) fn form_list<'a>(
     alloc: Global,
     name: &'static [u8],
-    first: Piece<'a>,
-    rest: PieceList<'a>,
+    parts: PieceList<'a>,
 ) -> Result<Piece<'a>, NoMemory>
     requires { length name.now ≤ 263 }
-    ensures { IfOk result (λ piece. piece ≡ form name.now (first.entry ∷ rest.entry)) }
+    ensures { IfOk result (λ piece. piece ≡ form name.now parts.entry) }
 {
     let Ok(mut list) = one(alloc, word(name)) else {
-        drop(first);
-        drop(rest);
+        drop(parts);
         return Err(NoMemory);
     };
-    if list.push(first).is_err() {
-        drop(rest);
-        return Err(NoMemory);
-    }
-    list.append_list(rest)?;
+    list.append_list(parts)?;
     Ok(parens(list))
 }
 
@@ -194,11 +188,12 @@ pub(crate) fn form_two<'a>(
     requires { length name.now ≤ 263 }
     ensures { IfOk result (λ piece. piece ≡ form name.now (first.entry ∷ second.entry ∷ [])) }
 {
-    let Ok(rest) = one(alloc, second) else {
-        drop(first);
+    let Ok(mut parts) = one(alloc, first) else {
+        drop(second);
         return Err(NoMemory);
     };
-    form_front(alloc, name, first, rest)
+    parts.push(second)?;
+    form_list(alloc, name, parts)
 }
 
 /// Appends parts of the form, in their order.

@@ -1,16 +1,15 @@
 // Quasiquotation (ISO/IEC 13816:2007, 16): the form that makes the datum of a template.
 
-ghost use Rattle.std.specs.Prelude.{◌≡◌, ◌≤◌, ◌∷◌, [], length, Some, IfOk, codes};
+ghost use Rattle.std.specs.Prelude.{◌≡◌, ◌≤◌, ◌∷◌, [], length, Some, IfOk, OnOk, codes};
 ghost use Rattle.isl_derived.specs.Templates.{only_of, splicing, last_unquoted};
-ghost use Rattle.isl_derived.specs.Shown.{datum_shown};
+ghost use Rattle.isl_derived.specs.Shown.{datum_shown, tail_shown};
 ghost use Rattle.isl_base.specs.Data.{items_of};
 ghost use Rattle.isl_base.specs.model.DataView.{tail_of};
 ghost use Rattle.isl_derived.specs.Pieces.{form, taken, pieces_of};
+ghost use Rattle.isl_derived.specs.Prefixes.{pieces_before};
 ghost use Rattle.isl_derived.specs.Quotation.{kept_prefix, quoted_word, appended, template, tail_part, template_list, unquoted, spliced, part, parts};
 
-use crate::piece::{
-    Piece, PieceList, form_front, form_one, form_two, nil, one, push_made, taken, word,
-};
+use crate::piece::{Piece, PieceList, form_list, form_one, form_two, nil, push_made, taken, word};
 use crate::right::later;
 use crate::shape::{is_word, list_items};
 use isl_base::{Datum, Kind, Names, NoMemory};
@@ -36,12 +35,21 @@ fn quoted<'a>(alloc: Global, datum: &'a Datum) -> Result<Piece<'a>, NoMemory>
     form_one(alloc, b"quote", taken(datum))
 }
 
-// The one datum that is left, with no dot behind it.
-#[tactic(auto, using(crate::proofs::Templates::only_none, crate::proofs::Templates::no_pieces))]
-fn only_of<'a>(items: &'a [Datum], behind: &PieceList) -> Option<&'a Datum>
-    ensures { datum_shown result ≡ only_of items.now (pieces_of behind.now) }
+// The datum behind the dot.
+fn behind(tail: &Option<Box<Datum>>) -> Option<&Datum>
+    ensures { tail_shown result ≡ tail_of tail.now }
 {
-    if behind.len() > 0 {
+    match tail {
+        None => None,
+        Some(datum) => Some(datum),
+    }
+}
+
+// The one datum that is left, with no dot behind it.
+fn only_of<'a>(items: &'a [Datum], tail: Option<&Datum>) -> Option<&'a Datum>
+    ensures { datum_shown result ≡ only_of items.now (tail_shown tail.entry) }
+{
+    if tail.is_some() {
         return None;
     }
     match items {
@@ -66,11 +74,11 @@ fn unquote_left<'a>(
     names: &Names,
     first: &Datum,
     others: &'a [Datum],
-    behind: &PieceList,
+    tail: Option<&Datum>,
 ) -> Option<&'a Datum>
-    ensures { datum_shown result ≡ last_unquoted names.now first.now (only_of others.now (pieces_of behind.now)) }
+    ensures { datum_shown result ≡ last_unquoted names.now first.now (only_of others.now (tail_shown tail.entry)) }
 {
-    match only_of(others, behind) {
+    match only_of(others, tail) {
         Some(last) => last_unquoted(names, first, last),
         None => None,
     }
@@ -92,7 +100,7 @@ fn splicing<'a>(names: &Names, datum: &'a Datum) -> Option<&'a Datum>
 
 /// The form that makes the datum of a template, so many quasiquotations deep.
 #[cycle(quotation)]
-#[tactic(auto, unfolding(crate::specs::Quotation::template))]
+#[tactic(auto, unfolding(crate::specs::Quotation::template, crate::specs::Quotation::tail_part))]
 pub(crate) fn template<'a>(
     alloc: Global,
     names: &Names,
@@ -102,41 +110,20 @@ pub(crate) fn template<'a>(
     ensures { IfOk result (λ piece. piece ≡ template names.now level datum.now) }
 {
     match &datum.kind {
-        Kind::Int(_) => quoted(alloc, datum),
-        Kind::Char(_) => quoted(alloc, datum),
-        Kind::Sym(_) => quoted(alloc, datum),
-        Kind::Str(_) => quoted(alloc, datum),
-        Kind::Nil => quoted(alloc, datum),
+        Kind::Int(_) | Kind::Char(_) | Kind::Sym(_) | Kind::Str(_) | Kind::Nil => {
+            quoted(alloc, datum)
+        }
         Kind::Vector(items) => {
-            let behind = PieceList::new(alloc);
-            let list = template_list(alloc, names, level, items.as_slice(), behind)?;
+            let list = template_list(alloc, names, level, items.as_slice(), None)?;
             form_one(alloc, b"%list-vector", list)
         }
         Kind::List { items, tail } => {
-            let behind = tail_part(alloc, names, level, tail)?;
-            template_list(alloc, names, level, items.as_slice(), behind)
+            template_list(alloc, names, level, items.as_slice(), behind(tail))
         }
     }
 }
 
-// The part of what stands behind the dot, where there is a dot.
-#[cycle(quotation)]
-#[tactic(auto, unfolding(crate::specs::Quotation::tail_part))]
-fn tail_part<'a>(
-    alloc: Global,
-    names: &Names,
-    level: u64,
-    tail: &'a Option<Box<Datum>>,
-) -> Result<PieceList<'a>, NoMemory>
-    ensures { IfOk result (λ list. pieces_of list ≡ tail_part names.now level (tail_of tail.now)) }
-{
-    match tail {
-        None => Ok(PieceList::new(alloc)),
-        Some(datum) => one(alloc, template(alloc, names, level, datum)?),
-    }
-}
-
-// A list of these items, with that part behind the dot.
+// A list of these items, with that tail.
 #[cycle(quotation)]
 #[tactic(auto, using(crate::proofs::Templates::pair_list, crate::proofs::Templates::other_list, crate::proofs::Templates::only_smaller), unfolding(crate::specs::Quotation::template_list))]
 fn template_list<'a>(
@@ -144,25 +131,19 @@ fn template_list<'a>(
     names: &Names,
     level: u64,
     items: &'a [Datum],
-    behind: PieceList<'a>,
+    tail: Option<&'a Datum>,
 ) -> Result<Piece<'a>, NoMemory>
-    ensures { IfOk result (λ piece. piece ≡ template_list names.now level (items_of items.now) (pieces_of behind.entry)) }
+    ensures { IfOk result (λ piece. piece ≡ template_list names.now level (items_of items.now) (tail_part names.now level (tail_shown tail.entry))) }
 {
     let Some((first, rest)) = items.split_first() else {
         return form_one(alloc, b"quote", nil(alloc));
     };
-    if let Some(second) = only_of(rest, &behind) {
+    if let Some(second) = only_of(rest, tail) {
         return template_pair(alloc, names, level, first, second);
     }
-    let Ok(first) = part(alloc, names, level, first) else {
-        drop(behind);
-        return Err(NoMemory);
-    };
-    let Ok(rest) = parts(alloc, names, level, rest, behind) else {
-        drop(first);
-        return Err(NoMemory);
-    };
-    form_front(alloc, b"%append", first, rest)
+    let mut list = PieceList::new(alloc);
+    parts(alloc, names, level, items, tail, &mut list)?;
+    form_list(alloc, b"%append", list)
 }
 
 // A list of two items.
@@ -246,7 +227,7 @@ fn part<'a>(
     form_one(alloc, b"%list", template(alloc, names, level, datum)?)
 }
 
-// What the items behind the first one add.
+// Appends what these items and that tail add.
 #[cycle(quotation)]
 #[tactic(auto, using(crate::proofs::Templates::last_smaller))]
 fn parts<'a>(
@@ -254,20 +235,21 @@ fn parts<'a>(
     names: &Names,
     level: u64,
     items: &'a [Datum],
-    behind: PieceList<'a>,
-) -> Result<PieceList<'a>, NoMemory>
-    ensures { IfOk result (λ list. pieces_of list ≡ parts names.now level (items_of items.now) (pieces_of behind.entry)) }
+    tail: Option<&'a Datum>,
+    list: &mut PieceList<'a>,
+) -> Result<(), NoMemory>
+    ensures { OnOk result (pieces_of list.new ≡ pieces_before list.old (parts names.now level (items_of items.now) (tail_part names.now level (tail_shown tail.entry)))) }
 {
-    let mut list = PieceList::new(alloc);
     let mut rest = items;
     while let Some((item, others)) = rest.split_first() {
-        if let Some(last) = unquote_left(names, item, others, &behind) {
-            push_made(&mut list, unquoted(alloc, names, level, last))?;
-            return Ok(list);
+        if let Some(last) = unquote_left(names, item, others, tail) {
+            return push_made(list, unquoted(alloc, names, level, last));
         }
-        push_made(&mut list, part(alloc, names, level, item))?;
+        push_made(list, part(alloc, names, level, item))?;
         rest = others;
     }
-    list.append_list(behind)?;
-    Ok(list)
+    match tail {
+        None => Ok(()),
+        Some(datum) => push_made(list, template(alloc, names, level, datum)),
+    }
 }

@@ -4,6 +4,7 @@ ghost use Rattle.std.specs.Prelude.{◌≡◌, ◌++◌, ◌∷◌, [], IfOk, On
 ghost use Rattle.isl_derived.specs.Patterns.{fit_all};
 ghost use Rattle.isl_derived.specs.model.PatternView.{view_patterns};
 ghost use Rattle.isl_derived.specs.RightSides.{part_of, of_first, setter_piece, repeated, write, write_all};
+ghost use Rattle.isl_derived.specs.Singles.{IsSingle};
 ghost use Rattle.isl_derived.specs.Quotation.{template};
 ghost use Rattle.isl_derived.specs.model.TemplateView.{view_template, view_templates};
 ghost use Rattle.isl_derived.specs.Pieces.{taken};
@@ -85,9 +86,32 @@ fn setter_piece<'a>(alloc: Global, names: &Names, items: &[Datum]) -> Result<Pie
     }
 }
 
+// The part that a step writes by a template of one part.
+#[tactic(auto, unfolding(crate::specs::RightSides::write))]
+fn single<'a>(
+    start: Start,
+    template: &Template,
+    own: u64,
+    parts: &Parts<'a>,
+) -> Result<Piece<'a>, NoMemory>
+    requires { IsSingle (view_template template.now) }
+    ensures { IfOk result (λ piece. write start.entry.names.now start.entry.serial (view_template template.now) own parts.now ≡ piece ∷ []) }
+{
+    match template {
+        Template::One(at) => Ok(first_taken(start.alloc, part_of(parts, *at))),
+        Template::Setter(at) => setter_piece(start.alloc, start.names, part_of(parts, *at)),
+        Template::Quotation(at) => first_quoted(start.alloc, start.names, part_of(parts, *at)),
+        Template::Word(text) => short_word(text),
+        Template::New(number) => made_later(start.serial, *number as u64),
+        Template::NewBehind(at) => made_later(start.serial, part_of(parts, *at).len() as u64),
+        Template::Own => Ok(made(own)),
+        _ => unreachable!(),
+    }
+}
+
 // Appends what a step writes by a template.
 #[cycle(write)]
-#[tactic(auto, using(crate::proofs::Lists::pushed), unfolding(crate::specs::RightSides::write))]
+#[tactic(auto, using(crate::proofs::Lists::pushed_single), unfolding(crate::specs::RightSides::write))]
 fn write<'a>(
     start: Start,
     template: &Template,
@@ -98,27 +122,7 @@ fn write<'a>(
     ensures { OnOk result (list.new ≡ list.old ++ write start.entry.names.now start.entry.serial (view_template template.now) own parts.now) }
 {
     match template {
-        Template::One(at) => list.push(first_taken(start.alloc, part_of(parts, *at))),
         Template::All(at) => push_taken(list, part_of(parts, *at)),
-        Template::Setter(at) => {
-            push_made(
-                list,
-                setter_piece(start.alloc, start.names, part_of(parts, *at)),
-            )
-        }
-        Template::Quotation(at) => {
-            push_made(
-                list,
-                first_quoted(start.alloc, start.names, part_of(parts, *at)),
-            )
-        }
-        Template::Word(text) => push_made(list, short_word(text)),
-        Template::New(number) => push_made(list, made_later(start.serial, *number as u64)),
-        Template::NewBehind(at) => {
-            let before = part_of(parts, *at).len();
-            push_made(list, made_later(start.serial, before as u64))
-        }
-        Template::Own => list.push(made(own)),
         Template::Group(templates) => {
             let mut inner = PieceList::new(start.alloc);
             write_all(start, templates, own, parts, &mut inner)?;
@@ -127,6 +131,13 @@ fn write<'a>(
         Template::ForEach(at, patterns, templates) => {
             write_each(start, patterns, templates, part_of(parts, *at), list)
         }
+        Template::One(_)
+        | Template::Setter(_)
+        | Template::Quotation(_)
+        | Template::Word(_)
+        | Template::New(_)
+        | Template::NewBehind(_)
+        | Template::Own => push_made(list, single(start, template, own, parts)),
     }
 }
 

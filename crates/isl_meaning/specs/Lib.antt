@@ -27,3 +27,4 @@ pub mod Standing
 pub mod Facts
 pub mod BoundNames
 pub mod Reached
+pub mod Kinds

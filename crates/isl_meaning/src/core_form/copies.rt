@@ -2,6 +2,7 @@
 
 ghost use Rattle.std.specs.Prelude.{◌≡◌, IfOk};
 ghost use Rattle.isl_meaning.specs.model.View.{view_form, maybe_form};
+ghost use Rattle.isl_meaning.specs.Kinds.{IsOfOne, IsOfTwo, IsOfList, IsOfBody};
 
 use crate::core_form::{
     Binding, BindingList, Clause, ClauseList, Core, CoreForm, CoreList, DynBinding, DynBindings,
@@ -29,37 +30,73 @@ fn form_copy(alloc: Global, form: &CoreForm) -> Result<CoreForm, NoMemory>
     match form {
         CoreForm::Literal(id) => Ok(CoreForm::Literal(*id)),
         CoreForm::Local(var) => Ok(CoreForm::Local(*var)),
-        CoreForm::SetLocal(var, value) => Ok(CoreForm::SetLocal(*var, boxed(alloc, value)?)),
         CoreForm::Global(name) => Ok(CoreForm::Global(*name)),
+        CoreForm::Go(exit, segment) => Ok(CoreForm::Go(*exit, *segment)),
+        CoreForm::Dynamic(name) => Ok(CoreForm::Dynamic(*name)),
+        CoreForm::NextMethod => Ok(CoreForm::NextMethod),
+        CoreForm::HasNext => Ok(CoreForm::HasNext),
+        CoreForm::Clauses(list) => Ok(CoreForm::Clauses(clauses_copy(alloc, list)?)),
+        CoreForm::SetLocal(_, _)
+        | CoreForm::SetGlobal(_, _)
+        | CoreForm::DefGlobal(_, _)
+        | CoreForm::Block(_, _)
+        | CoreForm::Return(_, _)
+        | CoreForm::SetDynamic(_, _)
+        | CoreForm::DefDynamic(_, _)
+        | CoreForm::Sited(_, _) => copy_of_one(alloc, form),
+        CoreForm::Apply(_, _)
+        | CoreForm::While(_, _)
+        | CoreForm::Catch(_, _)
+        | CoreForm::Throw(_, _)
+        | CoreForm::Unwind(_, _)
+        | CoreForm::WithHandler(_, _)
+        | CoreForm::Signal(_, _)
+        | CoreForm::Continue(_, _) => copy_of_two(alloc, form),
+        CoreForm::Sequence(_)
+        | CoreForm::Call(_, _)
+        | CoreForm::CallValue(_)
+        | CoreForm::Prim(_, _)
+        | CoreForm::Tagbody(_, _) => copy_of_list(alloc, form),
+        CoreForm::Let(_, _) | CoreForm::Lambda(_, _, _, _) | CoreForm::DynamicLet(_, _) => {
+            copy_of_body(alloc, form)
+        }
+    }
+}
+
+// A form with one form inside.
+#[cycle(copy)]
+fn copy_of_one(alloc: Global, form: &CoreForm) -> Result<CoreForm, NoMemory>
+    requires { IsOfOne (view_form form.now) }
+    ensures { IfOk result (λ copy. view_form copy ≡ view_form form.now) }
+{
+    match form {
+        CoreForm::SetLocal(var, value) => Ok(CoreForm::SetLocal(*var, boxed(alloc, value)?)),
         CoreForm::SetGlobal(name, value) => Ok(CoreForm::SetGlobal(*name, boxed(alloc, value)?)),
         CoreForm::DefGlobal(name, value) => Ok(CoreForm::DefGlobal(*name, boxed(alloc, value)?)),
-        CoreForm::Clauses(list) => Ok(CoreForm::Clauses(clauses_copy(alloc, list)?)),
-        CoreForm::Sequence(list) => Ok(CoreForm::Sequence(forms_copy(alloc, list)?)),
-        CoreForm::Let(list, body) => {
-            let list = bindings_copy(alloc, list)?;
-            Ok(CoreForm::Let(list, boxed(alloc, body)?))
-        }
-        CoreForm::Lambda(required, rest, body, parts) => {
-            let required = variables_copy(alloc, required)?;
-            let parts = parts_copy(alloc, parts)?;
-            let body = boxed(alloc, body)?;
-            Ok(CoreForm::Lambda(required, *rest, body, parts))
-        }
-        CoreForm::Call(name, list) => Ok(CoreForm::Call(*name, forms_copy(alloc, list)?)),
-        CoreForm::CallValue(list) => Ok(CoreForm::CallValue(forms_copy(alloc, list)?)),
+        CoreForm::Block(exit, body) => Ok(CoreForm::Block(*exit, boxed(alloc, body)?)),
+        CoreForm::Return(exit, value) => Ok(CoreForm::Return(*exit, boxed(alloc, value)?)),
+        CoreForm::SetDynamic(name, value) => Ok(CoreForm::SetDynamic(*name, boxed(alloc, value)?)),
+        CoreForm::DefDynamic(name, value) => Ok(CoreForm::DefDynamic(*name, boxed(alloc, value)?)),
+        CoreForm::Sited(site, inner) => Ok(CoreForm::Sited(*site, boxed(alloc, inner)?)),
+        _ => unreachable!(),
+    }
+}
+
+// A form with two forms inside.
+#[cycle(copy)]
+fn copy_of_two(alloc: Global, form: &CoreForm) -> Result<CoreForm, NoMemory>
+    requires { IsOfTwo (view_form form.now) }
+    ensures { IfOk result (λ copy. view_form copy ≡ view_form form.now) }
+{
+    match form {
         CoreForm::Apply(first, second) => {
             let (first, second) = both(alloc, first, second)?;
             Ok(CoreForm::Apply(first, second))
         }
-        CoreForm::Prim(which, list) => Ok(CoreForm::Prim(*which, forms_copy(alloc, list)?)),
         CoreForm::While(test, body) => {
             let (test, body) = both(alloc, test, body)?;
             Ok(CoreForm::While(test, body))
         }
-        CoreForm::Block(exit, body) => Ok(CoreForm::Block(*exit, boxed(alloc, body)?)),
-        CoreForm::Return(exit, value) => Ok(CoreForm::Return(*exit, boxed(alloc, value)?)),
-        CoreForm::Tagbody(exit, list) => Ok(CoreForm::Tagbody(*exit, forms_copy(alloc, list)?)),
-        CoreForm::Go(exit, segment) => Ok(CoreForm::Go(*exit, *segment)),
         CoreForm::Catch(tag, body) => {
             let (tag, body) = both(alloc, tag, body)?;
             Ok(CoreForm::Catch(tag, body))
@@ -72,13 +109,6 @@ fn form_copy(alloc: Global, form: &CoreForm) -> Result<CoreForm, NoMemory>
             let (form, cleanup) = both(alloc, form, cleanup)?;
             Ok(CoreForm::Unwind(form, cleanup))
         }
-        CoreForm::DynamicLet(list, body) => {
-            let list = dynamics_copy(alloc, list)?;
-            Ok(CoreForm::DynamicLet(list, boxed(alloc, body)?))
-        }
-        CoreForm::Dynamic(name) => Ok(CoreForm::Dynamic(*name)),
-        CoreForm::SetDynamic(name, value) => Ok(CoreForm::SetDynamic(*name, boxed(alloc, value)?)),
-        CoreForm::DefDynamic(name, value) => Ok(CoreForm::DefDynamic(*name, boxed(alloc, value)?)),
         CoreForm::WithHandler(handler, body) => {
             let (handler, body) = both(alloc, handler, body)?;
             Ok(CoreForm::WithHandler(handler, body))
@@ -91,9 +121,48 @@ fn form_copy(alloc: Global, form: &CoreForm) -> Result<CoreForm, NoMemory>
             let (condition, value) = both(alloc, condition, value)?;
             Ok(CoreForm::Continue(condition, value))
         }
-        CoreForm::NextMethod => Ok(CoreForm::NextMethod),
-        CoreForm::HasNext => Ok(CoreForm::HasNext),
-        CoreForm::Sited(site, inner) => Ok(CoreForm::Sited(*site, boxed(alloc, inner)?)),
+        _ => unreachable!(),
+    }
+}
+
+// A form with a list of forms inside.
+#[cycle(copy)]
+fn copy_of_list(alloc: Global, form: &CoreForm) -> Result<CoreForm, NoMemory>
+    requires { IsOfList (view_form form.now) }
+    ensures { IfOk result (λ copy. view_form copy ≡ view_form form.now) }
+{
+    match form {
+        CoreForm::Sequence(list) => Ok(CoreForm::Sequence(forms_copy(alloc, list)?)),
+        CoreForm::Call(name, list) => Ok(CoreForm::Call(*name, forms_copy(alloc, list)?)),
+        CoreForm::CallValue(list) => Ok(CoreForm::CallValue(forms_copy(alloc, list)?)),
+        CoreForm::Prim(which, list) => Ok(CoreForm::Prim(*which, forms_copy(alloc, list)?)),
+        CoreForm::Tagbody(exit, list) => Ok(CoreForm::Tagbody(*exit, forms_copy(alloc, list)?)),
+        _ => unreachable!(),
+    }
+}
+
+// A form that binds variables round a body.
+#[cycle(copy)]
+fn copy_of_body(alloc: Global, form: &CoreForm) -> Result<CoreForm, NoMemory>
+    requires { IsOfBody (view_form form.now) }
+    ensures { IfOk result (λ copy. view_form copy ≡ view_form form.now) }
+{
+    match form {
+        CoreForm::Let(list, body) => {
+            let list = bindings_copy(alloc, list)?;
+            Ok(CoreForm::Let(list, boxed(alloc, body)?))
+        }
+        CoreForm::Lambda(required, rest, body, parts) => {
+            let required = variables_copy(alloc, required)?;
+            let parts = parts_copy(alloc, parts)?;
+            let body = boxed(alloc, body)?;
+            Ok(CoreForm::Lambda(required, *rest, body, parts))
+        }
+        CoreForm::DynamicLet(list, body) => {
+            let list = dynamics_copy(alloc, list)?;
+            Ok(CoreForm::DynamicLet(list, boxed(alloc, body)?))
+        }
+        _ => unreachable!(),
     }
 }
 

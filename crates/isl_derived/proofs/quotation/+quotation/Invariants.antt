@@ -1,20 +1,16 @@
 -- The sizes of the data fall, and an item of a list comes before its template.
 use Rattle.std.proofs.Common.{◌≡◌, ◌≤◌, ◌+◌, ◌*◌, length}
 use Rattle.isl_base.specs.Data.{items_of, item_size, items_size, tail_size}
-use Rattle.isl_base.specs.model.DataView.{tail_of}
-use Rattle.isl_derived.specs.Pieces.{pieces_of}
-use Rattle.isl_derived.specs.Quotation.{parts}
+use Rattle.isl_derived.specs.Shown.{tail_shown}
+use Rattle.isl_derived.specs.Quotation.{parts, tail_part}
 use Rattle.isl_derived.specs.Prefixes.{pieces_before}
 use Rattle.isl_derived.proofs.quotation.+quotation.Given as goal
 
 abbrev pub decreases-template : goal.decreases-template
 decreases-template l = 2 * item_size l.datum.now
 
-abbrev pub decreases-tail_part : goal.decreases-tail_part
-decreases-tail_part l = 2 * tail_size (tail_of l.tail.now)
-
 abbrev pub decreases-template_list : goal.decreases-template_list
-decreases-template_list l = 2 * items_size (items_of l.items.now)
+decreases-template_list l = 2 * (items_size (items_of l.items.now) + tail_size (tail_shown l.tail)) + 1
 
 abbrev pub decreases-template_pair : goal.decreases-template_pair
 decreases-template_pair l = 2 * (item_size l.first.now + item_size l.second.now) + 2
@@ -29,12 +25,12 @@ abbrev pub decreases-part : goal.decreases-part
 decreases-part l = 2 * item_size l.datum.now + 1
 
 abbrev pub decreases-parts : goal.decreases-parts
-decreases-parts l = 2 * items_size (items_of l.items.now)
+decreases-parts l = 2 * (items_size (items_of l.items.now) + tail_size (tail_shown l.tail))
 
 abbrev pub invariant-parts-loop-item : goal.invariant-parts-loop-item
 invariant-parts-loop-item l = record {
-  before : pieces_before l.list (parts l.names l.level (items_of l.rest) (pieces_of l.fn.behind))
-      ≡ parts l.names l.level (items_of l.items) (pieces_of l.fn.behind);
+  before : pieces_before l.list (parts l.names l.level (items_of l.rest) (tail_part l.names l.level (tail_shown l.tail)))
+      ≡ pieces_before l.initial.list (parts l.names l.level (items_of l.items) (tail_part l.names l.level (tail_shown l.tail)));
   smaller : items_size (items_of l.rest) ≤ items_size (items_of l.items);
 }
 
