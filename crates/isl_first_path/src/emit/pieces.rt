@@ -1,6 +1,6 @@
 // The pieces that the code of every form is made of.
 
-ghost use Rattle.std.specs.Prelude.{◌≡◌, ◌++◌, length, IfOk, OnOk};
+ghost use Rattle.std.specs.Prelude.{◌≡◌, ◌+◌, ◌≤◌, ◌++◌, length, IfOk, OnOk};
 ghost use Rattle.isl_first_path.specs.Code.{constant, second_constant, jump_over, truth_code, between, operation_code, clause_code, put_code};
 
 use crate::emit::instructions::{
@@ -48,14 +48,18 @@ fn second_constant(word: u32) -> [u32; 3]
     [LINK_5_OVER_WORD, word, LOAD_11]
 }
 
-// A jump over these words.
-fn jump_over(words: &WordList) -> Result<[u32; 5], NoMemory>
-    ensures { IfOk result (λ code. code ≡ jump_over (length words.now)) }
+// The words of a jump.
+const JUMP: usize = 5;
+
+// A jump over these words, and over as many more.
+fn jump_over(words: &[u32], more: usize) -> Result<[u32; 5], NoMemory>
+    requires { more ≤ 5 }
+    ensures { IfOk result (λ code. code ≡ jump_over (length words.now + more)) }
 {
-    if words.len() > MOST_WORDS {
+    if words.len() > MOST_WORDS - more {
         return Err(NoMemory);
     }
-    let distance = (words.len() * 4 + 16) as u32;
+    let distance = ((words.len() + more) * 4 + 16) as u32;
     Ok([LINK_5_OVER_WORD, distance, LOAD_6, ADD_6_TO_5, GO_TO_5])
 }
 
@@ -150,20 +154,18 @@ fn with_words(code: WordList, words: &[u32]) -> Result<WordList, NoMemory>
     Ok(whole)
 }
 
-// A clause: its test, then its body and a jump over the other clauses, or else a jump to those.
-pub(crate) fn clause_code(
-    test: WordList,
-    body: WordList,
-    others: &WordList,
-) -> Result<WordList, NoMemory>
-    ensures { IfOk result (λ code. code ≡ clause_code test body others.now) }
+// Appends the rest of a clause behind its test: the body and a jump over the other clauses, or else a jump to those.
+pub(crate) fn append_clause(
+    code: &mut WordList,
+    body: &[u32],
+    others: &[u32],
+) -> Result<(), NoMemory>
+    ensures { OnOk result (code.new ≡ clause_code code.old body.now others.now) }
 {
-    let leaving = with_words(body, &jump_over(others)?)?;
-    let mut code = test;
-    append(&mut code, &second_constant(NIL_WORD))?;
+    append(code, &second_constant(NIL_WORD))?;
     code.push(OVER_JUMP_UNLESS_SAME)?;
-    append(&mut code, &jump_over(&leaving)?)?;
-    append(&mut code, leaving.as_slice())?;
-    append(&mut code, others.as_slice())?;
-    Ok(code)
+    append(code, &jump_over(body, JUMP)?)?;
+    append(code, body)?;
+    append(code, &jump_over(others, 0)?)?;
+    append(code, others)
 }
