@@ -10,7 +10,7 @@ pub(crate) mod pieces;
 
 use crate::emit::instructions::{NIL_WORD, STREAM_WORD};
 use crate::emit::literal::{row_byte, row_word};
-use crate::emit::pieces::{append, append_clause, constant, list_of, operation_code};
+use crate::emit::pieces::{append, clause_code, constant, list_of, operation_code};
 use isl_base::{NoMemory, WordList};
 use isl_meaning::{ClauseList, Core, CoreForm, CoreList, LiteralRows, Primitive};
 use std::alloc::Global;
@@ -72,10 +72,9 @@ fn clauses_code(
         let Some(clause) = list.get(at) else {
             unreachable!()
         };
-        let mut code = form_code(alloc, literals, &clause.test)?;
+        let test = form_code(alloc, literals, &clause.test)?;
         let body = body_code(alloc, literals, &clause.body)?;
-        append_clause(&mut code, body.as_slice(), others.as_slice())?;
-        others = code;
+        others = clause_code(test, body, &others)?;
     }
     Ok(others)
 }
