@@ -51,10 +51,10 @@ pub all_gathered : (outer inner behind more all : Mentioned) (own : Option Part)
     → AreParts all (λ p. names_part p f || has outer p || (not (binds p f) && has inner p))
 all_gathered outer inner behind more all own f e b m a = record {
   so = λ p.
-    let named : is_part p own ≡ names_part p f = ap (is_part p) e ∙ own_named p f in
-    let first : has more p ≡ (names_part p f || has outer p) =
-    m.so p ∙ ap (λ x. has outer p || x) named ∙ or_comm (has outer p) (names_part p f) in
-    a.so p ∙ ap (λ x. x || has behind p) first ∙ ap (λ x. (names_part p f || has outer p) || x) (b.so p);
+      let named : is_part p own ≡ names_part p f = ap (is_part p) e ∙ own_named p f in
+      let first : has more p ≡ (names_part p f || has outer p) =
+      m.so p ∙ ap (λ x. has outer p || x) named ∙ or_comm (has outer p) (names_part p f) in
+      a.so p ∙ ap (λ x. x || has behind p) first ∙ ap (λ x. (names_part p f || has outer p) || x) (b.so p);
 }
 
 -- a body mentions what its forms do
@@ -113,8 +113,8 @@ pub leaf_gathered : (outer inner all : Mentioned) (f : Form) (l : Leaf) → f �
     → AreParts all (λ p. mentions p f)
 leaf_gathered outer inner all f l e o i a = record {
   so = λ p.
-    let leaf : Gathers p f (has outer p) (has inner p) = rw e (leaf_gathers p l (has outer p) (has inner p) (o.so p) (i.so p)) in
-    a.so p ∙ leaf;
+      let leaf : Gathers p f (has outer p) (has inner p) = rw e (leaf_gathers p l (has outer p) (has inner p) (o.so p) (i.so p)) in
+      a.so p ∙ leaf;
 }
 
 one_of_gathers : (p : Part) (k : One) (f : Form) (b : Bool) → b ≡ false → Gathers p (one_of k f) b (list_any (mentions p) (f ∷ []))

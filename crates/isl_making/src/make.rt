@@ -85,15 +85,7 @@ fn make(
     match making {
         Making::OfVariables => make_let(alloc, bindings, forms),
         Making::OfFunction(required, rest, around) => {
-            make_function(
-                alloc,
-                *required,
-                *rest,
-                around,
-                variables,
-                forms,
-                mentioned,
-            )
+            make_function(alloc, *required, *rest, around, variables, forms, mentioned)
         }
         _ => make_of_forms(alloc, making, forms),
     }
@@ -145,6 +137,18 @@ fn form_made(
     Formed::new(alloc, site, form, mentioned)
 }
 
+// The same, of how it is made alone.
+fn form_of(
+    alloc: Global,
+    site: Option<SiteId>,
+    making: Making,
+    kept: Kept,
+) -> Result<Formed, NoMemory>
+    ensures { IfOk result (λ form. form ≡ at_site site (make making kept)) }
+{
+    form_made(alloc, site, &making, kept)
+}
+
 // A form without parts, at its site.
 pub(crate) fn leaf_made(alloc: Global, site: Option<SiteId>, leaf: Leaf) -> Result<Formed, NoMemory>
     ensures { IfOk result (λ form. form ≡ at_site site (leaf_form leaf)) }
@@ -170,7 +174,7 @@ pub fn complete(
     let site = made.site;
     match made.making {
         Making::OfOne(one) => {
-            let form = form_made(alloc, site, &Making::OfOne(one), kept)?;
+            let form = form_of(alloc, site, Making::OfOne(one), kept)?;
             let Ok(()) = finish_one(one, tables) else {
                 drop(form);
                 return Err(NoMemory);
@@ -211,6 +215,6 @@ pub fn complete(
             outcome?;
             leaf_made(alloc, site, leaf)
         }
-        making => form_made(alloc, site, &making, kept),
+        making => form_of(alloc, site, making, kept),
     }
 }
