@@ -10,13 +10,15 @@ use Rattle.isl_base.specs.declared.reason.Stop.TheVariants.{Refused, NoMemory}
 use Rattle.isl_base.specs.Data.{Item, items_of, place_of}
 use Rattle.isl_base.specs.DataMeasures.{depth_of}
 use Rattle.isl_meaning.specs.declared.program.ProgramRows.{ProgramRows}
+use Rattle.isl_meaning.specs.Form.{Form}
+use Rattle.isl_meaning.specs.model.View.{forms}
 use Rattle.isl_reader.specs.Characters.{place_behind}
 use Rattle.isl_reader.specs.Gaps.{Gap}
 use Rattle.isl_reader.specs.Reads.{ReadsNext}
 use Rattle.isl_reader.specs.Readers.{first_place}
 use Rattle.isl_reader.specs.Stops.{StopsFirst}
 use Rattle.isl_first_path.specs.Limits.{longest_source, longest_program, deepest_program}
-use Rattle.isl_first_path.specs.Shapes.{program_of}
+use Rattle.isl_first_path.specs.Shapes.{Tables, program_of, program_with}
 
 -- `DataOf names text ds rest p`: the text begins with the data ds; what is left of it stands at place p.
 -- Symbols are numbered by the table of names
@@ -47,6 +49,10 @@ pub record Accepts (text : List ℕ) (program : ProgramRows) : Type 0 where
   pub begins : BeginsWithProgram text
   pub at_end : Gap begins.rest []
   pub same : begins.program ≡ program
+
+-- the text is the program of these forms and tables
+abbrev pub IsProgramOf : List ℕ → List Form → Tables → Type 0
+IsProgramOf text fs t = (program : ProgramRows) → program_with (Some (forms fs, t)) ≡ Some program → Accepts text program
 
 -- the datum that comes next is no form behind the data before it
 pub record OffendsNext (text : List ℕ) (at : Place) : Type 0 where

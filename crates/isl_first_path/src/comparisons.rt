@@ -84,8 +84,8 @@ fn comparison_of(
     Ok(Some(operation(alloc, site, which, first, second)?))
 }
 
-// The form of a primitive of two forms, at that site.
-fn operation(
+/// The form of a primitive of two forms, at that site.
+pub(crate) fn operation(
     alloc: Global,
     site: SiteId,
     which: Primitive,

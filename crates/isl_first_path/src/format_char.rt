@@ -5,6 +5,7 @@ ghost use Rattle.isl_base.specs.Data.{items_of};
 ghost use Rattle.isl_first_path.specs.Finds.{Finds};
 ghost use Rattle.isl_first_path.specs.Shapes.{stream_of, letter_of as letter_of_item, put_form, format_char_form};
 
+use crate::comparisons::operation;
 use crate::heads::{list_in, word_of};
 use crate::tables::Tables;
 use isl_base::{Datum, DatumList, Kind, Names, NoMemory, Place};
@@ -91,8 +92,6 @@ fn put_form(
     let stream_site = tables.add_site(stream)?;
     let id = tables.add_literal(Datum::new(letter.place, Kind::Char(letter.byte)))?;
     let output = Core::prim(Primitive::StandardOutput, CoreList::new(alloc));
-    let mut arguments = CoreList::new(alloc);
-    arguments.push(Core::sited(alloc, stream_site, output)?)?;
-    arguments.push(Core::literal(id))?;
-    Core::sited(alloc, site, Core::prim(Primitive::PutChar, arguments))
+    let output = Core::sited(alloc, stream_site, output)?;
+    operation(alloc, site, Primitive::PutChar, output, Core::literal(id))
 }

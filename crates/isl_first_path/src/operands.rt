@@ -2,13 +2,15 @@
 
 ghost use Rattle.std.specs.Prelude.{◌≡◌, ◌-◌, drop, Some, IfOk};
 ghost use Rattle.isl_base.specs.Data.{items_of};
+ghost use Rattle.isl_meaning.specs.Form.{literal};
 ghost use Rattle.isl_first_path.specs.Finds.{Finds};
 ghost use Rattle.isl_first_path.specs.Shapes.{is_small, number_of as number_of_item, integer_form, sum_of, sum_form, operand_of};
 
+use crate::comparisons::operation;
 use crate::heads::{Head, list_in};
 use crate::tables::Tables;
 use isl_base::{Datum, DatumList, Kind, Names, NoMemory, Place};
-use isl_meaning::{Core, CoreList, Primitive};
+use isl_meaning::{Core, LiteralId, Primitive};
 use std::alloc::Global;
 
 /// A number, and where it stands.
@@ -55,7 +57,7 @@ pub(crate) fn integer_form(
     ensures { Finds result tables.new (integer_form number tables.old) }
 {
     match number {
-        Some(number) => Ok(Some(number_form(number, tables)?)),
+        Some(number) => Ok(Some(Core::literal(number_literal(number, tables)?))),
         None => Ok(None),
     }
 }
@@ -120,16 +122,20 @@ fn sum_of(
         ≡ Some (f, tables.new)) }
 {
     let site = tables.add_site(place)?;
-    let mut operands = CoreList::new(alloc);
-    operands.push(number_form(first, tables)?)?;
-    operands.push(number_form(second, tables)?)?;
-    Core::sited(alloc, site, Core::prim(which, operands))
+    let first = number_literal(first, tables)?;
+    let second = number_literal(second, tables)?;
+    operation(
+        alloc,
+        site,
+        which,
+        Core::literal(first),
+        Core::literal(second),
+    )
 }
 
-// The form of a number: a literal.
-fn number_form(number: Number, tables: &mut Tables) -> Result<Core, NoMemory>
-    ensures { IfOk result (λ f. integer_form (Some number) tables.old ≡ Some (f, tables.new)) }
+// The literal of a number.
+fn number_literal(number: Number, tables: &mut Tables) -> Result<LiteralId, NoMemory>
+    ensures { IfOk result (λ id. integer_form (Some number) tables.old ≡ Some (literal id, tables.new)) }
 {
-    let id = tables.add_literal(Datum::new(number.place, Kind::Int(number.value)))?;
-    Ok(Core::literal(id))
+    tables.add_literal(Datum::new(number.place, Kind::Int(number.value)))
 }

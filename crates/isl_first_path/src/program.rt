@@ -1,10 +1,11 @@
 // A text compiled to a program, datum by datum.
 
-ghost use Rattle.std.specs.Prelude.{◌≡◌, ◌≤◌, length, Some, None, IfOk, IfErr, OnOk};
+ghost use Rattle.std.specs.Prelude.{◌≡◌, ◌≤◌, [], length, Some, None, IfOk, IfErr, OnOk};
 ghost use Rattle.isl_meaning.specs.model.View.{forms};
 ghost use Rattle.isl_first_path.specs.Code.{program_code};
 ghost use Rattle.isl_first_path.specs.Finds.{IsForm, IsNoForm};
-ghost use Rattle.isl_first_path.specs.Verdicts.{Accepts, IsStopped};
+ghost use Rattle.isl_first_path.specs.Verdicts.{Accepts, IsProgramOf, IsStopped};
+ghost use Rattle.isl_first_path.specs.Shapes.{no_tables};
 
 use crate::shape::form_of;
 use crate::tables::Tables;
@@ -48,14 +49,32 @@ fn program_of(alloc: Global, text: &[u8]) -> Result<ProgramRows, Stop>
     ensures stopped { IfErr result (IsStopped text.now) }
 {
     let mut names = Names::new(alloc);
-    names.intern(b"t")?;
     let mut tables = Tables::new(alloc);
     let mut main = CoreList::new(alloc);
-    let mut reader = Reader::new(text, Origin::File);
-    while let Some(datum) = reader.next(alloc, &mut names)? {
-        add_form(alloc, &names, datum, &mut tables, &mut main)?;
-    }
+    add_forms(alloc, text, &mut names, &mut tables, &mut main)?;
     Ok(tables.program(alloc, main))
+}
+
+// The forms of a text that is not too long, where there are none yet.
+fn add_forms(
+    alloc: Global,
+    text: &[u8],
+    names: &mut Names,
+    tables: &mut Tables,
+    main: &mut CoreList,
+) -> Result<(), Stop>
+    requires short { length text.now ≤ 4096 }
+    requires tables { tables.old ≡ no_tables }
+    requires main { main.old ≡ [] }
+    ensures program { OnOk result (IsProgramOf text.now main.new tables.new) }
+    ensures stopped { IfErr result (IsStopped text.now) }
+{
+    names.intern(b"t")?;
+    let mut reader = Reader::new(text, Origin::File);
+    while let Some(datum) = reader.next(alloc, names)? {
+        add_form(alloc, names, datum, tables, main)?;
+    }
+    Ok(())
 }
 
 // The form that a datum is, behind the forms so far; refused where it is none.

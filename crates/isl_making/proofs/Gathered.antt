@@ -3,6 +3,7 @@ use Rattle.std.proofs.Common.{◌≡◌, ℕ, zero, suc, Bool, true, false, not,
 use Rattle.std.specs.Prelude.{◌==◌}
 use Rattle.std.specs.List.{list_any, filter, filter_map}
 use Rattle.std.proofs.lemmas.Bool.{eqb-true, and_parts}
+use Rattle.std.proofs.Math.Bool.{or_comm}
 use Rattle.std.proofs.lemmas.List.{take-append-drop}
 use Rattle.std.proofs.lemmas.List.Folds.{list_any-append}
 use Rattle.isl_base.specs.declared.datum.Name.{Name}
@@ -42,6 +43,19 @@ own_named p (go x segment) = refl
 own_named p next_method = refl
 own_named p has_next = refl
 own_named p f = refl
+
+-- a form's own part beside what those around mention, and what those inside mention behind what the form binds
+pub all_gathered : (outer inner behind more all : Mentioned) (own : Option Part) (f : Form) → own ≡ own_part f
+    → AreParts behind (λ p. not (binds p f) && has inner p) → AreParts more (λ p. has outer p || is_part p own)
+    → AreParts all (λ p. has more p || has behind p)
+    → AreParts all (λ p. names_part p f || has outer p || (not (binds p f) && has inner p))
+all_gathered outer inner behind more all own f e b m a = record {
+  so = λ p.
+      let named : is_part p own ≡ names_part p f = ap (is_part p) e ∙ own_named p f in
+      let first : has more p ≡ (names_part p f || has outer p) =
+      m.so p ∙ ap (λ x. has outer p || x) named ∙ or_comm (has outer p) (names_part p f) in
+      a.so p ∙ ap (λ x. x || has behind p) first ∙ ap (λ x. (names_part p f || has outer p) || x) (b.so p);
+}
 
 -- a body mentions what its forms do
 pub body_mentions : (p : Part) (fs : List Form) → mentions p (body_of fs) ≡ list_any (mentions p) fs
@@ -91,6 +105,17 @@ leaf_gathers p (Go x k) b v d e = outside p (leaf_form (Go x k)) b v d refl (sym
 leaf_gathers p NextMethod b v d e = outside p (leaf_form NextMethod) b v d refl (sym e) refl
 leaf_gathers p HasNext b v d e = outside p (leaf_form HasNext) b v d refl (sym e) refl
 leaf_gathers p Nothing b v d e = outside p (leaf_form Nothing) b v d refl (sym e) refl
+
+-- what a form without parts mentions, where nothing is mentioned around it and inside
+pub leaf_gathered : (outer inner all : Mentioned) (f : Form) (l : Leaf) → f ≡ leaf_form l
+    → AreParts outer (λ p. false) → AreParts inner (λ p. false)
+    → AreParts all (λ p. names_part p f || has outer p || (not (binds p f) && has inner p))
+    → AreParts all (λ p. mentions p f)
+leaf_gathered outer inner all f l e o i a = record {
+  so = λ p.
+      let leaf : Gathers p f (has outer p) (has inner p) = rw e (leaf_gathers p l (has outer p) (has inner p) (o.so p) (i.so p)) in
+      a.so p ∙ leaf;
+}
 
 one_of_gathers : (p : Part) (k : One) (f : Form) (b : Bool) → b ≡ false → Gathers p (one_of k f) b (list_any (mentions p) (f ∷ []))
 one_of_gathers p (SetVariable v) f b d = outside p (one_of (SetVariable v) f) b _ d refl refl refl
@@ -258,11 +283,11 @@ known : (p : Part) (m : Making) (rs : List Found) (b : Bool) → takes_values m 
 known p m rs true d e t = values p m rs d
 known p m rs false d e t = others p m rs t (e refl)
 
-pub all_gathers : (p : Part) (m : Making) (rs : List Found) (vs bs inner : Mentioned) (no_values : Bool) → IsKept rs vs bs
-    → AreParts inner (λ q. has vs q || is_part q (called m)) → (no_values ≡ true → AreParts bs (λ q. false))
-    → (takes_forms m (length (forms_found rs)) && (takes_values m || no_values)) ≡ true → Gathers p (make m rs) (has bs p) (has inner p)
-all_gathers p m rs vs bs inner no_values k i n e =
+pub all_gathers : (p : Part) (m : Making) (rs : List Found) (vs bs : Mentioned) (no_values : Bool) → IsKept rs vs bs
+    → (no_values ≡ true → AreParts bs (λ q. false))
+    → (takes_forms m (length (forms_found rs)) && (takes_values m || no_values)) ≡ true
+    → Gathers p (make m rs) (has bs p) (has vs p || is_part p (called m))
+all_gathers p m rs vs bs no_values k n e =
     let a : (takes_forms m (length (forms_found rs)) ≡ true) × ((takes_values m || no_values) ≡ true) = and_parts _ _ e in
-    let left : has inner p ≡ found_mention p m rs = i.so p ∙ ap (λ x. x || is_part p (called m)) (k.values.so p) in
-    rw (left, k.bindings.so p)
+    rw (k.values.so p, k.bindings.so p)
     (known p m rs (takes_values m) refl (λ t. sym (k.bindings.so p) ∙ (n (ap (λ x. x || no_values) (sym t) ∙ a.1)).so p) a.0)

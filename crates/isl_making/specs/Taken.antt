@@ -1,5 +1,6 @@
 -- Whether a core form takes all the forms that were found.
-use Rattle.std.specs.Prelude.{◌≡◌, ℕ, ◌-◌, ◌==◌, Bool, true, false, not, ◌&&◌, ◌||◌, List, [], ◌∷◌, Option, Some, None, unwrap_or}
+use Rattle.std.specs.Prelude.{◌≡◌, ℕ, ◌-◌, ◌==◌, Bool, true, false, not, ◌&&◌, ◌||◌, List, [], ◌∷◌, Option, Some, None, Result, IfOk, unwrap_or}
+use Rattle.isl_base.specs.declared.faults.NoMemory.{NoMemory}
 use Rattle.isl_meaning.specs.declared.part.Part.{Part}
 use Rattle.isl_meaning.specs.declared.part.Part.TheVariants.{Variable}
 use Rattle.isl_meaning.specs.Form.{Form}
@@ -8,6 +9,7 @@ use Rattle.isl_profile.specs.declared.making.Found.{Found}
 use Rattle.isl_profile.specs.declared.making.Found.TheVariants.{Value, Binding, Parameter}
 use Rattle.isl_profile.specs.declared.making.Making.{Making}
 use Rattle.isl_profile.specs.declared.making.Making.TheVariants.{Ready, OfOne, OfTwo, OfBody, InSequence, CallOf, CallOfValue, CallOfLocal, CallOfPrimitive, OfClauses, OfVariables, OfDynamics, OfFunction, OfBlock, OfSegments, OfFunctionNamed, OfProcedure, OfAccessor, OfMethods, OfClass}
+use Rattle.isl_profile.specs.Makings.{forms_found, make}
 
 -- whether a part that was found is a form
 abbrev pub is_form : Found → Bool
@@ -51,6 +53,16 @@ takes_forms (OfClass c p of_file l) n = n == 0
 abbrev pub takes_values : Making → Bool
 takes_values OfVariables = true
 takes_values m = false
+
+-- whether a core form is made of nothing but the forms that were found
+abbrev pub takes_only_forms : Making → Bool
+takes_only_forms OfVariables = false
+takes_only_forms (OfFunction r rest parts) = false
+takes_only_forms m = true
+
+-- if so, it is made of these
+abbrev pub IsMadeOf : Making → List Form → Result Form NoMemory → Type 0
+IsMadeOf m fs result = (found : List Found) → forms_found found ≡ fs → takes_only_forms m ≡ true → IfOk result (λ core. core ≡ make m found)
 
 -- the variable whose value is called
 abbrev pub called : Making → Option Part

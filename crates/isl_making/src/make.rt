@@ -1,14 +1,14 @@
 // The core form that is made of what was found of its parts, and what counts once it is made.
 
-ghost use Rattle.std.specs.Prelude.{◌≡◌, true, IfOk, OnOk, OnErr};
+ghost use Rattle.std.specs.Prelude.{◌≡◌, ◌||◌, true, IfOk, OnOk, OnErr};
 ghost use Rattle.std.specs.List.{list_any};
-ghost use Rattle.isl_meaning.specs.declared.part.Part.{Part};
+ghost use Rattle.isl_meaning.specs.declared.part.Part.{Part as AnyPart};
 ghost use Rattle.isl_meaning.specs.Mentions.{mentions};
 ghost use Rattle.isl_profile.specs.Makings.{make, leaf_form, forms_found, at_site, made_form, finished};
 ghost use Rattle.isl_profile.specs.Suits.{Suits};
-ghost use Rattle.isl_making.specs.Mentioned.{has, AreParts};
+ghost use Rattle.isl_making.specs.Mentioned.{has, is_part, AreParts};
 ghost use Rattle.isl_making.specs.Stopping.{Leaves};
-ghost use Rattle.isl_making.specs.Taken.{Gathers};
+ghost use Rattle.isl_making.specs.Taken.{Gathers, IsMadeOf};
 
 mod accessors;
 mod captured;
@@ -29,65 +29,65 @@ use accessors::accessor_procedure;
 use classes::define_class;
 use finish::{complete_procedure, define_function, finish_one, procedure_found};
 use isl_base::NoMemory;
-use isl_meaning::{Core, CoreForm, SiteId};
+use isl_meaning::{Core, CoreForm, CoreList, Part, SiteId};
 use isl_profile::{FoundList, Leaf, Made, Making, Tables};
 use lists::{make_clauses, make_dynamics, make_segments};
 use methods::define_methods;
 use parts::{make_block, make_function, make_let};
 use simple::{call_of_local, leaf_form, make_one, make_two, make_with_body, nothing};
-use sort::sort_found;
+use sort::{Sorted, sort_found};
 use std::alloc::Global;
 use taken::{called, count_forms, takes_all};
+
+// The core form of what takes nothing but forms, of these.
+fn make_of_forms(alloc: Global, making: &Making, forms: CoreList) -> Result<Core, NoMemory>
+    ensures { IsMadeOf making.now forms result }
+{
+    match making {
+        Making::Ready(leaf) => Ok(leaf_form(alloc, *leaf)),
+        Making::OfOne(one) => make_one(alloc, *one, forms),
+        Making::OfTwo(two) => make_two(alloc, *two, forms),
+        Making::OfBody(with_body) => make_with_body(alloc, *with_body, forms),
+        Making::InSequence => Ok(Core::sequence(forms)),
+        Making::CallOf(name) => Ok(Core::new(CoreForm::Call(*name, forms))),
+        Making::CallOfValue => Ok(Core::new(CoreForm::CallValue(forms))),
+        Making::CallOfLocal(var) => call_of_local(alloc, *var, forms),
+        Making::CallOfPrimitive(which) => Ok(Core::prim(*which, forms)),
+        Making::OfClauses(lengths) => make_clauses(alloc, lengths, forms),
+        Making::OfDynamics(names) => make_dynamics(alloc, names, forms),
+        Making::OfBlock(exit) => make_block(alloc, *exit, forms),
+        Making::OfSegments(exit, lengths) => make_segments(alloc, *exit, lengths, forms),
+        Making::OfFunctionNamed(_, _, _, _, leaf)
+        | Making::OfMethods(_, _, _, _, leaf)
+        | Making::OfClass(_, _, _, leaf) => Ok(leaf_form(alloc, *leaf)),
+        Making::OfProcedure(_, _, _)
+        | Making::OfAccessor(_, _, _, _)
+        | Making::OfVariables
+        | Making::OfFunction(_, _, _) => Ok(nothing(alloc)),
+    }
+}
 
 // The core form, its site aside, of parts of which the forms mention those.
 fn make(
     alloc: Global,
-    making: Making,
+    making: &Making,
     found: FoundList,
     mentioned: &Mentioned,
 ) -> Result<Core, NoMemory>
     requires { AreParts mentioned.now (λ p. list_any (mentions p) (forms_found found)) }
-    ensures { IfOk result (λ core. core ≡ make making found) }
+    ensures { IfOk result (λ core. core ≡ make making.now found) }
 {
-    let sorted = sort_found(alloc, found)?;
-    let forms = sorted.forms;
+    let Sorted {
+        forms,
+        variables,
+        bindings,
+    } = sort_found(alloc, found)?;
     match making {
-        Making::Ready(leaf) => Ok(leaf_form(alloc, leaf)),
-        Making::OfOne(one) => make_one(alloc, one, forms),
-        Making::OfTwo(two) => make_two(alloc, two, forms),
-        Making::OfBody(with_body) => make_with_body(alloc, with_body, forms),
-        Making::InSequence => Ok(Core::sequence(forms)),
-        Making::CallOf(name) => Ok(Core::new(CoreForm::Call(name, forms))),
-        Making::CallOfValue => Ok(Core::new(CoreForm::CallValue(forms))),
-        Making::CallOfLocal(var) => call_of_local(alloc, var, forms),
-        Making::CallOfPrimitive(which) => Ok(Core::prim(which, forms)),
-        Making::OfClauses(lengths) => make_clauses(alloc, &lengths, forms),
-        Making::OfVariables => make_let(alloc, sorted.bindings, forms),
-        Making::OfDynamics(names) => make_dynamics(alloc, &names, forms),
+        Making::OfVariables => make_let(alloc, bindings, forms),
         Making::OfFunction(required, rest, around) => {
-            make_function(
-                alloc,
-                required,
-                rest,
-                &around,
-                sorted.variables,
-                forms,
-                mentioned,
-            )
+            make_function(alloc, *required, *rest, around, variables, forms, mentioned)
         }
-        Making::OfBlock(exit) => make_block(alloc, exit, forms),
-        Making::OfSegments(exit, lengths) => make_segments(alloc, exit, &lengths, forms),
-        Making::OfFunctionNamed(_, _, _, _, leaf) => Ok(leaf_form(alloc, leaf)),
-        Making::OfProcedure(_, _, _) => Ok(nothing(alloc)),
-        Making::OfAccessor(_, _, _, _) => Ok(nothing(alloc)),
-        Making::OfMethods(_, heads, _, _, leaf) => {
-            drop(heads);
-            Ok(leaf_form(alloc, leaf))
-        }
-        Making::OfClass(class, _, _, leaf) => {
-            drop(class);
-            Ok(leaf_form(alloc, leaf))
-        }
+        _ => make_of_forms(alloc, making, forms),
     }
 }
 
@@ -96,13 +96,16 @@ fn make(
 fn mentioned_by(
     alloc: Global,
     is_exact: bool,
+    called: Option<Part>,
     form: &Core,
     outer: Mentioned,
     inner: Mentioned,
 ) -> Result<Mentioned, NoMemory>
-    requires { is_exact ≡ true → (p : Part) → Gathers p form.now (has outer p) (has inner p) }
+    requires { is_exact ≡ true → (p : AnyPart) → Gathers p form.now (has outer p) (has inner p || is_part p called) }
     ensures { IfOk result (λ all. AreParts all (λ p. mentions p form.now)) }
 {
+    let mut inner = inner;
+    inner.add_some(called)?;
     if is_exact {
         gather(form, outer, inner)
     } else {
@@ -114,23 +117,36 @@ fn mentioned_by(
 fn form_made(
     alloc: Global,
     site: Option<SiteId>,
-    making: Making,
+    making: &Making,
     kept: Kept,
 ) -> Result<Formed, NoMemory>
-    ensures { IfOk result (λ form. form ≡ at_site site (make making kept)) }
+    ensures { IfOk result (λ form. form ≡ at_site site (make making.now kept)) }
 {
     let Kept {
         found,
         values,
         bindings,
     } = kept;
-    let is_exact = takes_all(&making, count_forms(&found), bindings.is_empty());
-    let called = called(&making);
+    let is_exact = takes_all(making, count_forms(&found), bindings.is_empty());
+    let called = called(making);
     let form = make(alloc, making, found, &values)?;
-    let mut inner = values;
-    inner.add_some(called)?;
-    let mentioned = mentioned_by(alloc, is_exact, &form, bindings, inner)?;
+    let Ok(mentioned) = mentioned_by(alloc, is_exact, called, &form, bindings, values) else {
+        drop(form);
+        return Err(NoMemory);
+    };
     Formed::new(alloc, site, form, mentioned)
+}
+
+// The same, of how it is made alone.
+fn form_of(
+    alloc: Global,
+    site: Option<SiteId>,
+    making: Making,
+    kept: Kept,
+) -> Result<Formed, NoMemory>
+    ensures { IfOk result (λ form. form ≡ at_site site (make making kept)) }
+{
+    form_made(alloc, site, &making, kept)
 }
 
 // A form without parts, at its site.
@@ -158,7 +174,7 @@ pub fn complete(
     let site = made.site;
     match made.making {
         Making::OfOne(one) => {
-            let form = form_made(alloc, site, Making::OfOne(one), kept)?;
+            let form = form_of(alloc, site, Making::OfOne(one), kept)?;
             let Ok(()) = finish_one(one, tables) else {
                 drop(form);
                 return Err(NoMemory);
@@ -199,6 +215,6 @@ pub fn complete(
             outcome?;
             leaf_made(alloc, site, leaf)
         }
-        making => form_made(alloc, site, making, kept),
+        making => form_of(alloc, site, making, kept),
     }
 }

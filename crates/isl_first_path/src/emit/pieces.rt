@@ -1,7 +1,7 @@
 // The pieces that the code of every form is made of.
 
-ghost use Rattle.std.specs.Prelude.{◌≡◌, ◌++◌, length, IfOk, OnOk};
-ghost use Rattle.isl_first_path.specs.Code.{constant, second_constant, jump_over, truth_code, between, operation_code, clause_code, put_code};
+ghost use Rattle.std.specs.Prelude.{◌≡◌, ◌+◌, ◌≤◌, ◌++◌, length, IfOk, OnOk};
+ghost use Rattle.isl_first_path.specs.Code.{constant, jump_over, truth_code, between, operation_code, clause_code, put_code};
 
 use crate::emit::instructions::{
     ADD_6_TO_5, ADD_12_AND_10, CHOOSE_PUT, ENVIRONMENT, GO_TO_5, LINK_5_OVER_WORD, LOAD_6, LOAD_10,
@@ -41,22 +41,22 @@ pub(crate) fn constant(word: u32) -> [u32; 3]
     [LINK_5_OVER_WORD, word, LOAD_10]
 }
 
-// A constant in x11.
-fn second_constant(word: u32) -> [u32; 3]
-    ensures { result ≡ second_constant word }
-{
-    [LINK_5_OVER_WORD, word, LOAD_11]
-}
+// The words of a jump.
+const JUMP: usize = 5;
 
-// A jump over these words.
-fn jump_over(words: &WordList) -> Result<[u32; 5], NoMemory>
-    ensures { IfOk result (λ code. code ≡ jump_over (length words.now)) }
+// Appends a jump over these words, and over as many more.
+fn append_jump(code: &mut WordList, words: &[u32], more: usize) -> Result<(), NoMemory>
+    requires { more ≤ 5 }
+    ensures { OnOk result (code.new ≡ code.old ++ jump_over (length words.now + more)) }
 {
-    if words.len() > MOST_WORDS {
+    if words.len() > MOST_WORDS - more {
         return Err(NoMemory);
     }
-    let distance = (words.len() * 4 + 16) as u32;
-    Ok([LINK_5_OVER_WORD, distance, LOAD_6, ADD_6_TO_5, GO_TO_5])
+    let distance = ((words.len() + more) * 4 + 16) as u32;
+    append(
+        code,
+        &[LINK_5_OVER_WORD, distance, LOAD_6, ADD_6_TO_5, GO_TO_5],
+    )
 }
 
 // t where the comparison of x13 with x10 holds, else nil.
@@ -158,12 +158,21 @@ pub(crate) fn clause_code(
 ) -> Result<WordList, NoMemory>
     ensures { IfOk result (λ code. code ≡ clause_code test body others.now) }
 {
-    let leaving = with_words(body, &jump_over(others)?)?;
     let mut code = test;
-    append(&mut code, &second_constant(NIL_WORD))?;
-    code.push(OVER_JUMP_UNLESS_SAME)?;
-    append(&mut code, &jump_over(&leaving)?)?;
-    append(&mut code, leaving.as_slice())?;
-    append(&mut code, others.as_slice())?;
+    append_clause(&mut code, body.as_slice(), others.as_slice())?;
     Ok(code)
+}
+
+// Appends the rest of a clause behind its test.
+fn append_clause(code: &mut WordList, body: &[u32], others: &[u32]) -> Result<(), NoMemory>
+    ensures { OnOk result (code.new ≡ clause_code code.old body.now others.now) }
+{
+    append(
+        code,
+        &[LINK_5_OVER_WORD, NIL_WORD, LOAD_11, OVER_JUMP_UNLESS_SAME],
+    )?;
+    append_jump(code, body, JUMP)?;
+    append(code, body)?;
+    append_jump(code, others, 0)?;
+    append(code, others)
 }
