@@ -35,6 +35,7 @@ pub mod Staying
 pub mod Mains
 pub mod Framed
 pub mod Others
+pub mod FormKinds
 pub mod Cells
 pub mod NewSlots
 pub mod LiteralValues

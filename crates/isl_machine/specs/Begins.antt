@@ -22,6 +22,23 @@ FormWantsMore (prim which fs) = true
 FormWantsMore (next_method m) = true
 FormWantsMore f = false
 
+-- whether a form, as it begins, waits for the value of a form inside it
+abbrev pub WaitsFirst : FlatForm → Bool
+WaitsFirst (set_local p f) = true
+WaitsFirst (set_global n f) = true
+WaitsFirst (def_global n f) = true
+WaitsFirst (apply f list) = true
+WaitsFirst (return_from x f) = true
+WaitsFirst (catch_form tag body) = true
+WaitsFirst (throw tag f) = true
+WaitsFirst (unwind f cleanup) = true
+WaitsFirst (set_dynamic n f) = true
+WaitsFirst (def_dynamic n f) = true
+WaitsFirst (with_handler handler body) = true
+WaitsFirst (signal_form condition continuable) = true
+WaitsFirst (continue_form condition f) = true
+WaitsFirst f = false
+
 module _ (s : Setting) where
   -- a block, and a tagbody, with a new exit
   abbrev pub block_begins : FlatForm → Situation → Step

@@ -1,9 +1,9 @@
 // A form begins that wants the machine alone.
 
-ghost use Rattle.std.specs.Prelude.{◌≡◌, false, OnOk};
+ghost use Rattle.std.specs.Prelude.{◌≡◌, true, false, OnOk};
 ghost use Rattle.isl_closure.specs.FlatForm.{while_form};
 ghost use Rattle.isl_closure.specs.model.View.{view_form};
-ghost use Rattle.isl_machine.specs.Begins.{begins, FormWantsMore};
+ghost use Rattle.isl_machine.specs.Begins.{begins, FormWantsMore, WaitsFirst};
 ghost use Rattle.isl_machine.specs.View.{Steps, at, frames, state};
 
 use crate::frame::Frame;
@@ -38,6 +38,33 @@ impl<'p> Machine<'p> {
         match form {
             FlatCoreForm::Literal(id) => self.literal(*id, situation),
             FlatCoreForm::Local(place) => self.local(*place, situation),
+            FlatCoreForm::Clauses(list) => self.clauses(list, 0, situation),
+            FlatCoreForm::Sequence(list) => self.sequence(Word::Nil, list, 0, situation),
+            FlatCoreForm::Let(list, body) => self.bindings(list, 0, body, situation),
+            FlatCoreForm::MakeFunction(number, parts) => self.make_function(
+                *number, parts, situation,
+            ),
+            FlatCoreForm::While(test, body) => self.turn(test, body, situation),
+            FlatCoreForm::Block(body) => self.block(body, situation),
+            FlatCoreForm::Tagbody(list) => self.tagbody(list, situation),
+            FlatCoreForm::Go(exit, segment) => self.go(*exit, *segment, situation),
+            FlatCoreForm::DynamicLet(list, body) => self.dynamics(list, 0, body, situation),
+            FlatCoreForm::HasNext(place) => self.has_next(*place, situation),
+            FlatCoreForm::Sited(site, form) => self.sited(*site, form, situation),
+            _ => self.begin_waiting(form, situation),
+        }
+    }
+
+    // A form waits for the value of a form inside it.
+    fn begin_waiting(
+        &mut self,
+        form: &'p FlatCoreForm,
+        situation: Situation,
+    ) -> Result<(), NoMemory>
+        requires { WaitsFirst (view_form form.now) ≡ true }
+        ensures { OnOk result (Steps self.old self.new (λ names s b. begins s (view_form form.now) (at names self.old situation) (frames names self.old 0) (state names self.old b))) }
+    {
+        match form {
             FlatCoreForm::SetLocal(place, value) => self.wait(
                 Frame::SetLocal(*place, situation),
                 value,
@@ -53,26 +80,16 @@ impl<'p> Machine<'p> {
                 value,
                 situation,
             ),
-            FlatCoreForm::Clauses(list) => self.clauses(list, 0, situation),
-            FlatCoreForm::Sequence(list) => self.sequence(Word::Nil, list, 0, situation),
-            FlatCoreForm::Let(list, body) => self.bindings(list, 0, body, situation),
-            FlatCoreForm::MakeFunction(number, parts) => self.make_function(
-                *number, parts, situation,
-            ),
             FlatCoreForm::Apply(function, list) => self.wait(
                 Frame::AppliedFunction(list, situation),
                 function,
                 situation,
             ),
-            FlatCoreForm::While(test, body) => self.turn(test, body, situation),
-            FlatCoreForm::Block(body) => self.block(body, situation),
             FlatCoreForm::Return(exit, value) => self.wait(
                 Frame::ReturnValue(*exit, situation),
                 value,
                 situation,
             ),
-            FlatCoreForm::Tagbody(list) => self.tagbody(list, situation),
-            FlatCoreForm::Go(exit, segment) => self.go(*exit, *segment, situation),
             FlatCoreForm::Catch(tag, body) => self.wait(
                 Frame::CatchTag(body, situation),
                 tag,
@@ -88,7 +105,6 @@ impl<'p> Machine<'p> {
                 form,
                 situation,
             ),
-            FlatCoreForm::DynamicLet(list, body) => self.dynamics(list, 0, body, situation),
             FlatCoreForm::SetDynamic(name, value) => self.wait(
                 Frame::SetDynamic(*name, situation),
                 value,
@@ -114,14 +130,7 @@ impl<'p> Machine<'p> {
                 condition,
                 situation,
             ),
-            FlatCoreForm::HasNext(place) => self.has_next(*place, situation),
-            FlatCoreForm::Sited(site, form) => self.sited(*site, form, situation),
-            FlatCoreForm::Global(_)
-            | FlatCoreForm::Dynamic(_)
-            | FlatCoreForm::Call(..)
-            | FlatCoreForm::CallValue(_)
-            | FlatCoreForm::Prim(..)
-            | FlatCoreForm::NextMethod(_) => unreachable!(),
+            _ => unreachable!(),
         }
     }
 }

@@ -76,7 +76,7 @@ impl<'p> Machine<'p> {
         requires { IsPlain frame ≡ true }
         ensures { OnOk result (Steps self.old self.new (λ names s b. moment (evaluate form.now (at names self.old situation)) (waiting names self.old frame.entry ∷ frames names self.old 0) (state names self.old b))) }
     {
-        self.frames.push(frame)?;
+        self.push_frame(frame)?;
         self.control = Control::Evaluate(form, situation);
         Ok(())
     }

@@ -10,6 +10,7 @@ ghost use Rattle.isl_machine.specs.View.{Steps, frames, state};
 use crate::frame::Outcome;
 use crate::machine::Machine;
 use crate::situation::Activation;
+use std::mem;
 
 impl<'p> Machine<'p> {
     /// The words of the stack are as many as before an application.
@@ -28,7 +29,7 @@ impl<'p> Machine<'p> {
     {
         let left = self.slots.len().saturating_sub(self.current.slots);
         self.slots.truncate(left);
-        self.current = saved;
+        drop(mem::replace(&mut self.current, saved));
         self.come_to(outcome);
     }
 

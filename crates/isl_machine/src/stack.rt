@@ -23,7 +23,7 @@ impl<'p> Machine<'p> {
     ) -> Result<(), NoMemory>
         ensures { OnOk result (Steps self.old self.new (λ names s b. moment (evaluate form.now (situation_in names self.old.current (frame.entry ∷ reverse self.old.frames.items) inside)) (taken names self.old frame.entry ∷ below names self.old frame.entry) (state names self.old b))) }
     {
-        self.frames.push(frame)?;
+        self.push_frame(frame)?;
         self.control = Control::Evaluate(form, inside);
         Ok(())
     }
@@ -45,8 +45,13 @@ impl<'p> Machine<'p> {
     pub fn push_frame(&mut self, frame: Frame<'p>) -> Result<(), NoMemory>
         ensures { OnOk result (IsAbove self.old self.new frame.entry) }
     {
-        self.frames.push(frame)?;
-        Ok(())
+        match self.frames.push(frame) {
+            Ok(()) => Ok(()),
+            Err(refused) => {
+                drop(refused);
+                Err(NoMemory)
+            }
+        }
     }
 
     /// The link to the frame that is pushed next.

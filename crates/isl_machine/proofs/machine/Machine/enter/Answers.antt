@@ -1,13 +1,18 @@
 -- The frames have one more on top.
-use Rattle.std.proofs.Common.{refl}
-use Rattle.isl_machine.specs.View.{state}
+use Rattle.std.proofs.Common.{ap, ◌∙◌, reverse}
+use Rattle.isl_plain.specs.Moment.{moment, evaluate}
+use Rattle.isl_machine.specs.Frames.{situation_in}
+use Rattle.isl_machine.specs.View.{frames, state}
 use Rattle.isl_machine.proofs.Tops.{entered}
 use Rattle.isl_machine.proofs.machine.Machine.enter.Goals as goal
 
 pub returns : goal.returns
 returns c =
     let m = c.args.self.now in
+    let pushed = c.in_ok-push_frame.ensures in
     record {
-      given = refl;
-      comes = λ names b k. entered names m.current m.operands.items m.slots.items m.frames.items c.push.new.self.items c.args.frame c.args.form.now c.args.inside (state names m b) c.in_ok-push.ensures.items;
+      given = ap (λ n. n.given) pushed.same;
+      comes = λ names b k.
+          ap (λ n. moment (evaluate c.args.form.now (situation_in names n.current (reverse n.frames.items) c.args.inside)) (frames names n 0) (state names n b)) pushed.same
+          ∙ entered names m.current m.operands.items m.slots.items m.frames.items c.push_frame.new.self.frames.items c.args.frame c.args.form.now c.args.inside (state names m b) pushed.frames;
     }

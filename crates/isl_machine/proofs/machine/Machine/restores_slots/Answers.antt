@@ -15,5 +15,6 @@ returns c =
       given = c.come_to.ensures.given;
       comes = λ names b k.
           c.come_to.ensures.comes names b k
+          ∙ ap (λ a. moment (come_to (outcome_of names c.args.outcome)) (frames_in names a (others_of 0 m.operands.items) c.truncate.new.self.items (reverse m.frames.items)) (seen names m.store (record b { frame = frame_slots names a c.truncate.new.self.items }))) c.replace.ensures.after
           ∙ ap (λ xs. moment (come_to (outcome_of names c.args.outcome)) (frames_in names saved (others_of 0 m.operands.items) xs (reverse m.frames.items)) (seen names m.store (record b { frame = frame_slots names saved xs }))) slots;
     }
