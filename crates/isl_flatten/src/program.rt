@@ -45,19 +45,16 @@ pub fn flatten(alloc: Global, program: &Program) -> Result<FlatProgram, NoMemory
 pub fn flat_rows(alloc: Global, rows: &ProgramRows) -> Result<FlatProgram, NoMemory>
     ensures { IfOk result (λ flat. flat ≡ flat_program rows.now) }
 {
-    let binders = binders_of_program(alloc, rows)?;
-    let bodies = flat_bodies(alloc, &binders, rows);
-    drop(binders);
-    let Bodies {
-        procedures,
-        lambdas,
-        main,
-    } = bodies?;
     let literals = tables::literals(alloc, &rows.literals)?;
     let classes = tables::classes(alloc, &rows.classes)?;
     let generics = tables::generics(alloc, &rows.generics)?;
     let functions = tables::functions(alloc, &rows.functions)?;
     let sites = tables::sites(alloc, &rows.sites)?;
+    let Bodies {
+        procedures,
+        lambdas,
+        main,
+    } = bodies_of(alloc, rows)?;
     Ok(FlatProgram {
         literals,
         procedures,
@@ -76,6 +73,16 @@ struct Bodies {
     procedures: FlatProcedureList,
     lambdas: FlatProcedureList,
     main: FlatCoreList,
+}
+
+// All bodies made flat, with the binders of all of them.
+fn bodies_of(alloc: Global, rows: &ProgramRows) -> Result<Bodies, NoMemory>
+    ensures { IfOk result (λ made. AreBodies rows.now made) }
+{
+    let binders = binders_of_program(alloc, rows)?;
+    let bodies = flat_bodies(alloc, &binders, rows);
+    drop(binders);
+    bodies
 }
 
 fn flat_bodies(alloc: Global, binders: &BinderList, rows: &ProgramRows) -> Result<Bodies, NoMemory>
