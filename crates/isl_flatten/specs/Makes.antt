@@ -67,13 +67,7 @@ pub record MakesValues (news : List NewVariable) (bs : BindingForms) (table : Li
 abbrev pub MakesInside : List NewVariable → Form → List Binder → Places → Places → Progress → Progress → FlatForm → Type 0
 MakesInside news body = Makes (λ s n. flat (with_new news s) n body) (λ s n. inner_procedures (with_new news s) n body) (binders body)
 
--- dynamic bindings, with their body and alone
-abbrev pub MakesDynamicLet : DynamicForms → Form → List Binder → Places → Places → Progress → Progress → FlatDynamics × FlatForm → Type 0
-MakesDynamicLet ds body =
-    Makes (λ s n. (flat_dynamics s n ds, flat s (n + functions_of_dynamics ds) body))
-    (λ s n. procedures_of_dynamics s n ds ++ inner_procedures s (n + functions_of_dynamics ds) body)
-    (λ rest. binders_of_dynamics ds (binders body rest))
-
+-- dynamic bindings
 abbrev pub MakesDynamics : DynamicForms → List Binder → Places → Places → Progress → Progress → FlatDynamics → Type 0
 MakesDynamics ds = Makes (λ s n. flat_dynamics s n ds) (λ s n. procedures_of_dynamics s n ds) (binders_of_dynamics ds)
 
