@@ -8,7 +8,7 @@ use Rattle.isl_closure.specs.declared.place.CapturedKind.{CapturedKind}
 use Rattle.isl_closure.specs.declared.program.FlatProcedure.{FlatProcedure}
 use Rattle.isl_closure.specs.FlatForm.{FlatForm, FlatForms, FlatClauses, FlatBindings, FlatDynamics}
 use Rattle.isl_closure.specs.Scope.{Scope, with_bound, kinds_of, seen}
-use Rattle.isl_closure.specs.Flatten.{functions, functions_of_values, functions_of_dynamics, flat, flat_forms, flat_clauses, flat_bindings, flat_dynamics, flat_procedure, body_scope, inner_procedures, procedures_of_forms, procedures_of_clauses, procedures_of_body, procedures_of_values, procedures_of_dynamics}
+use Rattle.isl_closure.specs.Flatten.{functions, functions_of_values, flat, flat_forms, flat_clauses, flat_bindings, flat_dynamics, flat_procedure, body_scope, inner_procedures, procedures_of_forms, procedures_of_clauses, procedures_of_body, procedures_of_values, procedures_of_dynamics}
 use Rattle.isl_flatten.specs.declared.places.Places.{Places}
 use Rattle.isl_flatten.specs.declared.progress.Progress.{Progress}
 use Rattle.isl_flatten.specs.declared.variables.Binder.{Binder}
