@@ -1,5 +1,5 @@
 -- What the walk makes of the parts of a form is what it makes of the form.
-use Rattle.std.proofs.Common.{◌≡◌, ℕ, ◌+◌, List, [], ◌++◌, refl, sym, ap, subst, ◌∙◌, Option, length, drop, arith, append_assoc}
+use Rattle.std.proofs.Common.{◌≡◌, ℕ, ◌+◌, List, [], ◌++◌, refl, sym, ap, subst, ◌∙◌, length, drop, arith, append_assoc}
 use Rattle.std.proofs.lemmas.List.{append-nil}
 use Rattle.std.specs.Prelude.{Result, IfOk}
 use Rattle.isl_base.specs.declared.faults.NoMemory.{NoMemory}
@@ -16,7 +16,6 @@ use Rattle.isl_closure.specs.Flatten.{flat, inner_procedures}
 use Rattle.isl_closure.specs.declared.flat_core.FlatCoreForm.{FlatCoreForm}
 use Rattle.isl_closure.specs.model.View.{view_form}
 use Rattle.isl_flatten.specs.Shapes.{IsMade}
-use Rattle.isl_flatten.specs.Binders.{binders}
 use Rattle.isl_flatten.specs.Makes.{MakesSo, Makes, MakesForm}
 
 -- seen as something else

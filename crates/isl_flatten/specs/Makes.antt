@@ -8,7 +8,7 @@ use Rattle.isl_closure.specs.declared.place.CapturedKind.{CapturedKind}
 use Rattle.isl_closure.specs.declared.program.FlatProcedure.{FlatProcedure}
 use Rattle.isl_closure.specs.FlatForm.{FlatForm, FlatForms, FlatClauses, FlatBindings, FlatDynamics}
 use Rattle.isl_closure.specs.Scope.{Scope, with_bound, kinds_of, seen}
-use Rattle.isl_closure.specs.Flatten.{functions, functions_of_values, functions_of_dynamics, flat, flat_forms, flat_clauses, flat_bindings, flat_dynamics, flat_procedure, body_scope, inner_procedures, procedures_of_forms, procedures_of_clauses, procedures_of_body, procedures_of_values, procedures_of_dynamics}
+use Rattle.isl_closure.specs.Flatten.{functions, functions_of_values, flat, flat_forms, flat_clauses, flat_bindings, flat_dynamics, flat_procedure, body_scope, inner_procedures, procedures_of_forms, procedures_of_clauses, procedures_of_body, procedures_of_values, procedures_of_dynamics}
 use Rattle.isl_flatten.specs.declared.places.Places.{Places}
 use Rattle.isl_flatten.specs.declared.progress.Progress.{Progress}
 use Rattle.isl_flatten.specs.declared.variables.Binder.{Binder}
@@ -67,13 +67,7 @@ pub record MakesValues (news : List NewVariable) (bs : BindingForms) (table : Li
 abbrev pub MakesInside : List NewVariable → Form → List Binder → Places → Places → Progress → Progress → FlatForm → Type 0
 MakesInside news body = Makes (λ s n. flat (with_new news s) n body) (λ s n. inner_procedures (with_new news s) n body) (binders body)
 
--- dynamic bindings, with their body and alone
-abbrev pub MakesDynamicLet : DynamicForms → Form → List Binder → Places → Places → Progress → Progress → FlatDynamics × FlatForm → Type 0
-MakesDynamicLet ds body =
-    Makes (λ s n. (flat_dynamics s n ds, flat s (n + functions_of_dynamics ds) body))
-    (λ s n. procedures_of_dynamics s n ds ++ inner_procedures s (n + functions_of_dynamics ds) body)
-    (λ rest. binders_of_dynamics ds (binders body rest))
-
+-- dynamic bindings
 abbrev pub MakesDynamics : DynamicForms → List Binder → Places → Places → Progress → Progress → FlatDynamics → Type 0
 MakesDynamics ds = Makes (λ s n. flat_dynamics s n ds) (λ s n. procedures_of_dynamics s n ds) (binders_of_dynamics ds)
 

@@ -39,10 +39,10 @@ fn list_procedures(
         let Some(row) = list.get(at) else {
             unreachable!()
         };
-        let variables = parameters(alloc, &row.required, row.rest)?;
         let number = made.len();
         made.push(reserved(alloc))?;
-        drop(list_body(alloc, made, number, &variables, &row.body)?);
+        let variables = parameters(alloc, &row.required, row.rest)?;
+        drop(list_body(alloc, made, number, variables, &row.body)?);
     }
     Ok(())
 }
@@ -137,11 +137,11 @@ fn list_let(
     requires { form.now ≡ let_form (bindings_of list.now) body.now }
     ensures { OnOk result (Lists form.now made.old made.new marks.old marks.new) }
 {
-    let variables = bound(alloc, list)?;
     let number = made.len();
     made.push(reserved(alloc))?;
     list_all(alloc, made, marks, form.outer())?;
-    let inside = list_body(alloc, made, number, &variables, body)?;
+    let variables = bound(alloc, list)?;
+    let inside = list_body(alloc, made, number, variables, body)?;
     marks.join(inside)?;
     Ok(())
 }
@@ -159,10 +159,10 @@ fn list_function(
 ) -> Result<(), NoMemory>
     ensures { OnOk result (Lists (lambda required.now rest body.now parts.now) made.old made.new marks.old marks.new) }
 {
-    let variables = parameters(alloc, required, rest)?;
     let number = made.len();
     made.push(reserved(alloc))?;
-    let inside = list_body(alloc, made, number, &variables, body)?;
+    let variables = parameters(alloc, required, rest)?;
+    let inside = list_body(alloc, made, number, variables, body)?;
     marks.join_set(inside)?;
     marks.capture(parts)?;
     Ok(())
@@ -174,17 +174,16 @@ fn list_body(
     alloc: Global,
     made: &mut BinderList,
     number: usize,
-    variables: &VarList,
+    variables: VarList,
     body: &Core,
 ) -> Result<Marks, NoMemory>
     requires { number < length made.old }
-    ensures { IfOk result (λ marks. ListsBody variables.now body.now number made.old made.new marks) }
+    ensures { IfOk result (λ marks. ListsBody variables body.now number made.old made.new marks) }
 {
     let mut marks = Marks::new(alloc);
     list_form(alloc, made, &mut marks, body)?;
-    let own = marks.binder(alloc, variables)?;
-    drop(made.replace(number, own));
-    marks.forget(variables);
+    drop(made.replace(number, marks.binder(alloc, &variables)?));
+    marks.forget(&variables);
     Ok(marks)
 }
 

@@ -9,8 +9,10 @@ ghost use Rattle.isl_closure.specs.FlatFits.{ProgramFits};
 ghost use Rattle.isl_closure.specs.FlatStanding.{ProgramStands};
 ghost use Rattle.isl_closure.specs.Flatten.{flat_program};
 ghost use Rattle.isl_closure.specs.Law.{SameRun};
+ghost use Rattle.isl_closure.specs.Scope.{no_scope};
 ghost use Rattle.isl_flatten.specs.Binders.{binders_of_procedures, binders_of_mains};
 ghost use Rattle.isl_flatten.specs.Bodies.{AreBodies, MakesProcedures, MakesMains};
+ghost use Rattle.isl_flatten.specs.Places.{scope_of};
 
 use crate::binders::binders_of_program;
 use crate::forms::{flat, procedure};
@@ -45,19 +47,16 @@ pub fn flatten(alloc: Global, program: &Program) -> Result<FlatProgram, NoMemory
 pub fn flat_rows(alloc: Global, rows: &ProgramRows) -> Result<FlatProgram, NoMemory>
     ensures { IfOk result (λ flat. flat ≡ flat_program rows.now) }
 {
-    let binders = binders_of_program(alloc, rows)?;
-    let bodies = flat_bodies(alloc, &binders, rows);
-    drop(binders);
-    let Bodies {
-        procedures,
-        lambdas,
-        main,
-    } = bodies?;
     let literals = tables::literals(alloc, &rows.literals)?;
     let classes = tables::classes(alloc, &rows.classes)?;
     let generics = tables::generics(alloc, &rows.generics)?;
     let functions = tables::functions(alloc, &rows.functions)?;
     let sites = tables::sites(alloc, &rows.sites)?;
+    let Bodies {
+        procedures,
+        lambdas,
+        main,
+    } = bodies_of(alloc, rows)?;
     Ok(FlatProgram {
         literals,
         procedures,
@@ -78,6 +77,16 @@ struct Bodies {
     main: FlatCoreList,
 }
 
+// All bodies made flat, with the binders of all of them.
+fn bodies_of(alloc: Global, rows: &ProgramRows) -> Result<Bodies, NoMemory>
+    ensures { IfOk result (λ made. AreBodies rows.now made) }
+{
+    let binders = binders_of_program(alloc, rows)?;
+    let bodies = flat_bodies(alloc, &binders, rows);
+    drop(binders);
+    bodies
+}
+
 fn flat_bodies(alloc: Global, binders: &BinderList, rows: &ProgramRows) -> Result<Bodies, NoMemory>
     requires { binders.now ≡ binders_of_procedures rows.now.procedures (binders_of_mains rows.now.main []) }
     ensures { IfOk result (λ made. AreBodies rows.now made) }
@@ -86,8 +95,11 @@ fn flat_bodies(alloc: Global, binders: &BinderList, rows: &ProgramRows) -> Resul
         lambdas: FlatProcedureList::new(alloc),
         binders: 0,
     };
-    let procedures = flat_procedures(alloc, binders, &mut progress, &rows.procedures)?;
-    let Ok(main) = flat_mains(alloc, binders, &mut progress, &rows.main) else {
+    let mut places = Places::outermost(alloc);
+    let procedures = flat_procedures(alloc, binders, &mut places, &mut progress, &rows.procedures)?;
+    let main = flat_mains(alloc, binders, &mut places, &mut progress, &rows.main);
+    drop(places);
+    let Ok(main) = main else {
         drop(procedures);
         return Err(NoMemory);
     };
@@ -102,13 +114,14 @@ fn flat_bodies(alloc: Global, binders: &BinderList, rows: &ProgramRows) -> Resul
 fn flat_procedures(
     alloc: Global,
     binders: &BinderList,
+    places: &mut Places,
     progress: &mut Progress,
     list: &ProcedureList,
 ) -> Result<FlatProcedureList, NoMemory>
-    ensures { IfOk result (λ made. MakesProcedures list.now binders.now progress.old progress.new made) }
+    requires { scope_of places.old ≡ no_scope }
+    ensures { IfOk result (λ made. (scope_of places.new ≡ no_scope) × MakesProcedures list.now binders.now progress.old progress.new made) }
 {
     let mut made = FlatProcedureList::new(alloc);
-    let mut places = Places::outermost(alloc);
     for at in 0..list.len() {
         let Some(row) = list.get(at) else {
             unreachable!()
@@ -117,7 +130,7 @@ fn flat_procedures(
         made.push(procedure(
             alloc,
             binders,
-            &mut places,
+            places,
             progress,
             captured,
             &row.required,
@@ -132,18 +145,19 @@ fn flat_procedures(
 fn flat_mains(
     alloc: Global,
     binders: &BinderList,
+    places: &mut Places,
     progress: &mut Progress,
     list: &CoreList,
 ) -> Result<FlatCoreList, NoMemory>
+    requires { scope_of places.old ≡ no_scope }
     ensures { IfOk result (λ made. MakesMains list.now binders.now progress.old progress.new made) }
 {
     let mut made = FlatCoreList::new(alloc);
-    let mut places = Places::outermost(alloc);
     for at in 0..list.len() {
         let Some(form) = list.get(at) else {
             unreachable!()
         };
-        made.push(flat(alloc, binders, &mut places, progress, form)?)?;
+        made.push(flat(alloc, binders, places, progress, form)?)?;
     }
     Ok(made)
 }

@@ -36,11 +36,11 @@ list_body-replace-requires t c =
 
 pub list_body-returns : goal.list_body-returns
 list_body-returns t c =
-    let vs = c.args.variables.now in
+    let vs = c.args.variables in
     let body = c.args.body.now in
     record {
       all = c.list_form.new.made;
       put = c.in_ok-list_form.ensures.put;
-      placed = c.replace.ensures.now ∙ ap (λ b. slice_set c.list_form.new.made c.args.number b) (c.in_ok-own.ensures ∙ binder_made c.list_form.new.marks vs body (from_none body c.new-marks.result c.list_form.new.marks c.new-marks.ensures c.in_ok-list_form.ensures.marked));
+      placed = c.replace.ensures.now ∙ ap (λ b. slice_set c.list_form.new.made c.args.number b) (c.in_ok-binder.ensures ∙ binder_made c.list_form.new.marks vs body (from_none body c.new-marks.result c.list_form.new.marks c.new-marks.ensures c.in_ok-list_form.ensures.marked));
       marked = body_forgotten vs body c.new-marks.result c.list_form.new.marks c.forget.new.self c.new-marks.ensures c.in_ok-list_form.ensures.marked c.forget.ensures;
     }

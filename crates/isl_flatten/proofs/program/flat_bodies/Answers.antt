@@ -4,5 +4,5 @@ use Rattle.isl_flatten.proofs.program.flat_bodies.Goals as goal
 
 pub returns : goal.returns
 returns c =
-    bodies_made c.args.rows.now c.args.binders.now c.new.result c.flat_procedures.new.progress c.flat_mains.new.progress c.in_ok-procedures.procedures c.in-Ok.main
-    c.new.ensures c.requires c.in_ok-procedures.ensures c.in-Ok.ensures
+    bodies_made c.args.rows.now c.args.binders.now c.new.result c.flat_procedures.new.progress c.flat_mains-main.new.progress c.in_ok-procedures.procedures c.in-Ok.main
+    c.new.ensures c.requires c.in_ok-procedures.ensures.1 c.in-Ok.ensures

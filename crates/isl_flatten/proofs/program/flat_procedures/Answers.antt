@@ -26,4 +26,4 @@ pub returns : goal.returns
 returns c =
     let xs = c.args.list.now in
     let all : length xs ≤ c.loop-at.at = omega (arith, c.loop-at-test.false, c.len-at-end.ensures) in
-    procedures_so c.args.binders.now xs c.args.progress.now c.loop-at.at c.loop-at.made c.loop-at.progress c.loop-at.invariant.going all
+    (c.loop-at.invariant.alone, procedures_so c.args.binders.now xs c.args.progress.now c.loop-at.at c.loop-at.made c.loop-at.progress c.loop-at.invariant.going all)
