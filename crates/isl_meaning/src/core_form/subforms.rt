@@ -5,7 +5,7 @@ ghost use Rattle.std.specs.Prelude.{◌≡◌, [], ◌∷◌, ◌++◌, option_t
 ghost use Rattle.std.specs.Iterator.{YieldsFirstRef, item_count};
 ghost use Rattle.isl_meaning.specs.Subforms.{outer, inner};
 ghost use Rattle.isl_meaning.specs.model.View.{view_form};
-ghost use Rattle.isl_meaning.specs.model.SubformsView.{view_left, clause_forms, value_forms, dynamic_forms};
+ghost use Rattle.isl_meaning.specs.model.SubformsView.{view_left, clause_forms};
 
 use crate::core_form::{Binding, Clause, Core, CoreForm, DynBinding};
 use std::marker::Model;
@@ -133,48 +133,24 @@ fn split(left: Left<'_>) -> Option<(&Core, Left<'_>)>
         Left::Nothing => None,
         Left::One(form) => Some((form, Left::Nothing)),
         Left::Two(first, second) => Some((first, Left::One(second))),
-        Left::Forms(list) => first_form(list),
-        Left::Clauses(list) => first_test(list),
+        Left::Forms(list) => {
+            let (first, others) = list.split_first()?;
+            Some((first, Left::Forms(others)))
+        }
+        Left::Clauses(list) => {
+            let (clause, others) = list.split_first()?;
+            Some((&clause.test, after_test(clause, others)))
+        }
         Left::Body(body, list) => Some((body, Left::Clauses(list))),
-        Left::Values(list) => first_value(list),
-        Left::DynamicValues(list) => first_dynamic(list),
+        Left::Values(list) => {
+            let (binding, others) = list.split_first()?;
+            Some((&binding.value, Left::Values(others)))
+        }
+        Left::DynamicValues(list) => {
+            let (binding, others) = list.split_first()?;
+            Some((&binding.value, Left::DynamicValues(others)))
+        }
     }
-}
-
-// The first of these forms, and the others.
-fn first_form(list: &[Core]) -> Option<(&Core, Left<'_>)>
-    ensures { MatchOption result (list.now ≡ [])
-        (λ parts. list.now ≡ parts.0.now ∷ view_left parts.1) }
-{
-    let (first, others) = list.split_first()?;
-    Some((first, Left::Forms(others)))
-}
-
-// The first test of these clauses, and what is left after it.
-fn first_test(list: &[Clause]) -> Option<(&Core, Left<'_>)>
-    ensures { MatchOption result (clause_forms list.now ≡ [])
-        (λ parts. clause_forms list.now ≡ parts.0.now ∷ view_left parts.1) }
-{
-    let (clause, others) = list.split_first()?;
-    Some((&clause.test, after_test(clause, others)))
-}
-
-// The first value of these bindings, and the others.
-fn first_value(list: &[Binding]) -> Option<(&Core, Left<'_>)>
-    ensures { MatchOption result (value_forms list.now ≡ [])
-        (λ parts. value_forms list.now ≡ parts.0.now ∷ view_left parts.1) }
-{
-    let (binding, others) = list.split_first()?;
-    Some((&binding.value, Left::Values(others)))
-}
-
-// The first value of these bindings of dynamic variables, and the others.
-fn first_dynamic(list: &[DynBinding]) -> Option<(&Core, Left<'_>)>
-    ensures { MatchOption result (dynamic_forms list.now ≡ [])
-        (λ parts. dynamic_forms list.now ≡ parts.0.now ∷ view_left parts.1) }
-{
-    let (binding, others) = list.split_first()?;
-    Some((&binding.value, Left::DynamicValues(others)))
 }
 
 // What is left after the test of a clause, with these clauses after it.
