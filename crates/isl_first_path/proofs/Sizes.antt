@@ -1,5 +1,5 @@
 -- How long the code of a program is at most, by the weight of its data.
-use Rattle.std.proofs.Common.{◌≡◌, ℕ, ◌+◌, ◌*◌, ◌≤◌, List, [], ◌∷◌, ◌++◌, length, refl, sym, ap, subst, ◌∙◌, arith, Some, None, ⊎_elim, length-append}
+use Rattle.std.proofs.Common.{◌≡◌, ℕ, ◌+◌, ◌≤◌, List, [], ◌∷◌, ◌++◌, length, refl, sym, ap, subst, ◌∙◌, arith, Some, None, ⊎_elim, length-append}
 use Rattle.isl_base.specs.declared.place.Place.{Place}
 use Rattle.isl_meaning.specs.declared.program.LiteralRow.{LiteralRow}
 use Rattle.isl_meaning.specs.declared.program.ProgramRows.{ProgramRows}
@@ -7,7 +7,7 @@ use Rattle.isl_meaning.specs.Form.{Form, literal, sequence, prim, sited}
 use Rattle.isl_meaning.specs.Form.{Forms, no_form, form_and}
 use Rattle.isl_meaning.specs.Subforms.{forms_list}
 use Rattle.isl_meaning.specs.model.View.{forms}
-use Rattle.isl_base.specs.Data.{Item, item, integer, character, symbol, string, vector, nil, list, Items, no_item, item_and, no_tail}
+use Rattle.isl_base.specs.Data.{Item, item, list, Items, no_item, item_and, no_tail}
 use Rattle.isl_first_path.specs.Shapes.{program_of_parts, Tables, no_tables, with_site, with_truth, next_literal, next_site, Found, as_form, head_of, format_char_form, progn_form, sum_form, operand_of, comparison_form, test_of, choice, if_form, form_of, forms_of, program_with, program_of}
 use Rattle.isl_first_path.specs.Code.{constant, nil_word, clause_code, truth_code, move_13_from_10, over_four_if_same, over_four_if_less, program_code, form_code, forms_code, choose_halt, environment}
 use Rattle.isl_meaning.specs.declared.primitive.Primitive.{Primitive}

@@ -1,14 +1,12 @@
 -- The weight of data is at most sixteen for each byte that spells them.
-use Rattle.std.proofs.Common.{◌≡◌, ℕ, suc, ◌+◌, ◌*◌, ◌<◌, ◌≤◌, Bool, true, false, List as Seq, [], ◌∷◌, ◌++◌, length, Option, Some, None, sym, ap, arith, length-append, if◌then◌else◌}
+use Rattle.std.proofs.Common.{◌≡◌, ℕ, suc, ◌+◌, ◌*◌, ◌≤◌, Bool, true, false, List as Seq, [], ◌∷◌, ◌++◌, length, Option, Some, None, sym, ap, arith, length-append, if◌then◌else◌}
 use Rattle.std.specs.Prelude.{codes}
 use Rattle.std.specs.Str.{bytes_eq}
 use Rattle.isl_base.specs.declared.place.Place.{Place}
 use Rattle.isl_base.specs.Data.{Item, item, Content, integer, character, symbol, string, vector, nil, list, Items, items_of, no_tail, dotted}
-use Rattle.isl_reader.specs.declared.opening.Prefix.{Prefix}
-use Rattle.isl_reader.specs.declared.opening.Prefix.TheVariants.{Quote, Quasiquote, Unquote, UnquoteSplicing, Function}
 use Rattle.isl_base.specs.declared.datum.Symbol.TheVariants.{Named}
-use Rattle.isl_reader.specs.Characters.{begins, is_token, place_behind}
-use Rattle.isl_reader.specs.Atoms.{Atom, an_integer, a_character, a_symbol, a_string, Spells, decimal, token, barred, quoted, based, marked, lettered, space, newline}
+use Rattle.isl_reader.specs.Characters.{place_behind}
+use Rattle.isl_reader.specs.Atoms.{Atom, an_integer, a_character, a_symbol, a_string}
 use Rattle.isl_reader.specs.Trees.{Tree, atom, proper, improper, row, prefixed, Trees, no_tree, then_tree, prefix_bytes, spelled, spelled_all, behind_all, Stands, StandsAll}
 use Rattle.isl_reader.specs.Meanings.{number_in, named, atom_content, list_content, in_front, joined, prefix_item, Means, MeansAll}
 use Rattle.isl_reader.specs.Reads.{ReadsNext}

@@ -1,16 +1,15 @@
 -- What core forms mention, by what was found of their parts.
-use Rattle.std.proofs.Common.{◌≡◌, ℕ, zero, suc, Bool, true, false, not, ◌&&◌, ◌||◌, List, [], ◌∷◌, ◌++◌, ◌+◌, ◌-◌, ◌⊎◌, Option, Some, None, take, drop, length, refl, sym, ap, ◌∙◌, arith, ⊎_elim, length-drop}
+use Rattle.std.proofs.Common.{◌≡◌, ℕ, Bool, true, false, not, ◌&&◌, ◌||◌, List, [], ◌∷◌, ◌-◌, Option, Some, None, take, drop, length, refl, sym, ap, ◌∙◌, arith, length-drop}
 use Rattle.std.specs.Prelude.{◌==◌}
-use Rattle.std.specs.List.{list_any, filter, filter_map}
+use Rattle.std.specs.List.{list_any, filter}
 use Rattle.std.proofs.lemmas.Bool.{eqb-true, and_parts}
 use Rattle.std.proofs.Math.Bool.{or_comm}
 use Rattle.std.proofs.lemmas.List.{take-append-drop}
 use Rattle.std.proofs.lemmas.List.Folds.{list_any-append}
 use Rattle.isl_base.specs.declared.datum.Name.{Name}
 use Rattle.isl_meaning.specs.declared.part.Part.{Part}
-use Rattle.isl_meaning.specs.declared.part.Part.TheVariants.{Variable, Exit, Method}
-use Rattle.isl_meaning.specs.Form.{Form, literal, local, global, dynamic, go, next_method, has_next, set_local, set_global, def_global, clauses, sequence, let_form, lambda, call, call_value, apply, prim, while_form, block, return_from, tagbody, catch_form, throw, unwind, dynamic_let, set_dynamic, def_dynamic, with_handler, signal_form, continue_form}
-use Rattle.isl_meaning.specs.Form.{Forms, no_form, form_and}
+use Rattle.isl_meaning.specs.declared.part.Part.TheVariants.{Variable}
+use Rattle.isl_meaning.specs.Form.{Form, local, go, next_method, has_next, set_local, return_from, dynamic_let}
 use Rattle.isl_meaning.specs.Subforms.{outer, inner, forms_list, clause_list, value_list, dynamic_value_list}
 use Rattle.isl_meaning.specs.Mentions.{same_part, names_part, binds, mentions}
 use Rattle.isl_meaning.specs.bridge.Judged.{mentions_folded}
@@ -27,7 +26,7 @@ use Rattle.isl_profile.specs.declared.making.WithBody.{WithBody}
 use Rattle.isl_profile.specs.declared.making.WithBody.TheVariants.{Repeating, Catching, Unwinding, Handling}
 use Rattle.isl_profile.specs.declared.making.Making.{Making}
 use Rattle.isl_profile.specs.declared.making.Making.TheVariants.{Ready, OfOne, OfTwo, OfBody, InSequence, CallOf, CallOfValue, CallOfLocal, CallOfPrimitive, OfClauses, OfVariables, OfDynamics, OfFunction, OfBlock, OfSegments, OfFunctionNamed, OfProcedure, OfAccessor, OfMethods, OfClass}
-use Rattle.isl_profile.specs.Makings.{nothing, leaf_form, body_of, one_of, two_of, with_body_of, make_one, make_two, make_with_body, clause_body, make_clauses, make_segments, make_dynamics, behind_dynamics, forms_found, bindings_found, make}
+use Rattle.isl_profile.specs.Makings.{nothing, leaf_form, body_of, one_of, two_of, with_body_of, make_one, make_two, make_with_body, make_clauses, make_segments, make_dynamics, behind_dynamics, forms_found, bindings_found, make}
 use Rattle.isl_making.specs.declared.mentioned.Mentioned.{Mentioned}
 use Rattle.isl_making.specs.Mentioned.{has, is_part, own_part, AreParts}
 use Rattle.isl_making.specs.Kept.{IsKept}

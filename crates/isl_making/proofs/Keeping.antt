@@ -1,15 +1,14 @@
 -- What is known of what was found, when a part more is.
-use Rattle.std.proofs.Common.{◌≡◌, ℕ, Bool, true, false, ◌||◌, List, [], ◌∷◌, ◌++◌, Option, Some, None, refl, sym, ap, ◌∙◌}
+use Rattle.std.proofs.Common.{◌≡◌, ℕ, Bool, true, false, ◌||◌, List, [], ◌∷◌, ◌++◌, refl, sym, ap, ◌∙◌}
 use Rattle.std.specs.Prelude.{Result, Ok, Err, OnOk, OnErr}
-use Rattle.std.specs.List.{list_any, filter_map}
-use Rattle.std.proofs.lemmas.List.Folds.{list_any-append}
+use Rattle.std.specs.List.{list_any}
 use Rattle.isl_meaning.specs.declared.part.Part.{Part}
 use Rattle.isl_meaning.specs.Form.{Form}
 use Rattle.isl_meaning.specs.Subforms.{value_list}
 use Rattle.isl_meaning.specs.Mentions.{mentions}
 use Rattle.isl_profile.specs.declared.making.Found.{Found}
 use Rattle.isl_profile.specs.declared.making.Found.TheVariants.{Value, Binding, Parameter}
-use Rattle.isl_profile.specs.Makings.{form_found, forms_found, bindings_found}
+use Rattle.isl_profile.specs.Makings.{forms_found, bindings_found}
 use Rattle.isl_making.specs.declared.mentioned.Mentioned.{Mentioned}
 use Rattle.isl_making.specs.Mentioned.{has, AreParts}
 use Rattle.isl_making.specs.Kept.{IsKept}

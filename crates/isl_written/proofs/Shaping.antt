@@ -1,7 +1,7 @@
 -- The lengths of segments and the variables of a lambda list, a datum at a time.
-use Rattle.std.proofs.Common.{◌≡◌, ◌≢◌, ◌<◌, length, ◌+◌, ◌++◌, List, [], ◌∷◌, refl, arith, ap, sym, ◌∙◌, drop}
+use Rattle.std.proofs.Common.{◌≡◌, ◌≢◌, ◌<◌, ◌≤◌, length, ◌+◌, ◌-◌, ◌++◌, List, [], ◌∷◌, refl, arith, ap, sym, ◌∙◌, take, drop, length-drop}
 use Rattle.std.specs.Prelude.{ℕ, zero, suc, slice_index_or, Bool, true, false, Option, Some, None, if◌then◌else◌}
-use Rattle.std.proofs.lemmas.List.{append_assoc as assoc}
+use Rattle.std.proofs.lemmas.List.{append_assoc as assoc, append-nil, drop_all, take_all}
 use Rattle.isl_base.specs.declared.datum.Symbol.{Symbol}
 use Rattle.isl_base.specs.Data.{Item}
 use Rattle.isl_profile.specs.declared.tables.ReservedWords.{ReservedWords}
@@ -85,3 +85,34 @@ pub required_turn : (w : ReservedWords) (ds : List Item) (i : ℕ) (d : Item) (x
 required_turn w ds i d x xs all now f g h =
     by_word w xs x (is_rest_word w (symbol_of d)) (parameter_in w (symbol_of d)) (parameters_of w (drop (i + 1) ds)) (behind_rest w (drop (i + 1) ds)) f g
     ∙ (ap (λ es. parameters_behind xs (parameters_of w es)) (sym now) ∙ h)
+
+-- what stands behind an item, as the code takes it
+pub rest_from : (ds : List Item) (k : ℕ) → take (length ds - k) (drop k ds) ≡ drop k ds
+rest_from ds k = let all : length (drop k ds) ≤ length ds - k = omega (arith, length-drop k ds) in take_all (length ds - k) (drop k ds) all
+
+-- the word of a rest variable and what stands behind it, a datum that is no variable, and the end
+
+pub required_rest : (w : ReservedWords) (ds : List Item) (i : ℕ) (d : Item) (xs : List Symbol) (y : Option Parameters) (all : Option Parameters) →
+    drop i ds ≡ d ∷ drop (i + 1) ds → is_rest_word w (symbol_of d) ≡ true → y ≡ behind_rest w (take (length ds - (i + 1)) (drop (i + 1) ds)) →
+    parameters_behind xs (parameters_of w (drop i ds)) ≡ all → parameters_behind xs y ≡ all
+required_rest w ds i d xs y all now f g h =
+    let there : parameters_of w (drop i ds) ≡ behind_rest w (drop (i + 1) ds) = ap (parameters_of w) now ∙ rw f refl in
+    ap (parameters_behind xs) (g ∙ ap (behind_rest w) (rest_from ds (i + 1)) ∙ sym there) ∙ h
+
+pub required_none : (w : ReservedWords) (ds : List Item) (i : ℕ) (d : Item) (xs : List Symbol) (all : Option Parameters) →
+    drop i ds ≡ d ∷ drop (i + 1) ds → is_rest_word w (symbol_of d) ≡ false → parameter_in w (symbol_of d) ≡ None →
+    parameters_behind xs (parameters_of w (drop i ds)) ≡ all → None ≡ all
+required_none w ds i d xs all now f g h =
+    let there : parameters_of w (drop i ds) ≡ None = ap (parameters_of w) now ∙ rw (f, g) refl in
+    ap (parameters_behind xs) (sym there) ∙ h
+
+pub required_end : (w : ReservedWords) (ds : List Item) (i : ℕ) (xs : List Symbol) (all : Option Parameters) → length ds ≤ i →
+    parameters_behind xs (parameters_of w (drop i ds)) ≡ all → parameters_behind xs (Some (record { required = []; rest = None })) ≡ all
+required_end w ds i xs all l h = ap (λ es. parameters_behind xs (parameters_of w es)) (sym (drop_all i ds l)) ∙ h
+
+-- no variables more
+pub none_more : (xs : List Symbol) (rest : Option Symbol) (all : Option Parameters)
+    → parameters_behind xs (Some (record { required = []; rest = rest })) ≡ all → Some (record { required = xs; rest = rest }) ≡ all
+none_more xs rest all h =
+    let made : List Symbol → Option Parameters = λ ys. Some (record { required = ys; rest = rest }) in
+    ap made (sym (append-nil xs)) ∙ h

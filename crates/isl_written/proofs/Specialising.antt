@@ -1,15 +1,17 @@
 -- The parameters of a method, a datum at a time.
-use Rattle.std.proofs.Common.{◌≡◌, ◌+◌, ◌++◌, List, [], ◌∷◌, refl, ap, sym, ◌∙◌, drop}
+use Rattle.std.proofs.Common.{◌≡◌, ◌≤◌, length, ◌+◌, ◌-◌, ◌++◌, List, [], ◌∷◌, refl, ap, sym, ◌∙◌, take, drop}
 use Rattle.std.specs.Prelude.{ℕ, Bool, true, false, Option, Some, None, if◌then◌else◌}
-use Rattle.std.proofs.lemmas.List.{append_assoc as assoc}
+use Rattle.std.proofs.lemmas.List.{append_assoc as assoc, append-nil, drop_all}
 use Rattle.isl_base.specs.declared.datum.Symbol.{Symbol}
 use Rattle.isl_base.specs.Data.{Item}
+use Rattle.isl_profile.specs.declared.parameters.Parameters.{Parameters}
 use Rattle.isl_profile.specs.declared.tables.ReservedWords.{ReservedWords}
 use Rattle.isl_profile.specs.Shapes.{symbol_of, is_rest_word, behind_rest}
 use Rattle.isl_profile.specs.MethodShapes.{Asked, Specialised, Taken, taken_by, with_taken, without_classes, specialised_of}
 use Rattle.isl_written.specs.declared.methods.Asked.{Asked as ReadAsked}
 use Rattle.isl_written.specs.Definitions.{view_asked, view_all_asked}
 use Rattle.isl_written.specs.Behind.{specialised_behind}
+use Rattle.isl_written.proofs.Shaping.{rest_from}
 
 more_taken : (xs : List Symbol) (cs : List Asked) (t : Taken) (m : Option Specialised)
     → specialised_behind (xs ++ t.variable ∷ []) (cs ++ t.class ∷ []) m ≡ specialised_behind xs cs (with_taken (Some t) m)
@@ -38,3 +40,35 @@ pub taken_turn : (w : ReservedWords) (ds : List Item) (i : ℕ) (d : Item) (t : 
 taken_turn w ds i d t xs cs all now f g h =
     by_word xs cs t (is_rest_word w (symbol_of d)) (taken_by w d (symbol_of d)) (specialised_of w (drop (i + 1) ds)) (without_classes (behind_rest w (drop (i + 1) ds))) f g
     ∙ (ap (λ es. specialised_behind xs cs (specialised_of w es)) (sym now) ∙ h)
+
+-- the word of a rest variable and what stands behind it, a datum that is no parameter, and the end
+
+pub specialised_rest : (w : ReservedWords) (ds : List Item) (i : ℕ) (d : Item) (xs : List Symbol) (cs : List Asked) (y : Option Parameters) (all : Option Specialised)
+    → drop i ds ≡ d ∷ drop (i + 1) ds → is_rest_word w (symbol_of d) ≡ true → y ≡ behind_rest w (take (length ds - (i + 1)) (drop (i + 1) ds))
+    → specialised_behind xs cs (specialised_of w (drop i ds)) ≡ all → specialised_behind xs cs (without_classes y) ≡ all
+specialised_rest w ds i d xs cs y all now f g h =
+    let there : specialised_of w (drop i ds) ≡ without_classes (behind_rest w (drop (i + 1) ds)) = ap (specialised_of w) now ∙ rw f refl in
+    let same : y ≡ behind_rest w (drop (i + 1) ds) = g ∙ ap (behind_rest w) (rest_from ds (i + 1)) in
+    ap (specialised_behind xs cs) (ap without_classes same ∙ sym there) ∙ h
+
+pub specialised_none : (w : ReservedWords) (ds : List Item) (i : ℕ) (d : Item) (xs : List Symbol) (cs : List Asked) (all : Option Specialised)
+    → drop i ds ≡ d ∷ drop (i + 1) ds → is_rest_word w (symbol_of d) ≡ false → taken_by w d (symbol_of d) ≡ None
+    → specialised_behind xs cs (specialised_of w (drop i ds)) ≡ all → None ≡ all
+specialised_none w ds i d xs cs all now f g h =
+    let there : specialised_of w (drop i ds) ≡ None = ap (specialised_of w) now ∙ rw (f, g) refl in
+    ap (specialised_behind xs cs) (sym there) ∙ h
+
+-- the parameters that were read, and the rest variable
+abbrev with_rest : List Symbol → List Asked → Option Symbol → Option Specialised
+with_rest xs cs rest = Some (record { parameters = record { required = xs; rest = rest }; classes = cs })
+
+pub none_taken : (xs : List Symbol) (cs : List Asked) (rest : Option Symbol) (m : Specialised) (all : Option Specialised)
+    → m ≡ record { parameters = record { required = xs; rest = rest }; classes = cs }
+    → specialised_behind xs cs (without_classes (Some (record { required = []; rest = rest }))) ≡ all → Some m ≡ all
+none_taken xs cs rest m all e h =
+    ap (λ n. Some n) e ∙ ap (λ ys. with_rest ys cs rest) (sym (append-nil xs)) ∙ ap (λ bs. with_rest (xs ++ []) bs rest) (sym (append-nil cs)) ∙ h
+
+pub specialised_end : (w : ReservedWords) (ds : List Item) (i : ℕ) (xs : List Symbol) (cs : List Asked) (all : Option Specialised) → length ds ≤ i
+    → specialised_behind xs cs (specialised_of w (drop i ds)) ≡ all
+    → specialised_behind xs cs (without_classes (Some (record { required = []; rest = None }))) ≡ all
+specialised_end w ds i xs cs all l h = ap (λ es. specialised_behind xs cs (specialised_of w es)) (sym (drop_all i ds l)) ∙ h

@@ -1,5 +1,5 @@
 -- The text is judged datum by datum.
-use Rattle.std.proofs.Common.{rules, sym}
+use Rattle.std.proofs.Common.{rules}
 use Rattle.isl_first_path.proofs.Judging.{judged-init, judged-step, judged-offends, judged-stops, judged-end, judged-later}
 use Rattle.isl_reader.specs.bridge.GoodReads.{next_shorter}
 use Rattle.isl_first_path.proofs.program.add_forms.Goals as goal

@@ -1,10 +1,10 @@
--- A required parameter more was found.
-use Rattle.std.proofs.Common.{◌≡◌, ◌++◌, ◌∷◌, [], Some, ◌+◌, drop, false, sym, ap, ◌∙◌, arith}
+-- A required parameter more was found, the rest variable, or a datum that is none.
+use Rattle.std.proofs.Common.{◌≡◌, ◌++◌, ◌∷◌, [], Some, None, ◌+◌, drop, true, false, sym, ap, ◌∙◌, arith}
 use Rattle.isl_profile.specs.Shapes.{symbol_of, is_rest_word}
 use Rattle.isl_profile.specs.MethodShapes.{taken_by, specialised_of}
 use Rattle.isl_written.specs.Definitions.{view_asked, view_all_asked, maybe_taken}
 use Rattle.isl_written.proofs.Shaping.{drop_seen}
-use Rattle.isl_written.proofs.Specialising.{taken_turn, one_more}
+use Rattle.isl_written.proofs.Specialising.{taken_turn, one_more, specialised_rest, specialised_none, specialised_end, none_taken}
 use Rattle.isl_written.proofs.methods.specialised_of.Goals as goal
 
 pub loop-at-preserved : goal.loop-at-preserved
@@ -23,3 +23,32 @@ loop-at-preserved c =
     rw (pushed, seen)
     (taken_turn c.args.words c.args.items.now c.loop-at.at c.index-items-at.result (record { variable = t.variable; class = view_asked t.class }) c.loop-at.required
     (view_all_asked c.loop-at.classes) _ now no_word taken c.loop-at.invariant)
+
+pub returns : goal.returns
+returns c =
+    let classes = view_all_asked c.loop-at.classes in
+    none_taken c.loop-at.required classes None _ _ c.with_classes-2.ensures
+    (specialised_end c.args.words c.args.items.now c.loop-at.at c.loop-at.required classes _ c.loop-at-test.false c.loop-at.invariant)
+
+pub returns-then-is_rest_word : goal.returns-then-is_rest_word
+returns-then-is_rest_word c =
+    let classes = view_all_asked c.loop-at.classes in
+    let now = drop_seen c.args.items.now c.loop-at.at c.index-items-at.result c.loop-at-test.true c.index-items-at.is in
+    let word : is_rest_word c.args.words (symbol_of c.index-items-at.result) ≡ true = sym c.is_rest_word.ensures ∙ c.if-is_rest_word.true in
+    none_taken c.loop-at.required classes (Some c.in-Some.rest) _ _ c.with_classes.ensures
+    (specialised_rest c.args.words c.args.items.now c.loop-at.at c.index-items-at.result c.loop-at.required classes _ _ now word c.in-Some.ensures c.loop-at.invariant)
+
+pub returns-in_default : goal.returns-in_default
+returns-in_default c =
+    let classes = view_all_asked c.loop-at.classes in
+    let now = drop_seen c.args.items.now c.loop-at.at c.index-items-at.result c.loop-at-test.true c.index-items-at.is in
+    let word : is_rest_word c.args.words (symbol_of c.index-items-at.result) ≡ true = sym c.is_rest_word.ensures ∙ c.if-is_rest_word.true in
+    specialised_rest c.args.words c.args.items.now c.loop-at.at c.index-items-at.result c.loop-at.required classes None _ now word c.in_default.ensures c.loop-at.invariant
+
+pub returns-in_default-taken_by : goal.returns-in_default-taken_by
+returns-in_default-taken_by c =
+    let classes = view_all_asked c.loop-at.classes in
+    let now = drop_seen c.args.items.now c.loop-at.at c.index-items-at.result c.loop-at-test.true c.index-items-at.is in
+    let word : is_rest_word c.args.words (symbol_of c.index-items-at.result) ≡ false = sym c.is_rest_word.ensures ∙ c.if-is_rest_word.false in
+    let none : taken_by c.args.words c.index-items-at.result (symbol_of c.index-items-at.result) ≡ None = sym c.taken_by.ensures ∙ ap maybe_taken c.in_default-taken_by.is in
+    specialised_none c.args.words c.args.items.now c.loop-at.at c.index-items-at.result c.loop-at.required classes _ now word none c.loop-at.invariant

@@ -1,5 +1,5 @@
 -- A slot more was found, or a datum that is none.
-use Rattle.std.proofs.Common.{◌≡◌, ◌++◌, ◌∷◌, [], Some, None, ◌+◌, drop, sym, ap, ◌∙◌, arith}
+use Rattle.std.proofs.Common.{◌≡◌, ◌++◌, ◌∷◌, [], Some, None, ◌+◌, drop, sym, ap, ◌∙◌}
 use Rattle.isl_profile.specs.Shapes.{symbol_of}
 use Rattle.isl_profile.specs.ClassShapes.{slot_by}
 use Rattle.isl_written.specs.ClassDefinitions.{view_slot, view_slots, maybe_slot}
