@@ -1,5 +1,5 @@
 -- Conditions are signalled.
-use Rattle.std.proofs.Common.{◌≡◌, ℕ, suc, ◌<◌, List, [], ◌∷◌, length, true, false, Option, Some, None, refl, ap, sym, ◌∙◌, arith}
+use Rattle.std.proofs.Common.{◌≡◌, ℕ, suc, ◌<◌, List, [], ◌∷◌, ◌++◌, length, true, false, Option, Some, None, refl, ap, sym, ◌∙◌, arith}
 use Rattle.std.specs.Prelude.{reverse, if◌then◌else◌}
 use Rattle.isl_meaning.specs.Values.{Value, integer, character, symbol, nil, object}
 use Rattle.isl_meaning.specs.Objects.{Object, cons, string, vector, instance, function, closure, generic_function, class_object, input_stream, output_stream, fresh_symbol, serious_condition_class, function_class}
@@ -34,7 +34,7 @@ use Rattle.isl_machine.specs.View.{Steps, IsGiven, IsCharged, setting_of, moment
 use Rattle.isl_applying.specs.declared.signalling.Handler.{Handler}
 use Rattle.isl_applying.specs.Methods.{ArePushed}
 use Rattle.isl_applying.specs.Signalling.{IsSignalled, IsHandled, IsUnhandled, around_handler, handled_by}
-use Rattle.std.proofs.lemmas.List.{length-reverse}
+use Rattle.std.proofs.lemmas.List.{length-append, length-reverse}
 use Rattle.isl_machine.proofs.Going.{after_store, after_push}
 use Rattle.isl_machine.proofs.Linking.{over}
 use Rattle.isl_machine.proofs.Pushes.{passed_over, others_none}
@@ -106,6 +106,10 @@ site_in names m a = refl
 top_is : (names : List (List ℕ)) (m : Machine) (w : Kept) → frames_in names m.current m.operands.items m.slots.items (w ∷ reverse m.frames.items) ≡ taken names m w ∷ below names m w
 unfolding frames_in
 top_is names m w = refl
+
+-- the link to a frame that was pushed
+pub link_above : (old above : Machine) (w : Kept) → IsAbove old above w → length above.frames.items ≡ suc (length old.frames.items)
+link_above old above w i = let e : length above.frames.items ≡ length (old.frames.items ++ w ∷ []) = ap (λ (ws : List Kept). length ws) i.frames in omega (arith, e, length-append old.frames.items (w ∷ []))
 
 -- a handler is applied above the frame of its signal
 pub handled : (old above returning pushed new : Machine) (w : Kept) (h : Handler) (c : Word) (within : Around) (level : ℕ) (a : Around) → within ≡ around_handler old h a

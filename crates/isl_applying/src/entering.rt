@@ -58,7 +58,11 @@ fn take_words<'p>(
     requires taken { takes (length procedure.procedure.now.required) (is_some procedure.procedure.now.rest) count ≡ true }
     ensures { OnOk result (Steps machine.old machine.new (λ names s b. in_words s (entered_of names procedure.entry) (top names machine.old count) level (surroundings names machine.old around) (frames names machine.old count) (state names machine.old b))) }
 {
-    if take_stack(machine, procedure.words, count)? {
+    let Ok(granted) = take_stack(machine, procedure.words, count) else {
+        drop(procedure);
+        return Err(NoMemory);
+    };
+    if granted {
         gather(machine, procedure, count, level, around)
     } else {
         drop(procedure);
@@ -81,7 +85,7 @@ pub fn take_stack(machine: &mut Machine<'_>, words: u64, count: usize) -> Result
         return Ok(false);
     }
     machine.charge(count)?;
-    machine.frames.push(Frame::RestoresStack(before))?;
+    machine.push_frame(Frame::RestoresStack(before))?;
     Ok(true)
 }
 
@@ -140,11 +144,12 @@ fn keep_record<'p>(
     requires { count ≤ length machine.old.operands.items }
     ensures { OnOk result (Steps machine.old machine.new (λ names s b. in_record s (entered_of names procedure.entry) (top names machine.old count) level (surroundings names machine.old around) (frames names machine.old count) (state names machine.old b))) }
 {
-    if take_record(
-        machine,
-        &procedure.activation.method,
-        procedure.procedure.keeps_method,
-    )? {
+    let keeps = procedure.procedure.keeps_method;
+    let Ok(granted) = take_record(machine, &procedure.activation.method, keeps) else {
+        drop(procedure);
+        return Err(NoMemory);
+    };
+    if granted {
         make_cells(machine, procedure, count, level, around)
     } else {
         drop(procedure);
@@ -164,7 +169,11 @@ fn make_cells<'p>(
     requires { count ≤ length machine.old.operands.items }
     ensures { OnOk result (Steps machine.old machine.new (λ names s b. in_cells s (entered_of names procedure.entry) (top names machine.old count) level (surroundings names machine.old around) (frames names machine.old count) (state names machine.old b))) }
 {
-    if take_procedure_cells(machine, procedure.procedure)? {
+    let Ok(granted) = take_procedure_cells(machine, procedure.procedure) else {
+        drop(procedure);
+        return Err(NoMemory);
+    };
+    if granted {
         begin_body(machine, procedure, count, level, around)
     } else {
         drop(procedure);
@@ -188,7 +197,7 @@ fn begin_body<'p>(
     let mut activation = procedure.activation;
     activation.slots = 0;
     let caller = mem::replace(&mut machine.current, activation);
-    machine.frames.push(Frame::RestoresSlots(caller))?;
+    machine.push_frame(Frame::RestoresSlots(caller))?;
     add_variables(machine, code, count)?;
     machine.drop_operands(count);
     machine.evaluate(

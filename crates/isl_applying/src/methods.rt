@@ -166,7 +166,10 @@ pub fn after_primary<'p>(
 ) -> Result<(), NoMemory>
     ensures { OnOk result (Steps machine.old machine.new (λ names s b. value_step s (primary_method (rest_of rest.entry).after (values_of names arguments.value) level (surroundings names machine.old around)) (value_of_word names word) (frames names machine.old 0) (state names machine.old b))) }
 {
-    machine.push_frame(Frame::Kept(Outcome::Value(word)))?;
+    let Ok(()) = machine.push_frame(Frame::Kept(Outcome::Value(word))) else {
+        drop(arguments);
+        return Err(NoMemory);
+    };
     let (list, at) = after_methods(rest);
     apply_each(machine, list, at, arguments, level, around)
 }

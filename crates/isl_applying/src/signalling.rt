@@ -42,13 +42,19 @@ pub fn signal_under(
     match handler {
         Some(handler) => {
             machine.charge(1)?;
-            let frame = Frame::Signal {
-                number,
+            handle(
+                machine,
+                Frame::Signal {
+                    number,
+                    condition,
+                    mark,
+                    exits: around.exits,
+                },
+                handler,
                 condition,
-                mark,
-                exits: around.exits,
-            };
-            handle(machine, frame, handler, condition, level, around)
+                level,
+                around,
+            )
         }
         None => {
             machine.come_to(Outcome::Exit(0, condition, Landing::Site(around.site)));
@@ -68,9 +74,9 @@ fn handle<'p>(
 ) -> Result<(), NoMemory>
     ensures { OnOk result (Steps machine.old machine.new (λ names s b. handled_by names machine.old frame.entry handler condition level around s (state names machine.old b))) }
 {
-    let link = machine.next_link()?;
-    let within = inside_signal(around, link, handler.outside);
     machine.push_frame(frame)?;
+    let link = machine.frames.as_slice().len();
+    let within = inside_signal(around, link, handler.outside);
     machine.push_frame(Frame::HandlerReturn(level, within))?;
     machine.push_operand(condition)?;
     apply_value(machine, handler.word, 1, level, within)

@@ -1,6 +1,7 @@
 // The elements of a list become operands.
 
 ghost use Rattle.std.specs.Prelude.{◌≡◌, IfOk};
+ghost use Rattle.std.specs.HashSet.{IsEmpty};
 ghost use Rattle.isl_applying.specs.Spreading.{IsPart, IsSpread};
 
 use isl_base::NoMemory;
@@ -29,6 +30,18 @@ pub fn push_elements(machine: &mut Machine<'_>, list: Word) -> Result<Spread, No
     ensures { IfOk result (λ s. IsSpread machine.old machine.new list s) }
 {
     let mut seen = HashSet::new(machine.given.alloc);
+    push_unseen(machine, list, &mut seen)
+}
+
+// Those whose conses are in no set yet; the conses that are passed come into it.
+fn push_unseen(
+    machine: &mut Machine<'_>,
+    list: Word,
+    seen: &mut HashSet<usize>,
+) -> Result<Spread, NoMemory>
+    requires { IsEmpty seen.old }
+    ensures { IfOk result (λ s. IsSpread machine.old machine.new list s) }
+{
     let mut left = list;
     let limit = after(machine.store.object_count())?;
     for count in 0..limit {

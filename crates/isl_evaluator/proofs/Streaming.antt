@@ -93,6 +93,17 @@ stays_told e which ws a h = record {
   comes = λ names written unread b s. record { beside = b; stands = s; told = λ rows. h names written unread b rows s };
 }
 
+-- one that takes no arguments has some
+some_given : (e : Evaluator) (g : Stream) (w : Word) (ws : List Word) → (g ≡ group.PutChar → ⊥) → IsStreamed e e (stream_of g) (w ∷ ws) (Gives Nil)
+some_given e group.PutChar w ws f = absurd (f refl)
+some_given e group.IsFreshLine w ws f = stays_told e p.IsFreshLine (w ∷ ws) (Gives Nil) (λ names written unread b rows s. refl)
+some_given e group.GetByte w ws f = stays_told e p.GetByte (w ∷ ws) (Gives Nil) (λ names written unread b rows s. refl)
+some_given e group.PeekByte w ws f = stays_told e p.PeekByte (w ∷ ws) (Gives Nil) (λ names written unread b rows s. refl)
+
+pub given_some : (e : Evaluator) (g : Stream) (ws : List Word) → 1 ≤ length ws → (g ≡ group.PutChar → ⊥) → IsStreamed e e (stream_of g) ws (Gives Nil)
+given_some e g [] h f = absurd (omega (arith, h))
+given_some e g (w ∷ ws) h f = some_given e g w ws f
+
 pub fresh_told : (e : Evaluator) (w : Word) → ((names : List (List ℕ)) → value_of_word names w ≡ truth e.at_start) → IsStreamed e e p.IsFreshLine [] (Gives w)
 fresh_told e w h = stays_told e p.IsFreshLine [] (Gives w) (λ names written unread b rows s.
     ap (λ v. result v (state_of names e.machine.store b)) (ap truth (sym s.at_start) ∙ sym (h names)))

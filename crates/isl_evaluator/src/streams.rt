@@ -53,27 +53,42 @@ impl<'p> Evaluator<'p> {
         requires { reads (stream_of which) (last_of count self.old.machine.operands.items) ≡ true → is_fed self.old ≡ true }
         ensures { IfOk result (IsStreamed self.old self.new (stream_of which) (last_of count self.old.machine.operands.items)) }
     {
-        let first = self.machine.operands.len().saturating_sub(count);
         match which {
-            Stream::PutChar => match &self.machine.operands[first..] {
-                [stream, word] => {
-                    let (stream, word) = (*stream, *word);
-                    self.put(stream, word)
+            Stream::PutChar => self.put_last(count),
+            other => {
+                if self.machine.held_operands(count) == 0 {
+                    Ok(self.without_arguments(other))
+                } else {
+                    Ok(Answer::Gives(Word::Nil))
                 }
-                _ => Ok(Answer::Gives(Word::Nil)),
-            },
-            Stream::IsFreshLine => match &self.machine.operands[first..] {
-                [] => Ok(self.fresh_line()),
-                _ => Ok(Answer::Gives(Word::Nil)),
-            },
-            Stream::GetByte => match &self.machine.operands[first..] {
-                [] => Ok(self.take_byte()),
-                _ => Ok(Answer::Gives(Word::Nil)),
-            },
-            Stream::PeekByte => match &self.machine.operands[first..] {
-                [] => Ok(self.peek_byte()),
-                _ => Ok(Answer::Gives(Word::Nil)),
-            },
+            }
+        }
+    }
+
+    // What one answers that takes no arguments.
+    fn without_arguments(&mut self, which: Stream) -> Answer
+        requires { reads (stream_of which) [] ≡ true → is_fed self.old ≡ true }
+        ensures { IsStreamed self.old self.new (stream_of which) [] result }
+    {
+        match which {
+            Stream::PutChar => Answer::Gives(Word::Nil),
+            Stream::IsFreshLine => self.fresh_line(),
+            Stream::GetByte => self.take_byte(),
+            Stream::PeekByte => self.peek_byte(),
+        }
+    }
+
+    // A character is put, where the last operands are a stream and a character.
+    fn put_last(&mut self, count: usize) -> Result<Answer, NoMemory>
+        ensures { IfOk result (IsStreamed self.old self.new p.PutChar (last_of count self.old.machine.operands.items)) }
+    {
+        let first = self.machine.operands.len().saturating_sub(count);
+        match &self.machine.operands[first..] {
+            [stream, word] => {
+                let (stream, word) = (*stream, *word);
+                self.put(stream, word)
+            }
+            _ => Ok(Answer::Gives(Word::Nil)),
         }
     }
 

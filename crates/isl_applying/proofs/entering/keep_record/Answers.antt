@@ -3,11 +3,11 @@ use Rattle.isl_machine.proofs.Doing.{over_ok}
 use Rattle.isl_applying.proofs.Entries.{record_then, record_filled}
 use Rattle.isl_applying.proofs.entering.keep_record.Goals as goal
 
-pub returns-then-branch : goal.returns-then-branch
-returns-then-branch c =
+pub returns-then-granted : goal.returns-then-granted
+returns-then-granted c =
     over_ok c.make_cells.result
-    (record_then c.args.machine.now c.take_record.new.machine c.make_cells.new.machine c.args.procedure c.args.count c.args.level c.args.around _ c.in_ok-take_record.ensures c.if-branch.true)
+    (record_then c.args.machine.now c.take_record.new.machine c.make_cells.new.machine c.args.procedure c.args.count c.args.level c.args.around _ c.in-Ok.ensures c.if-granted.true)
     c.make_cells.ensures
 
-pub returns-else-branch : goal.returns-else-branch
-returns-else-branch c = record_filled c.args.machine.now c.take_record.new.machine c.drop_operands.new.self c.args.procedure c.args.count c.args.level c.args.around _ c.in_ok-take_record.ensures c.if-branch.false c.drop_operands.ensures
+pub returns-else-granted : goal.returns-else-granted
+returns-else-granted c = record_filled c.args.machine.now c.take_record.new.machine c.drop_operands.new.self c.args.procedure c.args.count c.args.level c.args.around _ c.in-Ok.ensures c.if-granted.false c.drop_operands.ensures

@@ -1,5 +1,5 @@
 -- The words are asked for, the arguments counted, and a frame gives them back.
-use Rattle.std.proofs.Common.{refl, arith}
+use Rattle.std.proofs.Common.{arith}
 use Rattle.isl_applying.proofs.Entries.{stack_given, stack_filled}
 use Rattle.isl_applying.proofs.entering.take_stack.Goals as goal
 
@@ -8,5 +8,5 @@ returns-then-not-branch c = stack_filled c.args.machine.now c.ask.new.self _ c.i
 
 pub returns : goal.returns
 returns c =
-    stack_given c.args.machine.now c.ask.new.self c.charge.new.self _ _ c.in-Some.all c.args.count c.stack-before.result _ (omega (arith, c.in-Some.ensures)) c.in_ok-ask.ensures c.if-not-branch.false c.in_ok-charge.ensures refl c.in_ok-push.ensures.items
+    stack_given c.args.machine.now c.ask.new.self c.charge.new.self c.push_frame.new.self _ c.in-Some.all c.args.count c.stack-before.result _ (omega (arith, c.in-Some.ensures)) c.in_ok-ask.ensures c.if-not-branch.false c.in_ok-charge.ensures c.in_ok-push_frame.ensures.same c.in_ok-push_frame.ensures.frames
     (λ names b. c.stack-before.ensures names b)

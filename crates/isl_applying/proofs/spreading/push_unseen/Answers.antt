@@ -3,7 +3,7 @@ use Rattle.std.proofs.Common.{◌≡◌, ◌∙◌, ℕ, suc, true, false, sym, 
 use Rattle.isl_machine.specs.Frames.{frame_slots}
 use Rattle.isl_applying.specs.Spreading.{IsSpread}
 use Rattle.isl_applying.proofs.Spreads.{one_spread, spread_ended, spread_repeated, spread_exhausted}
-use Rattle.isl_applying.proofs.spreading.push_elements.Goals as goal
+use Rattle.isl_applying.proofs.spreading.push_unseen.Goals as goal
 
 pub returns-then-contains : goal.returns-then-contains
 returns-then-contains c =

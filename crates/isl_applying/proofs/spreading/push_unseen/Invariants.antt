@@ -2,7 +2,7 @@
 use Rattle.std.proofs.Common.{eqb}
 use Rattle.std.specs.HashSet.{contains}
 use Rattle.isl_applying.proofs.Spreads.{Spreading}
-use Rattle.isl_applying.proofs.spreading.push_elements.Given as goal
+use Rattle.isl_applying.proofs.spreading.push_unseen.Given as goal
 
 abbrev pub invariant-loop-count : goal.invariant-loop-count
 invariant-loop-count l = Spreading l.initial.machine l.machine l.fn.list l.left l.count (λ k. contains eqb l.seen k)
