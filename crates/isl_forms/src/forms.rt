@@ -17,7 +17,7 @@ ghost use Rattle.isl_drafts.specs.Drafts.{around, drawn, Draws};
 ghost use Rattle.isl_drafts.specs.Views.{at, shown};
 ghost use Rattle.isl_profile.specs.Marks.{Grows};
 
-use isl_base::{Datum, Kind, Names, NoMemory, Reason, Symbol};
+use isl_base::{Datum, Kind, Name, Names, NoMemory, Reason, Symbol};
 use isl_class_definitions::classes::defclass_draft;
 use isl_definitions::defining::{defdynamic_draft, defun_draft, global_draft};
 use isl_definitions::generics::defgeneric_draft;
@@ -140,6 +140,22 @@ fn special_draft<'a>(
     }
 }
 
+// A call by a name that is no local function's.
+fn call_named<'a>(
+    here: Setting,
+    name: Name,
+    text: &[u8],
+    items: &'a [Datum],
+) -> Result<Draft<'a>, NoMemory>
+    ensures { Draws here.entry
+        (row.call_named name text.now (around here.entry) here.entry.tables.now here.entry.place items.now) result }
+{
+    if is_left_out(text) {
+        return Ok(offence(here.place, Reason::LeftOut));
+    }
+    named_call_draft(here, name, text, items)
+}
+
 // A call by a symbol that is no local function's.
 fn call_symbol<'a>(
     here: Setting,
@@ -150,16 +166,10 @@ fn call_symbol<'a>(
     ensures { Draws here.entry
         (row.call_symbol symbol (symbol_text names.now symbol) (around here.entry) here.entry.tables.now here.entry.place items.now) result }
 {
-    let Symbol::Named(name) = symbol else {
-        return Ok(offence(here.place, Reason::BadShape));
-    };
-    let Some(text) = names.text(name) else {
-        return Ok(offence(here.place, Reason::BadShape));
-    };
-    if is_left_out(text) {
-        return Ok(offence(here.place, Reason::LeftOut));
+    match (symbol, symbol_text(names, symbol)) {
+        (Symbol::Named(name), Some(text)) => call_named(here, name, text, items),
+        _ => Ok(offence(here.place, Reason::BadShape)),
     }
-    named_call_draft(here, name, text, items)
 }
 
 // The special or defining form that a symbol names.
@@ -211,6 +221,13 @@ fn is_lambda(names: &Names, datum: &Datum) -> bool
     }
 }
 
+// Whether that is the special form `lambda`.
+fn is_lambda_name(special: Option<Special>) -> bool
+    ensures { result ≡ row.is_lambda_name special }
+{
+    matches!(special, Some(Special::Lambda))
+}
+
 fn is_lambda_items(names: &Names, items: &[Datum]) -> bool
     ensures { result ≡ row.is_lambda_items names.now items.now }
 {
@@ -218,7 +235,7 @@ fn is_lambda_items(names: &Names, items: &[Datum]) -> bool
         return false;
     };
     match text_of(names, first) {
-        Some(text) => matches!(special_named(text), Some(Special::Lambda)),
+        Some(text) => is_lambda_name(special_named(text)),
         None => false,
     }
 }

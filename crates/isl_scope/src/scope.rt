@@ -7,7 +7,10 @@ ghost use Rattle.isl_base.specs.Names.{Extends};
 ghost use Rattle.isl_profile.specs.Marks.{Grows};
 ghost use Rattle.isl_whole.specs.Definitions.{SoundTables};
 ghost use Rattle.isl_scope.specs.Cuts.{mark_of};
-ghost use Rattle.isl_scope.specs.Scopes.{top_spot, with_main, rows_of, nodes_of, IsWhole, Given, IsTaken, IsStopped, IsFirst};
+ghost use Rattle.isl_profile.specs.Promises.{FormStops};
+ghost use Rattle.isl_whole.specs.Known.{KnownTables};
+ghost use Rattle.isl_scope.specs.Walk.{FormGives};
+ghost use Rattle.isl_scope.specs.Scopes.{top, top_spot, with_main, rows_of, nodes_of, IsWhole, Given, IsTaken, IsStopped, IsFirst};
 
 use crate::cells::has_too_many_cells;
 use crate::counts::with_added;
@@ -17,6 +20,7 @@ use crate::mark::{Mark, cut_to, mark_of};
 use isl_base::{Datum, Names, NoMemory, Origin, Reason, Refusal, Stop};
 use isl_bindings::Bindings;
 use isl_classes::Classes;
+use isl_making::Formed;
 use isl_meaning::{Core, Program, ProgramRows, class_list_nodes};
 use isl_profile::{Spot, Tables};
 use isl_whole::laws::{law_programs, law_suits, law_top_forms};
@@ -83,6 +87,27 @@ fn add_main(origin: Origin, form: Core, tables: &mut Tables) -> Result<(), NoMem
     }
 }
 
+// Judges a form where nothing is bound.
+fn judge_alone(
+    alloc: Global,
+    names: &mut Names,
+    tables: &mut Tables,
+    datum: &Datum,
+    origin: Origin,
+) -> Result<Formed, Stop>
+    requires good { Good (length names.old) datum.now }
+    requires known { KnownTables tables.old }
+    ensures gives { IfOk result (FormGives names.new (top origin) tables.old datum.now tables.new) }
+    ensures stops { IfErr result (FormStops names.new (top origin) tables.old datum.now) }
+    ensures names { Extends names.old names.new }
+    ensures grows { Grows tables.old tables.new }
+{
+    let mut bound = Bindings::new(alloc);
+    let form = judge(alloc, names, tables, &mut bound, top_spot(origin), datum);
+    drop(bound);
+    form
+}
+
 // Judges a top-level form, which is a main form then where it stands in a file.
 fn judge_top(
     alloc: Global,
@@ -99,8 +124,7 @@ fn judge_top(
     ensures grows { Grows tables.old tables.new }
 {
     law_suits();
-    let mut bound = Bindings::new(alloc);
-    let form = judge(alloc, names, tables, &mut bound, top_spot(origin), datum)?;
+    let form = judge_alone(alloc, names, tables, datum, origin)?;
     add_main(origin, form.into_core(), tables)?;
     Ok(())
 }
