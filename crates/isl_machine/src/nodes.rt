@@ -28,23 +28,7 @@ pub fn own_nodes(form: &FlatCoreForm) -> Result<u64, NoMemory>
         | FlatCoreForm::SetDynamic(..)
         | FlatCoreForm::DefDynamic(..) => Ok(2),
         FlatCoreForm::Sited(..) => Ok(0),
-        FlatCoreForm::Literal(_)
-        | FlatCoreForm::Local(_)
-        | FlatCoreForm::SetLocal(..)
-        | FlatCoreForm::Sequence(_)
-        | FlatCoreForm::Apply(..)
-        | FlatCoreForm::While(..)
-        | FlatCoreForm::Block(_)
-        | FlatCoreForm::Return(..)
-        | FlatCoreForm::Go(..)
-        | FlatCoreForm::Catch(..)
-        | FlatCoreForm::Throw(..)
-        | FlatCoreForm::Unwind(..)
-        | FlatCoreForm::WithHandler(..)
-        | FlatCoreForm::Signal(..)
-        | FlatCoreForm::Continue(..)
-        | FlatCoreForm::NextMethod(_)
-        | FlatCoreForm::HasNext(_) => Ok(1),
+        _ => Ok(1),
     }
 }
 
