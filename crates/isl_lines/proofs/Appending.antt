@@ -1,7 +1,8 @@
 -- Lines appended, with jumps that are written again.
-use Rattle.std.proofs.Common.{◌≡◌, ℕ, suc, ◌+◌, ◌<◌, List, [], ◌∷◌, ◌++◌, length, drop, get_or, sym, ap, ◌∙◌, arith, append_assoc, length-append, drop-cons, add-one}
+use Rattle.std.proofs.Common.{◌≡◌, ℕ, suc, ◌+◌, ◌<◌, ◌≤◌, List, [], ◌∷◌, ◌++◌, length, drop, get_or, sym, ap, ◌∙◌, arith, append_assoc, length-append, drop-cons, add-one}
 use Rattle.std.specs.Prelude.{slice_set}
 use Rattle.std.proofs.Math.Seq.{set-append_seam}
+use Rattle.std.proofs.lemmas.List.{length-set}
 use Rattle.isl_mid.specs.declared.operation.Counted.{Counted}
 use Rattle.isl_mid.specs.declared.operation.Test.{Test}
 use Rattle.isl_mid.specs.MidCode.{MidStep, choose, repeat, with_block, MidCode, step_and, code_size, code_of}
@@ -14,6 +15,17 @@ use Rattle.isl_lines.proofs.Lying.{step_length, code_length}
 pub code_size_above : (ss : List MidStep) → 0 < code_size (code_of ss)
 code_size_above [] = omega arith
 code_size_above (s ∷ ss) = omega arith
+
+-- lines that were appended, and one line more
+pub grown : (ss : List MidStep) (old new : List Line) → new ≡ old ++ code_lines (length old) (code_of ss) → length old ≤ length new
+grown ss old new e = omega (arith, ap length e, length-append old (code_lines (length old) (code_of ss)))
+
+pub one_more : (old new : List Line) (x : Line) → new ≡ old ++ x ∷ [] → length new ≡ length old + 1
+one_more old new x e = omega (arith, ap length e, length-append old (x ∷ []))
+
+-- lines of which one was written again
+pub as_long : (old new : List Line) (at : ℕ) (x : Line) → new ≡ slice_set old at x → length new ≡ length old
+as_long old new at x e = ap length e ∙ length-set old at x
 
 -- the lines of one more step
 step_more : (old : List Line) (s : MidStep) (c : MidCode) (new : List Line) → new ≡ old ++ step_lines (length old) s → new ++ code_lines (length new) c ≡ old ++ code_lines (length old) (step_and s c)

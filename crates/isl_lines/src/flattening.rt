@@ -88,7 +88,6 @@ fn append_step(alloc: Global, lines: &mut LineList, step: &Step) -> Result<(), N
 
 // The branch and the jumps of a choice are written again when it is known where they go.
 #[cycle(flat)]
-#[tactic(auto, using(crate::proofs::Appending::code_size_above))]
 fn append_choice(
     alloc: Global,
     lines: &mut LineList,
@@ -116,7 +115,6 @@ fn append_choice(
 
 // The branch of a loop is written again when it is known where the loop ends.
 #[cycle(flat)]
-#[tactic(auto, using(crate::proofs::Appending::code_size_above))]
 fn append_loop(
     alloc: Global,
     lines: &mut LineList,
@@ -140,7 +138,6 @@ fn append_loop(
 
 // The laying of a record and the jump over its landing are written again when it is known where the landing begins and ends.
 #[cycle(flat)]
-#[tactic(auto, using(crate::proofs::Appending::code_size_above))]
 fn append_record(
     alloc: Global,
     lines: &mut LineList,

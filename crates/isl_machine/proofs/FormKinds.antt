@@ -1,7 +1,6 @@
 -- Which forms are left where those of some kinds are not meant.
 use Rattle.std.proofs.Common.{◌≡◌, ℕ, true, false, List, refl, Box, Global as Heap}
 use Rattle.isl_base.specs.declared.datum.Name.{Name}
-use Rattle.isl_meaning.specs.declared.primitive.Primitive.{Primitive}
 use Rattle.isl_closure.specs.declared.place.VariablePlace.{VariablePlace}
 use Rattle.isl_closure.specs.declared.place.ExitPlace.{ExitPlace}
 use Rattle.isl_closure.specs.declared.place.MethodPlace.{MethodPlace}

@@ -20,11 +20,11 @@ use Rattle.isl_machine.specs.Building.{IsMade, IsDenied}
 use Rattle.isl_machine.specs.View.{Steps, IsGiven, moment_of, at, frames, state}
 
 -- the meaning's way to make it
-closure_built : (names : List (List ℕ)) (limit : Limit) (p size : ℕ) (shared : Rc (ItemList Captured) Global) (cs : List flat.Captured) (z : FlatState)
-    → size ≡ 2 + length shared.value → map (captured_of names) shared.value ≡ cs
-    → built names limit size 0 (Closure p shared) z ≡ make_closure limit p cs z (λ v after. gives v after)
-closure_built names limit p size shared cs z e h =
-    let many : size ≡ 2 + length (map (captured_of names) shared.value) = omega (arith, e, length-map shared.value (captured_of names)) in
+closure_built : (names : List (List ℕ)) (limit : Limit) (p size : ℕ) (shared : Rc (ItemList Captured) Global) (g : FlatPart → flat.Captured) (parts : List FlatPart) (z : FlatState)
+    → size ≡ 2 + length parts → map (captured_of names) shared.value ≡ map g parts
+    → built names limit size 0 (Closure p shared) z ≡ make_closure limit p (map g parts) z (λ v after. gives v after)
+closure_built names limit p size shared g parts z e h =
+    let many : size ≡ 2 + length (map (captured_of names) shared.value) = omega (arith, e, ap length h, length-map parts g) in
     ap (λ n. built names limit n 0 (Closure p shared) z) many
     ∙ ap (λ xs. make_closure limit p xs z (λ v after. gives v after)) h
 
@@ -45,14 +45,14 @@ one_captured m q cs parts c i d h a one names b =
     ∙ sym (map-append (captured_part (at names m q).environment (state names m b)) (take i parts) (get_or parts i d ∷ []))
     ∙ ap (map (captured_part (at names m q).environment (state names m b))) (sym (take_more parts i d h))
 
-pub function_made : (old mid new : Machine) (p size : ℕ) (shared : Rc (ItemList Captured) Global) (cs : List Captured) (w : Word) (parts : List FlatPart)
+pub function_made : (old mid new : Machine) (p size : ℕ) (shared : Rc (ItemList Captured) Global) (w : Word) (parts : List FlatPart)
     (q : Situation)
-    → shared.value ≡ cs → size ≡ 2 + length cs → AreCaptured old q cs parts → IsMade old mid size 0 (Closure p shared) w
+    → size ≡ 2 + length parts → AreCaptured old q shared.value parts → IsMade old mid size 0 (Closure p shared) w
     → Steps mid new (λ names s b. moment (come_to (value (value_of_word names w))) (frames names mid 0) (state names mid b))
     → Steps old new (λ names s b. ended
     (make_closure s.limit p (map (captured_part (at names old q).environment (state names old b)) parts) (state names old b)
     (λ v after. gives v after)) (frames names old 0))
-function_made old mid new p size shared cs w parts q is many captured made s =
+function_made old mid new p size shared w parts q many captured made s =
     let given_is : mid.given ≡ old.given = ap (λ (m : Machine). m.given) made.same in
     record {
       given = s.given ∙ given_is;
@@ -60,26 +60,26 @@ function_made old mid new p size shared cs w parts q is many captured made s =
           s.comes names b (let P : Given → Type 0 = λ x. IsGiven names x in subst P (sym given_is) g)
           ∙ ap (λ (m : Machine). moment (come_to (value (value_of_word names w))) (frames names m 0) (state names mid b)) made.same
           ∙ sym (ap (λ r. ended r (frames names old 0))
-          (sym (closure_built names (limit_of old.given.limit) p size shared (map (captured_part (at names old q).environment (state names old b)) parts)
+          (sym (closure_built names (limit_of old.given.limit) p size shared (captured_part (at names old q).environment (state names old b)) parts
           (state names old b)
-          (many ∙ ap (λ xs. 2 + length xs) (sym is)) (ap (map (captured_of names)) is ∙ captured names b))
+          many (captured names b))
           ∙ made.state_is names b));
     }
 
-pub function_denied : (old new : Machine) (p size : ℕ) (shared : Rc (ItemList Captured) Global) (cs : List Captured) (parts : List FlatPart) (q : Situation)
-    → shared.value ≡ cs → size ≡ 2 + length cs → AreCaptured old q cs parts → IsDenied old new size 0 (Closure p shared)
+pub function_denied : (old new : Machine) (p size : ℕ) (shared : Rc (ItemList Captured) Global) (parts : List FlatPart) (q : Situation)
+    → size ≡ 2 + length parts → AreCaptured old q shared.value parts → IsDenied old new size 0 (Closure p shared)
     → Steps old new (λ names s b. ended
     (make_closure s.limit p (map (captured_part (at names old q).environment (state names old b)) parts) (state names old b)
     (λ v after. gives v after)) (frames names old 0))
-function_denied old new p size shared cs parts q is many captured denied = record {
+function_denied old new p size shared parts q many captured denied = record {
   given = ap (λ (m : Machine). m.given) denied.same;
   comes = λ names b g.
       ap (λ (m : Machine). moment_of names m b) denied.same
       ∙ ap (λ (m : Machine). moment (come_to (full denied.asked denied.left)) (frames names old 0) (state names m b))
       (sym (ap (λ (m : Machine). record m { control = old.control }) denied.same))
       ∙ sym (ap (λ r. ended r (frames names old 0))
-      (sym (closure_built names (limit_of old.given.limit) p size shared (map (captured_part (at names old q).environment (state names old b)) parts)
+      (sym (closure_built names (limit_of old.given.limit) p size shared (captured_part (at names old q).environment (state names old b)) parts
       (state names old b)
-      (many ∙ ap (λ xs. 2 + length xs) (sym is)) (ap (map (captured_of names)) is ∙ captured names b))
+      many (captured names b))
       ∙ denied.state_is names b));
 }

@@ -1,5 +1,5 @@
 -- The nodes of a form are its own and those of the forms right inside it, which are smaller than it.
-use Rattle.std.proofs.Common.{◌≡◌, ℕ, zero, suc, ◌+◌, ◌<◌, List, [], ◌∷◌, Option, Some, None, length, ap, arith}
+use Rattle.std.proofs.Common.{◌≡◌, ℕ, zero, suc, ◌+◌, ◌<◌, List, [], ◌∷◌, Option, Some, None, ap, arith}
 use Rattle.std.specs.Prelude.{slice_get}
 use Rattle.std.specs.List.{sum, sum_by}
 use Rattle.std.proofs.lemmas.List.Sums.{sum_by-cons}
@@ -9,7 +9,7 @@ use Rattle.isl_closure.specs.declared.flat_core.FlatDynBinding.{FlatDynBinding}
 use Rattle.isl_closure.specs.FlatForm.{FlatForm, literal, local, set_local, global, set_global, def_global, clauses, sequence, let_form, make_function, call, call_value, apply, prim, while_form, block, return_from, tagbody, go, catch_form, throw, unwind, dynamic_let, dynamic, set_dynamic, def_dynamic, with_handler, signal_form, continue_form, next_method, has_next, sited}
 use Rattle.isl_closure.specs.FlatForm.{form_size, forms_size, clauses_size, bindings_size, dynamics_size, body_size}
 use Rattle.isl_closure.specs.model.View.{forms, maybe_form, clauses_of, bindings_of, dynamics_of}
-use Rattle.isl_closure.specs.FlatNodes.{nodes, own_nodes, nodes_of_forms, nodes_of_clauses, nodes_of_values, nodes_of_dynamics, count_forms, count_clauses, count_bindings, count_dynamics}
+use Rattle.isl_closure.specs.FlatNodes.{nodes, own_nodes, nodes_of_forms, nodes_of_clauses, nodes_of_values, nodes_of_dynamics}
 use Rattle.isl_machine.specs.Sizes.{nodes_inside, clause_nodes, value_nodes, dynamic_nodes}
 
 pub own_and_inside : (f : FlatForm) → nodes f ≡ own_nodes f + nodes_inside f
@@ -46,24 +46,7 @@ own_and_inside (next_method m) = omega arith
 own_and_inside (has_next m) = omega arith
 own_and_inside (sited site f) = omega arith
 
--- the mirror of a list counts as many as the list has
-pub forms_counted : (xs : List FlatForm) → count_forms (forms xs) ≡ length xs
-forms_counted [] = omega arith
-forms_counted (x ∷ xs) = omega (arith, forms_counted xs)
-
-pub clauses_counted : (xs : List FlatClause) → count_clauses (clauses_of xs) ≡ length xs
-clauses_counted [] = omega arith
-clauses_counted (x ∷ xs) = omega (arith, clauses_counted xs)
-
-pub bindings_counted : (xs : List FlatBinding) → count_bindings (bindings_of xs) ≡ length xs
-bindings_counted [] = omega arith
-bindings_counted (x ∷ xs) = omega (arith, bindings_counted xs)
-
-pub dynamics_counted : (xs : List FlatDynBinding) → count_dynamics (dynamics_of xs) ≡ length xs
-dynamics_counted [] = omega arith
-dynamics_counted (x ∷ xs) = omega (arith, dynamics_counted xs)
-
--- and has the same sum of nodes
+-- the mirror of a list has the same sum of nodes
 pub forms_summed : (xs : List FlatForm) → sum (nodes_of_forms (forms xs)) ≡ sum_by nodes xs
 forms_summed [] = omega arith
 forms_summed (x ∷ xs) = omega (arith, forms_summed xs, sum_by-cons nodes x xs, sum_by-cons (λ (n : ℕ). n) (nodes x) (nodes_of_forms (forms xs)))

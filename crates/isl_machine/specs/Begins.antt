@@ -1,14 +1,14 @@
 -- What a form does as it begins, once it is charged.
-use Rattle.std.specs.Prelude.{Bool, true, false, [], ◌∷◌, map, slice_get}
+use Rattle.std.specs.Prelude.{◌≡◌, Bool, true, false, List, [], ◌∷◌, map, slice_get}
 use Rattle.isl_meaning.specs.Values.{nil, truth}
 use Rattle.isl_meaning.specs.State.{block_exit, at_segment}
 use Rattle.isl_meaning.specs.Lookup.{text}
 use Rattle.isl_meaning.specs.Meaning.{place_of_site, is_next}
 use Rattle.isl_closure.specs.FlatForm.{FlatForm, FlatForms, literal, local, set_local, global, set_global, def_global, clauses, sequence, let_form, make_function, call, call_value, apply, prim, while_form, block, return_from, tagbody, go, catch_form, throw, unwind, dynamic_let, dynamic, set_dynamic, def_dynamic, with_handler, signal_form, continue_form, next_method, has_next, sited}
-use Rattle.isl_closure.specs.FlatState.{value_of, exit_of, method_of, captured_part, gives, exit_made, make_closure}
+use Rattle.isl_closure.specs.FlatState.{FlatState, value_of, exit_of, method_of, captured_part, gives, exit_made, make_closure}
 use Rattle.isl_closure.specs.FlatSignals.{inside}
 use Rattle.isl_closure.specs.FlatMeaning.{with_exit}
-use Rattle.isl_plain.specs.Moment.{Setting, Situation, Step, moment, ended, evaluate, awaits, catches, cleans, call_name, call_first, compute, set_local_value, set_global_value, def_global_value, applied_function, while_test, return_value, catch_tag, throw_tag, set_dynamic_value, def_dynamic_value, handler_value, signal_condition, continue_condition}
+use Rattle.isl_plain.specs.Moment.{Setting, Situation, Frame, Step, moment, ended, evaluate, awaits, catches, cleans, call_name, call_first, compute, set_local_value, set_global_value, def_global_value, applied_function, while_test, return_value, catch_tag, throw_tag, set_dynamic_value, def_dynamic_value, handler_value, signal_condition, continue_condition}
 use Rattle.isl_plain.specs.Applications.{transfer}
 use Rattle.isl_plain.specs.Step.{literal_step, global_step, clauses_step, sequence_step, bindings_step, arguments_step, segments_step, dynamics_step, dynamic_step, next_method_step}
 
@@ -38,6 +38,23 @@ WaitsFirst (with_handler handler body) = true
 WaitsFirst (signal_form condition continuable) = true
 WaitsFirst (continue_form condition f) = true
 WaitsFirst f = false
+
+-- the form whose value it waits for
+abbrev pub first_inside : FlatForm → FlatForm
+first_inside (set_local p f) = f
+first_inside (set_global n f) = f
+first_inside (def_global n f) = f
+first_inside (apply f list) = f
+first_inside (return_from x f) = f
+first_inside (catch_form tag body) = tag
+first_inside (throw tag f) = tag
+first_inside (unwind f cleanup) = f
+first_inside (set_dynamic n f) = f
+first_inside (def_dynamic n f) = f
+first_inside (with_handler handler body) = handler
+first_inside (signal_form condition continuable) = condition
+first_inside (continue_form condition f) = condition
+first_inside f = f
 
 module _ (s : Setting) where
   -- a block, and a tagbody, with a new exit
@@ -82,3 +99,7 @@ module _ (s : Setting) where
   begins (next_method m) at frames z = next_method_step s (method_of m at.environment) at frames z
   begins (has_next m) at frames z = ended (gives (truth (is_next (method_of m at.environment))) z) frames
   begins (sited site f) at frames z = moment (evaluate f (record at { around = record at.around { site = place_of_site s.program.sites site } })) frames z
+
+-- as it begins, a form waits in a frame for the value of the form inside it
+abbrev pub BeginsWith : FlatForm → Situation → Frame → Type 0
+BeginsWith f at w = (s : Setting) (frames : List Frame) (z : FlatState) → begins s f at frames z ≡ moment (evaluate (first_inside f) at) (w ∷ frames) z

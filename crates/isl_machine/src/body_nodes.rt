@@ -5,6 +5,7 @@ ghost use Rattle.std.specs.List.{sum_by};
 ghost use Rattle.isl_closure.specs.FlatNodes.{nodes, own_nodes};
 ghost use Rattle.isl_machine.specs.Sizes.{nodes_inside, clause_nodes, value_nodes, dynamic_nodes};
 
+use crate::nodes::own_and_listed;
 use isl_closure::{
     FlatBindingList, FlatClause, FlatClauseList, FlatCore, FlatCoreForm, FlatCoreList,
     FlatDynBindings,
@@ -20,29 +21,11 @@ pub fn form_nodes(form: &FlatCore) -> u64
 }
 
 // What it counts by itself.
-#[tactic(auto, using(crate::proofs::NodesInside::forms_counted, crate::proofs::NodesInside::clauses_counted, crate::proofs::NodesInside::bindings_counted, crate::proofs::NodesInside::dynamics_counted))]
 fn own_nodes(form: &FlatCore) -> u64
     ensures { result ≡ min (own_nodes form.now) 18446744073709551615 }
 {
-    match &form.form {
-        FlatCoreForm::Global(_)
-        | FlatCoreForm::SetGlobal(_, _)
-        | FlatCoreForm::DefGlobal(_, _)
-        | FlatCoreForm::Dynamic(_)
-        | FlatCoreForm::SetDynamic(_, _)
-        | FlatCoreForm::DefDynamic(_, _) => 2,
-        FlatCoreForm::MakeFunction(_, parts) => (parts.len() as u64).saturating_add(1),
-        FlatCoreForm::Clauses(list) => (list.len() as u64).saturating_add(1),
-        FlatCoreForm::Let(list, _) => (list.len() as u64).saturating_add(1),
-        FlatCoreForm::DynamicLet(list, _) => (list.len() as u64).saturating_add(1),
-        FlatCoreForm::Call(_, list) => (list.len() as u64).saturating_add(2),
-        FlatCoreForm::Prim(_, list) => (list.len() as u64).saturating_add(1),
-        FlatCoreForm::CallValue(list) | FlatCoreForm::Tagbody(list) => {
-            (list.len().saturating_sub(1) as u64).saturating_add(1)
-        }
-        FlatCoreForm::Sited(_, _) => 0,
-        _ => 1,
-    }
+    let (own, listed) = own_and_listed(&form.form);
+    own.saturating_add(listed as u64)
 }
 
 // The nodes of the forms right inside a form.
@@ -92,7 +75,6 @@ fn nodes_inside(form: &FlatCore) -> u64
 }
 
 #[cycle(nodes)]
-#[tactic(auto, using(crate::proofs::NodesInside::form_smaller))]
 fn list_nodes(list: &FlatCoreList) -> u64
     ensures { result ≡ min (sum_by nodes list.now) 18446744073709551615 }
 {
@@ -107,7 +89,6 @@ fn list_nodes(list: &FlatCoreList) -> u64
 }
 
 #[cycle(nodes)]
-#[tactic(auto, using(crate::proofs::NodesInside::clause_smaller))]
 fn clause_list_nodes(list: &FlatClauseList) -> u64
     ensures { result ≡ min (sum_by clause_nodes list.now) 18446744073709551615 }
 {
@@ -132,7 +113,6 @@ fn clause_nodes(clause: &FlatClause) -> u64
 }
 
 #[cycle(nodes)]
-#[tactic(auto, using(crate::proofs::NodesInside::value_smaller))]
 fn value_list_nodes(list: &FlatBindingList) -> u64
     ensures { result ≡ min (sum_by value_nodes list.now) 18446744073709551615 }
 {
@@ -147,7 +127,6 @@ fn value_list_nodes(list: &FlatBindingList) -> u64
 }
 
 #[cycle(nodes)]
-#[tactic(auto, using(crate::proofs::NodesInside::dynamic_smaller))]
 fn dynamic_list_nodes(list: &FlatDynBindings) -> u64
     ensures { result ≡ min (sum_by dynamic_nodes list.now) 18446744073709551615 }
 {

@@ -36,13 +36,9 @@ fn answer_of<'p>(machine: &mut Machine<'p>, which: Primitive, count: usize) -> R
     ensures { IsAnswered machine.old machine.new which count result }
 {
     let first = first_of(machine, count);
-    let given = machine.given;
-    given.primitives.compute(
-        &mut machine.store,
-        given.limit,
-        which,
-        &machine.operands[first..],
-    )
+    let primitives = machine.given.primitives;
+    let limit = machine.given.limit;
+    primitives.compute(&mut machine.store, limit, which, &machine.operands[first..])
 }
 
 // The place of the first one of the last operands, so many as that.

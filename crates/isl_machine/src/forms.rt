@@ -1,10 +1,11 @@
 // A form begins that wants the machine alone.
 
-ghost use Rattle.std.specs.Prelude.{◌≡◌, true, false, OnOk};
+ghost use Rattle.std.specs.Prelude.{◌≡◌, true, false, List, ℕ, OnOk};
 ghost use Rattle.isl_closure.specs.FlatForm.{while_form};
 ghost use Rattle.isl_closure.specs.model.View.{view_form};
-ghost use Rattle.isl_machine.specs.Begins.{begins, FormWantsMore, WaitsFirst};
-ghost use Rattle.isl_machine.specs.View.{Steps, at, frames, state};
+ghost use Rattle.isl_machine.specs.Begins.{begins, first_inside, FormWantsMore, WaitsFirst, BeginsWith};
+ghost use Rattle.isl_machine.specs.declared.machine.Machine.{Machine as Running};
+ghost use Rattle.isl_machine.specs.View.{Steps, IsPlain, at, frames, state, waiting};
 
 use crate::frame::Frame;
 use crate::machine::Machine;
@@ -64,73 +65,54 @@ impl<'p> Machine<'p> {
         requires { WaitsFirst (view_form form.now) ≡ true }
         ensures { OnOk result (Steps self.old self.new (λ names s b. begins s (view_form form.now) (at names self.old situation) (frames names self.old 0) (state names self.old b))) }
     {
-        match form {
-            FlatCoreForm::SetLocal(place, value) => self.wait(
-                Frame::SetLocal(*place, situation),
-                value,
-                situation,
-            ),
-            FlatCoreForm::SetGlobal(name, value) => self.wait(
-                Frame::SetGlobal(*name, situation),
-                value,
-                situation,
-            ),
-            FlatCoreForm::DefGlobal(name, value) => self.wait(
-                Frame::DefGlobal(*name),
-                value,
-                situation,
-            ),
-            FlatCoreForm::Apply(function, list) => self.wait(
-                Frame::AppliedFunction(list, situation),
-                function,
-                situation,
-            ),
-            FlatCoreForm::Return(exit, value) => self.wait(
-                Frame::ReturnValue(*exit, situation),
-                value,
-                situation,
-            ),
-            FlatCoreForm::Catch(tag, body) => self.wait(
-                Frame::CatchTag(body, situation),
-                tag,
-                situation,
-            ),
-            FlatCoreForm::Throw(tag, value) => self.wait(
-                Frame::ThrowTag(value, situation),
-                tag,
-                situation,
-            ),
-            FlatCoreForm::Unwind(form, cleanup) => self.wait(
-                Frame::Cleans(cleanup, situation),
-                form,
-                situation,
-            ),
-            FlatCoreForm::SetDynamic(name, value) => self.wait(
-                Frame::SetDynamic(*name, situation),
-                value,
-                situation,
-            ),
-            FlatCoreForm::DefDynamic(name, value) => self.wait(
-                Frame::DefDynamic(*name),
-                value,
-                situation,
-            ),
-            FlatCoreForm::WithHandler(handler, body) => self.wait(
-                Frame::HandlerValue(body, situation),
-                handler,
-                situation,
-            ),
-            FlatCoreForm::Signal(condition, mark) => self.wait(
-                Frame::SignalCondition(mark, situation),
-                condition,
-                situation,
-            ),
-            FlatCoreForm::Continue(condition, value) => self.wait(
-                Frame::ContinueCondition(value, situation),
-                condition,
-                situation,
-            ),
-            _ => unreachable!(),
-        }
+        let inside = first_inside(form);
+        self.wait(waiting_frame(form, situation), inside, situation)
+    }
+}
+
+// The form inside a form whose value it waits for first.
+fn first_inside(form: &FlatCoreForm) -> &FlatCore
+    requires { WaitsFirst (view_form form.now) ≡ true }
+    ensures { result.now ≡ first_inside (view_form form.now) }
+{
+    match form {
+        FlatCoreForm::SetLocal(_, inside)
+        | FlatCoreForm::SetGlobal(_, inside)
+        | FlatCoreForm::DefGlobal(_, inside)
+        | FlatCoreForm::Return(_, inside)
+        | FlatCoreForm::SetDynamic(_, inside)
+        | FlatCoreForm::DefDynamic(_, inside) => inside,
+        FlatCoreForm::Apply(first, _)
+        | FlatCoreForm::Catch(first, _)
+        | FlatCoreForm::Throw(first, _)
+        | FlatCoreForm::Unwind(first, _)
+        | FlatCoreForm::WithHandler(first, _)
+        | FlatCoreForm::Signal(first, _)
+        | FlatCoreForm::Continue(first, _) => first,
+        _ => unreachable!(),
+    }
+}
+
+// The frame that waits for that value.
+fn waiting_frame(form: &FlatCoreForm, situation: Situation) -> Frame<'_>
+    requires { WaitsFirst (view_form form.now) ≡ true }
+    ensures plain { IsPlain result ≡ true }
+    ensures begins { (names : List (List ℕ)) (m : Running) → BeginsWith (view_form form.now) (at names m situation) (waiting names m result) }
+{
+    match form {
+        FlatCoreForm::SetLocal(place, _) => Frame::SetLocal(*place, situation),
+        FlatCoreForm::SetGlobal(name, _) => Frame::SetGlobal(*name, situation),
+        FlatCoreForm::DefGlobal(name, _) => Frame::DefGlobal(*name),
+        FlatCoreForm::Apply(_, list) => Frame::AppliedFunction(list, situation),
+        FlatCoreForm::Return(exit, _) => Frame::ReturnValue(*exit, situation),
+        FlatCoreForm::Catch(_, body) => Frame::CatchTag(body, situation),
+        FlatCoreForm::Throw(_, value) => Frame::ThrowTag(value, situation),
+        FlatCoreForm::Unwind(_, cleanup) => Frame::Cleans(cleanup, situation),
+        FlatCoreForm::SetDynamic(name, _) => Frame::SetDynamic(*name, situation),
+        FlatCoreForm::DefDynamic(name, _) => Frame::DefDynamic(*name),
+        FlatCoreForm::WithHandler(_, body) => Frame::HandlerValue(body, situation),
+        FlatCoreForm::Signal(_, mark) => Frame::SignalCondition(mark, situation),
+        FlatCoreForm::Continue(_, value) => Frame::ContinueCondition(value, situation),
+        _ => unreachable!(),
     }
 }

@@ -25,16 +25,30 @@ impl<'p> Machine<'p> {
     ) -> Result<(), NoMemory>
         ensures { OnOk result (Steps self.old self.new (λ names s b. ended (make_closure s.limit procedure (map (captured_part (at names self.old situation).environment (state names self.old b)) parts.now) (state names self.old b) (λ v after. gives v after)) (frames names self.old 0))) }
     {
-        let captured = self.captured_parts(parts, situation)?;
-        let size = closure_words(&captured)?;
-        let Ok(shared) = Rc::new(self.given.alloc, captured) else {
-            return Err(NoMemory);
-        };
+        let size = closure_words(parts)?;
+        let shared = self.shared_parts(parts, situation)?;
         let Some(word) = self.build(size, 0, Object::Closure(procedure, shared))? else {
             return Ok(());
         };
         self.gives(word);
         Ok(())
+    }
+
+    // What is captured of these places, for all that share the function.
+    fn shared_parts(
+        &self,
+        parts: &FlatPartList,
+        situation: Situation,
+    ) -> Result<Rc<CapturedList<'p>>, NoMemory>
+        ensures { IfOk result (λ list. (names : List (List ℕ)) (b : Beside) → map (captured_of names) list.value ≡ map (captured_part (at names self.now situation).environment (state names self.now b)) parts.now) }
+    {
+        match Rc::new(self.given.alloc, self.captured_parts(parts, situation)?) {
+            Ok(shared) => Ok(shared),
+            Err(refused) => {
+                drop(refused);
+                Err(NoMemory)
+            }
+        }
     }
 
     // What is captured of these places.
@@ -83,9 +97,9 @@ impl<'p> Machine<'p> {
     }
 }
 
-// The words of a function that captured so much.
-fn closure_words(captured: &CapturedList<'_>) -> Result<u64, NoMemory>
-    ensures { IfOk result (λ words. words ≡ 2 + length captured.now) }
+// The words of a function that captures so much.
+fn closure_words(parts: &FlatPartList) -> Result<u64, NoMemory>
+    ensures { IfOk result (λ words. words ≡ 2 + length parts.now) }
 {
-    (captured.len() as u64).checked_add(2).ok_or(NoMemory)
+    (parts.len() as u64).checked_add(2).ok_or(NoMemory)
 }

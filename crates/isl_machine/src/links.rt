@@ -51,7 +51,7 @@ fn next(frame: &Frame<'_>, kind: Kind) -> Option<usize>
 }
 
 impl<'p> Machine<'p> {
-    #[tactic(auto, using(crate::proofs::Nearest::none_yet, crate::proofs::Nearest::found, crate::proofs::Nearest::one_more, crate::proofs::Nearest::all_searched))]
+    #[tactic(auto, using(crate::proofs::Nearest::none_yet, crate::proofs::Nearest::all_searched))]
     /// The innermost frame, among the first so many, that links things of that kind; and its link, which is at most its place.
     pub fn nearest(&self, kind: Kind, link: usize) -> Option<(&Frame<'p>, usize)>
         ensures { MatchOption result (IsNoneNearer kind self.now.frames.items 0 link) (λ found. IsNearest kind self.now.frames.items link found.0.now found.1) }

@@ -1,6 +1,6 @@
 // What forms are charged as they begin.
 
-ghost use Rattle.std.specs.Prelude.{◌≡◌, ◌+◌, ◌-◌, length, IfOk};
+ghost use Rattle.std.specs.Prelude.{◌≡◌, ◌+◌, IfOk};
 ghost use Rattle.isl_closure.specs.FlatNodes.{own_nodes};
 ghost use Rattle.isl_closure.specs.model.View.{view_form};
 
@@ -8,49 +8,35 @@ use isl_base::NoMemory;
 use isl_closure::FlatCoreForm;
 
 /// The nodes that a form counts by itself.
-#[tactic(auto, using(crate::proofs::Counting::forms_counted, crate::proofs::Counting::clauses_counted, crate::proofs::Counting::bindings_counted, crate::proofs::Counting::dynamics_counted))]
 pub fn own_nodes(form: &FlatCoreForm) -> Result<u64, NoMemory>
     ensures { IfOk result (λ n. n ≡ own_nodes (view_form form.now)) }
 {
+    let (own, listed) = own_and_listed(form);
+    own.checked_add(listed as u64).ok_or(NoMemory)
+}
+
+/// The same as a number for its kind and one for the parts that it lists.
+#[tactic(auto, using(crate::proofs::Counting::forms_counted, crate::proofs::Counting::clauses_counted, crate::proofs::Counting::bindings_counted, crate::proofs::Counting::dynamics_counted))]
+pub fn own_and_listed(form: &FlatCoreForm) -> (u64, usize)
+    ensures { result.0 + result.1 ≡ own_nodes (view_form form.now) }
+{
     match form {
-        FlatCoreForm::Clauses(list) => more(1, list.len()),
-        FlatCoreForm::Let(list, _) => more(1, list.len()),
-        FlatCoreForm::MakeFunction(_, parts) => more(1, parts.len()),
-        FlatCoreForm::Call(_, list) => more(2, list.len()),
-        FlatCoreForm::CallValue(list) => more(1, list.len().saturating_sub(1)),
-        FlatCoreForm::Prim(_, list) => more(1, list.len()),
-        FlatCoreForm::Tagbody(list) => more(1, list.len().saturating_sub(1)),
-        FlatCoreForm::DynamicLet(list, _) => more(1, list.len()),
+        FlatCoreForm::Clauses(list) => (1, list.len()),
+        FlatCoreForm::Let(list, _) => (1, list.len()),
+        FlatCoreForm::MakeFunction(_, parts) => (1, parts.len()),
+        FlatCoreForm::Call(_, list) => (2, list.len()),
+        FlatCoreForm::Prim(_, list) => (1, list.len()),
+        FlatCoreForm::CallValue(list) | FlatCoreForm::Tagbody(list) => {
+            (1, list.len().saturating_sub(1))
+        }
+        FlatCoreForm::DynamicLet(list, _) => (1, list.len()),
         FlatCoreForm::Global(_)
         | FlatCoreForm::SetGlobal(..)
         | FlatCoreForm::DefGlobal(..)
         | FlatCoreForm::Dynamic(_)
         | FlatCoreForm::SetDynamic(..)
-        | FlatCoreForm::DefDynamic(..) => Ok(2),
-        FlatCoreForm::Sited(..) => Ok(0),
-        FlatCoreForm::Literal(_)
-        | FlatCoreForm::Local(_)
-        | FlatCoreForm::SetLocal(..)
-        | FlatCoreForm::Sequence(_)
-        | FlatCoreForm::Apply(..)
-        | FlatCoreForm::While(..)
-        | FlatCoreForm::Block(_)
-        | FlatCoreForm::Return(..)
-        | FlatCoreForm::Go(..)
-        | FlatCoreForm::Catch(..)
-        | FlatCoreForm::Throw(..)
-        | FlatCoreForm::Unwind(..)
-        | FlatCoreForm::WithHandler(..)
-        | FlatCoreForm::Signal(..)
-        | FlatCoreForm::Continue(..)
-        | FlatCoreForm::NextMethod(_)
-        | FlatCoreForm::HasNext(_) => Ok(1),
+        | FlatCoreForm::DefDynamic(..) => (2, 0),
+        FlatCoreForm::Sited(..) => (0, 0),
+        _ => (1, 0),
     }
-}
-
-// A number and the length of a list.
-fn more(own: u64, count: usize) -> Result<u64, NoMemory>
-    ensures { IfOk result (λ n. n ≡ own + count) }
-{
-    own.checked_add(count as u64).ok_or(NoMemory)
 }

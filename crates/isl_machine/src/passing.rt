@@ -29,34 +29,7 @@ pub fn waiting_operands(frame: &Frame<'_>) -> Option<usize>
         Frame::Binding(_, operands, _, _)
         | Frame::Argument(_, _, operands, _)
         | Frame::DynamicValue(_, operands, _, _) => Some(*operands),
-        Frame::SetLocal(..)
-        | Frame::SetGlobal(..)
-        | Frame::DefGlobal(..)
-        | Frame::Sequence(..)
-        | Frame::Clause(..)
-        | Frame::AppliedFunction(..)
-        | Frame::AppliedList(..)
-        | Frame::WhileTest(..)
-        | Frame::WhileBody(..)
-        | Frame::ReturnValue(..)
-        | Frame::LastSegment
-        | Frame::CatchTag(..)
-        | Frame::ThrowTag(..)
-        | Frame::ThrowValue(..)
-        | Frame::SetDynamic(..)
-        | Frame::DefDynamic(..)
-        | Frame::HandlerValue(..)
-        | Frame::SignalCondition(..)
-        | Frame::SignalMark(..)
-        | Frame::ContinueCondition(..)
-        | Frame::ContinueValue(..)
-        | Frame::Kept(..)
-        | Frame::Methods(..)
-        | Frame::BeforeMethods(..)
-        | Frame::PrimaryMethod(..)
-        | Frame::HandlerReturn(..)
-        | Frame::MainForm(..)
-        | Frame::MainForms(..) => Some(0),
+        _ => Some(0),
     }
 }
 
