@@ -24,8 +24,12 @@ fn all_forms<'a>(here: Setting, items: &'a [Datum]) -> Result<Parts<'a>, NoMemor
     Ok(parts)
 }
 
-// A form all of whose parts stand where it stands.
-fn all_parts<'a>(here: Setting, making: Making, items: &'a [Datum]) -> Result<Draft<'a>, NoMemory>
+/// A form all of whose parts stand where it stands.
+pub(crate) fn all_parts<'a>(
+    here: Setting,
+    making: Making,
+    items: &'a [Datum],
+) -> Result<Draft<'a>, NoMemory>
     ensures { Draws here.entry
         (row.all_parts making (around here.entry) here.entry.tables.now here.entry.place items.now) result }
 {

@@ -10,10 +10,12 @@ ghost use Rattle.isl_drafts.specs.Drafts.{around, Draws};
 ghost use Rattle.isl_drafts.specs.Views.{view_parts};
 ghost use Rattle.isl_written.specs.Views.{view_clauses};
 
+use crate::calls::all_parts;
+use crate::inside::with_inside;
 use isl_base::{Datum, Kind, Name, NoMemory, Reason, Symbol};
-use isl_drafts::draft::{Draft, Note, made_at_once, made_plain, made_within, offence, one_part};
+use isl_drafts::draft::{Draft, Note, made_at_once, made_within, offence, one_part};
 use isl_drafts::here::{Setting, deeper_at_top, fits_depth};
-use isl_drafts::plan::{Parts, inner_forms, one_form, push_below, push_form};
+use isl_drafts::plan::{Parts, one_form, push_below, push_form};
 use isl_meaning::LiteralRow;
 use isl_profile::{BodyLengths, Leaf, Making, One, ReservedWords, Tables, Two, WithBody};
 use isl_written::shapes::{Clauses, clauses_in, is_true, name_of, symbol_of};
@@ -132,10 +134,8 @@ pub fn progn_draft<'a>(here: Setting, items: &'a [Datum]) -> Result<Draft<'a>, N
         return Ok(offence(here.place, Reason::DepthLimit));
     }
     let inside = deeper_at_top(here.spot);
-    let inner = inner_forms(here.alloc, items)?;
     let parts = Parts::new(here.alloc);
-    let making = Making::InSequence;
-    Ok(made_plain(here, Note::Nothing, inside, parts, inner, making))
+    with_inside(here, inside, parts, items, Making::InSequence)
 }
 
 // The length of a body, none where there is none.
@@ -201,12 +201,10 @@ pub fn two_draft<'a>(here: Setting, kind: Two, items: &'a [Datum]) -> Result<Dra
     ensures { Draws here.entry
         (row.two_row kind (around here.entry) here.entry.tables.now here.entry.place items.now) result }
 {
-    let [first, second] = items else {
+    let [_, _] = items else {
         return Ok(offence(here.place, Reason::BadShape));
     };
-    let mut parts = one_form(here.alloc, first)?;
-    push_form(&mut parts, second)?;
-    Ok(made_within(here, Note::Nothing, 1, parts, Making::OfTwo(kind)))
+    all_parts(here, Making::OfTwo(kind), items)
 }
 
 /// A form and a body: `(while x f*)`, `(catch x f*)`, `(unwind-protect x f*)`, `(with-handler x f*)`.
