@@ -5,7 +5,7 @@ ghost use Rattle.isl_profile.specs.RowWords as word;
 ghost use Rattle.isl_profile.specs.ExitRows as row;
 ghost use Rattle.isl_profile.specs.Nodes.{with_bound};
 ghost use Rattle.isl_profile.specs.Shapes as shape;
-ghost use Rattle.isl_profile.specs.Names.{block_of, tag_of};
+ghost use Rattle.isl_profile.specs.Names.{block_of};
 ghost use Rattle.isl_profile.specs.Shapes.{symbol_of};
 ghost use Rattle.isl_drafts.specs.Drafts.{around, shows, Draws};
 ghost use Rattle.isl_drafts.specs.Views.{view_inner};

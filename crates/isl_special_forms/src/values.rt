@@ -1,8 +1,6 @@
 // The rows of what has no part of its own, of variables, and of forms that evaluate all their parts where they stand.
 
 ghost use Rattle.std.specs.Prelude.{◌≡◌, ◌+◌, ◌<◌, ◌++◌, ◌∷◌, [], Some, None, IfOk, OnOk};
-ghost use Rattle.isl_base.specs.Data.{place_of};
-ghost use Rattle.isl_profile.specs.Names.{function_of};
 ghost use Rattle.isl_profile.specs.RowWords as word;
 ghost use Rattle.isl_profile.specs.ValueRows as row;
 ghost use Rattle.isl_profile.specs.Shapes.{symbol_of};
@@ -10,7 +8,7 @@ ghost use Rattle.isl_drafts.specs.Drafts.{around, Draws};
 ghost use Rattle.isl_drafts.specs.Views.{view_parts};
 ghost use Rattle.isl_written.specs.Views.{view_clauses};
 
-use crate::calls::all_parts;
+use crate::calls::with_forms;
 use crate::inside::with_inside;
 use isl_base::{Datum, Kind, Name, NoMemory, Reason, Symbol};
 use isl_drafts::draft::{Draft, Note, made_at_once, made_within, offence, one_part};
@@ -184,7 +182,8 @@ pub fn two_draft<'a>(here: Setting, kind: Two, items: &'a [Datum]) -> Result<Dra
     let [_, _] = items else {
         return Ok(offence(here.place, Reason::BadShape));
     };
-    all_parts(here, Making::OfTwo(kind), items)
+    let parts = Parts::new(here.alloc);
+    with_forms(here, 1, parts, Making::OfTwo(kind), items)
 }
 
 /// A form and a body: `(while x f*)`, `(catch x f*)`, `(unwind-protect x f*)`, `(with-handler x f*)`.
