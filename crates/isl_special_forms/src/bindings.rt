@@ -1,19 +1,23 @@
 // The rows of forms that bind: variables, dynamic variables, functions and local functions.
 
-ghost use Rattle.std.specs.Prelude.{◌≡◌, ◌+◌, ◌<◌, ◌++◌, ◌∷◌, [], Some, None, IfOk};
+ghost use Rattle.std.specs.Prelude.{◌≡◌, ◌+◌, ◌<◌, ◌++◌, ◌∷◌, [], Some, None, IfOk, length, is_some};
+ghost use Rattle.isl_profile.specs.RowWords as word;
 ghost use Rattle.isl_profile.specs.RowWords.{each_bound};
 ghost use Rattle.isl_profile.specs.BindingRows as row;
-ghost use Rattle.isl_profile.specs.Shapes.{symbol_of, pairs_in, parameters_in};
-ghost use Rattle.isl_drafts.specs.Drafts.{around, Draws};
+ghost use Rattle.isl_profile.specs.Names.{parts_around};
+ghost use Rattle.isl_profile.specs.Shapes.{symbol_of, all_symbols, pairs_in, parameters_in};
+ghost use Rattle.isl_profile.specs.declared.making.Making.TheVariants.{OfVariables, OfFunction};
+ghost use Rattle.isl_drafts.specs.Drafts.{around, shows, Draws};
 ghost use Rattle.isl_drafts.specs.Views.{view_parts};
 ghost use Rattle.isl_written.specs.Views.{view_pairs};
 
 use crate::bound::parts_around;
+use crate::inside::with_inside;
 use isl_base::{Datum, NameList, NoMemory, Reason};
-use isl_drafts::draft::{Bindings, Draft, Note, made_of, made_plain, made_within, offence};
+use isl_drafts::draft::{Bindings, Draft, Note, made_of, made_within, offence};
 use isl_drafts::here::{Setting, deeper, fits_depth};
 use isl_drafts::plan::{Part, Parts, inner_forms, parameter_parts, push_below, push_form};
-use isl_profile::{Bound, BoundList, Making};
+use isl_profile::{Bound, BoundList, Making, Parameters};
 use isl_written::shapes::{PairList, name_of, pairs_in, parameters_in, symbol_of};
 use std::alloc::Global;
 
@@ -28,6 +32,39 @@ fn bound_parts<'a>(alloc: Global, pairs: &PairList<'a>) -> Result<Parts<'a>, NoM
     Ok(parts)
 }
 
+// What stands in the place of a list of bindings and is none, in a form with so many core forms of its own.
+fn no_bindings<'a>(here: Setting, own: u32, list: &Datum) -> Draft<'a>
+    ensures { shows here.entry result
+        ≡ word.within_depth own (around here.entry) here.entry.place (word.bad_binding list.now) }
+{
+    if fits_depth(here.spot, own) {
+        offence(list.place, Reason::BadBinding)
+    } else {
+        offence(here.place, Reason::DepthLimit)
+    }
+}
+
+// Variables with their values round a body.
+fn variables<'a>(
+    here: Setting,
+    pairs: &PairList<'a>,
+    forms: &'a [Datum],
+) -> Result<Draft<'a>, NoMemory>
+    requires { here.spot.depth + 2 < 4294967296 }
+    ensures { Draws here.entry
+        (word.made_of (around here.entry)
+        (word.deeper 2 (around here.entry)) here.entry.place here.entry.tables.now (each_bound (view_pairs pairs.now) ++ word.each_inner forms.now) OfVariables) result }
+{
+    let parts = bound_parts(here.alloc, pairs)?;
+    with_inside(
+        here,
+        deeper(here.spot, 2),
+        parts,
+        forms,
+        Making::OfVariables,
+    )
+}
+
 /// `(let ((v x)*) f*)`
 pub fn let_draft<'a>(here: Setting, items: &'a [Datum]) -> Result<Draft<'a>, NoMemory>
     ensures { Draws here.entry
@@ -39,14 +76,10 @@ pub fn let_draft<'a>(here: Setting, items: &'a [Datum]) -> Result<Draft<'a>, NoM
     if !fits_depth(here.spot, 2) {
         return Ok(offence(here.place, Reason::DepthLimit));
     }
-    let Some(pairs) = pairs_in(here.alloc, here.tables.words, list)? else {
-        return Ok(offence(list.place, Reason::BadBinding));
-    };
-    let parts = bound_parts(here.alloc, &pairs)?;
-    let inner = inner_forms(here.alloc, forms)?;
-    let inside = deeper(here.spot, 2);
-    let making = Making::OfVariables;
-    Ok(made_plain(here, Note::Nothing, inside, parts, inner, making))
+    match pairs_in(here.alloc, here.tables.words, list)? {
+        Some(pairs) => variables(here, &pairs, forms),
+        None => Ok(offence(list.place, Reason::BadBinding)),
+    }
 }
 
 // The names of these bindings, none where one has no name.
@@ -89,6 +122,21 @@ fn dynamics<'a>(
     Ok(made_within(here, Note::Nothing, 2, parts, Making::OfDynamics(names)))
 }
 
+// Dynamic variables of these bindings, where each has a name.
+fn named_dynamics<'a>(
+    here: Setting,
+    pairs: &PairList<'a>,
+    forms: &'a [Datum],
+) -> Result<Draft<'a>, NoMemory>
+    ensures { Draws here.entry
+        (row.dynamics_as (around here.entry) here.entry.tables.now here.entry.place forms.now (view_pairs pairs.now) (row.names_of (view_pairs pairs.now))) result }
+{
+    match names_of(here, pairs)? {
+        Some(names) => dynamics(here, pairs, names, forms),
+        None => Ok(offence(here.place, Reason::BadShape)),
+    }
+}
+
 /// `(dynamic-let ((v x)*) f*)`: dynamic variables have names.
 pub fn dynamic_let_draft<'a>(here: Setting, items: &'a [Datum]) -> Result<Draft<'a>, NoMemory>
     ensures { Draws here.entry
@@ -97,16 +145,31 @@ pub fn dynamic_let_draft<'a>(here: Setting, items: &'a [Datum]) -> Result<Draft<
     let [list, forms @ ..] = items else {
         return Ok(offence(here.place, Reason::BadShape));
     };
-    let Some(pairs) = pairs_in(here.alloc, here.tables.words, list)? else {
-        if !fits_depth(here.spot, 2) {
-            return Ok(offence(here.place, Reason::DepthLimit));
-        }
-        return Ok(offence(list.place, Reason::BadBinding));
-    };
-    match names_of(here, &pairs)? {
-        Some(names) => dynamics(here, &pairs, names, forms),
-        None => Ok(offence(here.place, Reason::BadShape)),
+    match pairs_in(here.alloc, here.tables.words, list)? {
+        Some(pairs) => named_dynamics(here, &pairs, forms),
+        None => Ok(no_bindings(here, 2, list)),
     }
+}
+
+// A function of these parameters.
+fn function<'a>(
+    here: Setting,
+    parameters: &Parameters,
+    forms: &'a [Datum],
+) -> Result<Draft<'a>, NoMemory>
+    requires { here.spot.depth + 2 < 4294967296 }
+    ensures { Draws here.entry
+        (word.made_of (around here.entry)
+        (word.deeper 2 (around here.entry)) here.entry.place here.entry.tables.now (word.each_parameter (all_symbols parameters.now) ++ word.each_inner forms.now)
+        (OfFunction (length parameters.now.required) (is_some parameters.now.rest) (parts_around here.entry.bound.now here.entry.spot.in_method))) result }
+{
+    let around = parts_around(here.alloc, here.bound, here.spot.in_method)?;
+    let making = Making::OfFunction(parameters.required.len(), parameters.rest.is_some(), around);
+    let Ok(parts) = parameter_parts(here.alloc, parameters) else {
+        drop(making);
+        return Err(NoMemory);
+    };
+    with_inside(here, deeper(here.spot, 2), parts, forms, making)
 }
 
 /// `(lambda lambda-list f*)`
@@ -120,15 +183,10 @@ pub fn lambda_draft<'a>(here: Setting, items: &'a [Datum]) -> Result<Draft<'a>, 
     if !fits_depth(here.spot, 2) {
         return Ok(offence(here.place, Reason::DepthLimit));
     }
-    let Some(parameters) = parameters_in(here.alloc, here.tables.words, list)? else {
-        return Ok(offence(list.place, Reason::BadBinding));
-    };
-    let parts = parameter_parts(here.alloc, &parameters)?;
-    let inner = inner_forms(here.alloc, forms)?;
-    let around = parts_around(here.alloc, here.bound, here.spot.in_method)?;
-    let making = Making::OfFunction(parameters.required.len(), parameters.rest.is_some(), around);
-    let inside = deeper(here.spot, 2);
-    Ok(made_plain(here, Note::Nothing, inside, parts, inner, making))
+    match parameters_in(here.alloc, here.tables.words, list)? {
+        Some(parameters) => function(here, &parameters, forms),
+        None => Ok(offence(list.place, Reason::BadBinding)),
+    }
 }
 
 // The local functions of a list, each the value of a variable around; none where one is not.
@@ -179,6 +237,22 @@ fn with_these<'a>(
     Ok(made_of(here, Note::Nothing, work, Making::InSequence))
 }
 
+// A body with the local functions of these bindings around, where each is one.
+fn with_each<'a>(
+    here: Setting,
+    kept: bool,
+    pairs: &PairList,
+    forms: &'a [Datum],
+) -> Result<Draft<'a>, NoMemory>
+    ensures { Draws here.entry
+        (row.functions_as (around here.entry) here.entry.tables.now here.entry.place forms.now kept (row.functions_of (around here.entry) (view_pairs pairs.now))) result }
+{
+    match functions_of(here, pairs)? {
+        Some(functions) => with_these(here, kept, functions, forms),
+        None => Ok(offence(here.place, Reason::BadShape)),
+    }
+}
+
 /// `(%with-functions ((g v)*) f*)`: in the body each g is the function that is the value of the variable
 /// v. The language keeps one of these names or not.
 pub fn with_functions_draft<'a>(
@@ -192,14 +266,8 @@ pub fn with_functions_draft<'a>(
     let [list, forms @ ..] = items else {
         return Ok(offence(here.place, Reason::BadShape));
     };
-    let Some(pairs) = pairs_in(here.alloc, here.tables.words, list)? else {
-        if !fits_depth(here.spot, 1) {
-            return Ok(offence(here.place, Reason::DepthLimit));
-        }
-        return Ok(offence(list.place, Reason::BadBinding));
-    };
-    match functions_of(here, &pairs)? {
-        Some(functions) => with_these(here, kept, functions, forms),
-        None => Ok(offence(here.place, Reason::BadShape)),
+    match pairs_in(here.alloc, here.tables.words, list)? {
+        Some(pairs) => with_each(here, kept, &pairs, forms),
+        None => Ok(no_bindings(here, 1, list)),
     }
 }

@@ -1,6 +1,6 @@
 // The rows of calls: of local functions, of primitives, of function objects, and of names.
 
-ghost use Rattle.std.specs.Prelude.{◌≡◌, ◌+◌, ◌<◌, ◌++◌, ◌∷◌, [], ◌&&◌, IfOk};
+ghost use Rattle.std.specs.Prelude.{◌≡◌, ◌+◌, ◌<◌, ◌++◌, ◌∷◌, [], ◌&&◌};
 ghost use Rattle.isl_profile.specs.CallRows as row;
 ghost use Rattle.isl_profile.specs.declared.making.Making.TheVariants.{CallOfValue};
 ghost use Rattle.isl_drafts.specs.Drafts.{around, Draws};
@@ -10,30 +10,31 @@ ghost use Rattle.isl_profile.specs.RowWords as word;
 use isl_base::{Datum, Name, NoMemory};
 use isl_drafts::draft::{Draft, Note, made_within};
 use isl_drafts::here::Setting;
-use isl_drafts::plan::{Parts, push_form, push_forms};
+use isl_drafts::plan::{Parts, one_form, push_forms};
 use isl_meaning::{Primitive, Var};
 use isl_profile::{Making, Two};
 use isl_written::primitives::primitive_called;
 
-// All parts stand where the form stands.
-fn all_forms<'a>(here: Setting, items: &'a [Datum]) -> Result<Parts<'a>, NoMemory>
-    ensures { IfOk result (λ parts. view_parts parts ≡ word.each_form items.now) }
-{
-    let mut parts = Parts::new(here.alloc);
-    push_forms(&mut parts, items)?;
-    Ok(parts)
-}
-
-// A form all of whose parts stand where it stands.
-fn all_parts<'a>(here: Setting, making: Making, items: &'a [Datum]) -> Result<Draft<'a>, NoMemory>
+/// A form with so many core forms of its own, all of whose parts stand where it stands: these, and behind them these forms.
+pub(crate) fn with_forms<'a>(
+    here: Setting,
+    own: u32,
+    parts: Parts<'a>,
+    making: Making,
+    items: &'a [Datum],
+) -> Result<Draft<'a>, NoMemory>
     ensures { Draws here.entry
-        (row.all_parts making (around here.entry) here.entry.tables.now here.entry.place items.now) result }
+        (word.within_depth own (around here.entry) here.entry.place
+        (word.made_of (around here.entry) (word.deeper 1 (around here.entry))
+        here.entry.place here.entry.tables.now (view_parts parts.entry ++ word.each_form items.now) making)) result }
 {
-    let Ok(parts) = all_forms(here, items) else {
+    let mut parts = parts;
+    let Ok(()) = push_forms(&mut parts, items) else {
+        drop(parts);
         drop(making);
         return Err(NoMemory);
     };
-    Ok(made_within(here, Note::Nothing, 1, parts, making))
+    Ok(made_within(here, Note::Nothing, own, parts, making))
 }
 
 /// A lambda form: the call of the function that its head gives, the operator first.
@@ -45,10 +46,8 @@ pub fn value_call_draft<'a>(
     ensures { Draws here.entry
         (row.all_parts CallOfValue (around here.entry) here.entry.tables.now here.entry.place (head.now ∷ items.now)) result }
 {
-    let mut parts = Parts::new(here.alloc);
-    push_form(&mut parts, head)?;
-    push_forms(&mut parts, items)?;
-    Ok(made_within(here, Note::Nothing, 1, parts, Making::CallOfValue))
+    let parts = one_form(here.alloc, head)?;
+    with_forms(here, 1, parts, Making::CallOfValue, items)
 }
 
 /// The call of a local function: a variable, and its name a form of its own inside the call.
@@ -60,8 +59,8 @@ pub fn local_call_draft<'a>(
     ensures { Draws here.entry
         (row.local_call variable (around here.entry) here.entry.tables.now here.entry.place items.now) result }
 {
-    let parts = all_forms(here, items)?;
-    Ok(made_within(here, Note::Nothing, 2, parts, Making::CallOfLocal(variable)))
+    let parts = Parts::new(here.alloc);
+    with_forms(here, 2, parts, Making::CallOfLocal(variable), items)
 }
 
 // A call of a primitive, or of the function of a name.
@@ -113,5 +112,7 @@ pub fn named_call_draft<'a>(
     ensures { Draws here.entry
         (row.named_call name text.now (around here.entry) here.entry.tables.now here.entry.place items.now) result }
 {
-    all_parts(here, call_making(name, text, items.len()), items)
+    let making = call_making(name, text, items.len());
+    let parts = Parts::new(here.alloc);
+    with_forms(here, 1, parts, making, items)
 }

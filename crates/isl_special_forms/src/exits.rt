@@ -5,7 +5,7 @@ ghost use Rattle.isl_profile.specs.RowWords as word;
 ghost use Rattle.isl_profile.specs.ExitRows as row;
 ghost use Rattle.isl_profile.specs.Nodes.{with_bound};
 ghost use Rattle.isl_profile.specs.Shapes as shape;
-ghost use Rattle.isl_profile.specs.Names.{block_of, tag_of};
+ghost use Rattle.isl_profile.specs.Names.{block_of};
 ghost use Rattle.isl_profile.specs.Shapes.{symbol_of};
 ghost use Rattle.isl_drafts.specs.Drafts.{around, shows, Draws};
 ghost use Rattle.isl_drafts.specs.Views.{view_inner};
@@ -119,21 +119,7 @@ pub fn tagbody_draft<'a>(here: Setting, items: &'a [Datum]) -> Result<Draft<'a>,
     )
 }
 
-// A transfer to the segment behind a tag.
-fn go_to<'a>(here: Setting, symbol: Symbol) -> Result<Draft<'a>, NoMemory>
-    ensures { Draws here.entry
-        (row.go_to (around here.entry) here.entry.tables.now here.entry.place symbol (tag_of here.entry.bound.now symbol)) result }
-{
-    let Some(target) = here.bound.tag_of(symbol) else {
-        return Ok(no_such(here, Reason::UnknownTag, symbol));
-    };
-    let Ok(segment) = u32::try_from(target.segment) else {
-        return Err(NoMemory);
-    };
-    Ok(made_at_once(here, Leaf::Go(target.exit, segment)))
-}
-
-/// `(go tag)`
+/// `(go tag)`: a transfer to the segment behind a tag.
 pub fn go_draft<'a>(here: Setting, items: &[Datum]) -> Result<Draft<'a>, NoMemory>
     ensures { Draws here.entry
         (row.go_row (around here.entry) here.entry.tables.now here.entry.place items.now) result }
@@ -141,8 +127,14 @@ pub fn go_draft<'a>(here: Setting, items: &[Datum]) -> Result<Draft<'a>, NoMemor
     let [tag] = items else {
         return Ok(offence(here.place, Reason::BadShape));
     };
-    match symbol_of(tag) {
-        Some(symbol) => go_to(here, symbol),
-        None => Ok(offence(here.place, Reason::BadShape)),
-    }
+    let Some(symbol) = symbol_of(tag) else {
+        return Ok(offence(here.place, Reason::BadShape));
+    };
+    let Some(target) = here.bound.tag_of(symbol) else {
+        return Ok(no_such(here, Reason::UnknownTag, symbol));
+    };
+    let Ok(segment) = u32::try_from(target.segment) else {
+        return Err(NoMemory);
+    };
+    Ok(made_at_once(here, Leaf::Go(target.exit, segment)))
 }

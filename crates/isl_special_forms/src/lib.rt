@@ -5,4 +5,5 @@ pub mod bindings;
 mod bound;
 pub mod calls;
 pub mod exits;
+mod inside;
 pub mod values;

@@ -1,8 +1,6 @@
 // The rows of what has no part of its own, of variables, and of forms that evaluate all their parts where they stand.
 
 ghost use Rattle.std.specs.Prelude.{◌≡◌, ◌+◌, ◌<◌, ◌++◌, ◌∷◌, [], Some, None, IfOk, OnOk};
-ghost use Rattle.isl_base.specs.Data.{place_of};
-ghost use Rattle.isl_profile.specs.Names.{function_of};
 ghost use Rattle.isl_profile.specs.RowWords as word;
 ghost use Rattle.isl_profile.specs.ValueRows as row;
 ghost use Rattle.isl_profile.specs.Shapes.{symbol_of};
@@ -10,24 +8,15 @@ ghost use Rattle.isl_drafts.specs.Drafts.{around, Draws};
 ghost use Rattle.isl_drafts.specs.Views.{view_parts};
 ghost use Rattle.isl_written.specs.Views.{view_clauses};
 
+use crate::calls::with_forms;
+use crate::inside::with_inside;
 use isl_base::{Datum, Kind, Name, NoMemory, Reason, Symbol};
-use isl_drafts::draft::{Draft, Note, made_at_once, made_plain, made_within, offence, one_part};
+use isl_drafts::draft::{Draft, Note, made_at_once, made_within, offence, one_part};
 use isl_drafts::here::{Setting, deeper_at_top, fits_depth};
-use isl_drafts::plan::{Parts, inner_forms, one_form, push_below, push_form};
+use isl_drafts::plan::{Parts, one_form, push_below, push_form};
 use isl_meaning::LiteralRow;
 use isl_profile::{BodyLengths, Leaf, Making, One, ReservedWords, Tables, Two, WithBody};
 use isl_written::shapes::{Clauses, clauses_in, is_true, name_of, symbol_of};
-
-// A symbol that no variable around is: a global variable.
-fn free_symbol<'a>(here: Setting, symbol: Symbol) -> Result<Draft<'a>, NoMemory>
-    ensures { Draws here.entry
-        (row.free_symbol (around here.entry) here.entry.place here.entry.tables.now symbol) result }
-{
-    match symbol {
-        Symbol::Named(name) => Ok(made_at_once(here, Leaf::Global(name))),
-        Symbol::Fresh { .. } => Ok(offence(here.place, Reason::BadShape)),
-    }
-}
 
 /// A symbol: `t`, a variable around, or a global variable.
 pub fn symbol_draft<'a>(here: Setting, symbol: Symbol) -> Result<Draft<'a>, NoMemory>
@@ -40,7 +29,10 @@ pub fn symbol_draft<'a>(here: Setting, symbol: Symbol) -> Result<Draft<'a>, NoMe
     }
     match here.bound.variable_of(symbol) {
         Some(variable) => Ok(Draft::Unsited(Leaf::Local(variable))),
-        None => free_symbol(here, symbol),
+        None => match symbol {
+            Symbol::Named(name) => Ok(made_at_once(here, Leaf::Global(name))),
+            Symbol::Fresh { .. } => Ok(offence(here.place, Reason::BadShape)),
+        },
     }
 }
 
@@ -96,23 +88,7 @@ fn set_symbol<'a>(here: Setting, symbol: Symbol, datum: &'a Datum) -> Result<Dra
     }
 }
 
-// What is set: `nil` is a constant too.
-fn set_datum<'a>(here: Setting, target: &Datum, datum: &'a Datum) -> Result<Draft<'a>, NoMemory>
-    ensures { Draws here.entry
-        (row.set_datum (around here.entry) here.entry.tables.now here.entry.place target.now datum.now) result }
-{
-    match &target.kind {
-        Kind::Sym(symbol) => set_symbol(here, *symbol, datum),
-        Kind::Nil => Ok(offence(here.place, Reason::ConstantSet)),
-        Kind::Int(_) => Ok(offence(here.place, Reason::BadShape)),
-        Kind::Char(_) => Ok(offence(here.place, Reason::BadShape)),
-        Kind::Str(_) => Ok(offence(here.place, Reason::BadShape)),
-        Kind::Vector(_) => Ok(offence(here.place, Reason::BadShape)),
-        Kind::List { .. } => Ok(offence(here.place, Reason::BadShape)),
-    }
-}
-
-/// `(setq v x)`
+/// `(setq v x)`: `nil` is a constant too.
 pub fn setq_draft<'a>(here: Setting, items: &'a [Datum]) -> Result<Draft<'a>, NoMemory>
     ensures { Draws here.entry
         (row.setq_row (around here.entry) here.entry.tables.now here.entry.place items.now) result }
@@ -120,7 +96,11 @@ pub fn setq_draft<'a>(here: Setting, items: &'a [Datum]) -> Result<Draft<'a>, No
     let [target, datum] = items else {
         return Ok(offence(here.place, Reason::BadShape));
     };
-    set_datum(here, target, datum)
+    match &target.kind {
+        Kind::Sym(symbol) => set_symbol(here, *symbol, datum),
+        Kind::Nil => Ok(offence(here.place, Reason::ConstantSet)),
+        _ => Ok(offence(here.place, Reason::BadShape)),
+    }
 }
 
 /// `(progn f*)`, whose forms stand at top level where it does.
@@ -132,10 +112,8 @@ pub fn progn_draft<'a>(here: Setting, items: &'a [Datum]) -> Result<Draft<'a>, N
         return Ok(offence(here.place, Reason::DepthLimit));
     }
     let inside = deeper_at_top(here.spot);
-    let inner = inner_forms(here.alloc, items)?;
     let parts = Parts::new(here.alloc);
-    let making = Making::InSequence;
-    Ok(made_plain(here, Note::Nothing, inside, parts, inner, making))
+    with_inside(here, inside, parts, items, Making::InSequence)
 }
 
 // The length of a body, none where there is none.
@@ -201,12 +179,11 @@ pub fn two_draft<'a>(here: Setting, kind: Two, items: &'a [Datum]) -> Result<Dra
     ensures { Draws here.entry
         (row.two_row kind (around here.entry) here.entry.tables.now here.entry.place items.now) result }
 {
-    let [first, second] = items else {
+    let [_, _] = items else {
         return Ok(offence(here.place, Reason::BadShape));
     };
-    let mut parts = one_form(here.alloc, first)?;
-    push_form(&mut parts, second)?;
-    Ok(made_within(here, Note::Nothing, 1, parts, Making::OfTwo(kind)))
+    let parts = Parts::new(here.alloc);
+    with_forms(here, 1, parts, Making::OfTwo(kind), items)
 }
 
 /// A form and a body: `(while x f*)`, `(catch x f*)`, `(unwind-protect x f*)`, `(with-handler x f*)`.
@@ -266,21 +243,7 @@ pub fn set_dynamic_draft<'a>(here: Setting, items: &'a [Datum]) -> Result<Draft<
     }
 }
 
-// The value of a local function, or the function of a name.
-fn function_symbol<'a>(here: Setting, symbol: Symbol) -> Result<Draft<'a>, NoMemory>
-    ensures { Draws here.entry
-        (row.function_as (around here.entry) here.entry.tables.now here.entry.place symbol (function_of here.entry.bound.now symbol)) result }
-{
-    match here.bound.function_of(symbol) {
-        Some(variable) => Ok(Draft::Unsited(Leaf::Local(variable))),
-        None => match symbol {
-            Symbol::Named(name) => Ok(Draft::Literal(LiteralRow::Function(name))),
-            Symbol::Fresh { .. } => Ok(offence(here.place, Reason::BadShape)),
-        },
-    }
-}
-
-/// `(function g)`
+/// `(function g)`: the value of a local function, or the function of a name.
 pub fn function_draft<'a>(here: Setting, items: &'a [Datum]) -> Result<Draft<'a>, NoMemory>
     ensures { Draws here.entry
         (row.function_row (around here.entry) here.entry.tables.now here.entry.place items.now) result }
@@ -288,9 +251,15 @@ pub fn function_draft<'a>(here: Setting, items: &'a [Datum]) -> Result<Draft<'a>
     let [datum] = items else {
         return Ok(offence(here.place, Reason::BadShape));
     };
-    match symbol_of(datum) {
-        Some(symbol) => function_symbol(here, symbol),
-        None => Ok(offence(here.place, Reason::BadShape)),
+    let Some(symbol) = symbol_of(datum) else {
+        return Ok(offence(here.place, Reason::BadShape));
+    };
+    match here.bound.function_of(symbol) {
+        Some(variable) => Ok(Draft::Unsited(Leaf::Local(variable))),
+        None => match symbol {
+            Symbol::Named(name) => Ok(Draft::Literal(LiteralRow::Function(name))),
+            Symbol::Fresh { .. } => Ok(offence(here.place, Reason::BadShape)),
+        },
     }
 }
 
@@ -305,21 +274,7 @@ pub fn method_draft<'a>(here: Setting, leaf: Leaf, items: &[Datum]) -> Result<Dr
     Ok(made_at_once(here, leaf))
 }
 
-// The class of a name, that is defined earlier.
-fn class_symbol<'a>(here: Setting, datum: &Datum, symbol: Symbol) -> Result<Draft<'a>, NoMemory>
-    ensures { Draws here.entry
-        (row.class_symbol (place_of datum.now) (around here.entry) here.entry.tables.now here.entry.place symbol) result }
-{
-    let Symbol::Named(name) = symbol else {
-        return Ok(offence(here.place, Reason::BadShape));
-    };
-    match here.tables.classes.find(name) {
-        Some(class) => Ok(Draft::Literal(LiteralRow::Class(class))),
-        None => Ok(offence(datum.place, Reason::UnknownClass)),
-    }
-}
-
-/// `(class c)`
+/// `(class c)`: the class of a name, that is defined earlier.
 pub fn class_draft<'a>(here: Setting, items: &'a [Datum]) -> Result<Draft<'a>, NoMemory>
     ensures { Draws here.entry
         (row.class_row (around here.entry) here.entry.tables.now here.entry.place items.now) result }
@@ -327,8 +282,14 @@ pub fn class_draft<'a>(here: Setting, items: &'a [Datum]) -> Result<Draft<'a>, N
     let [datum] = items else {
         return Ok(offence(here.place, Reason::BadShape));
     };
-    match symbol_of(datum) {
-        Some(symbol) => class_symbol(here, datum, symbol),
-        None => Ok(offence(here.place, Reason::BadShape)),
+    let Some(symbol) = symbol_of(datum) else {
+        return Ok(offence(here.place, Reason::BadShape));
+    };
+    let Symbol::Named(name) = symbol else {
+        return Ok(offence(here.place, Reason::BadShape));
+    };
+    match here.tables.classes.find(name) {
+        Some(class) => Ok(Draft::Literal(LiteralRow::Class(class))),
+        None => Ok(offence(datum.place, Reason::UnknownClass)),
     }
 }
