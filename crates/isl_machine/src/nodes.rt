@@ -15,9 +15,9 @@ pub fn own_nodes(form: &FlatCoreForm) -> Result<u64, NoMemory>
     own.checked_add(listed as u64).ok_or(NoMemory)
 }
 
-/// The same as a number for its kind and one for the parts that it lists.
+// The same as a number for its kind and one for the parts that it lists.
 #[tactic(auto, using(crate::proofs::Counting::forms_counted, crate::proofs::Counting::clauses_counted, crate::proofs::Counting::bindings_counted, crate::proofs::Counting::dynamics_counted))]
-pub fn own_and_listed(form: &FlatCoreForm) -> (u64, usize)
+pub(crate) fn own_and_listed(form: &FlatCoreForm) -> (u64, usize)
     ensures { result.0 + result.1 ≡ own_nodes (view_form form.now) }
 {
     match form {
