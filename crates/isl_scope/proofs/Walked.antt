@@ -183,7 +183,7 @@ pub whole_walked :
 whole_walked n n1 o i s t u xs m rs bs cs (Err e) r h k =
     rw (k.0, k.1) (record { names = h.names; grows = h.grows; bound = tt; stands = tt; stops = whole_stops n1 o i s xs m e h.stops })
 whole_walked n n1 o i s t u xs m rs bs cs (Ok x) (Ok f) h k =
-    rw (k.form, k.tables) (
+    rw (k.0, k.1) (
     record {
       names = h.names;
       grows = finish_grows s t m.making rs h.grows;
@@ -193,4 +193,4 @@ whole_walked n n1 o i s t u xs m rs bs cs (Ok x) (Ok f) h k =
     }
     )
 whole_walked n n1 o i s t u xs m rs bs cs (Ok x) (Err e) h k =
-    rw k.want (record { names = h.names; grows = grows_then s t u h.grows (leaves_grow m.making t u k.leaves); bound = tt; stands = tt; stops = tt })
+    rw k.0 (record { names = h.names; grows = grows_then s t u h.grows (leaves_grow m.making t u k.1); bound = tt; stands = tt; stops = tt })

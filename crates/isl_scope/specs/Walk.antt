@@ -120,17 +120,9 @@ TakesParameter x s cs rs result t cs2 rs2 =
     (λ _. (t ≡ with_variable s) × (cs2 ≡ cs ++ Variable x s.variables ∷ []) × (rs2 ≡ rs ++ Parameter s.variables ∷ []))
     (λ stop. stop ≡ NoMemory)
 
--- the core form is made of what was found, and what it defines counts
-pub record IsCompleted (m : Made) (rs : List Found) (s : Tables) (f : Form) (t : Tables) : Type 0 where
-  pub form : f ≡ made_form m rs
-  pub tables : t ≡ finished m rs s
-
--- memory was wanting, and the tables may have more of what is defined
-pub record IsLeft (m : Made) (s : Tables) (stop : Stop) (t : Tables) : Type 0 where
-  pub want : stop ≡ NoMemory
-  pub leaves : Leaves m.making s t
-
--- the core form is made of what was found, or the walk has stopped, or memory was wanting
+-- the core form is made of what was found, or the walk has stopped, or memory was wanting and the tables may have more of what
+-- is defined
 abbrev pub Completes : {T : Type 0} → Result T Stop → Made → List Found → Tables → Result Form Stop → Tables → Type 0
 Completes (Err stop) m rs s result t = (result ≡ Err stop) × (t ≡ s)
-Completes (Ok x) m rs s result t = MatchResult result (λ f. IsCompleted m rs s f t) (λ stop. IsLeft m s stop t)
+Completes (Ok x) m rs s result t =
+    MatchResult result (λ f. (f ≡ made_form m rs) × (t ≡ finished m rs s)) (λ stop. (stop ≡ NoMemory) × Leaves m.making s t)
