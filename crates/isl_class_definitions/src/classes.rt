@@ -163,6 +163,31 @@ fn is_reserved(here: Setting, names: &Names, name: Name, uses: &Uses) -> bool
     is_reserved_class(here, name) || some_kept_name(here, names, uses)
 }
 
+// What is defined.
+fn new_class(
+    here: Setting,
+    name: Name,
+    written: &WrittenClass,
+    functions: &Functions,
+) -> Result<NewClass, NoMemory>
+    requires { view_functions functions.now ≡ row.all_functions (view_slots written.now.slots) }
+    ensures { IfOk result (λ class. class ≡ record {
+      name = name;
+      supers = row.known_supers here.entry.tables.now.classes.rows (view_supers written.now.supers);
+      abstract_class = shape.is_abstract (view_class_options written.now.options);
+      slots = row.slot_specs (length here.entry.tables.now.procedures) (view_slots written.now.slots);
+      functions = row.slot_functions (view_slots written.now.slots);
+    }) }
+{
+    Ok(NewClass {
+        name,
+        supers: known_supers(here, &written.supers)?,
+        abstract_class: is_abstract(&written.options),
+        slots: slot_specs(here, &written.slots)?,
+        functions: slot_functions(here.alloc, functions)?,
+    })
+}
+
 // The definition, where nothing stands in its way.
 fn class_made<'a>(
     here: Setting,
@@ -176,19 +201,11 @@ fn class_made<'a>(
         (view_supers written.now.supers) (view_slots written.now.slots) (view_class_options written.now.options)) result }
 {
     let parts = class_parts(here, &written.supers, &written.slots)?;
-    let supers = known_supers(here, &written.supers)?;
-    let slots = slot_specs(here, &written.slots)?;
-    let functions = slot_functions(here.alloc, functions)?;
+    let class = new_class(here, name, written, functions)?;
     Ok(Draft::DefinesClass(DefinedClass {
         datum,
         parts,
-        class: NewClass {
-            name,
-            supers,
-            abstract_class: is_abstract(&written.options),
-            slots,
-            functions,
-        },
+        class,
     }))
 }
 

@@ -2,6 +2,7 @@
 
 ghost use Rattle.std.specs.Prelude.{◌≡◌, IfOk};
 ghost use Rattle.isl_profile.specs.DefiningRows as row;
+ghost use Rattle.isl_profile.specs.Shapes.{parameters_in};
 ghost use Rattle.isl_drafts.specs.Drafts.{around, Draws};
 
 use isl_base::{Datum, Name, NoMemory, Reason};
@@ -69,7 +70,7 @@ pub fn defdynamic_draft<'a>(here: Setting, items: &'a [Datum]) -> Result<Draft<'
 }
 
 // The definition, with what its body binds and has.
-fn defun_with<'a>(
+fn defun_of<'a>(
     here: Setting,
     name: Name,
     datum: &'a Datum,
@@ -91,6 +92,23 @@ fn defun_with<'a>(
     }))
 }
 
+// The definition, where the lambda list is one.
+fn defun_with<'a>(
+    here: Setting,
+    name: Name,
+    datum: &'a Datum,
+    list: &Datum,
+    forms: &'a [Datum],
+) -> Result<Draft<'a>, NoMemory>
+    ensures { Draws here.entry
+        (row.defun_with (around here.entry) here.entry.tables.now name datum.now list.now forms.now (parameters_in here.entry.tables.now.words list.now)) result }
+{
+    match parameters_in(here.alloc, here.tables.words, list)? {
+        Some(parameters) => defun_of(here, name, datum, &parameters, forms),
+        None => Ok(offence(list.place, Reason::BadBinding)),
+    }
+}
+
 /// `(defun name lambda-list f*)`. The language keeps the name or not.
 pub fn defun_draft<'a>(here: Setting, kept: bool, items: &'a [Datum]) -> Result<Draft<'a>, NoMemory>
     ensures { Draws here.entry
@@ -110,8 +128,5 @@ pub fn defun_draft<'a>(here: Setting, kept: bool, items: &'a [Datum]) -> Result<
     if !fits_depth(here.spot, 1) {
         return Ok(offence(here.place, Reason::DepthLimit));
     }
-    let Some(parameters) = parameters_in(here.alloc, here.tables.words, list)? else {
-        return Ok(offence(list.place, Reason::BadBinding));
-    };
-    defun_with(here, name, target, &parameters, forms)
+    defun_with(here, name, target, list, forms)
 }
