@@ -11,7 +11,7 @@ use Rattle.isl_machine.specs.declared.situation.Situation.{Situation}
 use Rattle.isl_machine.specs.declared.frame.Operation.{Operation}
 use Rattle.isl_machine.specs.declared.frame.Frame.{Frame}
 use Rattle.isl_machine.specs.declared.frame.Frame.TheVariants as frame
-use Rattle.isl_machine.specs.Passing.{WantsMore}
+use Rattle.isl_control.specs.Passing.{WantsMore}
 
 pub left_alone : (w : Frame)
     → ((a : Name) (b : Situation) → w ≡ frame.SetGlobal a b → ⊥)

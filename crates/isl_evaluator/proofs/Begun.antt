@@ -15,9 +15,9 @@ use Rattle.isl_machine.specs.declared.frame.Operation.{Operation as Doing}
 use Rattle.isl_machine.specs.declared.situation.Situation.{Situation}
 use Rattle.isl_machine.specs.Frames.{operation_of}
 use Rattle.isl_machine.specs.declared.machine.Machine.{Machine}
-use Rattle.isl_machine.specs.Begins.{begins, FormWantsMore}
 use Rattle.isl_machine.specs.View.{at, top, frames, state}
-use Rattle.isl_machine.proofs.Leftover.{done}
+use Rattle.isl_control.specs.Begins.{begins, FormWantsMore}
+use Rattle.isl_control.proofs.Leftover.{done}
 use Rattle.isl_evaluator.specs.declared.evaluator.Evaluator.{Evaluator}
 use Rattle.isl_evaluator.specs.Runs.{Runs}
 use Rattle.isl_evaluator.proofs.Running.{runs_on}

@@ -18,7 +18,7 @@ use Rattle.isl_machine.specs.declared.machine.Control.TheVariants.{ComeTo}
 use Rattle.isl_machine.specs.declared.machine.Machine.{Machine}
 use Rattle.isl_machine.specs.Frames.{last_of, others_of, slot_of, frames_in}
 use Rattle.isl_machine.specs.View.{control_of, frames, state}
-use Rattle.isl_machine.proofs.Leftover.{done}
+use Rattle.isl_control.proofs.Leftover.{done}
 use Rattle.isl_evaluator.specs.declared.evaluator.Evaluator.{Evaluator}
 use Rattle.isl_evaluator.specs.Runs.{Stands}
 use Rattle.isl_evaluator.specs.Started.{IsStarted}

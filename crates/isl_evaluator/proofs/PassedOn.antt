@@ -12,9 +12,9 @@ use Rattle.isl_machine.specs.declared.frame.Frame.{Frame}
 use Rattle.isl_machine.specs.declared.frame.Frame.TheVariants as frame
 use Rattle.isl_machine.specs.declared.machine.Machine.{Machine}
 use Rattle.isl_machine.specs.Frames.{outcome_of}
-use Rattle.isl_machine.specs.Passing.{IsValue, waiting_operands}
 use Rattle.isl_machine.specs.Tops.{taken, below}
 use Rattle.isl_machine.specs.View.{frames}
+use Rattle.isl_control.specs.Passing.{IsValue, waiting_operands}
 
 pub no_value : (o : Outcome) → ((e : ℕ) × (w : Word) × (l : Landing) × (o ≡ outcome.Exit e w l)) ⊎ ((asked : ℕ) × (left : ℕ) × (o ≡ outcome.Full asked left)) ⊎ (o ≡ outcome.More) → IsValue o ≡ false
 no_value (outcome.Value w) h = absurd (⊎_elim (λ p. cc) (λ p. ⊎_elim (λ q. cc) (λ q. cc) p) h)

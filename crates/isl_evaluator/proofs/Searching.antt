@@ -14,10 +14,10 @@ use Rattle.isl_store.specs.View.{Beside, seen, Becomes}
 use Rattle.isl_machine.specs.declared.given.Given.{Given}
 use Rattle.isl_machine.specs.declared.machine.Machine.{Machine}
 use Rattle.isl_machine.specs.declared.situation.Situation.{Situation}
-use Rattle.isl_machine.specs.Bindings.{is_named, variable_of, IsBindingFound}
 use Rattle.isl_machine.specs.Chains.{chained}
 use Rattle.isl_machine.specs.Frames.{binding_link, situation_in, around_in, frame_slots}
 use Rattle.isl_machine.specs.View.{Steps, IsGiven, setting_of, at, frames, state}
+use Rattle.isl_control.specs.Bindings.{is_named, variable_of, IsBindingFound}
 use Rattle.isl_evaluator.specs.declared.evaluator.Evaluator.{Evaluator}
 use Rattle.isl_evaluator.specs.Runs.{IsAt, Runs}
 use Rattle.isl_evaluator.proofs.Lifting.{beside_another}

@@ -11,6 +11,7 @@ ghost use Rattle.isl_evaluator.specs.Runs.{Runs};
 
 use crate::evaluator::Evaluator;
 use isl_base::{Name, NoMemory};
+use isl_control::bound::find_binding;
 use isl_machine::situation::Situation;
 use isl_store::Word;
 
@@ -19,7 +20,7 @@ impl<'p> Evaluator<'p> {
     pub fn dynamic(&mut self, name: Name, situation: Situation) -> Result<(), NoMemory>
         ensures { OnOk result (Runs self.old self.new (λ names s b. dynamic_step s (text s.names name.0) (at names self.old.machine situation) (frames names self.old.machine 0) (state names self.old.machine b))) }
     {
-        match self.machine.find_binding(name, situation.around.bindings)? {
+        match find_binding(&mut self.machine, name, situation.around.bindings)? {
             Some(number) => {
                 let word = self.machine.store.variable(Some(number));
                 self.machine.gives(word);
@@ -53,7 +54,7 @@ impl<'p> Evaluator<'p> {
     ) -> Result<(), NoMemory>
         ensures { OnOk result (Runs self.old self.new (λ names s b. set_dynamic_step s (text s.names name.0) (value_of_word names word) (at names self.old.machine situation) (frames names self.old.machine 0) (state names self.old.machine b))) }
     {
-        match self.machine.find_binding(name, situation.around.bindings)? {
+        match find_binding(&mut self.machine, name, situation.around.bindings)? {
             Some(number) => {
                 self.machine.store.set_variable(Some(number), word);
                 self.machine.gives(word);

@@ -4,9 +4,9 @@ ghost use Rattle.std.specs.Prelude.{◌≡◌, true, OnOk};
 ghost use Rattle.isl_closure.specs.FlatForm.{while_form};
 ghost use Rattle.isl_closure.specs.model.View.{view_form};
 ghost use Rattle.isl_plain.specs.Step.{form_step, arguments_step};
-ghost use Rattle.isl_machine.specs.Begins.{begins};
 ghost use Rattle.isl_machine.specs.Frames.{forms_from, last_of, operation_of};
 ghost use Rattle.isl_machine.specs.View.{at, top, frames, state};
+ghost use Rattle.isl_control.specs.Begins.{begins};
 ghost use Rattle.isl_evaluator.specs.Runs.{Runs};
 ghost use Rattle.isl_evaluator.specs.Streams.{operation_reads, form_reads, is_fed};
 
@@ -14,6 +14,7 @@ use crate::evaluator::Evaluator;
 use isl_applying::calls::next_method_at;
 use isl_base::NoMemory;
 use isl_closure::{FlatCore, FlatCoreForm, FlatCoreList};
+use isl_control::forms::{begin_kind, turn};
 use isl_machine::frame::{Frame, Operation};
 use isl_machine::nodes::own_nodes;
 use isl_machine::situation::Situation;
@@ -39,7 +40,7 @@ impl<'p> Evaluator<'p> {
         ensures { OnOk result (Runs self.old self.new (λ names s b. form_step s (while_form test.now body.now) (at names self.old.machine situation) (frames names self.old.machine 0) (state names self.old.machine b))) }
     {
         self.machine.charge(1)?;
-        self.machine.turn(test, body, situation)
+        turn(&mut self.machine, test, body, situation)
     }
 
     // What a form does, once it is charged.
@@ -69,7 +70,7 @@ impl<'p> Evaluator<'p> {
                 situation,
             ),
             FlatCoreForm::NextMethod(place) => next_method_at(&mut self.machine, *place, situation),
-            _ => self.machine.begin_kind(form, situation),
+            _ => begin_kind(&mut self.machine, form, situation),
         }
     }
 

@@ -4,9 +4,9 @@ ghost use Rattle.std.specs.Prelude.{◌≡◌, true, Some, OnOk, IfOk};
 ghost use Rattle.isl_plain.specs.Step.{outcome_step};
 ghost use Rattle.isl_machine.specs.declared.machine.Control.TheVariants.{ComeTo};
 ghost use Rattle.isl_machine.specs.Frames.{outcome_of};
-ghost use Rattle.isl_machine.specs.Passing.{waiting_operands};
 ghost use Rattle.isl_machine.specs.Tops.{taken, below};
 ghost use Rattle.isl_machine.specs.View.{state};
+ghost use Rattle.isl_control.specs.Passing.{waiting_operands};
 ghost use Rattle.isl_evaluator.specs.Runs.{Runs};
 ghost use Rattle.isl_evaluator.specs.Streams.{control_reads, is_fed};
 ghost use Rattle.isl_evaluator.specs.Stepped.{IsStepped, IsTopTaken};
@@ -14,9 +14,10 @@ ghost use Rattle.isl_evaluator.specs.Stepped.{IsStepped, IsTopTaken};
 use crate::evaluator::Evaluator;
 use isl_applying::signalling::signal_under;
 use isl_base::NoMemory;
+use isl_control::outcomes::pass;
+use isl_control::passing::{take, waiting_operands};
 use isl_machine::frame::{Frame, Outcome};
 use isl_machine::machine::Control;
-use isl_machine::passing::waiting_operands;
 
 impl<'p> Evaluator<'p> {
     /// One step; whether there was one, which is not so where the machine has ended. What it reads is there.
@@ -71,7 +72,7 @@ impl<'p> Evaluator<'p> {
     {
         match waiting_operands(&frame) {
             Some(operands) => self.come_to_place(frame, operands, outcome),
-            None => self.machine.take(frame, outcome),
+            None => take(&mut self.machine, frame, outcome),
         }
     }
 
@@ -89,7 +90,7 @@ impl<'p> Evaluator<'p> {
             Outcome::Value(word) => self.value(frame, word),
             Outcome::Exit(..) | Outcome::Full { .. } | Outcome::More => {
                 drop(frame);
-                self.machine.pass(outcome, operands);
+                pass(&mut self.machine, outcome, operands);
                 Ok(())
             }
         }

@@ -5,9 +5,9 @@ ghost use Rattle.isl_meaning.specs.State.{value};
 ghost use Rattle.isl_plain.specs.Step.{arguments_step, outcome_step};
 ghost use Rattle.isl_store.specs.Words.{value_of_word};
 ghost use Rattle.isl_machine.specs.Frames.{forms_from, operation_of};
-ghost use Rattle.isl_machine.specs.Passing.{waiting_operands};
 ghost use Rattle.isl_machine.specs.Tops.{taken, below};
 ghost use Rattle.isl_machine.specs.View.{at, top, frames, state};
+ghost use Rattle.isl_control.specs.Passing.{waiting_operands};
 ghost use Rattle.isl_evaluator.specs.Runs.{Runs};
 
 use crate::evaluator::Evaluator;
@@ -16,6 +16,7 @@ use isl_applying::methods::{after_before, after_primary, apply_each};
 use isl_applying::signalling::{signal_condition, with_handler};
 use isl_base::NoMemory;
 use isl_closure::FlatCoreList;
+use isl_control::values::value;
 use isl_machine::frame::{Frame, Operation};
 use isl_machine::places::after;
 use isl_machine::situation::Situation;
@@ -92,7 +93,7 @@ impl<'p> Evaluator<'p> {
                 level,
                 around,
             ),
-            other => self.machine.value(other, word),
+            other => value(&mut self.machine, other, word),
         }
     }
 }

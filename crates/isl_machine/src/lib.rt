@@ -1,45 +1,26 @@
 // The code of the plain evaluator's machine.
 #![tactic(auto)]
 
-pub mod blocks;
 mod body_nodes;
-pub mod bound;
 pub mod building;
 pub mod captured;
 pub mod computing;
-pub mod dynamic_bodies;
-pub mod exits;
-pub mod forms;
+pub mod exiting;
 pub mod frame;
-pub mod functions;
 pub mod given;
-pub mod jumps;
-pub mod let_bodies;
 pub mod links;
-pub mod lists;
-pub mod literals;
-pub mod locals;
 pub mod lookups;
 pub mod machine;
-pub mod main_forms;
 pub mod method_places;
 pub mod nodes;
 pub mod operands;
-pub mod outcomes;
-pub mod own_exits;
-pub mod passing;
 pub mod places;
-pub mod remaining;
 pub mod requests;
-pub mod restoring;
 pub mod signals;
-pub mod sites;
 pub mod situation;
 pub mod sizes;
 pub mod slot;
 pub mod slots;
 pub mod stack;
-pub mod transfers;
-pub mod values;
 pub mod variables;
 pub mod word_tests;

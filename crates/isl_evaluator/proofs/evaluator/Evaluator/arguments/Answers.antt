@@ -2,7 +2,7 @@
 use Rattle.std.proofs.Common.{refl}
 use Rattle.std.proofs.lemmas.Result.{on_ok_weaker}
 use Rattle.isl_machine.proofs.Going.{followed}
-use Rattle.isl_machine.proofs.Waiting.{arguments_go, arguments_end}
+use Rattle.isl_control.proofs.Waiting.{arguments_go, arguments_end}
 use Rattle.isl_evaluator.proofs.Lifting.{lifted_ok}
 use Rattle.isl_evaluator.proofs.Running.{runs_on}
 use Rattle.isl_evaluator.proofs.evaluator.Evaluator.arguments.Goals as goal

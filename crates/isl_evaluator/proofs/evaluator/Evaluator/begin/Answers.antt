@@ -5,9 +5,9 @@ use Rattle.isl_closure.specs.FlatState.{charged}
 use Rattle.isl_closure.specs.model.View.{view_form}
 use Rattle.isl_plain.specs.Step.{form_step}
 use Rattle.isl_machine.specs.declared.machine.Machine.{Machine}
-use Rattle.isl_machine.specs.Begins.{begins}
 use Rattle.isl_machine.specs.View.{at, frames, state}
-use Rattle.isl_machine.proofs.Beginning.{form_begins}
+use Rattle.isl_control.specs.Begins.{begins}
+use Rattle.isl_control.proofs.Beginning.{form_begins}
 use Rattle.isl_evaluator.proofs.Running.{runs_from}
 use Rattle.isl_evaluator.specs.Streams.{form_reads}
 use Rattle.isl_evaluator.proofs.evaluator.Evaluator.begin.Goals as goal

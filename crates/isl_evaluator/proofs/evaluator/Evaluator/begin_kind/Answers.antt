@@ -30,7 +30,7 @@ returns-in-NextMethod c = runs_begun c.next_method_at.result _ _ c.args.situatio
     (lifted_ok c.next_method_at.result c.args.self.now (record c.args.self.now { machine = c.next_method_at.new.machine }) _ refl c.next_method_at.ensures)
 
 pub returns-in_default : goal.returns-in_default
-returns-in_default c = lifted_ok c.begin_kind.result c.args.self.now (record c.args.self.now { machine = c.begin_kind.new.self }) _ refl c.begin_kind.ensures
+returns-in_default c = lifted_ok c.begin_kind.result c.args.self.now (record c.args.self.now { machine = c.begin_kind.new.machine }) _ refl c.begin_kind.ensures
 
 pub arguments-requires-in-Prim : goal.arguments-requires-in-Prim
 arguments-requires-in-Prim c = prim_fed c.args.self.now (view_form c.args.form.now) c.in-Prim.which (forms c.in-Prim.list) c.args.self.now.machine.operands.items (ap view_form c.in-Prim.is) c.requires

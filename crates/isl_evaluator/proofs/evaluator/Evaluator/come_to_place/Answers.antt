@@ -9,5 +9,5 @@ use Rattle.isl_evaluator.proofs.evaluator.Evaluator.come_to_place.Goals as goal
 pub returns-in-Exit : goal.returns-in-Exit
 returns-in-Exit c =
     let e = c.args.self.now in
-    lifted e (record e { machine = c.pass.new.self }) _ refl
+    lifted e (record e { machine = c.pass.new.machine }) _ refl
     (followed _ _ _ _ c.pass.ensures (λ names s b. passes names s e.machine c.args.frame c.args.operands c.args.outcome (state names e.machine b) c.requires (no_value c.args.outcome c.in-Exit.is)))

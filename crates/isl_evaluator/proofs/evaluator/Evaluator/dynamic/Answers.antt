@@ -4,8 +4,8 @@ use Rattle.std.proofs.lemmas.Result.{on_ok_weaker}
 use Rattle.isl_meaning.specs.Lookup.{text, value_at}
 use Rattle.isl_closure.specs.FlatState.{gives}
 use Rattle.isl_plain.specs.Moment.{ended}
-use Rattle.isl_machine.specs.Bindings.{IsBindingFound}
 use Rattle.isl_machine.specs.View.{at}
+use Rattle.isl_control.specs.Bindings.{IsBindingFound}
 use Rattle.isl_evaluator.specs.Outermost.{outermost_step}
 use Rattle.isl_evaluator.proofs.Searching.{found_runs, unfound_runs, variable_given}
 use Rattle.isl_evaluator.proofs.evaluator.Evaluator.dynamic.Goals as goal
@@ -15,7 +15,7 @@ returns-in-Some c =
     let e = c.args.self.now in
     let q = c.args.situation in
     let n = c.args.name.0 in
-    let mid = c.find_binding.new.self in
+    let mid = c.find_binding.new.machine in
     let m = c.gives.new.self in
     found_runs e mid m n c.in-Some.number q (λ names v frs z. ended (gives (value_at (Some v) z.state) z) frs)
     (λ names s. outermost_step s (text s.names n) (at names e.machine q))
@@ -27,7 +27,7 @@ returns-in-None c =
     let e = c.args.self.now in
     let q = c.args.situation in
     let n = c.args.name.0 in
-    let mid = c.find_binding.new.self in
+    let mid = c.find_binding.new.machine in
     on_ok_weaker c.outermost.result
     (unfound_runs e c.outermost.new.self mid n q (λ names v frs z. ended (gives (value_at (Some v) z.state) z) frs)
     (λ names s at_q. outermost_step s (text s.names n) at_q)

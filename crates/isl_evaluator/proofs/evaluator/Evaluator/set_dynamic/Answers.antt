@@ -5,8 +5,8 @@ use Rattle.isl_meaning.specs.Lookup.{text, set_at}
 use Rattle.isl_closure.specs.FlatState.{gives, on_state}
 use Rattle.isl_plain.specs.Moment.{ended}
 use Rattle.isl_store.specs.Words.{value_of_word}
-use Rattle.isl_machine.specs.Bindings.{IsBindingFound}
 use Rattle.isl_machine.specs.View.{at}
+use Rattle.isl_control.specs.Bindings.{IsBindingFound}
 use Rattle.isl_evaluator.specs.Outermost.{set_outermost_step}
 use Rattle.isl_evaluator.proofs.Searching.{found_runs, unfound_runs, variable_set}
 use Rattle.isl_evaluator.proofs.evaluator.Evaluator.set_dynamic.Goals as goal
@@ -16,7 +16,7 @@ returns-in-Some c =
     let e = c.args.self.now in
     let q = c.args.situation in
     let n = c.args.name.0 in
-    let mid = c.find_binding.new.self in
+    let mid = c.find_binding.new.machine in
     let m = c.gives.new.self in
     found_runs e mid m n c.in-Some.number q
     (λ names v frs z. ended (gives (value_of_word names c.args.word) (on_state (λ y. set_at (Some v) (value_of_word names c.args.word) y) z)) frs)
@@ -29,7 +29,7 @@ returns-in-None c =
     let e = c.args.self.now in
     let q = c.args.situation in
     let n = c.args.name.0 in
-    let mid = c.find_binding.new.self in
+    let mid = c.find_binding.new.machine in
     on_ok_weaker c.set_outermost.result
     (unfound_runs e c.set_outermost.new.self mid n q
     (λ names v frs z. ended (gives (value_of_word names c.args.word) (on_state (λ y. set_at (Some v) (value_of_word names c.args.word) y) z)) frs)

@@ -76,4 +76,4 @@ returns-in-PrimaryMethod c =
     (lifted_ok c.after_primary.result c.args.self.now (record c.args.self.now { machine = c.after_primary.new.machine }) _ refl c.after_primary.ensures)
 
 pub returns-in_default : goal.returns-in_default
-returns-in_default c = lifted_ok c.value.result c.args.self.now (record c.args.self.now { machine = c.value.new.self }) _ refl c.value.ensures
+returns-in_default c = lifted_ok c.value.result c.args.self.now (record c.args.self.now { machine = c.value.new.machine }) _ refl c.value.ensures

@@ -1,0 +1,110 @@
+-- A form that begins is charged first; and exits of blocks, tagbodies and catches.
+use Rattle.std.proofs.Common.{◌≡◌, ℕ, ◌+◌, ◌-◌, List, [], length, Option, Some, None, Result, OnOk, refl, sym, ap, ◌∙◌, ◌∷◌, map, subst, arith}
+use Rattle.std.proofs.lemmas.Result.{on_ok_weaker}
+use Rattle.std.specs.Prelude.{slice_get}
+use Rattle.isl_closure.specs.FlatForm.{FlatForms, FlatBindings, FlatDynamics, FlatForm, literal, local, set_local, global, set_global, def_global, clauses, sequence, let_form, make_function, call, call_value, apply, prim, while_form, block, return_from, tagbody, go, catch_form, throw, unwind, dynamic_let, dynamic, set_dynamic, def_dynamic, with_handler, signal_form, continue_form, next_method, has_next, sited}
+use Rattle.isl_closure.specs.declared.place.VariablePlace.TheVariants as place
+use Rattle.isl_closure.specs.FlatNodes.{own_nodes}
+use Rattle.isl_meaning.specs.State.{State}
+use Rattle.isl_meaning.specs.State as base
+use Rattle.isl_meaning.specs.Lookup.{value_at}
+use Rattle.isl_closure.specs.FlatState.{FlatEnvironment, FlatState, charged, gives, cell_held, cell_in, captured_part, make_closure}
+use Rattle.isl_closure.specs.declared.place.FlatPart.{FlatPart}
+use Rattle.isl_closure.specs.declared.place.FlatPart.TheVariants as part
+use Rattle.isl_plain.specs.Moment.{Setting, Situation, Operation, Frame, ended}
+use Rattle.isl_plain.specs.Step.{form_step, arguments_step, bindings_step, dynamics_step}
+use Rattle.isl_store.specs.Words.{values_of}
+use Rattle.isl_machine.specs.declared.machine.Machine.{Machine}
+use Rattle.isl_machine.specs.declared.situation.Situation.{Situation as Within}
+use Rattle.isl_machine.specs.View.{Steps, at as situation, top, frames, state}
+use Rattle.isl_machine.proofs.Going.{followed}
+use Rattle.isl_control.specs.Begins.{begins}
+use Rattle.isl_control.proofs.Leftover.{done}
+
+-- no units
+no_units : (z : FlatState) → z ≡ charged 0 z
+no_units z = let e : z.state.units ≡ z.state.units + 0 = omega arith in ap (λ u. record z { state = record z.state { units = u } }) e
+
+-- the value in a cell does not hang on what was counted
+at_cell : (o : Option ℕ) (y : State) (n : ℕ) → value_at o (base.charged n y) ≡ value_at o y
+at_cell None y n = refl
+at_cell (Some i) y n = refl
+
+-- nor does what is captured
+part_same : (env : FlatEnvironment) (z : FlatState) (n : ℕ) (p : FlatPart) → captured_part env (charged n z) p ≡ captured_part env z p
+part_same env z n (part.Variable (place.Slot i)) = refl
+part_same env z n (part.Variable (place.SlotCell i)) = refl
+part_same env z n (part.Variable (place.CapturedValue i)) = refl
+part_same env z n (part.Variable (place.CapturedCell i)) = refl
+part_same env z n (part.Exit e) = refl
+part_same env z n (part.Method m) = refl
+
+parts_same : (env : FlatEnvironment) (z : FlatState) (n : ℕ) (ps : List FlatPart) → map (captured_part env (charged n z)) ps ≡ map (captured_part env z) ps
+parts_same env z n [] = refl
+parts_same env z n (p ∷ ps) = ap (λ c. c ∷ map (captured_part env (charged n z)) ps) (part_same env z n p) ∙ ap (λ cs. captured_part env z p ∷ cs) (parts_same env z n ps)
+
+pub form_begins : (s : Setting) (f : FlatForm) (at : Situation) (ws : List Frame) (z : FlatState) → begins s f at ws (charged (own_nodes f) z) ≡ form_step s f at ws z
+form_begins s (literal i) at ws z = refl
+form_begins s (local (place.Slot n)) at ws z = refl
+form_begins s (local (place.SlotCell n)) at ws z = ap (λ v. ended (gives v (charged 1 z)) ws) (at_cell (cell_held (slice_get z.frame n)) z.state 1)
+form_begins s (local (place.CapturedValue n)) at ws z = refl
+form_begins s (local (place.CapturedCell n)) at ws z = ap (λ v. ended (gives v (charged 1 z)) ws) (at_cell (cell_in (slice_get at.environment.captured n)) z.state 1)
+form_begins s (set_local p f) at ws z = refl
+form_begins s (global n) at ws z = refl
+form_begins s (set_global n f) at ws z = refl
+form_begins s (def_global n f) at ws z = refl
+form_begins s (clauses cs) at ws z = refl
+form_begins s (sequence fs) at ws z = refl
+form_begins s (let_form bs body) at ws z = refl
+form_begins s (make_function p parts) at ws z =
+    ap (λ cs. ended (make_closure s.limit p cs (charged (own_nodes (make_function p parts)) z) (λ v after. gives v after)) ws) (parts_same at.environment z (own_nodes (make_function p parts)) parts)
+form_begins s (call n fs) at ws z = refl
+form_begins s (call_value fs) at ws z = refl
+form_begins s (apply f list) at ws z = refl
+form_begins s (prim which fs) at ws z = refl
+form_begins s (while_form test body) at ws z = refl
+form_begins s (block body) at ws z = refl
+form_begins s (return_from x f) at ws z = refl
+form_begins s (tagbody segments) at ws z = refl
+form_begins s (go x segment) at ws z = refl
+form_begins s (catch_form tag body) at ws z = refl
+form_begins s (throw tag f) at ws z = refl
+form_begins s (unwind f cleanup) at ws z = refl
+form_begins s (dynamic_let bs body) at ws z = refl
+form_begins s (dynamic n) at ws z = refl
+form_begins s (set_dynamic n f) at ws z = refl
+form_begins s (def_dynamic n f) at ws z = refl
+form_begins s (with_handler handler body) at ws z = refl
+form_begins s (signal_form c mark) at ws z = refl
+form_begins s (continue_form c f) at ws z = refl
+form_begins s (next_method m) at ws z = refl
+form_begins s (has_next m) at ws z = refl
+form_begins s (sited site f) at ws z = ap (begins s (sited site f) at ws) (sym (no_units z))
+
+-- the same form
+pub begun_as : {T E : Type 0} (r : Result T E) (old new : Machine) (at : Within) (f g : FlatForm) → f ≡ g
+    → OnOk r (Steps old new (λ names s b. begins s g (situation names old at) (frames names old 0) (state names old b)))
+    → OnOk r (Steps old new (λ names s b. begins s f (situation names old at) (frames names old 0) (state names old b)))
+begun_as r old new at f g e x = subst (λ k. OnOk r (Steps old new (λ names s b. begins s k (situation names old at) (frames names old 0) (state names old b)))) (sym e) x
+
+-- no operands
+none_on_top : (names : List (List ℕ)) (m : Machine) → top names m 0 ≡ []
+none_on_top names m = ap (values_of names) (done m.operands.items (length m.operands.items - 0) (omega arith))
+
+pub arguments_begun : {T E : Type 0} (r : Result T E) (old new : Machine) (at : Within) (o : Operation) (fs : FlatForms)
+    → OnOk r (Steps old new (λ names s b. arguments_step s o fs (top names old 0) (situation names old at) (frames names old 0) (state names old b)))
+    → OnOk r (Steps old new (λ names s b. arguments_step s o fs [] (situation names old at) (frames names old 0) (state names old b)))
+arguments_begun r old new at o fs x =
+    on_ok_weaker r (λ y. followed old new _ _ y (λ names s b. ap (λ vs. arguments_step s o fs vs (situation names old at) (frames names old 0) (state names old b)) (none_on_top names old))) x
+
+pub bindings_begun : {T E : Type 0} (r : Result T E) (old new : Machine) (at : Within) (bs : FlatBindings) (body : FlatForm)
+    → OnOk r (Steps old new (λ names s b. bindings_step s bs (top names old 0) bs body (situation names old at) (frames names old 0) (state names old b)))
+    → OnOk r (Steps old new (λ names s b. bindings_step s bs [] bs body (situation names old at) (frames names old 0) (state names old b)))
+bindings_begun r old new at bs body x =
+    on_ok_weaker r (λ y. followed old new _ _ y (λ names s b. ap (λ vs. bindings_step s bs vs bs body (situation names old at) (frames names old 0) (state names old b)) (none_on_top names old))) x
+
+pub dynamics_begun : {T E : Type 0} (r : Result T E) (old new : Machine) (at : Within) (bs : FlatDynamics) (body : FlatForm)
+    → OnOk r (Steps old new (λ names s b. dynamics_step s bs (top names old 0) bs body (situation names old at) (frames names old 0) (state names old b)))
+    → OnOk r (Steps old new (λ names s b. dynamics_step s bs [] bs body (situation names old at) (frames names old 0) (state names old b)))
+dynamics_begun r old new at bs body x =
+    on_ok_weaker r (λ y. followed old new _ _ y (λ names s b. ap (λ vs. dynamics_step s bs vs bs body (situation names old at) (frames names old 0) (state names old b)) (none_on_top names old))) x

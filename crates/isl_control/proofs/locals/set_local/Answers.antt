@@ -1,0 +1,13 @@
+-- The variable is set, and its value goes into the innermost frame.
+use Rattle.isl_closure.specs.FlatState.{gives, set_to}
+use Rattle.isl_plain.specs.Moment.{ended}
+use Rattle.isl_store.specs.Words.{value_of_word}
+use Rattle.isl_machine.specs.View.{at}
+use Rattle.isl_machine.proofs.Aside.{after_change}
+use Rattle.isl_control.proofs.locals.set_local.Goals as goal
+
+pub returns : goal.returns
+returns c =
+    let m = c.args.machine.now in
+    after_change m c.set_variable.new.machine c.gives.new.self c.args.situation 0 (λ names t p fs z. ended (gives (value_of_word names c.args.word) z) fs)
+    (λ names z. set_to c.args.place (value_of_word names c.args.word) (at names m c.args.situation).environment z) (c.set_variable.ensures c.args.situation) c.gives.ensures
