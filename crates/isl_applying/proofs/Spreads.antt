@@ -66,12 +66,8 @@ nothing_ends s w n e x = record {
 
 pub atom_ends : (s : Store) (w : Word) → w ≢ word.Nil → ((n : ℕ) → w ≡ word.Object n → ⊥) → EndsSo s w false
 atom_ends s word.Nil f g = absurd (f refl)
-atom_ends s word.True f g = record { ends = λ names b others seen. refl }
-atom_ends s (word.Integer i) f g = record { ends = λ names b others seen. refl }
-atom_ends s (word.Character i) f g = record { ends = λ names b others seen. refl }
-atom_ends s (word.Symbol i) f g = record { ends = λ names b others seen. refl }
-atom_ends s (word.Unnamed i j) f g = record { ends = λ names b others seen. refl }
 atom_ends s (word.Object n) f g = absurd (g n refl)
+atom_ends s w f g = record { ends = λ names b others seen. refl }
 
 pub nil_ends : (s : Store) → EndsSo s word.Nil true
 nil_ends s = record { ends = λ names b others seen. refl }

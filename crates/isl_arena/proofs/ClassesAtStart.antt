@@ -52,14 +52,11 @@ mutual
   laid names (datum.item p c) n = content_laid names c n
 
   content_laid : (names : List (List ℕ)) (c : datum.Content) (n : ℕ) → Each Ordinary (lay_content names c n).objects
-  content_laid names (datum.integer i) n = tt
-  content_laid names (datum.character c) n = tt
-  content_laid names (datum.symbol s) n = tt
   content_laid names (datum.string bytes) n = (record { no_class = λ c e. cc e; no_instance = λ c vs m e. cc e }, tt)
   content_laid names (datum.vector ds) n =
       one_more (lay_items names ds n).0 _ (items_laid names ds n) (record { no_class = λ c e. cc e; no_instance = λ c vs m e. cc e })
-  content_laid names datum.nil n = tt
   content_laid names (datum.list ds end) n = list_laid names ds (lay_tail names end) (λ m. tail_laid names end m) n
+  content_laid names w n = tt
 
   items_laid : (names : List (List ℕ)) (ds : datum.Items) (n : ℕ) → Each Ordinary (lay_items names ds n).0
   items_laid names datum.no_item n = tt

@@ -21,16 +21,8 @@ pub data EightRegisters : Registers → Type 0 where
   eight : (r0 r1 r2 r3 r4 r5 r6 r7 : Option ℕ) → EightRegisters (r0 ∷ r1 ∷ r2 ∷ r3 ∷ r4 ∷ r5 ∷ r6 ∷ r7 ∷ [])
 
 pub eight_registers : (rs : Registers) → length rs ≡ 8 → EightRegisters rs
-eight_registers [] e = absurd (omega arith)
-eight_registers (r0 ∷ []) e = absurd (omega arith)
-eight_registers (r0 ∷ r1 ∷ []) e = absurd (omega arith)
-eight_registers (r0 ∷ r1 ∷ r2 ∷ []) e = absurd (omega arith)
-eight_registers (r0 ∷ r1 ∷ r2 ∷ r3 ∷ []) e = absurd (omega arith)
-eight_registers (r0 ∷ r1 ∷ r2 ∷ r3 ∷ r4 ∷ []) e = absurd (omega arith)
-eight_registers (r0 ∷ r1 ∷ r2 ∷ r3 ∷ r4 ∷ r5 ∷ []) e = absurd (omega arith)
-eight_registers (r0 ∷ r1 ∷ r2 ∷ r3 ∷ r4 ∷ r5 ∷ r6 ∷ []) e = absurd (omega arith)
 eight_registers (r0 ∷ r1 ∷ r2 ∷ r3 ∷ r4 ∷ r5 ∷ r6 ∷ r7 ∷ []) e = eight r0 r1 r2 r3 r4 r5 r6 r7
-eight_registers (r0 ∷ r1 ∷ r2 ∷ r3 ∷ r4 ∷ r5 ∷ r6 ∷ r7 ∷ r8 ∷ rs) e = absurd (omega arith)
+eight_registers w e = absurd (omega arith)
 
 -- What some steps do with registers 6 and 7: the others are as they were.
 pub record Scratched (rs rs' : Registers) : Type 0 where

@@ -130,22 +130,13 @@ marks program v z i = if is_below program i.0 serious_condition_class then resul
 
 -- what is no instance is of a class that is built in and no condition
 class_below : (o : Option Object) → as_instance o ≡ None → class_of_object o < serious_condition_class
-class_below None e = omega arith
-class_below (Some (cons a d)) e = omega arith
-class_below (Some (string bytes)) e = omega arith
-class_below (Some (vector vs)) e = omega arith
 class_below (Some (instance c values mark)) e = absurd (cc e)
-class_below (Some (function p)) e = omega arith
-class_below (Some (closure vs rest body env)) e = omega arith
-class_below (Some (generic_function g)) e = omega arith
 class_below (Some (class_object c)) e = by (nat_le c 16)
   where
     by : (b : Bool) → (if b then 15 else 16) < 18
     by true = omega arith
     by false = omega arith
-class_below (Some input_stream) e = omega arith
-class_below (Some output_stream) e = omega arith
-class_below (Some (fresh_symbol s)) e = omega arith
+class_below w e = omega arith
 
 value_class_below : (z : meaning.State) (v : Value) → as_instance (fetch z v) ≡ None → class_of z v < serious_condition_class
 value_class_below z (integer n) e = omega arith

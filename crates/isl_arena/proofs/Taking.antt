@@ -77,11 +77,8 @@ does_three which three code = does_at_all which (λ vs ws count. by vs ws (count
   where
     by : (vs : List Value) (ws : List ℕ) → length vs ≡ 3 → CodeDoes which vs ws
     by (v ∷ w ∷ u ∷ []) (a ∷ b ∷ c ∷ []) count = code v w u a b c
-    by [] ws count = absurd (omega (arith, count))
-    by (v ∷ []) ws count = absurd (omega (arith, count))
-    by (v ∷ w ∷ []) ws count = absurd (omega (arith, count))
-    by (v ∷ w ∷ u ∷ x ∷ vs) ws count = absurd (omega (arith, count))
     by (v ∷ w ∷ u ∷ []) [] count = λ names program places z y procedures below n r are units. absurd are
     by (v ∷ w ∷ u ∷ []) (a ∷ []) count = λ names program places z y procedures below n r are units. absurd are.1
     by (v ∷ w ∷ u ∷ []) (a ∷ b ∷ []) count = λ names program places z y procedures below n r are units. absurd are.1.1
     by (v ∷ w ∷ u ∷ []) (a ∷ b ∷ c ∷ d ∷ ws) count = λ names program places z y procedures below n r are units. absurd are.1.1.1
+    by w ws count = absurd (omega (arith, count))

@@ -33,53 +33,19 @@ at_cell (Some i) y n = refl
 -- nor does what is captured
 part_same : (env : FlatEnvironment) (z : FlatState) (n : ℕ) (p : FlatPart) → captured_part env (charged n z) p ≡ captured_part env z p
 part_same env z n (part.Variable (place.Slot i)) = refl
-part_same env z n (part.Variable (place.SlotCell i)) = refl
-part_same env z n (part.Variable (place.CapturedValue i)) = refl
-part_same env z n (part.Variable (place.CapturedCell i)) = refl
-part_same env z n (part.Exit e) = refl
-part_same env z n (part.Method m) = refl
+part_same env z n w = refl
 
 parts_same : (env : FlatEnvironment) (z : FlatState) (n : ℕ) (ps : List FlatPart) → map (captured_part env (charged n z)) ps ≡ map (captured_part env z) ps
 parts_same env z n [] = refl
 parts_same env z n (p ∷ ps) = ap (λ c. c ∷ map (captured_part env (charged n z)) ps) (part_same env z n p) ∙ ap (λ cs. captured_part env z p ∷ cs) (parts_same env z n ps)
 
 pub form_begins : (s : Setting) (f : FlatForm) (at : Situation) (ws : List Frame) (z : FlatState) → begins s f at ws (charged (own_nodes f) z) ≡ form_step s f at ws z
-form_begins s (literal i) at ws z = refl
-form_begins s (local (place.Slot n)) at ws z = refl
 form_begins s (local (place.SlotCell n)) at ws z = ap (λ v. ended (gives v (charged 1 z)) ws) (at_cell (cell_held (slice_get z.frame n)) z.state 1)
-form_begins s (local (place.CapturedValue n)) at ws z = refl
 form_begins s (local (place.CapturedCell n)) at ws z = ap (λ v. ended (gives v (charged 1 z)) ws) (at_cell (cell_in (slice_get at.environment.captured n)) z.state 1)
-form_begins s (set_local p f) at ws z = refl
-form_begins s (global n) at ws z = refl
-form_begins s (set_global n f) at ws z = refl
-form_begins s (def_global n f) at ws z = refl
-form_begins s (clauses cs) at ws z = refl
-form_begins s (sequence fs) at ws z = refl
-form_begins s (let_form bs body) at ws z = refl
 form_begins s (make_function p parts) at ws z =
     ap (λ cs. ended (make_closure s.limit p cs (charged (own_nodes (make_function p parts)) z) (λ v after. gives v after)) ws) (parts_same at.environment z (own_nodes (make_function p parts)) parts)
-form_begins s (call n fs) at ws z = refl
-form_begins s (call_value fs) at ws z = refl
-form_begins s (apply f list) at ws z = refl
-form_begins s (prim which fs) at ws z = refl
-form_begins s (while_form test body) at ws z = refl
-form_begins s (block body) at ws z = refl
-form_begins s (return_from x f) at ws z = refl
-form_begins s (tagbody segments) at ws z = refl
-form_begins s (go x segment) at ws z = refl
-form_begins s (catch_form tag body) at ws z = refl
-form_begins s (throw tag f) at ws z = refl
-form_begins s (unwind f cleanup) at ws z = refl
-form_begins s (dynamic_let bs body) at ws z = refl
-form_begins s (dynamic n) at ws z = refl
-form_begins s (set_dynamic n f) at ws z = refl
-form_begins s (def_dynamic n f) at ws z = refl
-form_begins s (with_handler handler body) at ws z = refl
-form_begins s (signal_form c mark) at ws z = refl
-form_begins s (continue_form c f) at ws z = refl
-form_begins s (next_method m) at ws z = refl
-form_begins s (has_next m) at ws z = refl
 form_begins s (sited site f) at ws z = ap (begins s (sited site f) at ws) (sym (no_units z))
+form_begins s w at ws z = refl
 
 -- the same form
 pub begun_as : {T E : Type 0} (r : Result T E) (old new : Machine) (at : Within) (f g : FlatForm) → f ≡ g

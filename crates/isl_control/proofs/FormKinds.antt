@@ -32,36 +32,24 @@ pub form_waits : (f : FlatCoreForm) → FormWantsMore (view_form f) ≡ false
     → WaitsFirst (view_form f) ≡ true
 form_waits (kind.Literal a) h not_0 not_1 not_2 not_3 not_4 not_5 not_6 not_7 not_8 not_9 not_10 not_11 not_12 = absurd (not_0 a refl)
 form_waits (kind.Local a) h not_0 not_1 not_2 not_3 not_4 not_5 not_6 not_7 not_8 not_9 not_10 not_11 not_12 = absurd (not_1 a refl)
-form_waits (kind.SetLocal a b) h not_0 not_1 not_2 not_3 not_4 not_5 not_6 not_7 not_8 not_9 not_10 not_11 not_12 = refl
 form_waits (kind.Global a) h not_0 not_1 not_2 not_3 not_4 not_5 not_6 not_7 not_8 not_9 not_10 not_11 not_12 = absurd (cc)
-form_waits (kind.SetGlobal a b) h not_0 not_1 not_2 not_3 not_4 not_5 not_6 not_7 not_8 not_9 not_10 not_11 not_12 = refl
-form_waits (kind.DefGlobal a b) h not_0 not_1 not_2 not_3 not_4 not_5 not_6 not_7 not_8 not_9 not_10 not_11 not_12 = refl
 form_waits (kind.Clauses a) h not_0 not_1 not_2 not_3 not_4 not_5 not_6 not_7 not_8 not_9 not_10 not_11 not_12 = absurd (not_2 a refl)
 form_waits (kind.Sequence a) h not_0 not_1 not_2 not_3 not_4 not_5 not_6 not_7 not_8 not_9 not_10 not_11 not_12 = absurd (not_3 a refl)
 form_waits (kind.Let a b) h not_0 not_1 not_2 not_3 not_4 not_5 not_6 not_7 not_8 not_9 not_10 not_11 not_12 = absurd (not_4 a b refl)
 form_waits (kind.MakeFunction a b) h not_0 not_1 not_2 not_3 not_4 not_5 not_6 not_7 not_8 not_9 not_10 not_11 not_12 = absurd (not_5 a b refl)
 form_waits (kind.Call a b) h not_0 not_1 not_2 not_3 not_4 not_5 not_6 not_7 not_8 not_9 not_10 not_11 not_12 = absurd (cc)
 form_waits (kind.CallValue a) h not_0 not_1 not_2 not_3 not_4 not_5 not_6 not_7 not_8 not_9 not_10 not_11 not_12 = absurd (cc)
-form_waits (kind.Apply a b) h not_0 not_1 not_2 not_3 not_4 not_5 not_6 not_7 not_8 not_9 not_10 not_11 not_12 = refl
 form_waits (kind.Prim a b) h not_0 not_1 not_2 not_3 not_4 not_5 not_6 not_7 not_8 not_9 not_10 not_11 not_12 = absurd (cc)
 form_waits (kind.While a b) h not_0 not_1 not_2 not_3 not_4 not_5 not_6 not_7 not_8 not_9 not_10 not_11 not_12 = absurd (not_6 a b refl)
 form_waits (kind.Block a) h not_0 not_1 not_2 not_3 not_4 not_5 not_6 not_7 not_8 not_9 not_10 not_11 not_12 = absurd (not_7 a refl)
-form_waits (kind.Return a b) h not_0 not_1 not_2 not_3 not_4 not_5 not_6 not_7 not_8 not_9 not_10 not_11 not_12 = refl
 form_waits (kind.Tagbody a) h not_0 not_1 not_2 not_3 not_4 not_5 not_6 not_7 not_8 not_9 not_10 not_11 not_12 = absurd (not_8 a refl)
 form_waits (kind.Go a b) h not_0 not_1 not_2 not_3 not_4 not_5 not_6 not_7 not_8 not_9 not_10 not_11 not_12 = absurd (not_9 a b refl)
-form_waits (kind.Catch a b) h not_0 not_1 not_2 not_3 not_4 not_5 not_6 not_7 not_8 not_9 not_10 not_11 not_12 = refl
-form_waits (kind.Throw a b) h not_0 not_1 not_2 not_3 not_4 not_5 not_6 not_7 not_8 not_9 not_10 not_11 not_12 = refl
-form_waits (kind.Unwind a b) h not_0 not_1 not_2 not_3 not_4 not_5 not_6 not_7 not_8 not_9 not_10 not_11 not_12 = refl
 form_waits (kind.DynamicLet a b) h not_0 not_1 not_2 not_3 not_4 not_5 not_6 not_7 not_8 not_9 not_10 not_11 not_12 = absurd (not_10 a b refl)
 form_waits (kind.Dynamic a) h not_0 not_1 not_2 not_3 not_4 not_5 not_6 not_7 not_8 not_9 not_10 not_11 not_12 = absurd (cc)
-form_waits (kind.SetDynamic a b) h not_0 not_1 not_2 not_3 not_4 not_5 not_6 not_7 not_8 not_9 not_10 not_11 not_12 = refl
-form_waits (kind.DefDynamic a b) h not_0 not_1 not_2 not_3 not_4 not_5 not_6 not_7 not_8 not_9 not_10 not_11 not_12 = refl
-form_waits (kind.WithHandler a b) h not_0 not_1 not_2 not_3 not_4 not_5 not_6 not_7 not_8 not_9 not_10 not_11 not_12 = refl
-form_waits (kind.Signal a b) h not_0 not_1 not_2 not_3 not_4 not_5 not_6 not_7 not_8 not_9 not_10 not_11 not_12 = refl
-form_waits (kind.Continue a b) h not_0 not_1 not_2 not_3 not_4 not_5 not_6 not_7 not_8 not_9 not_10 not_11 not_12 = refl
 form_waits (kind.NextMethod a) h not_0 not_1 not_2 not_3 not_4 not_5 not_6 not_7 not_8 not_9 not_10 not_11 not_12 = absurd (cc)
 form_waits (kind.HasNext a) h not_0 not_1 not_2 not_3 not_4 not_5 not_6 not_7 not_8 not_9 not_10 not_11 not_12 = absurd (not_11 a refl)
 form_waits (kind.Sited a b) h not_0 not_1 not_2 not_3 not_4 not_5 not_6 not_7 not_8 not_9 not_10 not_11 not_12 = absurd (not_12 a b refl)
+form_waits w h not_0 not_1 not_2 not_3 not_4 not_5 not_6 not_7 not_8 not_9 not_10 not_11 not_12 = refl
 
 -- and every one that waits is of one of these kinds
 pub no_other_form : (f : FlatCoreForm) → WaitsFirst (view_form f) ≡ true
@@ -79,35 +67,17 @@ pub no_other_form : (f : FlatCoreForm) → WaitsFirst (view_form f) ≡ true
     → ((a : Box FlatForm Heap) (b : Box FlatForm Heap) → f ≡ kind.Signal a b → ⊥)
     → ((a : Box FlatForm Heap) (b : Box FlatForm Heap) → f ≡ kind.Continue a b → ⊥)
     → ⊥
-no_other_form (kind.Literal a) h not_0 not_1 not_2 not_3 not_4 not_5 not_6 not_7 not_8 not_9 not_10 not_11 not_12 = absurd (cc)
-no_other_form (kind.Local a) h not_0 not_1 not_2 not_3 not_4 not_5 not_6 not_7 not_8 not_9 not_10 not_11 not_12 = absurd (cc)
 no_other_form (kind.SetLocal a b) h not_0 not_1 not_2 not_3 not_4 not_5 not_6 not_7 not_8 not_9 not_10 not_11 not_12 = not_0 a b refl
-no_other_form (kind.Global a) h not_0 not_1 not_2 not_3 not_4 not_5 not_6 not_7 not_8 not_9 not_10 not_11 not_12 = absurd (cc)
 no_other_form (kind.SetGlobal a b) h not_0 not_1 not_2 not_3 not_4 not_5 not_6 not_7 not_8 not_9 not_10 not_11 not_12 = not_1 a b refl
 no_other_form (kind.DefGlobal a b) h not_0 not_1 not_2 not_3 not_4 not_5 not_6 not_7 not_8 not_9 not_10 not_11 not_12 = not_2 a b refl
-no_other_form (kind.Clauses a) h not_0 not_1 not_2 not_3 not_4 not_5 not_6 not_7 not_8 not_9 not_10 not_11 not_12 = absurd (cc)
-no_other_form (kind.Sequence a) h not_0 not_1 not_2 not_3 not_4 not_5 not_6 not_7 not_8 not_9 not_10 not_11 not_12 = absurd (cc)
-no_other_form (kind.Let a b) h not_0 not_1 not_2 not_3 not_4 not_5 not_6 not_7 not_8 not_9 not_10 not_11 not_12 = absurd (cc)
-no_other_form (kind.MakeFunction a b) h not_0 not_1 not_2 not_3 not_4 not_5 not_6 not_7 not_8 not_9 not_10 not_11 not_12 = absurd (cc)
-no_other_form (kind.Call a b) h not_0 not_1 not_2 not_3 not_4 not_5 not_6 not_7 not_8 not_9 not_10 not_11 not_12 = absurd (cc)
-no_other_form (kind.CallValue a) h not_0 not_1 not_2 not_3 not_4 not_5 not_6 not_7 not_8 not_9 not_10 not_11 not_12 = absurd (cc)
 no_other_form (kind.Apply a b) h not_0 not_1 not_2 not_3 not_4 not_5 not_6 not_7 not_8 not_9 not_10 not_11 not_12 = not_3 a b refl
-no_other_form (kind.Prim a b) h not_0 not_1 not_2 not_3 not_4 not_5 not_6 not_7 not_8 not_9 not_10 not_11 not_12 = absurd (cc)
-no_other_form (kind.While a b) h not_0 not_1 not_2 not_3 not_4 not_5 not_6 not_7 not_8 not_9 not_10 not_11 not_12 = absurd (cc)
-no_other_form (kind.Block a) h not_0 not_1 not_2 not_3 not_4 not_5 not_6 not_7 not_8 not_9 not_10 not_11 not_12 = absurd (cc)
 no_other_form (kind.Return a b) h not_0 not_1 not_2 not_3 not_4 not_5 not_6 not_7 not_8 not_9 not_10 not_11 not_12 = not_4 a b refl
-no_other_form (kind.Tagbody a) h not_0 not_1 not_2 not_3 not_4 not_5 not_6 not_7 not_8 not_9 not_10 not_11 not_12 = absurd (cc)
-no_other_form (kind.Go a b) h not_0 not_1 not_2 not_3 not_4 not_5 not_6 not_7 not_8 not_9 not_10 not_11 not_12 = absurd (cc)
 no_other_form (kind.Catch a b) h not_0 not_1 not_2 not_3 not_4 not_5 not_6 not_7 not_8 not_9 not_10 not_11 not_12 = not_5 a b refl
 no_other_form (kind.Throw a b) h not_0 not_1 not_2 not_3 not_4 not_5 not_6 not_7 not_8 not_9 not_10 not_11 not_12 = not_6 a b refl
 no_other_form (kind.Unwind a b) h not_0 not_1 not_2 not_3 not_4 not_5 not_6 not_7 not_8 not_9 not_10 not_11 not_12 = not_7 a b refl
-no_other_form (kind.DynamicLet a b) h not_0 not_1 not_2 not_3 not_4 not_5 not_6 not_7 not_8 not_9 not_10 not_11 not_12 = absurd (cc)
-no_other_form (kind.Dynamic a) h not_0 not_1 not_2 not_3 not_4 not_5 not_6 not_7 not_8 not_9 not_10 not_11 not_12 = absurd (cc)
 no_other_form (kind.SetDynamic a b) h not_0 not_1 not_2 not_3 not_4 not_5 not_6 not_7 not_8 not_9 not_10 not_11 not_12 = not_8 a b refl
 no_other_form (kind.DefDynamic a b) h not_0 not_1 not_2 not_3 not_4 not_5 not_6 not_7 not_8 not_9 not_10 not_11 not_12 = not_9 a b refl
 no_other_form (kind.WithHandler a b) h not_0 not_1 not_2 not_3 not_4 not_5 not_6 not_7 not_8 not_9 not_10 not_11 not_12 = not_10 a b refl
 no_other_form (kind.Signal a b) h not_0 not_1 not_2 not_3 not_4 not_5 not_6 not_7 not_8 not_9 not_10 not_11 not_12 = not_11 a b refl
 no_other_form (kind.Continue a b) h not_0 not_1 not_2 not_3 not_4 not_5 not_6 not_7 not_8 not_9 not_10 not_11 not_12 = not_12 a b refl
-no_other_form (kind.NextMethod a) h not_0 not_1 not_2 not_3 not_4 not_5 not_6 not_7 not_8 not_9 not_10 not_11 not_12 = absurd (cc)
-no_other_form (kind.HasNext a) h not_0 not_1 not_2 not_3 not_4 not_5 not_6 not_7 not_8 not_9 not_10 not_11 not_12 = absurd (cc)
-no_other_form (kind.Sited a b) h not_0 not_1 not_2 not_3 not_4 not_5 not_6 not_7 not_8 not_9 not_10 not_11 not_12 = absurd (cc)
+no_other_form w h not_0 not_1 not_2 not_3 not_4 not_5 not_6 not_7 not_8 not_9 not_10 not_11 not_12 = absurd (cc)

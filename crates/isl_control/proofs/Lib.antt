@@ -1,3 +1,4 @@
+pub mod Searching
 pub mod Looking
 pub mod Leaving
 pub mod Leftover

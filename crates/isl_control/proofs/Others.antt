@@ -28,37 +28,6 @@ pub no_other_takes : (w : Frame) → waiting_operands w ≡ None
     → ((a : Word) (b : ℕ) → w ≡ frame.Handles a b → ⊥)
     → ((a : Bor (List FlatDynBinding)) (b : ℕ) (c : ℕ) → w ≡ frame.Binds a b c → ⊥)
     → ⊥
-no_other_takes (frame.SetLocal p s) h not_0 not_1 not_2 not_3 not_4 not_5 not_6 not_7 not_8 not_9 = absurd (cc)
-no_other_takes (frame.SetGlobal n s) h not_0 not_1 not_2 not_3 not_4 not_5 not_6 not_7 not_8 not_9 = absurd (cc)
-no_other_takes (frame.DefGlobal n) h not_0 not_1 not_2 not_3 not_4 not_5 not_6 not_7 not_8 not_9 = absurd (cc)
-no_other_takes (frame.Sequence fs n s) h not_0 not_1 not_2 not_3 not_4 not_5 not_6 not_7 not_8 not_9 = absurd (cc)
-no_other_takes (frame.Clause cs n s) h not_0 not_1 not_2 not_3 not_4 not_5 not_6 not_7 not_8 not_9 = absurd (cc)
-no_other_takes (frame.Binding bs n b s) h not_0 not_1 not_2 not_3 not_4 not_5 not_6 not_7 not_8 not_9 = absurd (cc)
-no_other_takes (frame.Argument o fs n s) h not_0 not_1 not_2 not_3 not_4 not_5 not_6 not_7 not_8 not_9 = absurd (cc)
-no_other_takes (frame.DynamicValue bs n b s) h not_0 not_1 not_2 not_3 not_4 not_5 not_6 not_7 not_8 not_9 = absurd (cc)
-no_other_takes (frame.AppliedFunction l s) h not_0 not_1 not_2 not_3 not_4 not_5 not_6 not_7 not_8 not_9 = absurd (cc)
-no_other_takes (frame.AppliedList f s) h not_0 not_1 not_2 not_3 not_4 not_5 not_6 not_7 not_8 not_9 = absurd (cc)
-no_other_takes (frame.WhileTest t b s) h not_0 not_1 not_2 not_3 not_4 not_5 not_6 not_7 not_8 not_9 = absurd (cc)
-no_other_takes (frame.WhileBody t b s) h not_0 not_1 not_2 not_3 not_4 not_5 not_6 not_7 not_8 not_9 = absurd (cc)
-no_other_takes (frame.ReturnValue x s) h not_0 not_1 not_2 not_3 not_4 not_5 not_6 not_7 not_8 not_9 = absurd (cc)
-no_other_takes frame.LastSegment h not_0 not_1 not_2 not_3 not_4 not_5 not_6 not_7 not_8 not_9 = absurd (cc)
-no_other_takes (frame.CatchTag b s) h not_0 not_1 not_2 not_3 not_4 not_5 not_6 not_7 not_8 not_9 = absurd (cc)
-no_other_takes (frame.ThrowTag f s) h not_0 not_1 not_2 not_3 not_4 not_5 not_6 not_7 not_8 not_9 = absurd (cc)
-no_other_takes (frame.ThrowValue t s) h not_0 not_1 not_2 not_3 not_4 not_5 not_6 not_7 not_8 not_9 = absurd (cc)
-no_other_takes (frame.SetDynamic n s) h not_0 not_1 not_2 not_3 not_4 not_5 not_6 not_7 not_8 not_9 = absurd (cc)
-no_other_takes (frame.DefDynamic n) h not_0 not_1 not_2 not_3 not_4 not_5 not_6 not_7 not_8 not_9 = absurd (cc)
-no_other_takes (frame.HandlerValue b s) h not_0 not_1 not_2 not_3 not_4 not_5 not_6 not_7 not_8 not_9 = absurd (cc)
-no_other_takes (frame.SignalCondition f s) h not_0 not_1 not_2 not_3 not_4 not_5 not_6 not_7 not_8 not_9 = absurd (cc)
-no_other_takes (frame.SignalMark c s) h not_0 not_1 not_2 not_3 not_4 not_5 not_6 not_7 not_8 not_9 = absurd (cc)
-no_other_takes (frame.ContinueCondition f s) h not_0 not_1 not_2 not_3 not_4 not_5 not_6 not_7 not_8 not_9 = absurd (cc)
-no_other_takes (frame.ContinueValue c s) h not_0 not_1 not_2 not_3 not_4 not_5 not_6 not_7 not_8 not_9 = absurd (cc)
-no_other_takes (frame.Kept o) h not_0 not_1 not_2 not_3 not_4 not_5 not_6 not_7 not_8 not_9 = absurd (cc)
-no_other_takes (frame.Methods ms n vs l r) h not_0 not_1 not_2 not_3 not_4 not_5 not_6 not_7 not_8 not_9 = absurd (cc)
-no_other_takes (frame.BeforeMethods r vs l q) h not_0 not_1 not_2 not_3 not_4 not_5 not_6 not_7 not_8 not_9 = absurd (cc)
-no_other_takes (frame.PrimaryMethod r vs l q) h not_0 not_1 not_2 not_3 not_4 not_5 not_6 not_7 not_8 not_9 = absurd (cc)
-no_other_takes (frame.HandlerReturn l q) h not_0 not_1 not_2 not_3 not_4 not_5 not_6 not_7 not_8 not_9 = absurd (cc)
-no_other_takes (frame.MainForm n) h not_0 not_1 not_2 not_3 not_4 not_5 not_6 not_7 not_8 not_9 = absurd (cc)
-no_other_takes (frame.MainForms l fs n) h not_0 not_1 not_2 not_3 not_4 not_5 not_6 not_7 not_8 not_9 = absurd (cc)
 no_other_takes (frame.Block n e o) h not_0 not_1 not_2 not_3 not_4 not_5 not_6 not_7 not_8 not_9 = not_0 n e o refl
 no_other_takes (frame.Catch n t e) h not_0 not_1 not_2 not_3 not_4 not_5 not_6 not_7 not_8 not_9 = not_1 n t e refl
 no_other_takes (frame.Signal n c m e) h not_0 not_1 not_2 not_3 not_4 not_5 not_6 not_7 not_8 not_9 = not_2 n c m e refl
@@ -69,6 +38,7 @@ no_other_takes (frame.RestoresSlots saved) h not_0 not_1 not_2 not_3 not_4 not_5
 no_other_takes (frame.DropsSlots n) h not_0 not_1 not_2 not_3 not_4 not_5 not_6 not_7 not_8 not_9 = not_7 n refl
 no_other_takes (frame.Handles w n) h not_0 not_1 not_2 not_3 not_4 not_5 not_6 not_7 not_8 not_9 = not_8 w n refl
 no_other_takes (frame.Binds bs n m) h not_0 not_1 not_2 not_3 not_4 not_5 not_6 not_7 not_8 not_9 = not_9 bs n m refl
+no_other_takes w h not_0 not_1 not_2 not_3 not_4 not_5 not_6 not_7 not_8 not_9 = absurd (cc)
 
 -- and every frame that waits for a value and wants the machine alone of one of these
 pub no_other_waits : (w : Frame) → is_some (waiting_operands w) ≡ true → WantsMore w ≡ false
@@ -94,15 +64,11 @@ pub no_other_waits : (w : Frame) → is_some (waiting_operands w) ≡ true → W
     → ((a : ℕ) (b : Bor (List FlatForm)) (c : ℕ) → w ≡ frame.MainForms a b c → ⊥)
     → ⊥
 no_other_waits (frame.SetLocal p s) h j not_0 not_1 not_2 not_3 not_4 not_5 not_6 not_7 not_r not_8 not_9 not_10 not_11 not_12 not_13 not_14 not_15 not_16 not_17 not_18 = not_0 p s refl
-no_other_waits (frame.SetGlobal n s) h j not_0 not_1 not_2 not_3 not_4 not_5 not_6 not_7 not_r not_8 not_9 not_10 not_11 not_12 not_13 not_14 not_15 not_16 not_17 not_18 = absurd (cc)
-no_other_waits (frame.DefGlobal n) h j not_0 not_1 not_2 not_3 not_4 not_5 not_6 not_7 not_r not_8 not_9 not_10 not_11 not_12 not_13 not_14 not_15 not_16 not_17 not_18 = absurd (cc)
 no_other_waits (frame.Sequence fs n s) h j not_0 not_1 not_2 not_3 not_4 not_5 not_6 not_7 not_r not_8 not_9 not_10 not_11 not_12 not_13 not_14 not_15 not_16 not_17 not_18 = not_1 fs n s refl
 no_other_waits (frame.Clause cs n s) h j not_0 not_1 not_2 not_3 not_4 not_5 not_6 not_7 not_r not_8 not_9 not_10 not_11 not_12 not_13 not_14 not_15 not_16 not_17 not_18 = not_2 cs n s refl
 no_other_waits (frame.Binding bs n b s) h j not_0 not_1 not_2 not_3 not_4 not_5 not_6 not_7 not_r not_8 not_9 not_10 not_11 not_12 not_13 not_14 not_15 not_16 not_17 not_18 = not_3 bs n b s refl
-no_other_waits (frame.Argument o fs n s) h j not_0 not_1 not_2 not_3 not_4 not_5 not_6 not_7 not_r not_8 not_9 not_10 not_11 not_12 not_13 not_14 not_15 not_16 not_17 not_18 = absurd (cc)
 no_other_waits (frame.DynamicValue bs n b s) h j not_0 not_1 not_2 not_3 not_4 not_5 not_6 not_7 not_r not_8 not_9 not_10 not_11 not_12 not_13 not_14 not_15 not_16 not_17 not_18 = not_4 bs n b s refl
 no_other_waits (frame.AppliedFunction l s) h j not_0 not_1 not_2 not_3 not_4 not_5 not_6 not_7 not_r not_8 not_9 not_10 not_11 not_12 not_13 not_14 not_15 not_16 not_17 not_18 = not_5 l s refl
-no_other_waits (frame.AppliedList f s) h j not_0 not_1 not_2 not_3 not_4 not_5 not_6 not_7 not_r not_8 not_9 not_10 not_11 not_12 not_13 not_14 not_15 not_16 not_17 not_18 = absurd (cc)
 no_other_waits (frame.WhileTest t b s) h j not_0 not_1 not_2 not_3 not_4 not_5 not_6 not_7 not_r not_8 not_9 not_10 not_11 not_12 not_13 not_14 not_15 not_16 not_17 not_18 = not_6 t b s refl
 no_other_waits (frame.WhileBody t b s) h j not_0 not_1 not_2 not_3 not_4 not_5 not_6 not_7 not_r not_8 not_9 not_10 not_11 not_12 not_13 not_14 not_15 not_16 not_17 not_18 = not_7 t b s refl
 no_other_waits (frame.ReturnValue x s) h j not_0 not_1 not_2 not_3 not_4 not_5 not_6 not_7 not_r not_8 not_9 not_10 not_11 not_12 not_13 not_14 not_15 not_16 not_17 not_18 = not_r x s refl
@@ -110,27 +76,11 @@ no_other_waits frame.LastSegment h j not_0 not_1 not_2 not_3 not_4 not_5 not_6 n
 no_other_waits (frame.CatchTag b s) h j not_0 not_1 not_2 not_3 not_4 not_5 not_6 not_7 not_r not_8 not_9 not_10 not_11 not_12 not_13 not_14 not_15 not_16 not_17 not_18 = not_9 b s refl
 no_other_waits (frame.ThrowTag f s) h j not_0 not_1 not_2 not_3 not_4 not_5 not_6 not_7 not_r not_8 not_9 not_10 not_11 not_12 not_13 not_14 not_15 not_16 not_17 not_18 = not_10 f s refl
 no_other_waits (frame.ThrowValue t s) h j not_0 not_1 not_2 not_3 not_4 not_5 not_6 not_7 not_r not_8 not_9 not_10 not_11 not_12 not_13 not_14 not_15 not_16 not_17 not_18 = not_11 t s refl
-no_other_waits (frame.SetDynamic n s) h j not_0 not_1 not_2 not_3 not_4 not_5 not_6 not_7 not_r not_8 not_9 not_10 not_11 not_12 not_13 not_14 not_15 not_16 not_17 not_18 = absurd (cc)
-no_other_waits (frame.DefDynamic n) h j not_0 not_1 not_2 not_3 not_4 not_5 not_6 not_7 not_r not_8 not_9 not_10 not_11 not_12 not_13 not_14 not_15 not_16 not_17 not_18 = absurd (cc)
-no_other_waits (frame.HandlerValue b s) h j not_0 not_1 not_2 not_3 not_4 not_5 not_6 not_7 not_r not_8 not_9 not_10 not_11 not_12 not_13 not_14 not_15 not_16 not_17 not_18 = absurd (cc)
 no_other_waits (frame.SignalCondition f s) h j not_0 not_1 not_2 not_3 not_4 not_5 not_6 not_7 not_r not_8 not_9 not_10 not_11 not_12 not_13 not_14 not_15 not_16 not_17 not_18 = not_12 f s refl
-no_other_waits (frame.SignalMark c s) h j not_0 not_1 not_2 not_3 not_4 not_5 not_6 not_7 not_r not_8 not_9 not_10 not_11 not_12 not_13 not_14 not_15 not_16 not_17 not_18 = absurd (cc)
 no_other_waits (frame.ContinueCondition f s) h j not_0 not_1 not_2 not_3 not_4 not_5 not_6 not_7 not_r not_8 not_9 not_10 not_11 not_12 not_13 not_14 not_15 not_16 not_17 not_18 = not_13 f s refl
 no_other_waits (frame.ContinueValue c s) h j not_0 not_1 not_2 not_3 not_4 not_5 not_6 not_7 not_r not_8 not_9 not_10 not_11 not_12 not_13 not_14 not_15 not_16 not_17 not_18 = not_14 c s refl
 no_other_waits (frame.Kept o) h j not_0 not_1 not_2 not_3 not_4 not_5 not_6 not_7 not_r not_8 not_9 not_10 not_11 not_12 not_13 not_14 not_15 not_16 not_17 not_18 = not_15 o refl
-no_other_waits (frame.Methods ms n vs l r) h j not_0 not_1 not_2 not_3 not_4 not_5 not_6 not_7 not_r not_8 not_9 not_10 not_11 not_12 not_13 not_14 not_15 not_16 not_17 not_18 = absurd (cc)
-no_other_waits (frame.BeforeMethods r vs l q) h j not_0 not_1 not_2 not_3 not_4 not_5 not_6 not_7 not_r not_8 not_9 not_10 not_11 not_12 not_13 not_14 not_15 not_16 not_17 not_18 = absurd (cc)
-no_other_waits (frame.PrimaryMethod r vs l q) h j not_0 not_1 not_2 not_3 not_4 not_5 not_6 not_7 not_r not_8 not_9 not_10 not_11 not_12 not_13 not_14 not_15 not_16 not_17 not_18 = absurd (cc)
 no_other_waits (frame.HandlerReturn l q) h j not_0 not_1 not_2 not_3 not_4 not_5 not_6 not_7 not_r not_8 not_9 not_10 not_11 not_12 not_13 not_14 not_15 not_16 not_17 not_18 = not_16 l q refl
 no_other_waits (frame.MainForm n) h j not_0 not_1 not_2 not_3 not_4 not_5 not_6 not_7 not_r not_8 not_9 not_10 not_11 not_12 not_13 not_14 not_15 not_16 not_17 not_18 = not_17 n refl
 no_other_waits (frame.MainForms l fs n) h j not_0 not_1 not_2 not_3 not_4 not_5 not_6 not_7 not_r not_8 not_9 not_10 not_11 not_12 not_13 not_14 not_15 not_16 not_17 not_18 = not_18 l fs n refl
-no_other_waits (frame.Block n e o) h j not_0 not_1 not_2 not_3 not_4 not_5 not_6 not_7 not_r not_8 not_9 not_10 not_11 not_12 not_13 not_14 not_15 not_16 not_17 not_18 = absurd (cc)
-no_other_waits (frame.Catch n t e) h j not_0 not_1 not_2 not_3 not_4 not_5 not_6 not_7 not_r not_8 not_9 not_10 not_11 not_12 not_13 not_14 not_15 not_16 not_17 not_18 = absurd (cc)
-no_other_waits (frame.Signal n c m e) h j not_0 not_1 not_2 not_3 not_4 not_5 not_6 not_7 not_r not_8 not_9 not_10 not_11 not_12 not_13 not_14 not_15 not_16 not_17 not_18 = absurd (cc)
-no_other_waits (frame.Tagbody n fs s) h j not_0 not_1 not_2 not_3 not_4 not_5 not_6 not_7 not_r not_8 not_9 not_10 not_11 not_12 not_13 not_14 not_15 not_16 not_17 not_18 = absurd (cc)
-no_other_waits (frame.Cleans f s) h j not_0 not_1 not_2 not_3 not_4 not_5 not_6 not_7 not_r not_8 not_9 not_10 not_11 not_12 not_13 not_14 not_15 not_16 not_17 not_18 = absurd (cc)
-no_other_waits (frame.RestoresStack n) h j not_0 not_1 not_2 not_3 not_4 not_5 not_6 not_7 not_r not_8 not_9 not_10 not_11 not_12 not_13 not_14 not_15 not_16 not_17 not_18 = absurd (cc)
-no_other_waits (frame.RestoresSlots saved) h j not_0 not_1 not_2 not_3 not_4 not_5 not_6 not_7 not_r not_8 not_9 not_10 not_11 not_12 not_13 not_14 not_15 not_16 not_17 not_18 = absurd (cc)
-no_other_waits (frame.DropsSlots n) h j not_0 not_1 not_2 not_3 not_4 not_5 not_6 not_7 not_r not_8 not_9 not_10 not_11 not_12 not_13 not_14 not_15 not_16 not_17 not_18 = absurd (cc)
-no_other_waits (frame.Handles w n) h j not_0 not_1 not_2 not_3 not_4 not_5 not_6 not_7 not_r not_8 not_9 not_10 not_11 not_12 not_13 not_14 not_15 not_16 not_17 not_18 = absurd (cc)
-no_other_waits (frame.Binds bs n m) h j not_0 not_1 not_2 not_3 not_4 not_5 not_6 not_7 not_r not_8 not_9 not_10 not_11 not_12 not_13 not_14 not_15 not_16 not_17 not_18 = absurd (cc)
+no_other_waits w h j not_0 not_1 not_2 not_3 not_4 not_5 not_6 not_7 not_r not_8 not_9 not_10 not_11 not_12 not_13 not_14 not_15 not_16 not_17 not_18 = absurd (cc)

@@ -1,5 +1,5 @@
 -- What a form does as it begins, once it is charged.
-use Rattle.std.specs.Prelude.{◌≡◌, Bool, true, false, List, [], ◌∷◌, map, slice_get}
+use Rattle.std.specs.Prelude.{◌≡◌, Bool, true, false, List, [], ◌∷◌, Option, Some, None, is_some, map, slice_get}
 use Rattle.isl_meaning.specs.Values.{nil, truth}
 use Rattle.isl_meaning.specs.State.{block_exit, at_segment}
 use Rattle.isl_meaning.specs.Lookup.{text}
@@ -22,39 +22,26 @@ FormWantsMore (prim which fs) = true
 FormWantsMore (next_method m) = true
 FormWantsMore f = false
 
--- whether a form, as it begins, waits for the value of a form inside it
-abbrev pub WaitsFirst : FlatForm → Bool
-WaitsFirst (set_local p f) = true
-WaitsFirst (set_global n f) = true
-WaitsFirst (def_global n f) = true
-WaitsFirst (apply f list) = true
-WaitsFirst (return_from x f) = true
-WaitsFirst (catch_form tag body) = true
-WaitsFirst (throw tag f) = true
-WaitsFirst (unwind f cleanup) = true
-WaitsFirst (set_dynamic n f) = true
-WaitsFirst (def_dynamic n f) = true
-WaitsFirst (with_handler handler body) = true
-WaitsFirst (signal_form condition continuable) = true
-WaitsFirst (continue_form condition f) = true
-WaitsFirst f = false
+-- the form inside a form whose value it waits for first, as it begins
+abbrev pub first_inside : FlatForm → Option FlatForm
+first_inside (set_local p f) = Some f
+first_inside (set_global n f) = Some f
+first_inside (def_global n f) = Some f
+first_inside (apply f list) = Some f
+first_inside (return_from x f) = Some f
+first_inside (catch_form tag body) = Some tag
+first_inside (throw tag f) = Some tag
+first_inside (unwind f cleanup) = Some f
+first_inside (set_dynamic n f) = Some f
+first_inside (def_dynamic n f) = Some f
+first_inside (with_handler handler body) = Some handler
+first_inside (signal_form condition continuable) = Some condition
+first_inside (continue_form condition f) = Some condition
+first_inside f = None
 
--- the form whose value it waits for
-abbrev pub first_inside : FlatForm → FlatForm
-first_inside (set_local p f) = f
-first_inside (set_global n f) = f
-first_inside (def_global n f) = f
-first_inside (apply f list) = f
-first_inside (return_from x f) = f
-first_inside (catch_form tag body) = tag
-first_inside (throw tag f) = tag
-first_inside (unwind f cleanup) = f
-first_inside (set_dynamic n f) = f
-first_inside (def_dynamic n f) = f
-first_inside (with_handler handler body) = handler
-first_inside (signal_form condition continuable) = condition
-first_inside (continue_form condition f) = condition
-first_inside f = f
+-- whether it waits for one
+abbrev pub WaitsFirst : FlatForm → Bool
+WaitsFirst f = is_some (first_inside f)
 
 module _ (s : Setting) where
   -- a block, and a tagbody, with a new exit
@@ -100,6 +87,10 @@ module _ (s : Setting) where
   begins (has_next m) at frames z = ended (gives (truth (is_next (method_of m at.environment))) z) frames
   begins (sited site f) at frames z = moment (evaluate f (record at { around = record at.around { site = place_of_site s.program.sites site } })) frames z
 
--- as it begins, a form waits in a frame for the value of the form inside it
+-- as it begins, a form waits in a frame for the value of the form inside it, where there is one
+abbrev pub BeginsBy : Option FlatForm → FlatForm → Situation → Frame → Type 0
+BeginsBy (Some inside) f at w = (s : Setting) (frames : List Frame) (z : FlatState) → begins s f at frames z ≡ moment (evaluate inside at) (w ∷ frames) z
+BeginsBy None f at w = Unit {0}
+
 abbrev pub BeginsWith : FlatForm → Situation → Frame → Type 0
-BeginsWith f at w = (s : Setting) (frames : List Frame) (z : FlatState) → begins s f at frames z ≡ moment (evaluate (first_inside f) at) (w ∷ frames) z
+BeginsWith f at w = BeginsBy (first_inside f) f at w

@@ -1,6 +1,6 @@
 // A form begins that wants the machine alone.
 
-ghost use Rattle.std.specs.Prelude.{◌≡◌, true, false, List, ℕ, OnOk};
+ghost use Rattle.std.specs.Prelude.{◌≡◌, true, false, List, ℕ, OnOk, Some};
 ghost use Rattle.isl_closure.specs.FlatForm.{while_form};
 ghost use Rattle.isl_closure.specs.model.View.{view_form};
 ghost use Rattle.isl_machine.specs.declared.machine.Machine.{Machine as Running};
@@ -79,7 +79,7 @@ fn begin_waiting<'p>(
 // The form inside a form whose value it waits for first.
 fn first_inside(form: &FlatCoreForm) -> &FlatCore
     requires { WaitsFirst (view_form form.now) ≡ true }
-    ensures { result.now ≡ first_inside (view_form form.now) }
+    ensures { first_inside (view_form form.now) ≡ Some result.now }
 {
     match form {
         FlatCoreForm::SetLocal(_, inside)

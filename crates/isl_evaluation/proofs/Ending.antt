@@ -26,13 +26,8 @@ of_object s w n c e h names b =
 
 pub of_other : (s : Store) (w : Word) → ((n : ℕ) → w ≡ word.Object n → ⊥) → (names : List (List ℕ)) (b : Beside)
     → class_in (state_of names s b).store (value_of_word names w) ≡ 0
-of_other s Nil h names b = refl
-of_other s True h names b = refl
-of_other s (Integer n) h names b = refl
-of_other s (Character n) h names b = refl
-of_other s (Symbol n) h names b = refl
-of_other s (Unnamed x n) h names b = refl
 of_other s (word.Object n) h names b = absurd (h n refl)
+of_other s w h names b = refl
 
 -- how an outcome ends a program, with the objects that are there
 abbrev pub ends_by : List Object → Outcome → PlainEnd

@@ -115,13 +115,10 @@ told_so : (end : PlainEnd) (m : Meant) → end_of m ≡ end → IsTold end
 told_so end m is = subst IsTold is (told (ending_of m.end m.store))
 
 is_own : (end : PlainEnd) → IsTold end → IsOwnEnd end
-is_own plain.Value h = tt
-is_own (plain.Unhandled class site) h = tt
-is_own (plain.Full asked left) h = tt
-is_own plain.More h = tt
 is_own plain.Spent h = absurd h
 is_own plain.ReadFault h = absurd h
 is_own plain.WriteFault h = absurd h
+is_own w h = tt
 
 -- an evaluator tells ends that are no faults
 pub own_end : (v : Evaluator) (end : PlainEnd) → ((names : List (List ℕ)) (b : Beside) → end_of (done (moment_of names v.machine b)) ≡ end) → IsOwnEnd end
@@ -129,13 +126,10 @@ own_end v end is = is_own end (told_so end (done (moment_of [] v.machine nowhere
 
 comes_to : (end : PlainEnd) (e : Evaluation) (t : Taken) (input : List ℕ) (b : Begins t input) (given given' : Option (List ℕ)) → IsTold end
     → StopsAt e input given given' end → ComesTo end e t input b given given'
-comes_to plain.Value e t input b given given' h s = s
-comes_to (plain.Unhandled class site) e t input b given given' h s = s
-comes_to (plain.Full asked left) e t input b given given' h s = s
-comes_to plain.More e t input b given given' h s = s
 comes_to plain.Spent e t input b given given' h s = absurd h
 comes_to plain.ReadFault e t input b given given' h s = absurd h
 comes_to plain.WriteFault e t input b given given' h s = absurd h
+comes_to w e t input b given given' h s = s
 
 few : (a b c : ℕ) → a ≡ b → b ≤ c → a ≤ c
 few a b c e h = omega arith

@@ -26,44 +26,15 @@ pub left_alone : (w : Frame)
     → ((a : Rest) (b : Rc (ItemList Word) Global) (c : ℕ) (d : Around) → w ≡ frame.BeforeMethods a b c d → ⊥)
     → ((a : Rest) (b : Rc (ItemList Word) Global) (c : ℕ) (d : Around) → w ≡ frame.PrimaryMethod a b c d → ⊥)
     → WantsMore w ≡ false
-left_alone (frame.SetLocal p s) not_0 not_1 not_2 not_3 not_4 not_5 not_6 not_7 not_8 not_9 not_10 = refl
 left_alone (frame.SetGlobal n s) not_0 not_1 not_2 not_3 not_4 not_5 not_6 not_7 not_8 not_9 not_10 = absurd (not_0 n s refl)
 left_alone (frame.DefGlobal n) not_0 not_1 not_2 not_3 not_4 not_5 not_6 not_7 not_8 not_9 not_10 = absurd (not_1 n refl)
-left_alone (frame.Sequence fs n s) not_0 not_1 not_2 not_3 not_4 not_5 not_6 not_7 not_8 not_9 not_10 = refl
-left_alone (frame.Clause cs n s) not_0 not_1 not_2 not_3 not_4 not_5 not_6 not_7 not_8 not_9 not_10 = refl
-left_alone (frame.Binding bs n b s) not_0 not_1 not_2 not_3 not_4 not_5 not_6 not_7 not_8 not_9 not_10 = refl
 left_alone (frame.Argument o fs n s) not_0 not_1 not_2 not_3 not_4 not_5 not_6 not_7 not_8 not_9 not_10 = absurd (not_2 o fs n s refl)
-left_alone (frame.DynamicValue bs n b s) not_0 not_1 not_2 not_3 not_4 not_5 not_6 not_7 not_8 not_9 not_10 = refl
-left_alone (frame.AppliedFunction l s) not_0 not_1 not_2 not_3 not_4 not_5 not_6 not_7 not_8 not_9 not_10 = refl
 left_alone (frame.AppliedList f s) not_0 not_1 not_2 not_3 not_4 not_5 not_6 not_7 not_8 not_9 not_10 = absurd (not_3 f s refl)
-left_alone (frame.WhileTest t b s) not_0 not_1 not_2 not_3 not_4 not_5 not_6 not_7 not_8 not_9 not_10 = refl
-left_alone (frame.WhileBody t b s) not_0 not_1 not_2 not_3 not_4 not_5 not_6 not_7 not_8 not_9 not_10 = refl
-left_alone (frame.ReturnValue x s) not_0 not_1 not_2 not_3 not_4 not_5 not_6 not_7 not_8 not_9 not_10 = refl
-left_alone frame.LastSegment not_0 not_1 not_2 not_3 not_4 not_5 not_6 not_7 not_8 not_9 not_10 = refl
-left_alone (frame.CatchTag b s) not_0 not_1 not_2 not_3 not_4 not_5 not_6 not_7 not_8 not_9 not_10 = refl
-left_alone (frame.ThrowTag f s) not_0 not_1 not_2 not_3 not_4 not_5 not_6 not_7 not_8 not_9 not_10 = refl
-left_alone (frame.ThrowValue t s) not_0 not_1 not_2 not_3 not_4 not_5 not_6 not_7 not_8 not_9 not_10 = refl
 left_alone (frame.SetDynamic n s) not_0 not_1 not_2 not_3 not_4 not_5 not_6 not_7 not_8 not_9 not_10 = absurd (not_4 n s refl)
 left_alone (frame.DefDynamic n) not_0 not_1 not_2 not_3 not_4 not_5 not_6 not_7 not_8 not_9 not_10 = absurd (not_5 n refl)
 left_alone (frame.HandlerValue b s) not_0 not_1 not_2 not_3 not_4 not_5 not_6 not_7 not_8 not_9 not_10 = absurd (not_6 b s refl)
-left_alone (frame.SignalCondition f s) not_0 not_1 not_2 not_3 not_4 not_5 not_6 not_7 not_8 not_9 not_10 = refl
 left_alone (frame.SignalMark c s) not_0 not_1 not_2 not_3 not_4 not_5 not_6 not_7 not_8 not_9 not_10 = absurd (not_7 c s refl)
-left_alone (frame.ContinueCondition f s) not_0 not_1 not_2 not_3 not_4 not_5 not_6 not_7 not_8 not_9 not_10 = refl
-left_alone (frame.ContinueValue c s) not_0 not_1 not_2 not_3 not_4 not_5 not_6 not_7 not_8 not_9 not_10 = refl
-left_alone (frame.Kept o) not_0 not_1 not_2 not_3 not_4 not_5 not_6 not_7 not_8 not_9 not_10 = refl
 left_alone (frame.Methods ms n vs l r) not_0 not_1 not_2 not_3 not_4 not_5 not_6 not_7 not_8 not_9 not_10 = absurd (not_8 ms n vs l r refl)
 left_alone (frame.BeforeMethods r vs l q) not_0 not_1 not_2 not_3 not_4 not_5 not_6 not_7 not_8 not_9 not_10 = absurd (not_9 r vs l q refl)
 left_alone (frame.PrimaryMethod r vs l q) not_0 not_1 not_2 not_3 not_4 not_5 not_6 not_7 not_8 not_9 not_10 = absurd (not_10 r vs l q refl)
-left_alone (frame.HandlerReturn l q) not_0 not_1 not_2 not_3 not_4 not_5 not_6 not_7 not_8 not_9 not_10 = refl
-left_alone (frame.MainForm n) not_0 not_1 not_2 not_3 not_4 not_5 not_6 not_7 not_8 not_9 not_10 = refl
-left_alone (frame.MainForms l fs n) not_0 not_1 not_2 not_3 not_4 not_5 not_6 not_7 not_8 not_9 not_10 = refl
-left_alone (frame.Block n e o) not_0 not_1 not_2 not_3 not_4 not_5 not_6 not_7 not_8 not_9 not_10 = refl
-left_alone (frame.Catch n t e) not_0 not_1 not_2 not_3 not_4 not_5 not_6 not_7 not_8 not_9 not_10 = refl
-left_alone (frame.Signal n c m e) not_0 not_1 not_2 not_3 not_4 not_5 not_6 not_7 not_8 not_9 not_10 = refl
-left_alone (frame.Tagbody n fs s) not_0 not_1 not_2 not_3 not_4 not_5 not_6 not_7 not_8 not_9 not_10 = refl
-left_alone (frame.Cleans f s) not_0 not_1 not_2 not_3 not_4 not_5 not_6 not_7 not_8 not_9 not_10 = refl
-left_alone (frame.RestoresStack n) not_0 not_1 not_2 not_3 not_4 not_5 not_6 not_7 not_8 not_9 not_10 = refl
-left_alone (frame.RestoresSlots saved) not_0 not_1 not_2 not_3 not_4 not_5 not_6 not_7 not_8 not_9 not_10 = refl
-left_alone (frame.DropsSlots n) not_0 not_1 not_2 not_3 not_4 not_5 not_6 not_7 not_8 not_9 not_10 = refl
-left_alone (frame.Handles w n) not_0 not_1 not_2 not_3 not_4 not_5 not_6 not_7 not_8 not_9 not_10 = refl
-left_alone (frame.Binds bs n m) not_0 not_1 not_2 not_3 not_4 not_5 not_6 not_7 not_8 not_9 not_10 = refl
+left_alone w not_0 not_1 not_2 not_3 not_4 not_5 not_6 not_7 not_8 not_9 not_10 = refl

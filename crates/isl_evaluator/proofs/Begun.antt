@@ -30,38 +30,13 @@ pub form_alone : (f : FlatCoreForm)
     → ((x : Primitive) (y : List FlatForm) → f ≡ kind.Prim x y → ⊥)
     → ((x : MethodPlace) → f ≡ kind.NextMethod x → ⊥)
     → FormWantsMore (view_form f) ≡ false
-form_alone (kind.Literal a) not_0 not_1 not_2 not_3 not_4 not_5 = refl
-form_alone (kind.Local a) not_0 not_1 not_2 not_3 not_4 not_5 = refl
-form_alone (kind.SetLocal a b) not_0 not_1 not_2 not_3 not_4 not_5 = refl
 form_alone (kind.Global a) not_0 not_1 not_2 not_3 not_4 not_5 = absurd (not_0 a refl)
-form_alone (kind.SetGlobal a b) not_0 not_1 not_2 not_3 not_4 not_5 = refl
-form_alone (kind.DefGlobal a b) not_0 not_1 not_2 not_3 not_4 not_5 = refl
-form_alone (kind.Clauses a) not_0 not_1 not_2 not_3 not_4 not_5 = refl
-form_alone (kind.Sequence a) not_0 not_1 not_2 not_3 not_4 not_5 = refl
-form_alone (kind.Let a b) not_0 not_1 not_2 not_3 not_4 not_5 = refl
-form_alone (kind.MakeFunction a b) not_0 not_1 not_2 not_3 not_4 not_5 = refl
 form_alone (kind.Call a b) not_0 not_1 not_2 not_3 not_4 not_5 = absurd (not_2 a b refl)
 form_alone (kind.CallValue a) not_0 not_1 not_2 not_3 not_4 not_5 = absurd (not_3 a refl)
-form_alone (kind.Apply a b) not_0 not_1 not_2 not_3 not_4 not_5 = refl
 form_alone (kind.Prim a b) not_0 not_1 not_2 not_3 not_4 not_5 = absurd (not_4 a b refl)
-form_alone (kind.While a b) not_0 not_1 not_2 not_3 not_4 not_5 = refl
-form_alone (kind.Block a) not_0 not_1 not_2 not_3 not_4 not_5 = refl
-form_alone (kind.Return a b) not_0 not_1 not_2 not_3 not_4 not_5 = refl
-form_alone (kind.Tagbody a) not_0 not_1 not_2 not_3 not_4 not_5 = refl
-form_alone (kind.Go a b) not_0 not_1 not_2 not_3 not_4 not_5 = refl
-form_alone (kind.Catch a b) not_0 not_1 not_2 not_3 not_4 not_5 = refl
-form_alone (kind.Throw a b) not_0 not_1 not_2 not_3 not_4 not_5 = refl
-form_alone (kind.Unwind a b) not_0 not_1 not_2 not_3 not_4 not_5 = refl
-form_alone (kind.DynamicLet a b) not_0 not_1 not_2 not_3 not_4 not_5 = refl
 form_alone (kind.Dynamic a) not_0 not_1 not_2 not_3 not_4 not_5 = absurd (not_1 a refl)
-form_alone (kind.SetDynamic a b) not_0 not_1 not_2 not_3 not_4 not_5 = refl
-form_alone (kind.DefDynamic a b) not_0 not_1 not_2 not_3 not_4 not_5 = refl
-form_alone (kind.WithHandler a b) not_0 not_1 not_2 not_3 not_4 not_5 = refl
-form_alone (kind.Signal a b) not_0 not_1 not_2 not_3 not_4 not_5 = refl
-form_alone (kind.Continue a b) not_0 not_1 not_2 not_3 not_4 not_5 = refl
 form_alone (kind.NextMethod a) not_0 not_1 not_2 not_3 not_4 not_5 = absurd (not_5 a refl)
-form_alone (kind.HasNext a) not_0 not_1 not_2 not_3 not_4 not_5 = refl
-form_alone (kind.Sited a b) not_0 not_1 not_2 not_3 not_4 not_5 = refl
+form_alone w not_0 not_1 not_2 not_3 not_4 not_5 = refl
 
 -- the same form
 pub runs_begun : {T E : Type 0} (r : Result T E) (old new : Evaluator) (p : Situation) (f g : FlatForm) → f ≡ g

@@ -36,37 +36,9 @@ fewer names m o z k n e = let same : n ≡ k = cc in ap (λ j. moment (come_to (
 
 pub passes : (names : List (List ℕ)) (s : Setting) (m : Machine) (w : Frame) (n : ℕ) (o : Outcome) (z : FlatState) → waiting_operands w ≡ Some n → IsValue o ≡ false
     → moment (come_to (outcome_of names o)) (frames names m n) z ≡ outcome_step s (taken names m w) (outcome_of names o) (below names m w) z
-passes names s m (frame.SetLocal of_p of_s) n o z e h = fewer names m o z 0 n e ∙ passed_on names o (frames names m 0) z _ h
-passes names s m (frame.SetGlobal of_n of_s) n o z e h = fewer names m o z 0 n e ∙ passed_on names o (frames names m 0) z _ h
-passes names s m (frame.DefGlobal of_n) n o z e h = fewer names m o z 0 n e ∙ passed_on names o (frames names m 0) z _ h
-passes names s m (frame.Sequence of_fs of_n of_s) n o z e h = fewer names m o z 0 n e ∙ passed_on names o (frames names m 0) z _ h
-passes names s m (frame.Clause of_cs of_n of_s) n o z e h = fewer names m o z 0 n e ∙ passed_on names o (frames names m 0) z _ h
 passes names s m (frame.Binding of_bs of_n of_b of_s) n o z e h = fewer names m o z of_n n e ∙ passed_on names o (frames names m of_n) z _ h
 passes names s m (frame.Argument of_o of_fs of_n of_s) n o z e h = fewer names m o z of_n n e ∙ passed_on names o (frames names m of_n) z _ h
 passes names s m (frame.DynamicValue of_bs of_n of_b of_s) n o z e h = fewer names m o z of_n n e ∙ passed_on names o (frames names m of_n) z _ h
-passes names s m (frame.AppliedFunction of_l of_s) n o z e h = fewer names m o z 0 n e ∙ passed_on names o (frames names m 0) z _ h
-passes names s m (frame.AppliedList of_f of_s) n o z e h = fewer names m o z 0 n e ∙ passed_on names o (frames names m 0) z _ h
-passes names s m (frame.WhileTest of_t of_b of_s) n o z e h = fewer names m o z 0 n e ∙ passed_on names o (frames names m 0) z _ h
-passes names s m (frame.WhileBody of_t of_b of_s) n o z e h = fewer names m o z 0 n e ∙ passed_on names o (frames names m 0) z _ h
-passes names s m (frame.ReturnValue of_x of_s) n o z e h = fewer names m o z 0 n e ∙ passed_on names o (frames names m 0) z _ h
-passes names s m frame.LastSegment n o z e h = fewer names m o z 0 n e ∙ passed_on names o (frames names m 0) z _ h
-passes names s m (frame.CatchTag of_b of_s) n o z e h = fewer names m o z 0 n e ∙ passed_on names o (frames names m 0) z _ h
-passes names s m (frame.ThrowTag of_f of_s) n o z e h = fewer names m o z 0 n e ∙ passed_on names o (frames names m 0) z _ h
-passes names s m (frame.ThrowValue of_t of_s) n o z e h = fewer names m o z 0 n e ∙ passed_on names o (frames names m 0) z _ h
-passes names s m (frame.SetDynamic of_n of_s) n o z e h = fewer names m o z 0 n e ∙ passed_on names o (frames names m 0) z _ h
-passes names s m (frame.DefDynamic of_n) n o z e h = fewer names m o z 0 n e ∙ passed_on names o (frames names m 0) z _ h
-passes names s m (frame.HandlerValue of_b of_s) n o z e h = fewer names m o z 0 n e ∙ passed_on names o (frames names m 0) z _ h
-passes names s m (frame.SignalCondition of_f of_s) n o z e h = fewer names m o z 0 n e ∙ passed_on names o (frames names m 0) z _ h
-passes names s m (frame.SignalMark of_c of_s) n o z e h = fewer names m o z 0 n e ∙ passed_on names o (frames names m 0) z _ h
-passes names s m (frame.ContinueCondition of_f of_s) n o z e h = fewer names m o z 0 n e ∙ passed_on names o (frames names m 0) z _ h
-passes names s m (frame.ContinueValue of_c of_s) n o z e h = fewer names m o z 0 n e ∙ passed_on names o (frames names m 0) z _ h
-passes names s m (frame.Kept of_o) n o z e h = fewer names m o z 0 n e ∙ passed_on names o (frames names m 0) z _ h
-passes names s m (frame.Methods of_ms of_n of_vs of_l of_r) n o z e h = fewer names m o z 0 n e ∙ passed_on names o (frames names m 0) z _ h
-passes names s m (frame.BeforeMethods of_r of_vs of_l of_q) n o z e h = fewer names m o z 0 n e ∙ passed_on names o (frames names m 0) z _ h
-passes names s m (frame.PrimaryMethod of_r of_vs of_l of_q) n o z e h = fewer names m o z 0 n e ∙ passed_on names o (frames names m 0) z _ h
-passes names s m (frame.HandlerReturn of_l of_q) n o z e h = fewer names m o z 0 n e ∙ passed_on names o (frames names m 0) z _ h
-passes names s m (frame.MainForm of_n) n o z e h = fewer names m o z 0 n e ∙ passed_on names o (frames names m 0) z _ h
-passes names s m (frame.MainForms of_l of_fs of_n) n o z e h = fewer names m o z 0 n e ∙ passed_on names o (frames names m 0) z _ h
 passes names s m (frame.Block of_n of_e of_o) n o z e h = absurd (cc)
 passes names s m (frame.Catch of_n of_t of_e) n o z e h = absurd (cc)
 passes names s m (frame.Signal of_n of_c of_m of_e) n o z e h = absurd (cc)
@@ -77,3 +49,4 @@ passes names s m (frame.RestoresSlots of_saved) n o z e h = absurd (cc)
 passes names s m (frame.DropsSlots of_n) n o z e h = absurd (cc)
 passes names s m (frame.Handles of_w of_n) n o z e h = absurd (cc)
 passes names s m (frame.Binds of_bs of_n of_m) n o z e h = absurd (cc)
+passes names s m w n o z e h = fewer names m o z 0 n e ∙ passed_on names o (frames names m 0) z _ h

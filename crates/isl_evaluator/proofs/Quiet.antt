@@ -29,21 +29,11 @@ use Rattle.isl_primitives.specs.declared.group.Group.TheVariants as group
 
 quiet_kind : (x : Kind) → is_streaming (kind_of x) ≡ false
 quiet_kind kind.Null = refl
-quiet_kind kind.Integer = refl
-quiet_kind kind.Character = refl
-quiet_kind kind.Symbol = refl
-quiet_kind kind.Cons = refl
-quiet_kind kind.String = refl
-quiet_kind kind.Vector = refl
-quiet_kind kind.Function = refl
-quiet_kind kind.Generic = refl
+quiet_kind w = refl
 
 quiet_part : (x : Part) → is_streaming (part_of x) ≡ false
 quiet_part part.Car = refl
-quiet_part part.Cdr = refl
-quiet_part part.CharCode = refl
-quiet_part part.CodeChar = refl
-quiet_part part.SymbolSerial = refl
+quiet_part w = refl
 
 quiet_measured : (x : Length) → is_streaming (length_primitive_of x) ≡ false
 quiet_measured measured.String = refl
@@ -52,18 +42,11 @@ quiet_measured measured.Slots = refl
 
 quiet_arithmetic : (x : Arithmetic) → is_streaming (arithmetic_of x) ≡ false
 quiet_arithmetic arithmetic.Add = refl
-quiet_arithmetic arithmetic.Subtract = refl
-quiet_arithmetic arithmetic.Multiply = refl
-quiet_arithmetic arithmetic.Divide = refl
-quiet_arithmetic arithmetic.Modulo = refl
+quiet_arithmetic w = refl
 
 quiet_comparison : (x : Comparison) → is_streaming (comparison_of x) ≡ false
 quiet_comparison comparison.Equal = refl
-quiet_comparison comparison.NotEqual = refl
-quiet_comparison comparison.Less = refl
-quiet_comparison comparison.AtMost = refl
-quiet_comparison comparison.Greater = refl
-quiet_comparison comparison.AtLeast = refl
+quiet_comparison w = refl
 
 quiet_element : (x : Element) → is_streaming (element_of x) ≡ false
 quiet_element element.CharAt = refl
@@ -90,25 +73,14 @@ quiet_one : (x : One) → is_streaming (one_of x) ≡ false
 quiet_one (one.Is k) = quiet_kind k
 quiet_one (one.Part x) = quiet_part x
 quiet_one (one.Length x) = quiet_measured x
-quiet_one one.ClassOf = refl
-quiet_one one.ClassName = refl
-quiet_one one.Continuable = refl
-quiet_one one.SymbolName = refl
-quiet_one one.Allocate = refl
+quiet_one w = refl
 
 quiet_two : (x : Two) → is_streaming (two_of x) ≡ false
 quiet_two (two.Arithmetic x) = quiet_arithmetic x
 quiet_two (two.Comparison x) = quiet_comparison x
-quiet_two two.Same = refl
 quiet_two (two.Element x) = quiet_element x
-quiet_two two.SlotInitargs = refl
-quiet_two two.SlotInitform = refl
-quiet_two two.SetCar = refl
-quiet_two two.SetCdr = refl
-quiet_two two.Cons = refl
-quiet_two two.MakeString = refl
-quiet_two two.MakeVector = refl
 quiet_two (two.Search x) = quiet_searches x
+quiet_two w = refl
 
 -- by the group of a primitive
 pub zero_quiet : (g : Group) (p : Primitive) (x : Zero) → g ≡ group.Zero x → primitive_of g ≡ p → is_streaming p ≡ false

@@ -7,8 +7,8 @@ use Rattle.isl_meaning.specs.Objects.{input_stream, output_stream}
 use Rattle.isl_store.specs.declared.store.Store.{Store}
 use Rattle.isl_store.specs.declared.word.Word.{Word}
 use Rattle.isl_store.specs.Words.{value_of_word, values_of}
-use Rattle.isl_layout.specs.Recipes.{Recipe, in_turn, IsMade, IsMaking}
-use Rattle.isl_layout.specs.Parts.{single, class_recipe, classes_recipe}
+use Rattle.isl_recipes.specs.Recipes.{Recipe, in_turn, single, class_recipe, classes_recipe}
+use Rattle.isl_layout.specs.Recipes.{IsMade, IsMaking}
 use Rattle.isl_layout.specs.Tables.{first_values}
 use Rattle.isl_layout.proofs.Turns.{one_made, all_made}
 use Rattle.isl_layout.proofs.Made.{both_made, made_as}

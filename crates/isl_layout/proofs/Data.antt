@@ -14,9 +14,10 @@ use Rattle.isl_meaning.specs.Literals.{Laid, lay, lay_content, lay_items, lay_li
 use Rattle.isl_store.specs.declared.store.Store.{Store}
 use Rattle.isl_store.specs.declared.word.Word.{Word}
 use Rattle.isl_store.specs.Words.{value_of_word, values_of}
-use Rattle.isl_layout.specs.Recipes.{Recipe, in_turn, linked, IsMade}
-use Rattle.isl_layout.specs.Parts.{single, laid, symbols_of}
-use Rattle.isl_layout.proofs.Made.{both, both_made, made_as}
+use Rattle.isl_recipes.specs.Recipes.{Recipe, in_turn, single, laid, both}
+use Rattle.isl_layout.specs.Recipes.{linked, IsMade}
+use Rattle.isl_layout.specs.Parts.{symbols_of}
+use Rattle.isl_layout.proofs.Made.{both_made, made_as}
 
 -- data one after another
 pub items_in_turn : (names : List (List ℕ)) (ds : List Item) (n : ℕ) → in_turn (λ d. laid (lay names d)) ds n ≡ lay_items names (items_of ds) n

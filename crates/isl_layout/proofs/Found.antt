@@ -11,10 +11,9 @@ use Rattle.isl_meaning.specs.Literals.{function_row}
 use Rattle.isl_meaning.specs.Layout.{class, function_of, laid_out, under_key, class_things, function_things}
 use Rattle.isl_store.specs.declared.word.Word.{Word}
 use Rattle.isl_store.specs.Words.{value_of_word, values_of}
-use Rattle.isl_layout.specs.Recipes.{in_turn}
-use Rattle.isl_layout.specs.Parts.{class_recipe, function_recipe}
+use Rattle.isl_recipes.specs.Recipes.{in_turn, class_recipe, function_recipe}
 use Rattle.isl_layout.specs.Tables.{word_at, first_of_text, function_or_nil, callee_or_none}
-use Rattle.isl_layout.proofs.Keys.{AreOthers}
+use Rattle.isl_recipes.proofs.Keys.{AreOthers}
 
 -- the value at a place; nil where there is none
 abbrev pub value_in : List Value → ℕ → Value

@@ -4,11 +4,6 @@ pub mod Data
 pub mod Named
 pub mod SlotParts
 pub mod ClassRange
-pub mod Keys
-pub mod Segments
 pub mod Found
-pub mod Shapes
-pub mod LiteralPlaces
 pub mod SlotPlaces
-pub mod Whole
 pub mod Standing

@@ -13,8 +13,8 @@ use Rattle.isl_store.specs.declared.word.Word.TheVariants as word
 use Rattle.isl_store.specs.declared.object.Object as made
 use Rattle.isl_store.specs.Words.{value_of_word, values_of, object_of, captured_by, under_its_number}
 use Rattle.isl_store.specs.View.{Beside, seen, Becomes, placed}
-use Rattle.isl_layout.specs.Recipes.{Recipe, linked, count, with_objects, with_made, IsMade}
-use Rattle.isl_layout.specs.Parts.{single}
+use Rattle.isl_recipes.specs.Recipes.{Recipe, single, both}
+use Rattle.isl_layout.specs.Recipes.{linked, count, with_objects, with_made, IsMade}
 use Rattle.isl_layout.proofs.Turns.{none_more, more_after, count_made}
 
 -- a word that needs no object
@@ -23,12 +23,6 @@ pub atom_made : {W : Type 0} {V : Type 0} (meant : List (List ℕ) → W → V) 
 atom_made meant s w = record { store = λ names b. sym (none_more (seen names s b)); stands = λ names b. refl }
 
 -- two things, one after the other
-abbrev pub both : {U V : Type 0} → Recipe U → Recipe V → Recipe (U × V)
-both r s n =
-    let first = r n in
-    let next = s (n + length first.0) in
-    (first.0 ++ next.0, (first.1, next.1))
-
 pub both_made : {U V M N : Type 0} {meant : List (List ℕ) → M → U} {means : List (List ℕ) → N → V}
     {r : List (List ℕ) → Recipe U} {s : List (List ℕ) → Recipe V} {old mid new : Store} {w : M} {u : N}
     → IsMade meant r old mid w → IsMade means s mid new u

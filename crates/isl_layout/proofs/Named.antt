@@ -17,7 +17,7 @@ use Rattle.isl_store.specs.bridge.Places.{none_more, looked_up}
 use Rattle.isl_layout.specs.declared.functions.NamedFunction.{NamedFunction}
 use Rattle.isl_layout.specs.declared.functions.NamedFunctions.{NamedFunctions}
 use Rattle.isl_layout.specs.Recipes.{IsMade}
-use Rattle.isl_layout.specs.Parts.{single, function_recipe}
+use Rattle.isl_recipes.specs.Recipes.{single, function_recipe}
 use Rattle.isl_layout.specs.Tables.{first_of_text, IsAlike, IsSet, IsFunction, IsNoting}
 use Rattle.isl_layout.proofs.Made.{same_recipe}
 

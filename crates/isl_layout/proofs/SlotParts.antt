@@ -14,7 +14,8 @@ use Rattle.isl_store.specs.declared.word.Word.{Word}
 use Rattle.isl_store.specs.declared.word.Word.TheVariants.{Symbol}
 use Rattle.isl_store.specs.Words.{value_of_word, values_of}
 use Rattle.isl_layout.specs.Recipes.{linked, IsMade}
-use Rattle.isl_layout.specs.Parts.{single, laid, symbols_of, initform_recipe, slot_recipe}
+use Rattle.isl_recipes.specs.Recipes.{single, laid, initform_recipe}
+use Rattle.isl_layout.specs.Parts.{symbols_of, slot_recipe}
 use Rattle.isl_layout.specs.Tables.{slot_values}
 use Rattle.isl_layout.proofs.Made.{both_made, made_as}
 use Rattle.isl_layout.proofs.Data.{symbols_linked}

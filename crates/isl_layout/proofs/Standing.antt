@@ -16,15 +16,17 @@ use Rattle.isl_layout.specs.declared.classes.FirstWords.{FirstWords}
 use Rattle.isl_layout.specs.declared.functions.NamedFunctions.{NamedFunctions}
 use Rattle.isl_layout.specs.declared.layout.Layout.{Layout}
 use Rattle.isl_layout.specs.declared.slots.SlotWords.{SlotWords}
-use Rattle.isl_layout.specs.Recipes.{in_turn, count, with_objects, with_made, IsMade}
-use Rattle.isl_layout.specs.Parts.{first_recipe, classes_recipe, literal_recipe, slots_recipe}
+use Rattle.isl_recipes.specs.Recipes.{in_turn, classes_recipe, literal_recipe}
+use Rattle.isl_layout.specs.Recipes.{count, with_objects, with_made, IsMade}
+use Rattle.isl_layout.specs.Parts.{first_recipe, of_slot, slots_recipe}
 use Rattle.isl_layout.specs.Tables.{first_values, slots_values, function_or_nil, callee_or_none, IsNoting, AreNamed}
 use Rattle.isl_layout.specs.Layout.{IsLayout, IsLaidOut}
 use Rattle.isl_layout.proofs.Made.{both_made}
-use Rattle.isl_layout.proofs.Found.{value_in, word_value, function_found, callee_found}
-use Rattle.isl_layout.proofs.LiteralPlaces.{literal_found}
+use Rattle.isl_recipes.proofs.Found.{value_in}
+use Rattle.isl_layout.proofs.Found.{word_value, function_found, callee_found}
+use Rattle.isl_recipes.proofs.LiteralPlaces.{literal_found}
 use Rattle.isl_layout.proofs.SlotPlaces.{initargs_found, initform_found}
-use Rattle.isl_layout.proofs.Whole.{all_recipe, all_objects, at_functions, at_literals, at_slots, class_whole, input_whole, output_whole, function_whole, literal_whole, initargs_whole, initform_whole}
+use Rattle.isl_recipes.proofs.Whole.{all_recipe, all_objects, at_functions, at_literals, at_slots, class_whole, input_whole, output_whole, function_whole, literal_whole, initargs_whole, initform_whole}
 
 -- all words
 abbrev pub layout_of : FirstWords → NamedFunctions → List Word → List (List SlotWords) → Layout
@@ -48,7 +50,7 @@ values_in names words l =
 -- what is made from the first object on stands where the meaning looks
 is_layout : (names : List (List ℕ)) (rows : ProgramRows) (by : Spellings) (words : List Word) (l : Layout)
     → IsSpelling names by → IsNoting by rows.functions words l.functions
-    → values_in names words l ≡ (all_recipe names built_in_classes rows 0).1
+    → values_in names words l ≡ (all_recipe of_slot names built_in_classes rows 0).1
     → IsLayout names rows l
 is_layout names rows by words l spelling noted same = record {
   classes = λ c. word_value names l.classes c ∙ ap (λ (v : Values). value_in v.0.0.0.0 c) same ∙ class_whole names built_in_classes rows c;
@@ -87,7 +89,7 @@ pub is_laid_out : (names : List (List ℕ)) (program : FlatProgram) (by : Spelli
     → IsLaidOut names program five (layout_of first functions literals slots)
 unfolding first_recipe
 is_laid_out names program by classes first functions literals slots {one} {two} {three} {four} {five} empty spelling many p q r s =
-    let recipe = λ (ns : List (List ℕ)). all_recipe ns built_in_classes (tables program) in
+    let recipe = λ (ns : List (List ℕ)). all_recipe of_slot ns built_in_classes (tables program) in
     let begun : IsMade first_values (λ ns. classes_recipe built_in_classes (length program.classes)) one two first =
     subst (λ n. IsMade first_values (λ ns. classes_recipe built_in_classes n) one two first) many p in
     let made = both_made (both_made (both_made begun q.made) r) s in
@@ -95,7 +97,7 @@ is_laid_out names program by classes first functions literals slots {one} {two} 
       objects = λ b.
           made.store names b
           ∙ ap (with_made (recipe names)) (empty names b)
-          ∙ ap (λ os. with_objects os (nothing_seen b)) (sym (all_objects names built_in_classes (tables program) 0));
+          ∙ ap (λ os. with_objects os (nothing_seen b)) (sym (all_objects of_slot names built_in_classes (tables program) 0));
       stands = is_layout names (tables program) by q.words (layout_of first functions literals slots) spelling q.found
           (made.stands names nothing ∙ ap (λ z. (recipe names (count z)).1) (empty names nothing));
     }

@@ -7,7 +7,8 @@ use Rattle.isl_meaning.specs.Objects.{Object}
 use Rattle.isl_closure.specs.FlatState.{FlatState}
 use Rattle.isl_store.specs.declared.store.Store.{Store}
 use Rattle.isl_store.specs.View.{Beside, seen}
-use Rattle.isl_layout.specs.Recipes.{Recipe, in_turn, count, with_objects, with_made, IsMade, IsMaking}
+use Rattle.isl_recipes.specs.Recipes.{Recipe, in_turn}
+use Rattle.isl_layout.specs.Recipes.{count, with_objects, with_made, IsMade, IsMaking}
 
 -- objects more
 

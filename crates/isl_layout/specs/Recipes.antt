@@ -1,23 +1,12 @@
--- What is made from an object number on, and what stands for it; and when a store has it.
+-- When a store has what a recipe makes.
 use Rattle.std.specs.Prelude.{◌≡◌, ℕ, ◌+◌, List, [], ◌∷◌, ◌++◌, length, map}
 use Rattle.isl_meaning.specs.Values.{Value, object}
 use Rattle.isl_meaning.specs.Objects.{Object, cons}
 use Rattle.isl_meaning.specs.State.{State}
 use Rattle.isl_closure.specs.FlatState.{FlatState, on_state}
+use Rattle.isl_recipes.specs.Recipes.{Recipe, in_turn}
 use Rattle.isl_store.specs.declared.store.Store.{Store}
 use Rattle.isl_store.specs.View.{Beside, seen}
-
--- objects from a number on, and what stands for them
-abbrev pub Recipe : Type 0 → Type 0
-Recipe V = ℕ → List Object × V
-
--- one after another
-abbrev pub in_turn : {X V : Type 0} → (X → Recipe V) → List X → Recipe (List V)
-in_turn f [] n = ([], [])
-in_turn f (x ∷ xs) n =
-    let first = f x n in
-    let others = in_turn f xs (n + length first.0) in
-    (first.0 ++ others.0, first.1 ∷ others.1)
 
 -- conses of these values, the last one first, before that end
 abbrev pub linked : List Value → Value → Recipe Value

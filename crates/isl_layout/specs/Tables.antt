@@ -18,8 +18,8 @@ use Rattle.isl_layout.specs.declared.functions.NamedFunction.{NamedFunction}
 use Rattle.isl_layout.specs.declared.functions.NamedFunctions.{NamedFunctions}
 use Rattle.isl_layout.specs.declared.classes.FirstWords.{FirstWords}
 use Rattle.isl_layout.specs.declared.slots.SlotWords.{SlotWords}
-use Rattle.isl_layout.specs.Recipes.{IsMade, in_turn}
-use Rattle.isl_layout.specs.Parts.{function_recipe}
+use Rattle.isl_recipes.specs.Recipes.{in_turn, function_recipe}
+use Rattle.isl_layout.specs.Recipes.{IsMade}
 
 abbrev pub or_nil : Option Word → Word
 or_nil None = Nil

@@ -3,8 +3,9 @@
 ghost use Rattle.std.specs.Prelude.{◌≡◌, ◌-◌, ℕ, List, IfOk};
 ghost use Rattle.std.specs.List.{range_with_len};
 ghost use Rattle.isl_store.specs.Words.{value_of_word, values_of};
-ghost use Rattle.isl_layout.specs.Recipes.{IsMade, in_turn};
-ghost use Rattle.isl_layout.specs.Parts.{class_recipe, first_recipe};
+ghost use Rattle.isl_recipes.specs.Recipes.{in_turn, class_recipe};
+ghost use Rattle.isl_layout.specs.Recipes.{IsMade};
+ghost use Rattle.isl_layout.specs.Parts.{first_recipe};
 ghost use Rattle.isl_layout.specs.Tables.{first_values};
 
 use crate::making::add_object;

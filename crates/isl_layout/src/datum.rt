@@ -7,8 +7,8 @@ ghost use Rattle.isl_meaning.specs.Objects.{string};
 ghost use Rattle.isl_meaning.specs.Literals.{lay, lay_content, lay_tail, symbol_of};
 ghost use Rattle.isl_meaning.specs.Values as values;
 ghost use Rattle.isl_store.specs.Words.{value_of_word, values_of};
-ghost use Rattle.isl_layout.specs.Recipes.{IsMade, in_turn};
-ghost use Rattle.isl_layout.specs.Parts.{single, laid};
+ghost use Rattle.isl_recipes.specs.Recipes.{in_turn, single, laid};
+ghost use Rattle.isl_layout.specs.Recipes.{IsMade};
 
 use crate::making::{add_list, add_object};
 use isl_base::{Bytes, Datum, DatumList, Kind, NoMemory, Symbol};

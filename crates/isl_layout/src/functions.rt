@@ -2,8 +2,8 @@
 
 ghost use Rattle.std.specs.Prelude.{◌≡◌, ◌<◌, [], IfOk, OnOk, length};
 ghost use Rattle.isl_store.specs.Words.{values_of};
-ghost use Rattle.isl_layout.specs.Recipes.{IsMade, in_turn};
-ghost use Rattle.isl_layout.specs.Parts.{function_recipe};
+ghost use Rattle.isl_recipes.specs.Recipes.{in_turn, function_recipe};
+ghost use Rattle.isl_layout.specs.Recipes.{IsMade};
 ghost use Rattle.isl_layout.specs.Tables.{entry_of, IsAlike, IsSet, IsFunction, IsNoting, AreNamed};
 
 use crate::making::add_object;

@@ -2,8 +2,8 @@
 
 ghost use Rattle.std.specs.Prelude.{◌≡◌, ℕ, List, IfOk};
 ghost use Rattle.isl_store.specs.Words.{value_of_word, values_of};
-ghost use Rattle.isl_layout.specs.Recipes.{IsMade, in_turn};
-ghost use Rattle.isl_layout.specs.Parts.{literal_recipe};
+ghost use Rattle.isl_recipes.specs.Recipes.{in_turn, literal_recipe};
+ghost use Rattle.isl_layout.specs.Recipes.{IsMade};
 
 use crate::datum::lay_datum;
 use isl_base::{ItemList, NoMemory};

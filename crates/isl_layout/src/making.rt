@@ -3,7 +3,7 @@
 ghost use Rattle.std.specs.Prelude.{◌≡◌, ℕ, List, None, IfOk};
 ghost use Rattle.isl_store.specs.Words.{value_of_word, values_of, object_of, captured_by};
 ghost use Rattle.isl_layout.specs.Recipes.{IsMade, linked};
-ghost use Rattle.isl_layout.specs.Parts.{single};
+ghost use Rattle.isl_recipes.specs.Recipes.{single};
 
 use isl_base::{ItemList, NoMemory};
 use isl_store::{Object, Store, Word};

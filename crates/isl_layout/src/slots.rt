@@ -3,8 +3,9 @@
 ghost use Rattle.std.specs.Prelude.{◌≡◌, ℕ, List, IfOk, map};
 ghost use Rattle.isl_meaning.specs.Layout.{initform_objects};
 ghost use Rattle.isl_store.specs.Words.{value_of_word, values_of};
-ghost use Rattle.isl_layout.specs.Recipes.{IsMade, in_turn};
-ghost use Rattle.isl_layout.specs.Parts.{slot_recipe, slots_recipe, symbols_of, last_of, initform_recipe};
+ghost use Rattle.isl_recipes.specs.Recipes.{in_turn, last_of, initform_recipe};
+ghost use Rattle.isl_layout.specs.Recipes.{IsMade};
+ghost use Rattle.isl_layout.specs.Parts.{slot_recipe, slots_recipe, symbols_of};
 ghost use Rattle.isl_layout.specs.Tables.{slot_values, slots_values};
 
 use crate::making::{add_list, add_object};

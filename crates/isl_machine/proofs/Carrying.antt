@@ -50,12 +50,9 @@ last_piece xs ys n first e h =
 
 pub carried : (s : Setting) (a : Answer) (level : ℕ) (around : Surroundings) (frames : List plain.Frame) (z : FlatState)
     → carry s (carried_out s.limit a z) level around frames ≡ answered s a level around frames z
-carried s (result v x) level around frames z = refl
-carried s (makes size besides o x) level around frames z = refl
 carried s (makes_symbol x) level around frames z =
     gone_on (made s.limit 2 0 (fresh_symbol x.symbols) (record z { state = x })) (λ v after. gives v (on_state (λ (y : State). record y { symbols = y.symbols + 1 }) after)) frames
-carried s (fails class slots x) level around frames z = refl
-carried s (domain_error v expected x) level around frames z = refl
+carried s w level around frames z = refl
 
 -- an answer is told once the operands have gone
 pub told_dropped : (old mid down new : Machine) (which : Primitive) (n level : ℕ) (a : Around) (r : Result Told Halt)

@@ -14,37 +14,7 @@ use Rattle.isl_machine.specs.Sizes.{nodes_inside, clause_nodes, value_nodes, dyn
 
 pub own_and_inside : (f : FlatForm) → nodes f ≡ own_nodes f + nodes_inside f
 own_and_inside (literal i) = omega arith
-own_and_inside (local v) = omega arith
-own_and_inside (set_local v f) = omega arith
-own_and_inside (global n) = omega arith
-own_and_inside (set_global n f) = omega arith
-own_and_inside (def_global n f) = omega arith
-own_and_inside (clauses cs) = omega arith
-own_and_inside (sequence fs) = omega arith
-own_and_inside (let_form bs body) = omega arith
-own_and_inside (make_function p parts) = omega arith
-own_and_inside (call n fs) = omega arith
-own_and_inside (call_value fs) = omega arith
-own_and_inside (apply f list) = omega arith
-own_and_inside (prim which fs) = omega arith
-own_and_inside (while_form test body) = omega arith
-own_and_inside (block body) = omega arith
-own_and_inside (return_from x f) = omega arith
-own_and_inside (tagbody segments) = omega arith
-own_and_inside (go x segment) = omega arith
-own_and_inside (catch_form tag body) = omega arith
-own_and_inside (throw tag f) = omega arith
-own_and_inside (unwind f cleanup) = omega arith
-own_and_inside (dynamic_let ds body) = omega arith
-own_and_inside (dynamic n) = omega arith
-own_and_inside (set_dynamic n f) = omega arith
-own_and_inside (def_dynamic n f) = omega arith
-own_and_inside (with_handler handler body) = omega arith
-own_and_inside (signal_form condition mark) = omega arith
-own_and_inside (continue_form condition f) = omega arith
-own_and_inside (next_method m) = omega arith
-own_and_inside (has_next m) = omega arith
-own_and_inside (sited site f) = omega arith
+own_and_inside w = omega arith
 
 -- the mirror of a list has the same sum of nodes
 pub forms_summed : (xs : List FlatForm) → sum (nodes_of_forms (forms xs)) ≡ sum_by nodes xs

@@ -86,36 +86,6 @@ pub record LinksNothing (names : List (List ℕ)) (w : Frame) : Type 0 where
   pub binding : binding_link names w ≡ None
 
 plain_links : (names : List (List ℕ)) (w : Frame) → IsPlain w ≡ true → LinksNothing names w
-plain_links names (frame.SetLocal p s) h = record { own = refl; exit = refl; handler = refl; binding = refl }
-plain_links names (frame.SetGlobal n s) h = record { own = refl; exit = refl; handler = refl; binding = refl }
-plain_links names (frame.DefGlobal n) h = record { own = refl; exit = refl; handler = refl; binding = refl }
-plain_links names (frame.Sequence fs n s) h = record { own = refl; exit = refl; handler = refl; binding = refl }
-plain_links names (frame.Clause cs n s) h = record { own = refl; exit = refl; handler = refl; binding = refl }
-plain_links names (frame.AppliedFunction l s) h = record { own = refl; exit = refl; handler = refl; binding = refl }
-plain_links names (frame.AppliedList f s) h = record { own = refl; exit = refl; handler = refl; binding = refl }
-plain_links names (frame.WhileTest t b s) h = record { own = refl; exit = refl; handler = refl; binding = refl }
-plain_links names (frame.WhileBody t b s) h = record { own = refl; exit = refl; handler = refl; binding = refl }
-plain_links names (frame.ReturnValue x s) h = record { own = refl; exit = refl; handler = refl; binding = refl }
-plain_links names frame.LastSegment h = record { own = refl; exit = refl; handler = refl; binding = refl }
-plain_links names (frame.CatchTag b s) h = record { own = refl; exit = refl; handler = refl; binding = refl }
-plain_links names (frame.ThrowTag f s) h = record { own = refl; exit = refl; handler = refl; binding = refl }
-plain_links names (frame.ThrowValue t s) h = record { own = refl; exit = refl; handler = refl; binding = refl }
-plain_links names (frame.SetDynamic n s) h = record { own = refl; exit = refl; handler = refl; binding = refl }
-plain_links names (frame.DefDynamic n) h = record { own = refl; exit = refl; handler = refl; binding = refl }
-plain_links names (frame.HandlerValue b s) h = record { own = refl; exit = refl; handler = refl; binding = refl }
-plain_links names (frame.SignalCondition f s) h = record { own = refl; exit = refl; handler = refl; binding = refl }
-plain_links names (frame.SignalMark c s) h = record { own = refl; exit = refl; handler = refl; binding = refl }
-plain_links names (frame.ContinueCondition f s) h = record { own = refl; exit = refl; handler = refl; binding = refl }
-plain_links names (frame.ContinueValue c s) h = record { own = refl; exit = refl; handler = refl; binding = refl }
-plain_links names (frame.Kept o) h = record { own = refl; exit = refl; handler = refl; binding = refl }
-plain_links names (frame.Methods ms n vs l r) h = record { own = refl; exit = refl; handler = refl; binding = refl }
-plain_links names (frame.BeforeMethods r vs l q) h = record { own = refl; exit = refl; handler = refl; binding = refl }
-plain_links names (frame.PrimaryMethod r vs l q) h = record { own = refl; exit = refl; handler = refl; binding = refl }
-plain_links names (frame.HandlerReturn l q) h = record { own = refl; exit = refl; handler = refl; binding = refl }
-plain_links names (frame.MainForm n) h = record { own = refl; exit = refl; handler = refl; binding = refl }
-plain_links names (frame.Cleans f s) h = record { own = refl; exit = refl; handler = refl; binding = refl }
-plain_links names (frame.RestoresStack n) h = record { own = refl; exit = refl; handler = refl; binding = refl }
-plain_links names (frame.DropsSlots n) h = record { own = refl; exit = refl; handler = refl; binding = refl }
 plain_links names (frame.Binding bs n b s) h = absurd (cc)
 plain_links names (frame.Argument o fs n s) h = absurd (cc)
 plain_links names (frame.DynamicValue bs n b s) h = absurd (cc)
@@ -127,6 +97,7 @@ plain_links names (frame.Tagbody n fs s) h = absurd (cc)
 plain_links names (frame.RestoresSlots saved) h = absurd (cc)
 plain_links names (frame.Handles w n) h = absurd (cc)
 plain_links names (frame.Binds bs n m) h = absurd (cc)
+plain_links names w h = record { own = refl; exit = refl; handler = refl; binding = refl }
 
 -- surroundings and situations stay under a frame that links nothing
 pub around_stays : (names : List (List ℕ)) (ws : List Frame) (w : Frame) (s : Around) → LinksNothing names w → around_in names (w ∷ ws) s ≡ around_in names ws s

@@ -37,47 +37,14 @@ entered names a operands slots items after w f inside z e =
 
 -- a frame to which no situation links
 pub unlinked_links : (names : List (List ℕ)) (w : Frame) → IsUnlinked w ≡ true → LinksNothing names w
-unlinked_links names (frame.SetLocal p s) h = record { own = refl; exit = refl; handler = refl; binding = refl }
-unlinked_links names (frame.SetGlobal n s) h = record { own = refl; exit = refl; handler = refl; binding = refl }
-unlinked_links names (frame.DefGlobal n) h = record { own = refl; exit = refl; handler = refl; binding = refl }
-unlinked_links names (frame.Sequence fs n s) h = record { own = refl; exit = refl; handler = refl; binding = refl }
-unlinked_links names (frame.Clause cs n s) h = record { own = refl; exit = refl; handler = refl; binding = refl }
-unlinked_links names (frame.Binding bs n b s) h = record { own = refl; exit = refl; handler = refl; binding = refl }
-unlinked_links names (frame.Argument o fs n s) h = record { own = refl; exit = refl; handler = refl; binding = refl }
-unlinked_links names (frame.DynamicValue bs n b s) h = record { own = refl; exit = refl; handler = refl; binding = refl }
-unlinked_links names (frame.AppliedFunction l s) h = record { own = refl; exit = refl; handler = refl; binding = refl }
-unlinked_links names (frame.AppliedList f s) h = record { own = refl; exit = refl; handler = refl; binding = refl }
-unlinked_links names (frame.WhileTest t b s) h = record { own = refl; exit = refl; handler = refl; binding = refl }
-unlinked_links names (frame.WhileBody t b s) h = record { own = refl; exit = refl; handler = refl; binding = refl }
-unlinked_links names (frame.ReturnValue x s) h = record { own = refl; exit = refl; handler = refl; binding = refl }
-unlinked_links names frame.LastSegment h = record { own = refl; exit = refl; handler = refl; binding = refl }
-unlinked_links names (frame.CatchTag b s) h = record { own = refl; exit = refl; handler = refl; binding = refl }
-unlinked_links names (frame.ThrowTag f s) h = record { own = refl; exit = refl; handler = refl; binding = refl }
-unlinked_links names (frame.ThrowValue t s) h = record { own = refl; exit = refl; handler = refl; binding = refl }
-unlinked_links names (frame.SetDynamic n s) h = record { own = refl; exit = refl; handler = refl; binding = refl }
-unlinked_links names (frame.DefDynamic n) h = record { own = refl; exit = refl; handler = refl; binding = refl }
-unlinked_links names (frame.HandlerValue b s) h = record { own = refl; exit = refl; handler = refl; binding = refl }
-unlinked_links names (frame.SignalCondition f s) h = record { own = refl; exit = refl; handler = refl; binding = refl }
-unlinked_links names (frame.SignalMark c s) h = record { own = refl; exit = refl; handler = refl; binding = refl }
-unlinked_links names (frame.ContinueCondition f s) h = record { own = refl; exit = refl; handler = refl; binding = refl }
-unlinked_links names (frame.ContinueValue c s) h = record { own = refl; exit = refl; handler = refl; binding = refl }
-unlinked_links names (frame.Kept o) h = record { own = refl; exit = refl; handler = refl; binding = refl }
-unlinked_links names (frame.Methods ms n vs l r) h = record { own = refl; exit = refl; handler = refl; binding = refl }
-unlinked_links names (frame.BeforeMethods r vs l q) h = record { own = refl; exit = refl; handler = refl; binding = refl }
-unlinked_links names (frame.PrimaryMethod r vs l q) h = record { own = refl; exit = refl; handler = refl; binding = refl }
-unlinked_links names (frame.HandlerReturn l q) h = record { own = refl; exit = refl; handler = refl; binding = refl }
-unlinked_links names (frame.MainForm n) h = record { own = refl; exit = refl; handler = refl; binding = refl }
 unlinked_links names (frame.MainForms l fs n) h = absurd (cc)
 unlinked_links names (frame.Block n e o) h = absurd (cc)
 unlinked_links names (frame.Catch n t e) h = absurd (cc)
 unlinked_links names (frame.Signal n c m e) h = absurd (cc)
 unlinked_links names (frame.Tagbody n fs s) h = absurd (cc)
-unlinked_links names (frame.Cleans f s) h = record { own = refl; exit = refl; handler = refl; binding = refl }
-unlinked_links names (frame.RestoresStack n) h = record { own = refl; exit = refl; handler = refl; binding = refl }
-unlinked_links names (frame.RestoresSlots saved) h = record { own = refl; exit = refl; handler = refl; binding = refl }
-unlinked_links names (frame.DropsSlots n) h = record { own = refl; exit = refl; handler = refl; binding = refl }
 unlinked_links names (frame.Handles w n) h = absurd (cc)
 unlinked_links names (frame.Binds bs n m) h = absurd (cc)
+unlinked_links names w h = record { own = refl; exit = refl; handler = refl; binding = refl }
 
 pub stays_unlinked : (names : List (List ℕ)) (a : Activation) (ws : List Frame) (w : Frame) (s : Situation) → IsUnlinked w ≡ true
     → situation_in names a (w ∷ ws) s ≡ situation_in names a ws s

@@ -24,10 +24,7 @@ use Rattle.isl_primitives.specs.Answers.{told, IsTold, IsSaid}
 pub on_integers : (names : List (List ℕ)) (rows : ProgramRows) (which : Arithmetic) (vs : List Value) (z : State)
     → primitive names rows (arithmetic_of which) vs z ≡ of_integers (calculated which) vs z
 on_integers names rows Add vs z = refl
-on_integers names rows Subtract vs z = refl
-on_integers names rows Multiply vs z = refl
-on_integers names rows Divide vs z = refl
-on_integers names rows Modulo vs z = refl
+on_integers names rows w vs z = refl
 
 pub both_integers : (which : Arithmetic) (v w : Word) (a b : ℤ) (x : Answer)
     → ((names : List (List ℕ)) → as_integer (value_of_word names v) ≡ Some a) → ((names : List (List ℕ)) → as_integer (value_of_word names w) ≡ Some b)
@@ -54,11 +51,7 @@ second_none which v w a first none = record {
 compared_integers : (names : List (List ℕ)) (rows : ProgramRows) (which : Comparison) (vs : List Value) (z : State)
     → primitive names rows (comparison_of which) vs z ≡ of_integers (λ a b. says (compared which a b)) vs z
 compared_integers names rows Equal vs z = refl
-compared_integers names rows NotEqual vs z = refl
-compared_integers names rows Less vs z = refl
-compared_integers names rows AtMost vs z = refl
-compared_integers names rows Greater vs z = refl
-compared_integers names rows AtLeast vs z = refl
+compared_integers names rows w vs z = refl
 
 pub both_compared : (which : Comparison) (v w : Word) (a b : ℤ) (r : Bool) (x : Answer)
     → ((names : List (List ℕ)) → as_integer (value_of_word names v) ≡ Some a) → ((names : List (List ℕ)) → as_integer (value_of_word names w) ≡ Some b)

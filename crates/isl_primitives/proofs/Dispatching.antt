@@ -78,14 +78,7 @@ unsaid_computed p limit which ws s t = looking.no_memory_left p limit which ws s
 -- what a value is
 kind_form : (names : List (List ℕ)) (rows : ProgramRows) (k : Kind) (v : Value) (z : State) → primitive names rows (kind_of k) (v ∷ []) z ≡ says (is_kind k z v) z
 kind_form names rows kind.Null v z = refl
-kind_form names rows kind.Integer v z = refl
-kind_form names rows kind.Character v z = refl
-kind_form names rows kind.Symbol v z = refl
-kind_form names rows kind.Cons v z = refl
-kind_form names rows kind.String v z = refl
-kind_form names rows kind.Vector v z = refl
-kind_form names rows kind.Function v z = refl
-kind_form names rows kind.Generic v z = refl
+kind_form names rows w v z = refl
 
 pub kind_computed : (p : Primitives) (limit : Option ℕ) (k : Kind) (w : Word) (s : Store) (r : Bool) (a : Answer) → IsOfKind k s w r → IsSaid r a → IsComputed p limit (kind_of k) (w ∷ []) s s (Ok a)
 kind_computed p limit k w s r a h x = read_done_computed p limit (kind_of k) (w ∷ []) s a (record {
@@ -153,11 +146,8 @@ two_wrong f (v ∷ w ∷ []) z h = absurd (h refl)
 two_wrong f (v ∷ w ∷ u ∷ vs) z h = refl
 
 three_wrong : (f : Value → Value → Value → State → meaning.Answer) (vs : List Value) (z : State) → (length vs ≡ 3 → ⊥) → of_three f vs z ≡ meaning.result nil z
-three_wrong f [] z h = refl
-three_wrong f (v ∷ []) z h = refl
-three_wrong f (v ∷ w ∷ []) z h = refl
 three_wrong f (v ∷ w ∷ u ∷ []) z h = absurd (h refl)
-three_wrong f (v ∷ w ∷ u ∷ x ∷ vs) z h = refl
+three_wrong f w z h = refl
 
 zero_nil : (names : List (List ℕ)) (rows : ProgramRows) (x : Zero) (vs : List Value) (z : State) → (length vs ≡ 0 → ⊥) → primitive names rows (zero_of x) vs z ≡ meaning.result nil z
 zero_nil names rows zeros.Gensym vs z h = none_wrong _ vs z h
@@ -166,55 +156,16 @@ zero_nil names rows zeros.StandardOutput vs z h = none_wrong _ vs z h
 
 one_nil : (names : List (List ℕ)) (rows : ProgramRows) (x : One) (vs : List Value) (z : State) → (length vs ≡ 1 → ⊥) → primitive names rows (one_of x) vs z ≡ meaning.result nil z
 one_nil names rows (one.Is kind.Null) vs z h = one_wrong _ vs z h
-one_nil names rows (one.Is kind.Integer) vs z h = one_wrong _ vs z h
-one_nil names rows (one.Is kind.Character) vs z h = one_wrong _ vs z h
-one_nil names rows (one.Is kind.Symbol) vs z h = one_wrong _ vs z h
-one_nil names rows (one.Is kind.Cons) vs z h = one_wrong _ vs z h
-one_nil names rows (one.Is kind.String) vs z h = one_wrong _ vs z h
-one_nil names rows (one.Is kind.Vector) vs z h = one_wrong _ vs z h
-one_nil names rows (one.Is kind.Function) vs z h = one_wrong _ vs z h
-one_nil names rows (one.Is kind.Generic) vs z h = one_wrong _ vs z h
 one_nil names rows (one.Part part.Car) vs z h = one_wrong _ vs z h
-one_nil names rows (one.Part part.Cdr) vs z h = one_wrong _ vs z h
-one_nil names rows (one.Part part.CharCode) vs z h = one_wrong _ vs z h
-one_nil names rows (one.Part part.CodeChar) vs z h = one_wrong _ vs z h
-one_nil names rows (one.Part part.SymbolSerial) vs z h = one_wrong _ vs z h
 one_nil names rows (one.Length lengths.String) vs z h = one_wrong _ vs z h
-one_nil names rows (one.Length lengths.Vector) vs z h = one_wrong _ vs z h
-one_nil names rows (one.Length lengths.Slots) vs z h = one_wrong _ vs z h
-one_nil names rows one.ClassOf vs z h = one_wrong _ vs z h
-one_nil names rows one.ClassName vs z h = one_wrong _ vs z h
-one_nil names rows one.Continuable vs z h = one_wrong _ vs z h
-one_nil names rows one.SymbolName vs z h = one_wrong _ vs z h
-one_nil names rows one.Allocate vs z h = one_wrong _ vs z h
+one_nil names rows x vs z h = one_wrong _ vs z h
 
 two_nil : (names : List (List ℕ)) (rows : ProgramRows) (x : Two) (vs : List Value) (z : State) → (length vs ≡ 2 → ⊥) → primitive names rows (two_of x) vs z ≡ meaning.result nil z
 two_nil names rows (two.Arithmetic arithmetic.Add) vs z h = two_wrong _ vs z h
-two_nil names rows (two.Arithmetic arithmetic.Subtract) vs z h = two_wrong _ vs z h
-two_nil names rows (two.Arithmetic arithmetic.Multiply) vs z h = two_wrong _ vs z h
-two_nil names rows (two.Arithmetic arithmetic.Divide) vs z h = two_wrong _ vs z h
-two_nil names rows (two.Arithmetic arithmetic.Modulo) vs z h = two_wrong _ vs z h
 two_nil names rows (two.Comparison comparison.Equal) vs z h = two_wrong _ vs z h
-two_nil names rows (two.Comparison comparison.NotEqual) vs z h = two_wrong _ vs z h
-two_nil names rows (two.Comparison comparison.Less) vs z h = two_wrong _ vs z h
-two_nil names rows (two.Comparison comparison.AtMost) vs z h = two_wrong _ vs z h
-two_nil names rows (two.Comparison comparison.Greater) vs z h = two_wrong _ vs z h
-two_nil names rows (two.Comparison comparison.AtLeast) vs z h = two_wrong _ vs z h
-two_nil names rows two.Same vs z h = two_wrong _ vs z h
 two_nil names rows (two.Element element.CharAt) vs z h = two_wrong _ vs z h
-two_nil names rows (two.Element element.VectorRef) vs z h = two_wrong _ vs z h
-two_nil names rows (two.Element element.SlotRef) vs z h = two_wrong _ vs z h
-two_nil names rows (two.Element element.SlotBound) vs z h = two_wrong _ vs z h
-two_nil names rows two.SlotInitargs vs z h = two_wrong _ vs z h
-two_nil names rows two.SlotInitform vs z h = two_wrong _ vs z h
-two_nil names rows two.SetCar vs z h = two_wrong _ vs z h
-two_nil names rows two.SetCdr vs z h = two_wrong _ vs z h
-two_nil names rows two.Cons vs z h = two_wrong _ vs z h
-two_nil names rows two.MakeString vs z h = two_wrong _ vs z h
-two_nil names rows two.MakeVector vs z h = two_wrong _ vs z h
 two_nil names rows (two.Search searches.IsSubclass) vs z h = two_wrong _ vs z h
-two_nil names rows (two.Search searches.IsInstance) vs z h = two_wrong _ vs z h
-two_nil names rows (two.Search searches.SlotPlace) vs z h = two_wrong _ vs z h
+two_nil names rows x vs z h = two_wrong _ vs z h
 
 three_nil : (names : List (List ℕ)) (rows : ProgramRows) (x : ElementSet) (vs : List Value) (z : State) → (length vs ≡ 3 → ⊥) → primitive names rows (element_set_of x) vs z ≡ meaning.result nil z
 three_nil names rows element_set.CharAt vs z h = three_wrong _ vs z h

@@ -22,7 +22,8 @@ use Rattle.isl_laying.specs.Laying.{Longer}
 use Rattle.isl_laying.proofs.Lists.{item_stays}
 use Rattle.isl_laying.proofs.Joining.{longer_both, extends_longer}
 use Rattle.isl_start.specs.declared.slots.SlotWords.{SlotWords}
-use Rattle.isl_start.specs.Recipes.{Recipe, in_turn, name_recipe, function_recipe, literal_recipe, slots_recipe}
+use Rattle.isl_recipes.specs.Recipes.{Recipe, in_turn, function_recipe, literal_recipe}
+use Rattle.isl_start.specs.Recipes.{name_recipe, of_slot, slots_recipe}
 use Rattle.isl_start.specs.Making.{IsWord, IsSlot, Each, HasWord, HaveWords, AreNumbered, Made, Makes}
 use Rattle.isl_start.proofs.Reaching.{words_both, words_kept}
 use Rattle.isl_arena.proofs.Arguments.{item_there}
@@ -31,9 +32,9 @@ use Rattle.isl_start.specs.Settling.{AreCounted, StillWords, Settled, Settles, c
 use Rattle.isl_start.specs.Start.{fixed_contents, Start}
 use Rattle.isl_start.proofs.Joins.{lasts_word, lasts_slot, lasts_each, Lasts}
 use Rattle.isl_start.proofs.Settle.{extends_of}
-use Rattle.isl_start.proofs.Whole.{at_functions, at_literals, at_slots, all_objects, function_whole, literal_whole}
+use Rattle.isl_recipes.proofs.Whole.{at_functions, at_literals, at_slots, all_objects, function_whole, literal_whole}
 use Rattle.isl_start.proofs.Found.{function_found, word_in}
-use Rattle.isl_start.proofs.LiteralPlaces.{literal_found}
+use Rattle.isl_recipes.proofs.LiteralPlaces.{literal_found}
 use Rattle.isl_start.proofs.ClassPlaces.{first_objects, first_count, input_object, output_object, class_number_is, class_there, input_is, output_is, class_value_is}
 use Rattle.isl_start.proofs.SlotStanding.{turn_length, each_length, slots_stand_there}
 use Rattle.isl_start.proofs.FixedFront.{with_fixed_spot, same_values, no_nil_there, front_laid, front_numbered, fixed_count, fixed_stand}
@@ -129,7 +130,7 @@ module _
     store_same : store ≡ objects_at_start names program
     store_same =
         sym
-        (all_objects names built_in_classes program 0
+        (all_objects (of_slot names) names built_in_classes program 0
         ∙ ap (λ os. os ++ (in_turn (slots_recipe names) program.classes (0 + length os)).0) literals_same
         ∙ behind (in_turn (slots_recipe names) program.classes) with_literals)
 

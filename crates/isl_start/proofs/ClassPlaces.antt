@@ -9,10 +9,11 @@ use Rattle.isl_meaning.specs.Values.{Value, object}
 use Rattle.isl_meaning.specs.Objects.{Object, class_object, input_stream, output_stream, built_in_classes}
 use Rattle.isl_meaning.specs.Layout.{objects_at_start, class_value, standard_input, standard_output}
 use Rattle.isl_laying.proofs.Lists.{item_behind}
-use Rattle.isl_start.specs.Recipes.{in_turn, class_recipe, classes_recipe, function_recipe, literal_recipe}
+use Rattle.isl_recipes.specs.Recipes.{in_turn, class_recipe, classes_recipe, function_recipe, literal_recipe}
+use Rattle.isl_start.specs.Recipes.{of_slot}
 use Rattle.isl_start.specs.Settling.{class_number}
-use Rattle.isl_start.proofs.Found.{value_in, value_front, value_back, range_count, range_in}
-use Rattle.isl_start.proofs.Whole.{all_objects, class_whole, input_whole, output_whole}
+use Rattle.isl_recipes.proofs.Found.{value_in, value_front, value_back, range_count, range_in}
+use Rattle.isl_recipes.proofs.Whole.{all_objects, class_whole, input_whole, output_whole}
 
 pub range_objects : (a len n : ℕ) → length (in_turn class_recipe (range_with_len a len) n).0 ≡ len
 range_objects a zero n = refl
@@ -106,7 +107,7 @@ module _ (names : List (List ℕ)) (program : ProgramRows) where
 
   pub class_at_start : (c : ℕ) → c < length program.classes → slice_get (objects_at_start names program) (class_number c) ≡ Some (class_object c)
   class_at_start c within =
-      ap (λ os. slice_get os (class_number c)) (all_objects names built_in_classes program 0)
+      ap (λ os. slice_get os (class_number c)) (all_objects (of_slot names) names built_in_classes program 0)
       ∙ slice_get-front ((first_objects (length program.classes) ++ functions) ++ literals) _ (class_number c) (class_object c)
       (slice_get-front (first_objects (length program.classes) ++ functions) literals (class_number c) (class_object c)
       (slice_get-front (first_objects (length program.classes)) functions (class_number c) (class_object c) (class_there (length program.classes) c within)))

@@ -20,7 +20,7 @@ use Rattle.isl_laying.specs.Laying.{LaidThere}
 use Rattle.isl_laying.proofs.LaidWords.{Appended, appended_grown, spot_among, word_behind}
 use Rattle.isl_laying.proofs.Joining.{longer_same}
 use Rattle.isl_laying.proofs.Made.{spot_behind, object_after}
-use Rattle.isl_start.specs.Recipes.{single, laid, callee_recipe}
+use Rattle.isl_recipes.specs.Recipes.{single, laid, callee_recipe}
 use Rattle.isl_start.specs.Making.{IsWord, IsNumbered, AreNumbered, Made, Makes}
 use Rattle.isl_start.proofs.Numbered.{FrontOrBehind, at_front, further, front_or_behind, old_numbered}
 use Rattle.isl_start.proofs.Reaching.{one_word}

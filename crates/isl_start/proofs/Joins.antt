@@ -13,7 +13,8 @@ use Rattle.isl_laying.specs.declared.words.ArenaWords.{ArenaWords}
 use Rattle.isl_laying.specs.LaidWell.{LaidWell}
 use Rattle.isl_laying.specs.Laying.{Grown, LaidThere, Lays}
 use Rattle.isl_laying.proofs.Joining.{longer_same, longer_both, extends_longer}
-use Rattle.isl_start.specs.Recipes.{Recipe, SlotValues, no_more, joined, in_turn, laid, name_recipe, initargs_recipe, initform_recipe, slot_recipe}
+use Rattle.isl_recipes.specs.Recipes.{Recipe, no_more, joined, in_turn, laid, initargs_recipe, initform_recipe}
+use Rattle.isl_start.specs.Recipes.{SlotValues, name_recipe, slot_recipe}
 use Rattle.isl_start.specs.Making.{IsWord, IsSlot, Each, HaveWords, Made, Makes, IsWithin}
 use Rattle.isl_start.proofs.Numbered.{data_no_functions, none_numbered}
 use Rattle.isl_start.proofs.Reaching.{no_words, words_both, words_kept, lies_behind, datum_reached}

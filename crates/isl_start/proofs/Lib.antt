@@ -8,13 +8,7 @@ pub mod ClassObjects
 pub mod ClassSteps
 pub mod NameData
 pub mod Steps
-pub mod Keys
-pub mod Segments
-pub mod Shapes
 pub mod Found
-pub mod LiteralPlaces
-pub mod SlotPlaces
-pub mod Whole
 pub mod ClassPlaces
 pub mod SlotStanding
 pub mod FixedFront

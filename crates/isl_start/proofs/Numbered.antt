@@ -48,13 +48,10 @@ mutual
   data_no_functions names (datum.item p c) n = content_no_functions names c n
 
   pub content_no_functions : (names : List (List ℕ)) (c : datum.Content) (n : ℕ) → NoFunctions (lay_content names c n).objects
-  content_no_functions names (datum.integer i) n = tt
-  content_no_functions names (datum.character c) n = tt
-  content_no_functions names (datum.symbol s) n = tt
   content_no_functions names (datum.string bytes) n = (tt, tt)
   content_no_functions names (datum.vector ds) n = none_both (lay_items names ds n).0 _ (items_no_functions names ds n) (tt, tt)
-  content_no_functions names datum.nil n = tt
   content_no_functions names (datum.list ds end) n = list_no_functions names ds (lay_tail names end) (λ m. tail_no_functions names end m) n
+  content_no_functions names w n = tt
 
   items_no_functions : (names : List (List ℕ)) (ds : datum.Items) (n : ℕ) → NoFunctions (lay_items names ds n).0
   items_no_functions names datum.no_item n = tt

@@ -4,14 +4,16 @@ use Rattle.std.specs.Prelude.{slice_get}
 use Rattle.isl_meaning.specs.declared.program.ProgramRows.{ProgramRows}
 use Rattle.isl_meaning.specs.declared.program.ClassRow.{ClassRow}
 use Rattle.isl_meaning.specs.declared.program.SlotRow.{SlotRow}
+use Rattle.isl_meaning.specs.Values.{Value}
 use Rattle.isl_meaning.specs.Objects.{built_in_classes}
 use Rattle.isl_arena.specs.Places.{Places, word_of}
 use Rattle.isl_start.specs.declared.slots.SlotWords.{SlotWords}
-use Rattle.isl_start.specs.Recipes.{Recipe, SlotValues, in_turn, slot_recipe, slots_recipe}
+use Rattle.isl_recipes.specs.Recipes.{Recipe, in_turn}
+use Rattle.isl_start.specs.Recipes.{SlotValues, of_slot, slot_recipe, slots_recipe}
 use Rattle.isl_start.specs.Making.{IsSlot, Each}
 use Rattle.isl_start.specs.Settling.{SlotStands, SlotsStand, AreCounted}
-use Rattle.isl_start.proofs.SlotPlaces.{Part, args, form, value_of, value_at, value_in_class, slot_under}
-use Rattle.isl_start.proofs.Whole.{at_slots, initargs_whole, initform_whole}
+use Rattle.isl_recipes.proofs.SlotPlaces.{Part, args, form, Reading, value_at, value_in_class, slot_under}
+use Rattle.isl_recipes.proofs.Whole.{at_slots, initargs_whole, initform_whole}
 
 -- as many values as there are in the list
 pub turn_length : {X V : Type 0} (f : X → Recipe V) (xs : List X) (n : ℕ) → length (in_turn f xs n).1 ≡ length xs
@@ -38,15 +40,24 @@ each_length means places [] (w ∷ ws) h = absurd h
 each_length means places (v ∷ vs) [] h = absurd h
 each_length means places (v ∷ vs) (w ∷ ws) h = ap (λ n. suc n) (each_length means places vs ws h.1)
 
-value_there : (which : Part) (vs : List SlotValues) (i : ℕ) (v : SlotValues) → slice_get vs i ≡ Some v → value_at which vs i ≡ value_of which v
-value_there which [] i v e = absurd (cc)
-value_there which (u ∷ us) zero v e = let same : u ≡ v = cc in ap (value_of which) same
-value_there which (u ∷ us) (suc i) v e = value_there which us i v e
+-- what is read of what stands for a slot
+abbrev read_of : Part → SlotValues → Value
+read_of args v = v.initargs
+read_of form v = v.initform
 
-value_in_there : (which : Part) (vss : List (List SlotValues)) (c i : ℕ) (vs : List SlotValues) → slice_get vss c ≡ Some vs → value_in_class which vss c i ≡ value_at which vs i
-value_in_there which [] c i vs e = absurd (cc)
-value_in_there which (us ∷ uss) zero i vs e = let same : us ≡ vs = cc in ap (λ xs. value_at which xs i) same
-value_in_there which (us ∷ uss) (suc c) i vs e = value_in_there which uss c i vs e
+abbrev of_slots : (names : List (List ℕ)) → Reading (of_slot names)
+of_slots names = record { read = read_of; args_are = λ s a f. refl; form_are = λ s a f. refl }
+
+value_there : (read : SlotValues → Value) (vs : List SlotValues) (i : ℕ) (v : SlotValues) → slice_get vs i ≡ Some v → value_at read vs i ≡ read v
+value_there read [] i v e = absurd (cc)
+value_there read (u ∷ us) zero v e = let same : u ≡ v = cc in ap read same
+value_there read (u ∷ us) (suc i) v e = value_there read us i v e
+
+value_in_there : (read : SlotValues → Value) (vss : List (List SlotValues)) (c i : ℕ) (vs : List SlotValues) → slice_get vss c ≡ Some vs
+    → value_in_class read vss c i ≡ value_at read vs i
+value_in_there read [] c i vs e = absurd (cc)
+value_in_there read (us ∷ uss) zero i vs e = let same : us ≡ vs = cc in ap (λ xs. value_at read xs i) same
+value_in_there read (us ∷ uss) (suc c) i vs e = value_in_there read uss c i vs e
 
 module _
     (names : List (List ℕ)) (program : ProgramRows) (places : Places) (slots : List (List SlotWords))
@@ -65,20 +76,20 @@ module _
         each i r s e f =
             let of_class = turn_at (slots_recipe names) program.classes (at_slots names built_in_classes program) class row here in
             let vs : List SlotValues = (slots_recipe names row of_class.0).1 in
-            let of_slot = turn_at (slot_recipe names) row.slots of_class.0 i r e in
-            let v : SlotValues = (slot_recipe names r of_slot.0).1 in
+            let of_one = turn_at (slot_recipe names) row.slots of_class.0 i r e in
+            let v : SlotValues = (slot_recipe names r of_one.0).1 in
             let all : Each IsSlot places vs ss = each_at (Each IsSlot) places values slots class vs ss words of_class.1 found in
-            let one : IsSlot places v s = each_at IsSlot places vs ss i v s all of_slot.1 f in
+            let one : IsSlot places v s = each_at IsSlot places vs ss i v s all of_one.1 f in
             record {
               name = one.name;
               initargs =
                   ap (word_of places)
-                  (sym (initargs_whole names built_in_classes program class i) ∙ slot_under names args program.classes (at_slots names built_in_classes program) class i
-                  ∙ value_in_there args values class i vs of_class.1 ∙ value_there args vs i v of_slot.1)
+                  (sym (initargs_whole names built_in_classes program class i) ∙ slot_under (of_slot names) (of_slots names) names args program.classes (at_slots names built_in_classes program) class i
+                  ∙ value_in_there (read_of args) values class i vs of_class.1 ∙ value_there (read_of args) vs i v of_one.1)
                   ∙ one.initargs;
               initform =
                   ap (word_of places)
-                  (sym (initform_whole names built_in_classes program class i) ∙ slot_under names form program.classes (at_slots names built_in_classes program) class i
-                  ∙ value_in_there form values class i vs of_class.1 ∙ value_there form vs i v of_slot.1)
+                  (sym (initform_whole names built_in_classes program class i) ∙ slot_under (of_slot names) (of_slots names) names form program.classes (at_slots names built_in_classes program) class i
+                  ∙ value_in_there (read_of form) values class i vs of_class.1 ∙ value_there (read_of form) vs i v of_one.1)
                   ∙ one.initform;
             }

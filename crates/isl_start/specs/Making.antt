@@ -10,7 +10,8 @@ use Rattle.isl_laying.specs.LaidArena.{arena_of}
 use Rattle.isl_laying.specs.LaidWell.{LaidWell}
 use Rattle.isl_laying.specs.Laying.{Longer}
 use Rattle.isl_start.specs.declared.slots.SlotWords.{SlotWords}
-use Rattle.isl_start.specs.Recipes.{Recipe, SlotValues}
+use Rattle.isl_recipes.specs.Recipes.{Recipe}
+use Rattle.isl_start.specs.Recipes.{SlotValues}
 
 -- the word of a value
 abbrev pub IsWord : Places → Value → ℕ → Type 0

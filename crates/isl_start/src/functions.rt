@@ -3,7 +3,7 @@
 ghost use Rattle.std.specs.Prelude.{◌≡◌, ℕ, ◌*◌, ◌<◌, Some, length, OnOk, IfOk, slice_get, List};
 ghost use Rattle.isl_meaning.specs.declared.program.FunctionRow.{FunctionRow};
 ghost use Rattle.isl_laying.specs.Laying.{HasRoom};
-ghost use Rattle.isl_start.specs.Recipes.{callee_recipe, function_recipe, in_turn};
+ghost use Rattle.isl_recipes.specs.Recipes.{callee_recipe, function_recipe, in_turn};
 ghost use Rattle.isl_start.specs.Making.{IsWord, Each, Makes, IsWithin};
 ghost use Rattle.isl_start.specs.Rows.{CalleeFits};
 

@@ -4,7 +4,7 @@ ghost use Rattle.std.specs.Prelude.{◌≡◌, ℕ, ◌*◌, ◌<◌, Some, leng
 ghost use Rattle.std.specs.List.{sum_by};
 ghost use Rattle.isl_meaning.specs.declared.program.LiteralRow.{LiteralRow};
 ghost use Rattle.isl_laying.specs.Laying.{HasRoom};
-ghost use Rattle.isl_start.specs.Recipes.{literal_recipe, in_turn};
+ghost use Rattle.isl_recipes.specs.Recipes.{literal_recipe, in_turn};
 ghost use Rattle.isl_start.specs.Making.{IsWord, Each, Makes, IsWithin};
 ghost use Rattle.isl_start.specs.Rows.{LiteralFits, literal_size};
 

@@ -20,16 +20,8 @@ use Rattle.isl_top.specs.Theorem.{Sent, Accepted, IsDone, IsSpent, IsBudget, IsR
 
 -- a status is a write fault or that of the answer
 settled : (r s : Status) → (r ≢ WriteFault → r ≡ s) → (r ≡ s) ⊎ (r ≡ WriteFault)
-settled Done s w = inl (w (λ h. cc))
-settled Unhandled s w = inl (w (λ h. cc))
-settled Usage s w = inl (w (λ h. cc))
-settled Refused s w = inl (w (λ h. cc))
-settled ArenaFull s w = inl (w (λ h. cc))
-settled Budget s w = inl (w (λ h. cc))
-settled FileFault s w = inl (w (λ h. cc))
-settled ReadFault s w = inl (w (λ h. cc))
 settled WriteFault s w = inr refl
-settled NoMemory s w = inl (w (λ h. cc))
+settled other s w = inl (w (λ h. cc))
 
 first_status : (a : Answer) (r : Status) → (a ≡ answer.Usage) ⊎ (a ≡ answer.NoMemory) → (r ≡ status_of a) ⊎ (r ≡ WriteFault)
     → (r ≡ Usage) ⊎ ((r ≡ WriteFault) ⊎ (r ≡ NoMemory))

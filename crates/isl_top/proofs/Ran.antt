@@ -103,10 +103,6 @@ module _ (program : ProgramRows) (image : Image) (arena : ℕ) (compiled : Compi
 
 -- an ending that is neither fault
 pub no_fault : (e : Ending) → (e ≡ ReadFault → ⊥) → (e ≡ WriteFault → ⊥) → IsNoFault e
-no_fault (Halt code) r w = tt
-no_fault (Unhandled class) r w = tt
-no_fault (Full asked left) r w = tt
-no_fault Budget r w = tt
-no_fault (Trap kind address) r w = tt
 no_fault ReadFault r w = r refl
 no_fault WriteFault r w = w refl
+no_fault other r w = tt

@@ -1,9 +1,10 @@
 -- The form inside is evaluated under the frame that waits for it.
-use Rattle.std.proofs.Common.{◌∷◌, ap, sym, ◌∙◌}
+use Rattle.std.proofs.Common.{Some, sym}
 use Rattle.std.proofs.lemmas.Result.{on_ok_weaker}
-use Rattle.isl_plain.specs.Moment.{moment, evaluate}
+use Rattle.isl_closure.specs.model.View.{view_form}
 use Rattle.isl_machine.specs.View.{at, frames, state, waiting}
 use Rattle.isl_machine.proofs.Going.{followed}
+use Rattle.isl_control.specs.Begins.{BeginsBy}
 use Rattle.isl_control.proofs.forms.begin_waiting.Goals as goal
 
 pub wait-requires : goal.wait-requires
@@ -14,6 +15,7 @@ returns c =
     let m = c.args.machine.now in
     on_ok_weaker c.wait.result
     (λ x. followed _ _ _ _ x (λ names s b.
-    ap (λ f. moment (evaluate f (at names m c.args.situation)) (waiting names m c.waiting_frame.result ∷ frames names m 0) (state names m b)) c.first_inside-inside.ensures
-    ∙ sym (c.waiting_frame.ensures.begins names m s (frames names m 0) (state names m b))))
+    let begun : BeginsBy (Some c.first_inside-inside.result.now) (view_form c.args.form.now) (at names m c.args.situation) (waiting names m c.waiting_frame.result) =
+    rw c.first_inside-inside.ensures at (c.waiting_frame.ensures.begins names m) in
+    sym (begun s (frames names m 0) (state names m b))))
     c.wait.ensures

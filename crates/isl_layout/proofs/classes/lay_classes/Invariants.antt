@@ -3,7 +3,7 @@ use Rattle.std.proofs.Common.{◌-◌}
 use Rattle.std.specs.List.{range_with_len}
 use Rattle.isl_store.specs.Words.{value_of_word}
 use Rattle.isl_layout.specs.Recipes.{IsMaking}
-use Rattle.isl_layout.specs.Parts.{class_recipe}
+use Rattle.isl_recipes.specs.Recipes.{class_recipe}
 use Rattle.isl_layout.proofs.classes.lay_classes.Given as goal
 
 abbrev pub invariant-loop-class : goal.invariant-loop-class

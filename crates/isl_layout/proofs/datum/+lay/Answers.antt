@@ -6,7 +6,7 @@ use Rattle.isl_base.specs.model.DataView.{tail_of}
 use Rattle.isl_meaning.specs.Literals.{lay}
 use Rattle.isl_store.specs.Words.{value_of_word}
 use Rattle.isl_layout.specs.Recipes.{IsMade}
-use Rattle.isl_layout.specs.Parts.{laid}
+use Rattle.isl_recipes.specs.Recipes.{laid}
 use Rattle.isl_layout.proofs.Turns.{one_made_at, all_made_at}
 use Rattle.isl_layout.proofs.Data.{text_made, vector_made, list_made}
 use Rattle.isl_layout.proofs.datum.+lay.Goals as goal

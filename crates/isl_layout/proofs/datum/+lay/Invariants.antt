@@ -5,7 +5,7 @@ use Rattle.isl_base.specs.model.DataView.{view_content, tail_of}
 use Rattle.isl_meaning.specs.Literals.{lay}
 use Rattle.isl_store.specs.Words.{value_of_word}
 use Rattle.isl_layout.specs.Recipes.{IsMaking}
-use Rattle.isl_layout.specs.Parts.{laid}
+use Rattle.isl_recipes.specs.Recipes.{laid}
 use Rattle.isl_layout.proofs.datum.+lay.Given as goal
 
 abbrev pub decreases-lay_datum : goal.decreases-lay_datum

@@ -4,7 +4,7 @@ use Rattle.std.specs.Prelude.{IfOk}
 use Rattle.isl_meaning.specs.Objects.{string}
 use Rattle.isl_store.specs.Words.{value_of_word}
 use Rattle.isl_layout.specs.Recipes.{IsMade}
-use Rattle.isl_layout.specs.Parts.{single}
+use Rattle.isl_recipes.specs.Recipes.{single}
 use Rattle.isl_layout.proofs.datum.lay_text.Goals as goal
 
 pub returns : goal.returns

@@ -2,7 +2,7 @@
 use Rattle.std.proofs.Common.{drop}
 use Rattle.isl_store.specs.Words.{value_of_word}
 use Rattle.isl_layout.specs.Recipes.{IsMaking}
-use Rattle.isl_layout.specs.Parts.{function_recipe}
+use Rattle.isl_recipes.specs.Recipes.{function_recipe}
 use Rattle.isl_layout.proofs.functions.add_functions.Given as goal
 
 abbrev pub invariant-loop-at : goal.invariant-loop-at

@@ -2,7 +2,7 @@
 use Rattle.std.proofs.Common.{drop}
 use Rattle.isl_store.specs.Words.{value_of_word}
 use Rattle.isl_layout.specs.Recipes.{IsMaking}
-use Rattle.isl_layout.specs.Parts.{literal_recipe}
+use Rattle.isl_recipes.specs.Recipes.{literal_recipe}
 use Rattle.isl_layout.proofs.literals.lay_literals.Given as goal
 
 abbrev pub invariant-loop-at : goal.invariant-loop-at

@@ -1,7 +1,7 @@
 -- One function more.
 use Rattle.std.proofs.Common.{◌+◌, ◌*◌, ◌≤◌, length, subst, arith}
 use Rattle.std.proofs.lemmas.List.{take_all}
-use Rattle.isl_start.specs.Recipes.{function_recipe, in_turn}
+use Rattle.isl_recipes.specs.Recipes.{function_recipe, in_turn}
 use Rattle.isl_start.specs.Making.{IsWord, Each, Makes}
 use Rattle.isl_start.proofs.Joins.{lasts_word, turns_more, within_both}
 use Rattle.isl_start.proofs.functions.lay_functions.Goals as goal

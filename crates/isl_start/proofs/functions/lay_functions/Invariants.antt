@@ -1,6 +1,6 @@
 -- The functions so far are laid.
 use Rattle.std.proofs.Common.{ℕ, ◌*◌, List, take}
-use Rattle.isl_start.specs.Recipes.{function_recipe, in_turn}
+use Rattle.isl_recipes.specs.Recipes.{function_recipe, in_turn}
 use Rattle.isl_start.specs.Making.{IsWord, Each, Makes, IsWithin}
 use Rattle.isl_start.proofs.functions.lay_functions.Given as goal
 

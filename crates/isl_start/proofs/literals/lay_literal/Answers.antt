@@ -2,7 +2,7 @@
 use Rattle.isl_meaning.specs.declared.program.LiteralRow.TheVariants.{Datum}
 use Rattle.isl_meaning.specs.Literals.{lay}
 use Rattle.isl_laying.specs.Laying.{Lays, Grown}
-use Rattle.isl_start.specs.Recipes.{literal_recipe}
+use Rattle.isl_recipes.specs.Recipes.{literal_recipe}
 use Rattle.isl_start.specs.Making.{IsWord, Makes}
 use Rattle.isl_start.proofs.Joins.{makes_datum}
 use Rattle.isl_start.proofs.Steps.{if_ok_on}

@@ -1,7 +1,7 @@
 -- One literal more.
 use Rattle.std.proofs.Common.{◌≤◌, length, subst, arith}
 use Rattle.std.proofs.lemmas.List.{take_all}
-use Rattle.isl_start.specs.Recipes.{literal_recipe, in_turn}
+use Rattle.isl_recipes.specs.Recipes.{literal_recipe, in_turn}
 use Rattle.isl_start.specs.Making.{IsWord, Each, Makes}
 use Rattle.isl_start.specs.Rows.{literal_size}
 use Rattle.isl_start.proofs.Joins.{lasts_word, turns_more}

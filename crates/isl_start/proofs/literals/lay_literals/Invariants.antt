@@ -1,7 +1,7 @@
 -- The literals so far are laid.
 use Rattle.std.proofs.Common.{◌*◌, take}
 use Rattle.std.specs.List.{sum_by}
-use Rattle.isl_start.specs.Recipes.{literal_recipe, in_turn}
+use Rattle.isl_recipes.specs.Recipes.{literal_recipe, in_turn}
 use Rattle.isl_start.specs.Making.{IsWord, Each, Makes, IsWithin}
 use Rattle.isl_start.specs.Rows.{literal_size}
 use Rattle.isl_start.proofs.literals.lay_literals.Given as goal

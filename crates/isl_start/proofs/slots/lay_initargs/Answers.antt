@@ -3,7 +3,7 @@ use Rattle.std.proofs.Common.{◌≡◌, ◌+◌, ◌*◌, ◌≤◌, length, ap
 use Rattle.isl_base.specs.DataMeasures.{size_of}
 use Rattle.isl_meaning.specs.Literals.{lay}
 use Rattle.isl_laying.specs.Laying.{Lays, Grown}
-use Rattle.isl_start.specs.Recipes.{laid, initargs_recipe}
+use Rattle.isl_recipes.specs.Recipes.{laid, initargs_recipe}
 use Rattle.isl_start.specs.Making.{IsWord, Makes, IsWithin}
 use Rattle.isl_start.proofs.Joins.{makes_as, makes_datum}
 use Rattle.isl_start.proofs.NameData.{name_list, list_good, list_size}

@@ -1,7 +1,7 @@
 -- The function of a procedure.
 use Rattle.std.proofs.Common.{ℕ, List, Some, refl, add-zero}
 use Rattle.isl_meaning.specs.declared.program.Callee.TheVariants.{Procedure}
-use Rattle.isl_start.specs.Recipes.{callee_recipe, initform_recipe}
+use Rattle.isl_recipes.specs.Recipes.{callee_recipe, initform_recipe}
 use Rattle.isl_start.specs.Making.{IsWord, Makes}
 use Rattle.isl_start.proofs.Joins.{makes_as}
 use Rattle.isl_start.proofs.Steps.{if_ok}

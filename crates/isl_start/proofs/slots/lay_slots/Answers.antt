@@ -1,7 +1,8 @@
 -- One more.
 use Rattle.std.proofs.Common.{◌≤◌, length, [], ◌∷◌, ap, length-append, subst, arith}
 use Rattle.std.proofs.lemmas.List.{take_all}
-use Rattle.isl_start.specs.Recipes.{slots_recipe, in_turn}
+use Rattle.isl_recipes.specs.Recipes.{in_turn}
+use Rattle.isl_start.specs.Recipes.{slots_recipe}
 use Rattle.isl_start.specs.Making.{IsSlot, Each, Makes}
 use Rattle.isl_start.specs.Rows.{slots_size}
 use Rattle.isl_start.proofs.Joins.{lasts_slot, lasts_each, turns_more}

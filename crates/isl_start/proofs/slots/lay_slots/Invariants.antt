@@ -4,7 +4,8 @@ use Rattle.std.specs.Prelude.{slice_get}
 use Rattle.isl_meaning.specs.declared.program.ClassRow.{ClassRow}
 use Rattle.isl_start.specs.declared.slots.SlotWords.{SlotWords}
 use Rattle.std.specs.List.{sum_by}
-use Rattle.isl_start.specs.Recipes.{slots_recipe, in_turn}
+use Rattle.isl_recipes.specs.Recipes.{in_turn}
+use Rattle.isl_start.specs.Recipes.{slots_recipe}
 use Rattle.isl_start.specs.Making.{IsSlot, Each, Makes, IsWithin}
 use Rattle.isl_start.specs.Rows.{slots_size}
 use Rattle.isl_start.proofs.slots.lay_slots.Given as goal

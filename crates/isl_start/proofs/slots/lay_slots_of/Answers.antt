@@ -1,7 +1,8 @@
 -- One more.
 use Rattle.std.proofs.Common.{◌≤◌, length, [], ◌∷◌, ap, length-append, subst, arith}
 use Rattle.std.proofs.lemmas.List.{take_all}
-use Rattle.isl_start.specs.Recipes.{slot_recipe, in_turn}
+use Rattle.isl_recipes.specs.Recipes.{in_turn}
+use Rattle.isl_start.specs.Recipes.{slot_recipe}
 use Rattle.isl_start.specs.Making.{IsSlot, Each, Makes}
 use Rattle.isl_start.specs.Rows.{slot_size}
 use Rattle.isl_start.proofs.Joins.{lasts_slot, turns_more}

@@ -1,7 +1,8 @@
 -- The slots so far are laid.
 use Rattle.std.proofs.Common.{◌≡◌, length, ◌*◌, take}
 use Rattle.std.specs.List.{sum_by}
-use Rattle.isl_start.specs.Recipes.{slot_recipe, in_turn}
+use Rattle.isl_recipes.specs.Recipes.{in_turn}
+use Rattle.isl_start.specs.Recipes.{slot_recipe}
 use Rattle.isl_start.specs.Making.{IsSlot, Each, Makes, IsWithin}
 use Rattle.isl_start.specs.Rows.{slot_size}
 use Rattle.isl_start.proofs.slots.lay_slots_of.Given as goal

@@ -1,7 +1,8 @@
 -- Part by part.
 use Rattle.std.proofs.Common.{◌≡◌, ◌≤◌, ◌++◌, length, sym, ◌∙◌, ap, subst, length-append, arith}
 use Rattle.std.proofs.lemmas.Option.{slice_get_within}
-use Rattle.isl_start.specs.Recipes.{in_turn, function_recipe, literal_recipe, slots_recipe}
+use Rattle.isl_recipes.specs.Recipes.{in_turn, function_recipe, literal_recipe}
+use Rattle.isl_start.specs.Recipes.{slots_recipe}
 use Rattle.isl_start.specs.Making.{IsWord, IsSlot, Each, Makes}
 use Rattle.isl_start.specs.Settling.{AreCounted, ClassesSettle}
 use Rattle.isl_start.proofs.Chain.{enough_classes, starts}

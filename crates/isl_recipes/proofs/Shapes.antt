@@ -7,7 +7,7 @@ use Rattle.isl_meaning.specs.Values.{Value, object}
 use Rattle.isl_meaning.specs.Objects.{Object}
 use Rattle.isl_meaning.specs.Literals.{Laid, no_object, after_parts, lay, lay_content, lay_list, lay_tail}
 use Rattle.isl_meaning.specs.Layout.{literal, stands_for, literal_value}
-use Rattle.isl_start.specs.Recipes.{last_of}
+use Rattle.isl_recipes.specs.Recipes.{last_of}
 
 -- at least one object, of which the last is the value
 pub record HasObject (l : Laid) (n : ℕ) : Type 0 where

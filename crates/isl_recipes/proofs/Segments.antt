@@ -10,9 +10,8 @@ use Rattle.isl_meaning.specs.Objects.{Object}
 use Rattle.isl_meaning.specs.Lookup.{numbered}
 use Rattle.isl_meaning.specs.Literals.{lay_content}
 use Rattle.isl_meaning.specs.Layout.{Thing, literal, initargs, initform, keyed, laid_out, literal_objects, initargs_list, initform_objects, slot_things}
-use Rattle.isl_start.specs.Recipes.{Recipe, in_turn}
-use Rattle.isl_start.specs.Recipes.{literal_recipe, slot_recipe, slots_recipe}
-use Rattle.isl_start.proofs.Keys.{object_under, keyed_objects, laid_append}
+use Rattle.isl_recipes.specs.Recipes.{Recipe, in_turn, literal_recipe, OfSlot, slot_recipe, slots_recipe}
+use Rattle.isl_recipes.proofs.Keys.{object_under, keyed_objects, laid_append}
 
 abbrev pub objects_in : List Thing → ℕ → List Object
 objects_in ts n = map object_under (laid_out ts n)
@@ -67,23 +66,23 @@ initform_thing c s = record { key = initform c s.1; objects = λ n. initform_obj
 abbrev pub slots_of : List (List ℕ) → (class : ℕ) → List SlotRow → ℕ → List Thing
 slots_of names c slots j = flat_map (slot_things names c) (numbered slots j)
 
-pub slot_count : (names : List (List ℕ)) (c j : ℕ) (s : SlotRow) (n : ℕ)
-    → n + length ((initargs_thing names c (s, j)).objects n) + length (initform_objects s.initform) ≡ n + length (slot_recipe names s n).0
-slot_count names c j s n = omega (arith, length-append (lay_content names (initargs_list s) n).objects (initform_objects s.initform))
+pub slot_count : {V : Type 0} (of : OfSlot V) (names : List (List ℕ)) (c j : ℕ) (s : SlotRow) (n : ℕ)
+    → n + length ((initargs_thing names c (s, j)).objects n) + length (initform_objects s.initform) ≡ n + length (slot_recipe of names s n).0
+slot_count of names c j s n = omega (arith, length-append (lay_content names (initargs_list s) n).objects (initform_objects s.initform))
 
-pub objects_of_slots : (names : List (List ℕ)) (c : ℕ) (slots : List SlotRow) (j n : ℕ)
-    → objects_in (slots_of names c slots j) n ≡ (in_turn (slot_recipe names) slots n).0
-objects_of_slots names c [] j n = refl
-objects_of_slots names c (s ∷ ss) j n =
+pub objects_of_slots : {V : Type 0} (of : OfSlot V) (names : List (List ℕ)) (c : ℕ) (slots : List SlotRow) (j n : ℕ)
+    → objects_in (slots_of names c slots j) n ≡ (in_turn (slot_recipe of names) slots n).0
+objects_of_slots of names c [] j n = refl
+objects_of_slots of names c (s ∷ ss) j n =
     let args = (lay_content names (initargs_list s) n).objects in
     let form = initform_objects s.initform in
     let others = slots_of names c ss (j + 1) in
     objects_first (initargs_thing names c (s, j)) (initform_thing c (s, j) ∷ others) n
     ∙ ap (λ os. args ++ os)
     (objects_first (initform_thing c (s, j)) others (n + length args)
-    ∙ ap (λ k. form ++ objects_in others k) (slot_count names c j s n)
-    ∙ ap (λ os. form ++ os) (objects_of_slots names c ss (j + 1) (n + length (slot_recipe names s n).0)))
-    ∙ sym (append_assoc args form (in_turn (slot_recipe names) ss (n + length (slot_recipe names s n).0)).0)
+    ∙ ap (λ k. form ++ objects_in others k) (slot_count of names c j s n)
+    ∙ ap (λ os. form ++ os) (objects_of_slots of names c ss (j + 1) (n + length (slot_recipe of names s n).0)))
+    ∙ sym (append_assoc args form (in_turn (slot_recipe of names) ss (n + length (slot_recipe of names s n).0)).0)
 
 -- the slots of all classes
 abbrev pub slots_of_class : List (List ℕ) → ClassRow × ℕ → List Thing
@@ -92,10 +91,10 @@ slots_of_class names c = slots_of names c.1 c.0.slots 0
 abbrev pub all_slots_of : List (List ℕ) → List ClassRow → ℕ → List Thing
 all_slots_of names classes k = flat_map (slots_of_class names) (numbered classes k)
 
-pub objects_of_classes : (names : List (List ℕ)) (classes : List ClassRow) (k n : ℕ)
-    → objects_in (all_slots_of names classes k) n ≡ (in_turn (slots_recipe names) classes n).0
-objects_of_classes names [] k n = refl
-objects_of_classes names (c ∷ cs) k n =
+pub objects_of_classes : {V : Type 0} (of : OfSlot V) (names : List (List ℕ)) (classes : List ClassRow) (k n : ℕ)
+    → objects_in (all_slots_of names classes k) n ≡ (in_turn (slots_recipe of names) classes n).0
+objects_of_classes of names [] k n = refl
+objects_of_classes of names (c ∷ cs) k n =
     objects_append (slots_of names k c.slots 0) (all_slots_of names cs (k + 1)) n
-    ∙ ap (λ os. os ++ objects_in (all_slots_of names cs (k + 1)) (n + length os)) (objects_of_slots names k c.slots 0 n)
-    ∙ ap (λ os. (slots_recipe names c n).0 ++ os) (objects_of_classes names cs (k + 1) (n + length (slots_recipe names c n).0))
+    ∙ ap (λ os. os ++ objects_in (all_slots_of names cs (k + 1)) (n + length os)) (objects_of_slots of names k c.slots 0 n)
+    ∙ ap (λ os. (slots_recipe of names c n).0 ++ os) (objects_of_classes of names cs (k + 1) (n + length (slots_recipe of names c n).0))

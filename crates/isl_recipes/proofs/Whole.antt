@@ -12,16 +12,11 @@ use Rattle.isl_meaning.specs.Objects.{Object, class_object, input_stream, output
 use Rattle.isl_meaning.specs.Lookup.{text, numbered}
 use Rattle.isl_meaning.specs.Layout.{Key, Thing, part, class, input, output, function_of, literal, initargs, initform, same_key}
 use Rattle.isl_meaning.specs.Layout.{single, class_things, function_things, function_object, slot_things, laid_out, under_key}
-use Rattle.isl_start.specs.Recipes.{Recipe, SlotValues, joined, in_turn}
-use Rattle.isl_start.specs.Recipes.{class_recipe, classes_recipe, function_recipe, literal_recipe, slots_recipe}
-use Rattle.isl_start.proofs.Keys.{AreOthers, others_append, others_mapped, others_flat, absent_others, laid_append, passed_over, none_behind, still_found}
-use Rattle.isl_start.proofs.Segments.{objects_in, objects_append, objects_mapped, objects_of_literals, objects_of_classes, as_many, slots_of_class, all_slots_of}
-use Rattle.isl_start.proofs.LiteralPlaces.{literals_from}
-use Rattle.isl_start.proofs.Found.{value_in, value_front, value_back, range_count, range_in, range_found, range_behind}
-
--- one behind the other, and what stands for both as a pair
-abbrev pub both : {U V : Type 0} → Recipe U → Recipe V → Recipe (U × V)
-both r s = joined (λ u v. (u, v)) r s
+use Rattle.isl_recipes.specs.Recipes.{Recipe, both, in_turn, class_recipe, classes_recipe, function_recipe, literal_recipe, OfSlot, slots_recipe}
+use Rattle.isl_recipes.proofs.Keys.{AreOthers, others_append, others_mapped, others_flat, absent_others, laid_append, passed_over, none_behind, still_found}
+use Rattle.isl_recipes.proofs.Segments.{objects_in, objects_append, objects_mapped, objects_of_literals, objects_of_classes, as_many, slots_of_class, all_slots_of}
+use Rattle.isl_recipes.proofs.LiteralPlaces.{literals_from}
+use Rattle.isl_recipes.proofs.Found.{value_in, value_front, value_back, range_count, range_in, range_found, range_behind}
 
 -- what stands under a key in the middle, where all before and behind have other keys
 pub middle : (key : Key) (before here behind : List Thing) (n : ℕ) → same_key key part ≡ false → AreOthers key before → AreOthers key behind
@@ -90,8 +85,9 @@ with_functions built_in rows = both (classes_recipe built_in (length rows.classe
 abbrev pub with_literals : List (List ℕ) → (built_in : ℕ) → ProgramRows → Recipe (((List Value × Value × Value) × List Value) × List Value)
 with_literals names built_in rows = both (with_functions built_in rows) (in_turn (literal_recipe names) rows.literals)
 
-abbrev pub all_recipe : List (List ℕ) → (built_in : ℕ) → ProgramRows → Recipe ((((List Value × Value × Value) × List Value) × List Value) × List (List SlotValues))
-all_recipe names built_in rows = both (with_literals names built_in rows) (in_turn (slots_recipe names) rows.classes)
+abbrev pub all_recipe : {V : Type 0} → OfSlot V → List (List ℕ) → (built_in : ℕ) → ProgramRows
+    → Recipe ((((List Value × Value × Value) × List Value) × List Value) × List (List V))
+all_recipe of names built_in rows = both (with_literals names built_in rows) (in_turn (slots_recipe of names) rows.classes)
 
 objects_with_functions : (names : List (List ℕ)) (built_in : ℕ) (rows : ProgramRows) (n : ℕ)
     → objects_in (first_things built_in (length rows.classes) ++ function_things names rows.functions) n ≡ (with_functions built_in rows n).0
@@ -107,11 +103,12 @@ objects_with_literals names built_in rows n =
     (literals_from names rows.literals 0)
     (objects_with_functions names built_in rows) (objects_of_literals names rows.literals 0) n
 
-pub all_objects : (names : List (List ℕ)) (built_in : ℕ) (rows : ProgramRows) (n : ℕ) → objects_in (all_things names built_in rows) n ≡ (all_recipe names built_in rows n).0
-all_objects names built_in rows n =
-    objects_both (with_literals names built_in rows) (in_turn (slots_recipe names) rows.classes)
+pub all_objects : {V : Type 0} (of : OfSlot V) (names : List (List ℕ)) (built_in : ℕ) (rows : ProgramRows) (n : ℕ)
+    → objects_in (all_things names built_in rows) n ≡ (all_recipe of names built_in rows n).0
+all_objects of names built_in rows n =
+    objects_both (with_literals names built_in rows) (in_turn (slots_recipe of names) rows.classes)
     (first_things built_in (length rows.classes) ++ function_things names rows.functions ++ literals_from names rows.literals 0) (all_slots_of names rows.classes 0)
-    (objects_with_literals names built_in rows) (objects_of_classes names rows.classes 0) n
+    (objects_with_literals names built_in rows) (objects_of_classes of names rows.classes 0) n
 
 -- kinds of keys
 

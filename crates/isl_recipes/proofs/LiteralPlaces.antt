@@ -9,12 +9,11 @@ use Rattle.isl_meaning.specs.declared.program.LiteralRow.TheVariants.{Datum}
 use Rattle.isl_meaning.specs.Objects.{Object}
 use Rattle.isl_meaning.specs.Lookup.{numbered}
 use Rattle.isl_meaning.specs.Layout.{Thing, literal, literal_objects, laid_out, under_key, stands_for, literal_value}
-use Rattle.isl_layout.specs.Recipes.{in_turn}
-use Rattle.isl_layout.specs.Parts.{literal_recipe, last_of}
-use Rattle.isl_layout.proofs.Keys.{AreOthers, first_thing, later_thing}
-use Rattle.isl_layout.proofs.Segments.{literal_thing, literal_same}
-use Rattle.isl_layout.proofs.Found.{value_in}
-use Rattle.isl_layout.proofs.Shapes.{literal_laid}
+use Rattle.isl_recipes.specs.Recipes.{in_turn, literal_recipe, last_of}
+use Rattle.isl_recipes.proofs.Keys.{AreOthers, first_thing, later_thing}
+use Rattle.isl_recipes.proofs.Segments.{literal_thing, literal_same}
+use Rattle.isl_recipes.proofs.Found.{value_in}
+use Rattle.isl_recipes.proofs.Shapes.{literal_laid}
 
 abbrev pub literals_from : List (List ℕ) → List LiteralRow → ℕ → List Thing
 literals_from names rows k = map (literal_thing names) (numbered rows k)

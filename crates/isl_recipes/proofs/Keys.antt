@@ -5,7 +5,7 @@ use Rattle.std.proofs.lemmas.List.{length-append}
 use Rattle.isl_meaning.specs.Values.{nil, object}
 use Rattle.isl_meaning.specs.Objects.{Object}
 use Rattle.isl_meaning.specs.Layout.{Key, part, same_key, Keyed, Thing, keyed, laid_out, under_key}
-use Rattle.isl_start.specs.Recipes.{last_of}
+use Rattle.isl_recipes.specs.Recipes.{last_of}
 
 abbrev pub object_under : Keyed → Object
 object_under k = k.object
