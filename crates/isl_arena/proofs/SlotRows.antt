@@ -5,7 +5,7 @@ use Rattle.isl_meaning.specs.declared.program.ProgramRows.{ProgramRows}
 use Rattle.isl_meaning.specs.declared.program.SlotRow.{SlotRow}
 use Rattle.isl_meaning.specs.declared.primitive.Primitive.TheVariants.{SlotInitargs, SlotInitform, Continuable}
 use Rattle.isl_meaning.specs.Values.{Value, integer, character, symbol, nil, object, truth}
-use Rattle.isl_meaning.specs.Objects.{Object, cons, string, vector, instance, function, closure, generic_function, class_object, input_stream, output_stream, fresh_symbol, serious_condition_class}
+use Rattle.isl_meaning.specs.Objects.{Object, instance, class_object, serious_condition_class}
 use Rattle.isl_meaning.specs.State as meaning
 use Rattle.isl_meaning.specs.Classes.{fetch, class_of, class_of_object, precedence, slots, is_below, is_condition}
 use Rattle.isl_meaning.specs.Layout.{class_value, initargs_value, initform_value}

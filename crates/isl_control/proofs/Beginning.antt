@@ -2,7 +2,7 @@
 use Rattle.std.proofs.Common.{◌≡◌, ℕ, ◌+◌, ◌-◌, List, [], length, Option, Some, None, Result, OnOk, refl, sym, ap, ◌∙◌, ◌∷◌, map, subst, arith}
 use Rattle.std.proofs.lemmas.Result.{on_ok_weaker}
 use Rattle.std.specs.Prelude.{slice_get}
-use Rattle.isl_closure.specs.FlatForm.{FlatForms, FlatBindings, FlatDynamics, FlatForm, literal, local, set_local, global, set_global, def_global, clauses, sequence, let_form, make_function, call, call_value, apply, prim, while_form, block, return_from, tagbody, go, catch_form, throw, unwind, dynamic_let, dynamic, set_dynamic, def_dynamic, with_handler, signal_form, continue_form, next_method, has_next, sited}
+use Rattle.isl_closure.specs.FlatForm.{FlatForms, FlatBindings, FlatDynamics, FlatForm, local, make_function, sited}
 use Rattle.isl_closure.specs.declared.place.VariablePlace.TheVariants as place
 use Rattle.isl_closure.specs.FlatNodes.{own_nodes}
 use Rattle.isl_meaning.specs.State.{State}

@@ -21,7 +21,7 @@ use Rattle.isl_machine.proofs.Givens.{spelling}
 use Rattle.isl_machine.proofs.Following.{AreLinked, none_further, one_further}
 use Rattle.isl_control.specs.declared.bound.Bound.{Bound}
 use Rattle.isl_control.proofs.Searching.{IsSearching, search_begins, search_goes, search_found, search_ends}
-use Rattle.isl_control.specs.Bindings.{is_named, variable_of, bindings_in, IsBound, IsThere, IsNowhere, IsBoundBy, IsBindingFound}
+use Rattle.isl_control.specs.Bindings.{is_named, bindings_in, IsBound, IsThere, IsNowhere, IsBoundBy, IsBindingFound}
 
 -- the bindings are those of frames that link bindings
 binding_next : (names : List (List ℕ)) (w : Frame) → next_of Bindings w ≡ option_map (λ (l : Linking (List ℕ × ℕ)). l.next) (binding_link names w)

@@ -1,6 +1,5 @@
 -- A search along a list, some of its things at a time.
 use Rattle.std.proofs.Common.{◌≡◌, ℕ, ◌+◌, Bool, true, false, List, [], ◌∷◌, ◌++◌, Some, None, refl, ap, sym, ◌∙◌, arith, zero-add, add_assoc}
-use Rattle.std.specs.Prelude.{if◌then◌else◌}
 use Rattle.isl_meaning.specs.Lookup.{passed}
 use Rattle.isl_plain.specs.Moment.{first_that}
 

@@ -5,7 +5,7 @@ use Rattle.isl_meaning.specs.declared.primitive.Primitive.{Primitive}
 use Rattle.isl_meaning.specs.Values.{Value}
 use Rattle.isl_meaning.specs.State.{Surroundings, State, Outcome, value, exit, full, more}
 use Rattle.isl_meaning.specs.Objects.{fresh_symbol}
-use Rattle.isl_meaning.specs.Primitives.{Answer, result, makes, makes_symbol, fails, domain_error, primitive}
+use Rattle.isl_meaning.specs.Primitives.{Answer, makes_symbol, primitive}
 use Rattle.isl_closure.specs.FlatNodes.{tables}
 use Rattle.isl_closure.specs.FlatState.{FlatState, FlatEvaluated, go_on, go_on_from, gives, on_state}
 use Rattle.isl_plain.specs.Moment.{Setting, Moment, moment, come_to, ended, then_on, then_on_from}

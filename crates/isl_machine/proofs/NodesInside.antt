@@ -6,7 +6,7 @@ use Rattle.std.proofs.lemmas.List.Sums.{sum_by-cons}
 use Rattle.isl_closure.specs.declared.flat_core.FlatClause.{FlatClause}
 use Rattle.isl_closure.specs.declared.flat_core.FlatBinding.{FlatBinding}
 use Rattle.isl_closure.specs.declared.flat_core.FlatDynBinding.{FlatDynBinding}
-use Rattle.isl_closure.specs.FlatForm.{FlatForm, literal, local, set_local, global, set_global, def_global, clauses, sequence, let_form, make_function, call, call_value, apply, prim, while_form, block, return_from, tagbody, go, catch_form, throw, unwind, dynamic_let, dynamic, set_dynamic, def_dynamic, with_handler, signal_form, continue_form, next_method, has_next, sited}
+use Rattle.isl_closure.specs.FlatForm.{FlatForm, literal}
 use Rattle.isl_closure.specs.FlatForm.{form_size, forms_size, clauses_size, bindings_size, dynamics_size, body_size}
 use Rattle.isl_closure.specs.model.View.{forms, maybe_form, clauses_of, bindings_of, dynamics_of}
 use Rattle.isl_closure.specs.FlatNodes.{nodes, own_nodes, nodes_of_forms, nodes_of_clauses, nodes_of_values, nodes_of_dynamics}

@@ -13,9 +13,9 @@ use Rattle.isl_store.specs.Words.{value_of_word, values_of}
 use Rattle.isl_primitives.specs.declared.answer.Answer.{Answer}
 use Rattle.isl_primitives.specs.declared.answer.Answer.TheVariants.{DomainError}
 use Rattle.isl_primitives.specs.declared.group.Arithmetic.{Arithmetic}
-use Rattle.isl_primitives.specs.declared.group.Arithmetic.TheVariants.{Add, Subtract, Multiply, Divide, Modulo}
+use Rattle.isl_primitives.specs.declared.group.Arithmetic.TheVariants.{Add}
 use Rattle.isl_primitives.specs.declared.group.Comparison.{Comparison}
-use Rattle.isl_primitives.specs.declared.group.Comparison.TheVariants.{Equal, NotEqual, Less, AtMost, Greater, AtLeast}
+use Rattle.isl_primitives.specs.declared.group.Comparison.TheVariants.{Equal}
 use Rattle.isl_primitives.specs.Groups.{arithmetic_of, comparison_of}
 use Rattle.isl_primitives.specs.Numbers.{calculated, compared}
 use Rattle.isl_primitives.specs.Answers.{told, IsTold, IsSaid}
