@@ -141,10 +141,6 @@ module _ (names : List (List ℕ)) (program : ProgramRows) (places : Places) (z 
     pub word : w ≡ spot.address + tag_of o
 
   pub object_found : (v : Value) (w : ℕ) (o : Object) → word_of places v ≡ Some w → fetch z v ≡ Some o → ObjectFound v w o
-  object_found (integer n) w o e f = absurd (cc f)
-  object_found (character c) w o e f = absurd (cc f)
-  object_found (symbol s) w o e f = absurd (cc f)
-  object_found nil w o e f = absurd (cc f)
   object_found (object i) w o e f =
       let there = object_there i w e in
       let same : there.one ≡ o = cc (there.stored, f) in
@@ -159,6 +155,7 @@ module _ (names : List (List ℕ)) (program : ProgramRows) (places : Places) (z 
         tag = rw same at there.tag;
         word = rw same at there.word;
       }
+  object_found other w o e f = absurd (cc f)
 
   -- the tag of a word
   pub tag_told : (v : Value) (w : ℕ) → word_of places v ≡ Some w → w % 4 ≡ value_tag z v

@@ -3,8 +3,8 @@ use Rattle.std.proofs.Common.{◌≡◌, ℕ, ◌<◌, List, [], ◌∷◌, leng
 use Rattle.std.specs.Prelude.{slice_get}
 use Rattle.isl_base.specs.Names.{slice_get-front}
 use Rattle.isl_meaning.specs.declared.program.ProgramRows.{ProgramRows}
-use Rattle.isl_meaning.specs.Values.{Value, integer, character, symbol, nil, object}
-use Rattle.isl_meaning.specs.Objects.{Object, cons, string, vector, instance, function, closure, generic_function, class_object, input_stream, output_stream, fresh_symbol}
+use Rattle.isl_meaning.specs.Values.{Value, object}
+use Rattle.isl_meaning.specs.Objects.{Object, instance, class_object}
 use Rattle.isl_meaning.specs.State as meaning
 use Rattle.isl_meaning.specs.Classes.{fetch}
 use Rattle.isl_meaning.specs.Layout.{class_value}
@@ -14,17 +14,9 @@ use Rattle.isl_arena.proofs.Lists.{set_elsewhere}
 
 -- an object that a run makes: no class, and if it is an instance, then of a class of the program
 abbrev pub IsMade : ProgramRows → Object → Type 0
-IsMade program (cons a d) = Unit {0}
-IsMade program (string bytes) = Unit {0}
-IsMade program (vector vs) = Unit {0}
 IsMade program (instance c slots mark) = c < length program.classes
-IsMade program (function p) = Unit {0}
-IsMade program (closure required rest body env) = Unit {0}
-IsMade program (generic_function g) = Unit {0}
 IsMade program (class_object c) = ⊥
-IsMade program input_stream = Unit {0}
-IsMade program output_stream = Unit {0}
-IsMade program (fresh_symbol s) = Unit {0}
+IsMade program other = Unit {0}
 
 pub no_class : (program : ProgramRows) (o : Object) (c : ℕ) → IsMade program o → o ≡ class_object c → ⊥
 no_class program o c made e = subst (λ x. IsMade program x) e made
@@ -44,11 +36,8 @@ module _ (names : List (List ℕ)) (program : ProgramRows) (z : meaning.State) (
   }
     where
       fetched : (v : Value) → fetch z' v ≡ fetch z v
-      fetched (integer n) = refl
-      fetched (character c) = refl
-      fetched (symbol s) = refl
-      fetched nil = refl
       fetched (object i) = ap (λ os. slice_get os i) same
+      fetched w = refl
 
   -- with one object more
   pub classes_stored : (o : Object) → IsMade program o → ClassesThere names program (meaning.stored o z)

@@ -5,7 +5,7 @@ use Rattle.std.proofs.lemmas.Option.{slice_get_within}
 use Rattle.isl_base.specs.Names.{slice_get-front}
 use Rattle.isl_meaning.specs.declared.program.ProgramRows.{ProgramRows}
 use Rattle.isl_meaning.specs.declared.program.SlotRow.{SlotRow}
-use Rattle.isl_meaning.specs.Values.{SymbolValue, named, unnamed, Value, integer, character, symbol, nil, object}
+use Rattle.isl_meaning.specs.Values.{SymbolValue, named, unnamed, Value, nil, object}
 use Rattle.isl_meaning.specs.Objects.{Object, cons, string, vector, instance, function, closure, generic_function, class_object, input_stream, output_stream, fresh_symbol, serious_condition_class}
 use Rattle.isl_meaning.specs.Classes.{precedence, slots, is_below}
 use Rattle.isl_meaning.specs.Primitives.{instance_words}
@@ -47,13 +47,10 @@ pub extends_same : (places : Places) → Extends places places
 extends_same places = record { word = λ v w e. e }
 
 pub same_word : (s : Spot) (places : Places) (v : Value) (w : ℕ) → word_of places v ≡ Some w → word_of (with_object s places) v ≡ Some w
-same_word s places (integer n) w e = e
-same_word s places (character c) w e = e
-same_word s places (symbol x) w e = e
-same_word s places nil w e = e
 same_word s places (object i) w e =
     let p = pointer_tells (spot_of places (of_object i)) w e in
     ap pointer_in (old_spot s places (of_object i) p.spot p.found) ∙ cc p.word
+same_word s places other w e = e
 
 pub extends_one : (s : Spot) (places : Places) → Extends places (with_object s places)
 extends_one s places = record { word = same_word s places }
@@ -231,27 +228,11 @@ header_at_symbol a s (unnamed expansion serial) t = t.header
 
 module _ (names : List (List ℕ)) (program : ProgramRows) (places : Places) (a : Arena) (s : Spot) where
   pub object_tag_is : (o : Object) → ObjectAt names program places a s o → s.tag ≡ tag_of o
-  object_tag_is (cons car cdr) t = t.size.tag
-  object_tag_is (string bytes) t = t.size.tag
-  object_tag_is (vector vs) t = t.size.tag
-  object_tag_is (instance class values mark) t = t.size.tag
   object_tag_is (function p) t = t.tag
   object_tag_is (closure required rest body env) t = absurd t
-  object_tag_is (generic_function g) t = t.size.tag
-  object_tag_is (class_object class) t = t.size.tag
-  object_tag_is input_stream t = t.size.tag
-  object_tag_is output_stream t = t.size.tag
-  object_tag_is (fresh_symbol serial) t = t.size.tag
+  object_tag_is w t = t.size.tag
 
   pub header_at_object : (o : Object) → tag_of o ≡ object_tag → ObjectAt names program places a s o → word_at a s.address ≡ Some (header_of o)
   header_at_object (cons car cdr) e t = absurd (omega (arith, e))
-  header_at_object (string bytes) e t = t.header
-  header_at_object (vector vs) e t = t.header
-  header_at_object (instance class values mark) e t = t.header
-  header_at_object (function p) e t = t.header
   header_at_object (closure required rest body env) e t = absurd t
-  header_at_object (generic_function g) e t = t.header
-  header_at_object (class_object class) e t = t.header
-  header_at_object input_stream e t = t.header
-  header_at_object output_stream e t = t.header
-  header_at_object (fresh_symbol serial) e t = t.header
+  header_at_object w e t = t.header

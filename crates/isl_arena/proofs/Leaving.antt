@@ -5,7 +5,7 @@ use Rattle.isl_meaning.specs.Values.{Value}
 use Rattle.isl_meaning.specs.State as meaning
 use Rattle.isl_meaning.specs.Primitives.{Answer, result, makes, makes_symbol, fails, domain_error}
 use Rattle.isl_mid.specs.Arena.{Block, Arena, left, word_at, with_blocks, with_new_block}
-use Rattle.isl_mid.specs.State.{Registers, State, End, falls, returns, cuts, no_room, no_level, no_turn, halts, unhandled, exhausted, stuck, Outcome, ends, charged, with_arena}
+use Rattle.isl_mid.specs.State.{Registers, State, End, falls, returns, no_room, Outcome, ends, charged, with_arena}
 use Rattle.isl_mid.specs.Meaning.{left_from, leaves}
 use Rattle.isl_mid.proofs.Growth.{length-emptied}
 use Rattle.isl_arena.specs.Places.{Spot, Places, end_of, Owner, of_object, of_other, spot_of}
@@ -34,15 +34,7 @@ leaves_cost bs r = from r.end
   where
     from : (e : End) → (left_from e bs r).state.cost ≡ r.state.cost
     from falls = refl
-    from (returns w) = refl
-    from (cuts n w) = refl
-    from (no_room asked lacking) = refl
-    from no_level = refl
-    from no_turn = refl
-    from (halts w) = refl
-    from (unhandled class site) = refl
-    from exhausted = refl
-    from stuck = refl
+    from e = refl
 
 -- a state where a frame is laid, and so much was paid
 abbrev pub with_frame : Block → ℕ → State → State

@@ -24,15 +24,7 @@ use Rattle.isl_arena.proofs.WordFacts.{low_word_of_word}
 -- an end that is not falling out
 abbrev pub IsLast : End → Type 0
 IsLast falls = ⊥
-IsLast (returns w) = Unit {0}
-IsLast (cuts n w) = Unit {0}
-IsLast (no_room asked left) = Unit {0}
-IsLast no_level = Unit {0}
-IsLast no_turn = Unit {0}
-IsLast (halts w) = Unit {0}
-IsLast (unhandled class site) = Unit {0}
-IsLast exhausted = Unit {0}
-IsLast stuck = Unit {0}
+IsLast other = Unit {0}
 
 -- combinators
 
@@ -310,15 +302,7 @@ go_on_twice r f g = from r.end r.registers r.state
   where
     from : (e : End) (rs : Registers) (z : State) → go_on (go_on (ends e rs z) f) g ≡ go_on (ends e rs z) (λ rs' y. go_on (f rs' y) g)
     from falls rs z = refl
-    from (returns w) rs z = refl
-    from (cuts n w) rs z = refl
-    from (no_room asked left) rs z = refl
-    from no_level rs z = refl
-    from no_turn rs z = refl
-    from (halts w) rs z = refl
-    from (unhandled class site) rs z = refl
-    from exhausted rs z = refl
-    from stuck rs z = refl
+    from e rs z = refl
 
 go_on_same : (r : Outcome) (f g : Next) → ((rs : Registers) (z : State) → f rs z ≡ g rs z) → go_on r f ≡ go_on r g
 unfolding go_on
@@ -326,15 +310,7 @@ go_on_same r f g h = from r.end r.registers r.state
   where
     from : (e : End) (rs : Registers) (z : State) → go_on (ends e rs z) f ≡ go_on (ends e rs z) g
     from falls rs z = h rs z
-    from (returns w) rs z = refl
-    from (cuts n w) rs z = refl
-    from (no_room asked left) rs z = refl
-    from no_level rs z = refl
-    from no_turn rs z = refl
-    from (halts w) rs z = refl
-    from (unhandled class site) rs z = refl
-    from exhausted rs z = refl
-    from stuck rs z = refl
+    from e rs z = refl
 
 in_two_parts :
     (c : Context) (ss ts : List MidStep) (rs : Registers) (z : State)

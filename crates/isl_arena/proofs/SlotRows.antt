@@ -4,7 +4,7 @@ use Rattle.std.specs.Prelude.{◌==◌, not, nat_le, slice_get, slice_set, if◌
 use Rattle.isl_meaning.specs.declared.program.ProgramRows.{ProgramRows}
 use Rattle.isl_meaning.specs.declared.program.SlotRow.{SlotRow}
 use Rattle.isl_meaning.specs.declared.primitive.Primitive.TheVariants.{SlotInitargs, SlotInitform, Continuable}
-use Rattle.isl_meaning.specs.Values.{Value, integer, character, symbol, nil, object, truth}
+use Rattle.isl_meaning.specs.Values.{Value, object, truth}
 use Rattle.isl_meaning.specs.Objects.{Object, instance, class_object, serious_condition_class}
 use Rattle.isl_meaning.specs.State as meaning
 use Rattle.isl_meaning.specs.Classes.{fetch, class_of, class_of_object, precedence, slots, is_below, is_condition}
@@ -139,11 +139,8 @@ class_below (Some (class_object c)) e = by (nat_le c 16)
 class_below w e = omega arith
 
 value_class_below : (z : meaning.State) (v : Value) → as_instance (fetch z v) ≡ None → class_of z v < serious_condition_class
-value_class_below z (integer n) e = omega arith
-value_class_below z (character c) e = omega arith
-value_class_below z (symbol s) e = omega arith
-value_class_below z nil e = omega arith
 value_class_below z (object i) e = class_below (slice_get z.store i) e
+value_class_below z w e = omega arith
 
 module _ (names : List (List ℕ)) (program : ProgramRows) (places : Places) (z : meaning.State) (y : State) (r : Represents names program places z y) where
   -- the class of an instance that is stored

@@ -7,7 +7,7 @@ use Rattle.std.proofs.lemmas.Option.{slice_get-map}
 use Rattle.isl_mid.specs.declared.operation.Callee.{Callee}
 use Rattle.isl_mid.specs.declared.operation.Callee.TheVariants.{Procedure, Word}
 use Rattle.isl_mid.specs.declared.operation.Operation.{Operation}
-use Rattle.isl_mid.specs.declared.operation.Operation.TheVariants.{Move, Constant, Compute, Load, Store, Request, Draw, Put, Get, Call}
+use Rattle.isl_mid.specs.declared.operation.Operation.TheVariants.{Call}
 use Rattle.isl_mid.specs.declared.program.MidProcedure.{MidProcedure}
 use Rattle.isl_mid.specs.MidCode.{MidStep, perform, choose, repeat, with_block, return_word, cut_to, halt_with, end_unhandled, MidCode, no_step, step_and, code_of}
 use Rattle.isl_mid.specs.Checked as tree
@@ -117,16 +117,8 @@ module _ (procedures : List MidProcedure) where
   call_same (Word r) count h = refl
 
   operation_same : (o : Operation) → tree.operation_calls procedures o ≡ true → operation_calls flat o ≡ true
-  operation_same (Move to from) h = refl
-  operation_same (Constant to word) h = refl
-  operation_same (Compute to which first second) h = refl
-  operation_same (Load to base offset) h = refl
-  operation_same (Store from base offset) h = refl
-  operation_same (Request to words) h = refl
-  operation_same (Draw to base offset) h = refl
-  operation_same (Put from) h = refl
-  operation_same (Get to) h = refl
   operation_same (Call to callee arguments) h = call_same callee (length arguments) h
+  operation_same w h = refl
 
   mutual
     step_call : (s : MidStep) (at : ℕ) → tree.step_calls procedures s ≡ true → Passes calls (step_lines at s)

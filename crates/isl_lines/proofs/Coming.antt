@@ -8,29 +8,15 @@ use Rattle.isl_lines.specs.LineMeaning.{Standing, Activation, with_standing, Cal
 
 -- an end for want of levels or turns
 abbrev pub IsWanting : End → Type 0
-IsWanting falls = ⊥
-IsWanting (returns w) = ⊥
-IsWanting (cuts n w) = ⊥
-IsWanting (no_room asked left) = ⊥
 IsWanting no_level = Unit {0}
 IsWanting no_turn = Unit {0}
-IsWanting (halts w) = ⊥
-IsWanting (unhandled class site) = ⊥
-IsWanting exhausted = ⊥
-IsWanting stuck = ⊥
+IsWanting other = ⊥
 
 -- no end is both
 not_both : (e : End) → IsReached e → IsWanting e → ⊥
-not_both falls h k = k
-not_both (returns w) h k = k
-not_both (cuts n w) h k = k
-not_both (no_room asked left) h k = k
 not_both no_level h k = h
 not_both no_turn h k = h
-not_both (halts w) h k = k
-not_both (unhandled class site) h k = k
-not_both exhausted h k = k
-not_both stuck h k = k
+not_both w h k = k
 
 -- the machine comes to a stage
 pub record Comes (program : LineProgram) (from to : Stage) : Type 0 where
@@ -203,12 +189,4 @@ jumped_on r f = from r.end r.registers r.state
   where
     from : (e : End) (rs : Registers) (z : State) → go_on (jumped (ends e rs z)) f ≡ go_on (ends e rs z) (λ rs z. f rs (charged jump_cost z))
     from falls rs z = refl
-    from (returns w) rs z = refl
-    from (cuts n w) rs z = refl
-    from (no_room asked left) rs z = refl
-    from no_level rs z = refl
-    from no_turn rs z = refl
-    from (halts w) rs z = refl
-    from (unhandled class site) rs z = refl
-    from exhausted rs z = refl
-    from stuck rs z = refl
+    from e rs z = refl

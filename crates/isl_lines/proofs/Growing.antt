@@ -85,17 +85,10 @@ unfolding proceed
 proceed_grown program z a line callers r g = from r.end
   where
     from : (e : End) → Grown z (state_of (proceed_from program e a line r.registers callers r.state))
-    from falls = g
     from (returns w) = both_grown g (both_grown (arena_grown _ r.state (blocks_enlarged a.outer r.state.arena)) (return_grown callers w _))
     from (cuts n w) =
         both_grown g (land_grown program w (standing_from n a.standing) a r.registers callers r.state _ (cut_outwards_grown program n w callers r.state))
-    from (no_room asked left) = g
-    from no_level = g
-    from no_turn = g
-    from (halts w) = g
-    from (unhandled class site) = g
-    from exhausted = g
-    from stuck = g
+    from e = g
 
 -- the steps that are lines: nothing is below and further
 no_tasks_grow : TasksGrow (λ task z. ends stuck [] z)

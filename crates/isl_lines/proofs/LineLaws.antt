@@ -108,16 +108,9 @@ run_meets mid k turns_each c entry arguments z le lt =
     entry arguments z (slice_get mid.procedures entry) refl)
 
 reached_or_wanting : (e : End) → IsReached e ⊎ IsWanting e
-reached_or_wanting falls = inl tt
-reached_or_wanting (returns w) = inl tt
-reached_or_wanting (cuts n w) = inl tt
-reached_or_wanting (no_room asked left) = inl tt
 reached_or_wanting no_level = inr tt
 reached_or_wanting no_turn = inr tt
-reached_or_wanting (halts w) = inl tt
-reached_or_wanting (unhandled class site) = inl tt
-reached_or_wanting exhausted = inl tt
-reached_or_wanting stuck = inl tt
+reached_or_wanting w = inl tt
 
 pub law_of_lines : LawOfLines
 law_of_lines program k turns_each entry arguments z =

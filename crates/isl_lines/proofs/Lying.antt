@@ -36,7 +36,6 @@ has_all (x ∷ xs) before =
 -- the counts are the lengths
 mutual
   pub step_length : (s : MidStep) (at : ℕ) → length (step_lines at s) ≡ step_line_count s
-  step_length (perform o) at = refl
   step_length (choose t first second) at =
       let n = code_length first (at + 1) in
       let m = code_length second (at + 1 + line_count first + 1) in
@@ -62,10 +61,7 @@ mutual
           (a b : List Line) (v w x y z : Line) → length a ≡ line_count inside → length b ≡ line_count landing
           → length (v ∷ (a ++ (w ∷ x ∷ y ∷ (b ++ z ∷ [])))) ≡ 1 + line_count inside + 3 + line_count landing + 1
       record_length a b v w x y z n m = omega (arith, length-append a (w ∷ x ∷ y ∷ (b ++ z ∷ [])), length-append b (z ∷ []))
-  step_length (return_word r) at = refl
-  step_length (cut_to block word) at = refl
-  step_length (halt_with r) at = refl
-  step_length (end_unhandled class site) at = refl
+  step_length w at = refl
 
   pub code_length : (c : MidCode) (at : ℕ) → length (code_lines at c) ≡ line_count c
   code_length no_step at = refl
@@ -108,7 +104,6 @@ abbrev mutual
 
 mutual
   step_lies : (lines : List Line) (s : MidStep) (at : ℕ) → HasAt lines at (step_lines at s) → StepLies lines at s
-  step_lies lines (perform o) at h = h.0
   step_lies lines (choose t first second) at h =
       let a = has_back lines (at + 1) (line_count first) (code_lines (at + 1) first) _ (code_length first (at + 1)) h.1 in
       let b = has_back lines (at + 1 + line_count first + 1) (line_count second) (code_lines (at + 1 + line_count first + 1) second) _ (code_length second (at + 1 + line_count first + 1)) a.1 in (
@@ -142,10 +137,7 @@ mutual
         subst (λ k. CodeLies lines k landing) more (code_lies lines landing (i + 3) (has_front lines (i + 3) (code_lines (i + 3) landing) _ c)),
         subst (λ k. slice_get lines (k + line_count landing) ≡ Some (GiveBack words)) more b.0,
       )
-  step_lies lines (return_word r) at h = h.0
-  step_lies lines (cut_to block word) at h = h.0
-  step_lies lines (halt_with r) at h = h.0
-  step_lies lines (end_unhandled class site) at h = h.0
+  step_lies lines w at h = h.0
 
   code_lies : (lines : List Line) (c : MidCode) (at : ℕ) → HasAt lines at (code_lines at c) → CodeLies lines at c
   code_lies lines no_step at h = tt

@@ -34,13 +34,7 @@ abbrev KeepsAt : End → List Block → State → Type 0
 KeepsAt falls bs z = z.arena.blocks ≡ bs
 KeepsAt (returns w) bs z = ⊥
 KeepsAt (cuts n w) bs z = ⊥
-KeepsAt (no_room asked left) bs z = Unit {0}
-KeepsAt no_level bs z = Unit {0}
-KeepsAt no_turn bs z = Unit {0}
-KeepsAt (halts w) bs z = Unit {0}
-KeepsAt (unhandled class site) bs z = Unit {0}
-KeepsAt exhausted bs z = Unit {0}
-KeepsAt stuck bs z = Unit {0}
+KeepsAt other bs z = Unit {0}
 
 abbrev Keeps : List Block → Outcome → Type 0
 Keeps bs r = KeepsAt r.end bs r.state
@@ -116,15 +110,7 @@ module _ (program : LineProgram) (first : List Block) where
     where
       from : (e : End) → IfFalls e (StandsOn program a r.state.arena.blocks) → StageStands program first (arrive_from e a line r.registers callers r.state)
       from falls h = (h, k)
-      from (returns w) h = tt
-      from (cuts n w) h = tt
-      from (no_room asked left) h = tt
-      from no_level h = tt
-      from no_turn h = tt
-      from (halts w) h = tt
-      from (unhandled class site) h = tt
-      from exhausted h = tt
-      from stuck h = tt
+      from e h = tt
 
   keeps_stands :
       (a : Activation) (line : ℕ) (callers : List Caller) (bs : List Block) (r : Outcome) → Keeps bs r → StandsOn program a bs

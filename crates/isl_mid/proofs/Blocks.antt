@@ -13,7 +13,7 @@ use Rattle.isl_mid.specs.declared.program.MidProcedure.{MidProcedure}
 use Rattle.isl_mid.specs.declared.program.MidProgram.{MidProgram}
 use Rattle.isl_mid.specs.MidCode.{MidStep, perform, choose, repeat, with_block, return_word, cut_to, halt_with, end_unhandled, MidCode, no_step, step_and, code_of}
 use Rattle.isl_mid.specs.Arena.{Block, activation_frame, closed_record, is_record, is_open, record_of, lent_from, with_blocks, blocks_from, outside_of, blocks_outside, blocks_closed}
-use Rattle.isl_mid.specs.State.{Registers, State, End, falls, returns, cuts, no_room, no_level, no_turn, halts, unhandled, exhausted, stuck, Outcome, Next, ends, with_arena, gives, go_on, with_some, choose_by, with_registers, jumped, landed}
+use Rattle.isl_mid.specs.State.{Registers, State, End, falls, returns, cuts, no_level, no_turn, stuck, Outcome, Next, ends, with_arena, gives, go_on, with_some, choose_by, with_registers, jumped, landed}
 use Rattle.isl_mid.specs.Meaning.{store, cut, give_back, run_landing, with_record, get_from, test, Task, enter, again, Context, context_of, called, leaves, count, with_callee, operate, exec, exec_step, run_procedure, run_task, turns, levels, at_top, runs}
 use Rattle.isl_mid.specs.BlockLaw.{OuterPart, is_innermost_open, CutBlocks, CodeEnded, ProcedureEnded, TaskEnded, context_in, LawOfBlocks}
 
@@ -141,15 +141,7 @@ go_on_ended bs r next g h = from r.end r.registers r.state g
   where
     from : (e : End) (rs : Registers) (z : State) → CodeEnded bs (ends e rs z) → CodeEnded bs (go_on (ends e rs z) next)
     from falls rs z g = subst (λ l. CodeEnded l (next rs z)) g.blocks (h rs z)
-    from (returns w) rs z g = g
-    from (cuts n w) rs z g = g
-    from (no_room asked left) rs z g = g
-    from no_level rs z g = g
-    from no_turn rs z g = g
-    from (halts w) rs z g = g
-    from (unhandled class site) rs z g = g
-    from exhausted rs z g = g
-    from stuck rs z g = g
+    from e rs z g = g
 
 jumped_ended : (bs : List Block) (r : Outcome) → CodeEnded bs r → CodeEnded bs (jumped r)
 jumped_ended bs r g = go_on_ended bs r _ g (λ rs y. record { blocks = refl })
@@ -162,13 +154,7 @@ called_ended bs r to own g = from r.end r.registers r.state g
     from falls rs z g = absurd g.blocks
     from (returns w) rs z g = record { blocks = g.blocks }
     from (cuts n w) rs z g = record { blocks = g.blocks }
-    from (no_room asked left) rs z g = record { blocks = tt }
-    from no_level rs z g = record { blocks = tt }
-    from no_turn rs z g = record { blocks = tt }
-    from (halts w) rs z g = record { blocks = tt }
-    from (unhandled class site) rs z g = record { blocks = tt }
-    from exhausted rs z g = record { blocks = tt }
-    from stuck rs z g = record { blocks = tt }
+    from e rs z g = record { blocks = tt }
 
 -- the body of a procedure, which has laid a block that is no open record
 leaves_ended : (b : Block) (bs : List Block) (r : Outcome) → is_open b.kind ≡ false → CodeEnded (b ∷ bs) r → ProcedureEnded bs (leaves bs r)
@@ -176,16 +162,9 @@ unfolding leaves
 leaves_ended b bs r h g = from r.end r.registers r.state g
   where
     from : (e : End) (rs : Registers) (z : State) → CodeEnded (b ∷ bs) (ends e rs z) → ProcedureEnded bs (leaves bs (ends e rs z))
-    from falls rs z g = record { blocks = tt }
     from (returns w) rs z g = record { blocks = refl }
     from (cuts n w) rs z g = record { blocks = cut_passes n b bs z.arena.blocks h g.blocks }
-    from (no_room asked left) rs z g = record { blocks = tt }
-    from no_level rs z g = record { blocks = tt }
-    from no_turn rs z g = record { blocks = tt }
-    from (halts w) rs z g = record { blocks = tt }
-    from (unhandled class site) rs z g = record { blocks = tt }
-    from exhausted rs z g = record { blocks = tt }
-    from stuck rs z g = record { blocks = tt }
+    from e rs z g = record { blocks = tt }
 
 -- control records
 
@@ -203,13 +182,7 @@ closed_ended outside b bs r h g = from r.end r.registers r.state g
     from falls rs z g = give_back_ended outside b bs rs z g.blocks
     from (returns w) rs z g = record { blocks = rest_is_part b bs z.arena.blocks g.blocks }
     from (cuts n w) rs z g = record { blocks = cut_passes n b bs z.arena.blocks h g.blocks }
-    from (no_room asked left) rs z g = record { blocks = tt }
-    from no_level rs z g = record { blocks = tt }
-    from no_turn rs z g = record { blocks = tt }
-    from (halts w) rs z g = record { blocks = tt }
-    from (unhandled class site) rs z g = record { blocks = tt }
-    from exhausted rs z g = record { blocks = tt }
-    from stuck rs z g = record { blocks = tt }
+    from e rs z g = record { blocks = tt }
 
 run_landing_ended :
     (outside word : ℕ) (landing : Next) (b : Block) (bs : List Block) (w : ℕ) (rs : Registers) (z : State)
@@ -227,18 +200,10 @@ unfolding landed
 nothing_caught bs catch r g = from r.end r.registers r.state g
   where
     from : (e : End) (rs : Registers) (z : State) → CodeEnded bs (ends e rs z) → CodeEnded bs (landed (length bs) catch (ends e rs z))
-    from falls rs z g = g
-    from (returns w) rs z g = g
     from (cuts n w) rs z g =
         choose_ended (CodeEnded bs) _ (catch w) (ends (cuts n w)) rs z
         (λ t. absurd (cut_is_among n bs z.arena.blocks (eqb-true n (length bs) t) g.blocks)) (λ t. g)
-    from (no_room asked left) rs z g = g
-    from no_level rs z g = g
-    from no_turn rs z g = g
-    from (halts w) rs z g = g
-    from (unhandled class site) rs z g = g
-    from exhausted rs z g = g
-    from stuck rs z g = g
+    from e rs z g = g
 
 -- the inside of a record, what comes behind it, and what catches a cut to it
 record_ended :
@@ -256,13 +221,7 @@ record_ended b bs r next catch g h k = from r.end r.registers r.state g
         choose_ended (CodeEnded bs) _ (catch w) (ends (cuts n w)) rs z
         (λ t. k w rs z (cut_stays n b bs z.arena.blocks (eqb-true n (length bs) t) g.blocks))
         (λ t. record { blocks = cut_passes_other n b bs z.arena.blocks (eqb-false n (length bs) t) g.blocks })
-    from (no_room asked left) rs z g = record { blocks = tt }
-    from no_level rs z g = record { blocks = tt }
-    from no_turn rs z g = record { blocks = tt }
-    from (halts w) rs z g = record { blocks = tt }
-    from (unhandled class site) rs z g = record { blocks = tt }
-    from exhausted rs z g = record { blocks = tt }
-    from stuck rs z g = record { blocks = tt }
+    from e rs z g = record { blocks = tt }
 
 with_record_ended :
     (block words word : ℕ) (inside landing : Next) (rs : Registers) (z : State)
@@ -399,15 +358,8 @@ at_top_ended bs r g = from r.end r.registers r.state g
   where
     from : (e : End) (rs : Registers) (z : State) → ProcedureEnded bs (ends e rs z) → ProcedureEnded bs (at_top (ends e rs z))
     from falls rs z g = record { blocks = tt }
-    from (returns w) rs z g = g
     from (cuts n w) rs z g = record { blocks = tt }
-    from (no_room asked left) rs z g = g
-    from no_level rs z g = g
-    from no_turn rs z g = g
-    from (halts w) rs z g = g
-    from (unhandled class site) rs z g = g
-    from exhausted rs z g = g
-    from stuck rs z g = g
+    from e rs z g = g
 
 runs_end : (program : MidProgram) (k turns_each entry : ℕ) (arguments : List ℕ) (z : State) → ProcedureEnded z.arena.blocks (runs program k turns_each entry arguments z)
 unfolding runs

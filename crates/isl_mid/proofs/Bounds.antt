@@ -15,7 +15,7 @@ use Rattle.isl_mid.specs.declared.operation.Test.{Test}
 use Rattle.isl_mid.specs.declared.program.MidProcedure.{MidProcedure}
 use Rattle.isl_mid.specs.MidCode.{MidStep, perform, choose, repeat, with_block, return_word, cut_to, halt_with, end_unhandled, MidCode, no_step, step_and, code_of}
 use Rattle.isl_mid.specs.Arena.{Arena, Block, activation_frame, record_of, begin_of, lent_from, left, is_lent, word_at, emptied, with_word, with_heap, with_new_block, with_blocks}
-use Rattle.isl_mid.specs.State.{Registers, State, End, falls, returns, cuts, no_room, no_level, no_turn, halts, unhandled, exhausted, stuck, Outcome, Next, ends, charged, gives, go_on, go_on_from, with_some, choose_by, with_arena, with_register, with_registers, jumped, landed, landed_from}
+use Rattle.isl_mid.specs.State.{Registers, State, End, falls, returns, cuts, stuck, Outcome, Next, ends, charged, gives, go_on, go_on_from, with_some, choose_by, with_arena, with_register, with_registers, jumped, landed, landed_from}
 use Rattle.isl_mid.specs.Checked.{is_register, is_block_size, operation_fits, test_fits, step_fits, code_fits, is_checked, is_sound_in}
 use Rattle.isl_mid.specs.Meaning.{store, where_left, lay, request, draw, cut, give_back, run_inside, run_landing, with_record, get_from, test, Task, enter, again, Context, context_of, called, called_from, left_from, leaves, count, with_callee, operate, exec, exec_step, run_procedure, run_task, turns, levels, at_top, at_top_from, runs}
 use Rattle.isl_mid.specs.Bounds.{IsWord, AreWords, AreWordsOrNone, BoundedArena, BoundedState, BoundedEnd, BoundedPoint, BoundedOutcome}
@@ -72,15 +72,7 @@ go_on_bounded r next b h = from r.end
   where
     from : (e : End) → BoundedOutcome (go_on_from e r next)
     from falls = h r.registers r.state b.point
-    from (returns w) = b
-    from (cuts n w) = b
-    from (no_room asked left) = b
-    from no_level = b
-    from no_turn = b
-    from (halts w) = b
-    from (unhandled class site) = b
-    from exhausted = b
-    from stuck = b
+    from e = b
 
 with_some_bounded :
     {X : Type 0} (o : Option X) (next : X → Next) (rs : Registers) (z : State) → BoundedPoint rs z → ((x : X) → o ≡ Some x → BoundedOutcome (next x rs z))
@@ -122,15 +114,7 @@ landed_bounded outside catch r b h = from r.end b.end
     from : (e : End) → BoundedEnd e → BoundedOutcome (landed_from e outside catch r)
     from (cuts n w) g =
         choose_bounded _ (catch w) (ends (cuts n w)) r.registers r.state (λ t. h w r.registers r.state g b.point) (λ t. record { end = g; point = b.point })
-    from falls g = b
-    from (returns w) g = b
-    from (no_room asked left) g = b
-    from no_level g = b
-    from no_turn g = b
-    from (halts w) g = b
-    from (unhandled class site) g = b
-    from exhausted g = b
-    from stuck g = b
+    from e g = b
 
 called_bounded : (r : Outcome) (to : ℕ) (rs : Registers) → BoundedOutcome r → AreWordsOrNone rs → BoundedOutcome (called r to rs)
 unfolding called
@@ -142,14 +126,7 @@ called_bounded r to rs b h = from r.end b.end
     from : (e : End) → BoundedEnd e → BoundedOutcome (called_from e to rs r.state)
     from (returns w) g = gives_bounded to w rs r.state own g
     from falls g = stuck_bounded rs r.state own
-    from (cuts n w) g = record { end = g; point = own }
-    from (no_room asked left) g = record { end = g; point = own }
-    from no_level g = record { end = g; point = own }
-    from no_turn g = record { end = g; point = own }
-    from (halts w) g = record { end = g; point = own }
-    from (unhandled class site) g = record { end = g; point = own }
-    from exhausted g = record { end = g; point = own }
-    from stuck g = record { end = g; point = own }
+    from e g = record { end = g; point = own }
 
 leaves_bounded : (bs : List Block) (r : Outcome) → BoundedOutcome r → BoundedOutcome (leaves bs r)
 unfolding leaves
@@ -158,14 +135,7 @@ leaves_bounded bs r b = from r.end b.end
     from : (e : End) → BoundedEnd e → BoundedOutcome (left_from e bs r)
     from (returns w) g = record { end = g; point = with_arena_bounded _ r.registers r.state b.point (blocks_arena bs r.state.arena b.point.state.arena) }
     from falls g = stuck_bounded r.registers r.state b.point
-    from (cuts n w) g = b
-    from (no_room asked left) g = b
-    from no_level g = b
-    from no_turn g = b
-    from (halts w) g = b
-    from (unhandled class site) g = b
-    from exhausted g = b
-    from stuck g = b
+    from e g = b
 
 at_top_bounded : (r : Outcome) → BoundedOutcome r → BoundedOutcome (at_top r)
 unfolding at_top
@@ -174,14 +144,7 @@ at_top_bounded r b = from r.end
     from : (e : End) → BoundedOutcome (at_top_from e r)
     from falls = stuck_bounded r.registers r.state b.point
     from (cuts n w) = stuck_bounded r.registers r.state b.point
-    from (returns w) = b
-    from (no_room asked left) = b
-    from no_level = b
-    from no_turn = b
-    from (halts w) = b
-    from (unhandled class site) = b
-    from exhausted = b
-    from stuck = b
+    from e = b
 
 -- operations on the arena
 

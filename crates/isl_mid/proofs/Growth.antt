@@ -13,7 +13,7 @@ use Rattle.isl_mid.specs.declared.operation.Test.{Test}
 use Rattle.isl_mid.specs.declared.program.MidProcedure.{MidProcedure}
 use Rattle.isl_mid.specs.MidCode.{MidStep, perform, choose, repeat, with_block, return_word, cut_to, halt_with, end_unhandled, MidCode, no_step, step_and, code_of}
 use Rattle.isl_mid.specs.Arena.{Arena, Block, activation_frame, record_of, emptied, with_word, with_heap, with_new_block, with_blocks}
-use Rattle.isl_mid.specs.State.{Registers, State, End, falls, returns, cuts, no_room, no_level, no_turn, halts, unhandled, exhausted, stuck, Outcome, Next, ends, charged, gives, go_on, go_on_from, with_some, choose_by, with_arena, with_registers, jumped, landed, landed_from}
+use Rattle.isl_mid.specs.State.{Registers, State, End, falls, returns, cuts, Outcome, Next, ends, charged, gives, go_on, go_on_from, with_some, choose_by, with_arena, with_registers, jumped, landed, landed_from}
 use Rattle.isl_mid.specs.Meaning.{store, where_left, lay, give_back, close, run_inside, run_landing, with_record, get_from, test, Task, enter, again, Context, context_of, called, called_from, left_from, leaves, count, with_callee, operate, exec, exec_step, run_task, turns, levels, at_top, at_top_from}
 use Rattle.isl_mid.specs.Law.{Enlarged, Grown}
 
@@ -80,15 +80,7 @@ go_on_grown r next z g h = from r.end
   where
     from : (e : End) → Grown z (go_on_from e r next).state
     from falls = both_grown g (h r.registers r.state)
-    from (returns w) = g
-    from (cuts n w) = g
-    from (no_room asked left) = g
-    from no_level = g
-    from no_turn = g
-    from (halts w) = g
-    from (unhandled class site) = g
-    from exhausted = g
-    from stuck = g
+    from e = g
 
 pub with_some_grown : {X : Type 0} (o : Option X) (next : X → Next) (rs : Registers) (z : State) → ((x : X) → Grown z (next x rs z).state) → Grown z (with_some o next rs z).state
 unfolding with_some
@@ -118,17 +110,9 @@ unfolding landed
 landed_grown outside catch r z g h = from r.end
   where
     from : (e : End) → Grown z (landed_from e outside catch r).state
-    from falls = g
-    from (returns w) = g
     from (cuts n w) =
         both_grown g (choose_grown _ (catch w) (ends (cuts n w)) r.registers r.state (h w r.registers r.state) (same_grown r.state))
-    from (no_room asked left) = g
-    from no_level = g
-    from no_turn = g
-    from (halts w) = g
-    from (unhandled class site) = g
-    from exhausted = g
-    from stuck = g
+    from e = g
 
 pub called_grown : (r : Outcome) (to : ℕ) (rs : Registers) (z : State) → Grown z r.state → Grown z (called r to rs).state
 unfolding called
@@ -136,31 +120,15 @@ called_grown r to rs z g = from r.end
   where
     from : (e : End) → Grown z (called_from e to rs r.state).state
     from falls = g
-    from (returns w) = g
-    from (cuts n w) = g
-    from (no_room asked left) = g
-    from no_level = g
-    from no_turn = g
-    from (halts w) = g
-    from (unhandled class site) = g
-    from exhausted = g
-    from stuck = g
+    from e = g
 
 pub leaves_grown : (bs : List Block) (r : Outcome) (z : State) → Grown z r.state → Grown z (leaves bs r).state
 unfolding leaves
 leaves_grown bs r z g = from r.end
   where
     from : (e : End) → Grown z (left_from e bs r).state
-    from falls = g
     from (returns w) = both_grown g (arena_grown _ r.state (blocks_enlarged bs r.state.arena))
-    from (cuts n w) = g
-    from (no_room asked left) = g
-    from no_level = g
-    from no_turn = g
-    from (halts w) = g
-    from (unhandled class site) = g
-    from exhausted = g
-    from stuck = g
+    from e = g
 
 -- operations
 
@@ -289,15 +257,7 @@ at_top_grown r z g = from r.end
   where
     from : (e : End) → Grown z (at_top_from e r).state
     from falls = g
-    from (returns w) = g
-    from (cuts n w) = g
-    from (no_room asked left) = g
-    from no_level = g
-    from no_turn = g
-    from (halts w) = g
-    from (unhandled class site) = g
-    from exhausted = g
-    from stuck = g
+    from e = g
 
 -- tasks with so many turns and levels
 

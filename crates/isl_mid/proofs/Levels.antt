@@ -6,11 +6,11 @@ use Rattle.isl_mid.specs.declared.operation.Counted.TheVariants.{Level, Turn}
 use Rattle.isl_mid.specs.declared.operation.Callee.{Callee}
 use Rattle.isl_mid.specs.declared.operation.Callee.TheVariants.{Procedure, Word}
 use Rattle.isl_mid.specs.declared.operation.Operation.{Operation}
-use Rattle.isl_mid.specs.declared.operation.Operation.TheVariants.{Move, Constant, Compute, Load, Store, Request, Draw, Put, Get, Call}
+use Rattle.isl_mid.specs.declared.operation.Operation.TheVariants.{Call}
 use Rattle.isl_mid.specs.declared.operation.Test.{Test}
 use Rattle.isl_mid.specs.declared.program.MidProcedure.{MidProcedure}
 use Rattle.isl_mid.specs.declared.program.MidProgram.{MidProgram}
-use Rattle.isl_mid.specs.MidCode.{MidStep, perform, choose, repeat, with_block, return_word, cut_to, halt_with, end_unhandled, MidCode, no_step, step_and, code_of}
+use Rattle.isl_mid.specs.MidCode.{MidStep, perform, choose, repeat, with_block, MidCode, no_step, step_and, code_of}
 use Rattle.isl_mid.specs.Arena.{Block, activation_frame, record_of}
 use Rattle.isl_mid.specs.State.{Registers, State, End, falls, returns, cuts, no_room, no_level, no_turn, halts, unhandled, exhausted, stuck, Outcome, Next, ends, go_on, with_some, choose_by, with_registers, jumped, landed}
 use Rattle.isl_mid.specs.Meaning.{lay, give_back, run_inside, run_landing, with_record, test, Task, enter, again, Context, context_of, called, leaves, count, with_callee, operate, exec, exec_step, run_task, turns, levels, at_top, runs}
@@ -201,18 +201,10 @@ module _ (procedures : List MidProcedure) (f f' g g' : Task → State → Outcom
   callee_extends (Word r) m n rs z h = with_some_extends _ _ _ rs z (λ number. with_some_extends _ m n rs z h)
 
   operate_extends : (o : Operation) (rs : Registers) (z : State) → Extends (operate one o rs z) (operate other o rs z)
-  operate_extends (Move to from) rs z = same_extends _
-  operate_extends (Constant to word) rs z = same_extends _
-  operate_extends (Compute to which first second) rs z = same_extends _
-  operate_extends (Load to base offset) rs z = same_extends _
-  operate_extends (Store from base offset) rs z = same_extends _
-  operate_extends (Request to words) rs z = same_extends _
-  operate_extends (Draw to base offset) rs z = same_extends _
-  operate_extends (Put from) rs z = same_extends _
-  operate_extends (Get to) rs z = same_extends _
   operate_extends (Call to callee arguments) rs z =
       with_registers_extends arguments _ _ rs z (λ ws. callee_extends callee _ _ rs z (λ p.
       called_extends _ _ to rs (count_extends p.counted (enter p ws) z)))
+  operate_extends w rs z = same_extends _
 
   mutual
     unfolding exec
@@ -241,10 +233,7 @@ module _ (procedures : List MidProcedure) (f f' g g' : Task → State → Outcom
         with_record_extends block words word (λ rs' y. exec one inside rs' y) (λ rs' y. exec one landing rs' y)
         (λ rs' y. exec other inside rs' y) (λ rs' y. exec other landing rs' y) rs z (λ rs' y. exec_extends inside rs' y) (λ rs' y. exec_extends landing rs' y)
         (λ rs' y. exec_grown other below_grows further_grows landing rs' y)
-    step_extends (return_word r) rs z = same_extends _
-    step_extends (cut_to block word) rs z = same_extends _
-    step_extends (halt_with r) rs z = same_extends _
-    step_extends (end_unhandled class site) rs z = same_extends _
+    step_extends w rs z = same_extends _
 
   pub task_extends : (task : Task) (z : State) → Extends (run_task one task z) (run_task other task z)
   task_extends (enter p arguments) z =

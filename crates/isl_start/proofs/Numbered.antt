@@ -4,7 +4,7 @@ use Rattle.std.specs.Prelude.{slice_get}
 use Rattle.std.proofs.lemmas.Option.{slice_get_within}
 use Rattle.isl_base.specs.Data as datum
 use Rattle.isl_meaning.specs.declared.program.ProgramRows.{ProgramRows}
-use Rattle.isl_meaning.specs.Objects.{Object, cons, string, vector, instance, function, closure, generic_function, class_object, input_stream, output_stream, fresh_symbol}
+use Rattle.isl_meaning.specs.Objects.{Object, function}
 use Rattle.isl_meaning.specs.Literals.{Laid, lay, lay_content, lay_items, lay_list, lay_tail}
 use Rattle.isl_arena.specs.Places.{Spot, Places, of_object, spot_in, spot_of}
 use Rattle.isl_arena.specs.Standing.{SameWords}
@@ -19,16 +19,7 @@ use Rattle.isl_start.specs.Making.{IsNumbered, AreNumbered}
 
 abbrev pub IsNoFunction : Object → Type 0
 IsNoFunction (function p) = ⊥
-IsNoFunction (cons a d) = Unit {0}
-IsNoFunction (string bytes) = Unit {0}
-IsNoFunction (vector vs) = Unit {0}
-IsNoFunction (instance c values mark) = Unit {0}
-IsNoFunction (closure required rest body env) = Unit {0}
-IsNoFunction (generic_function g) = Unit {0}
-IsNoFunction (class_object c) = Unit {0}
-IsNoFunction input_stream = Unit {0}
-IsNoFunction output_stream = Unit {0}
-IsNoFunction (fresh_symbol s) = Unit {0}
+IsNoFunction other = Unit {0}
 
 abbrev pub NoFunctions : List Object → Type 0
 NoFunctions [] = Unit {0}
