@@ -35,6 +35,7 @@ handed_in old new bytes all items same = record {
   machine = ap (λ (e : Evaluator). e.machine) same;
   ahead = items;
   taken = ap (λ (e : Evaluator). e.taken) same;
+  same = same ∙ ap (λ n. record old { ahead = new.ahead; taken = n }) (sym (ap (λ (e : Evaluator). e.taken) same));
   stands = λ names written unread b s. subst (λ e. Stands names e written unread b) (sym same) (record {
     globals = s.globals;
     dynamics = s.dynamics;
@@ -49,6 +50,7 @@ pub handed_all : (e : Evaluator) → IsAllRead e (record e { ended = true })
 handed_all e = record {
   machine = refl;
   ended = refl;
+  same = refl;
   stands = λ names written b s. record {
     globals = s.globals;
     dynamics = s.dynamics;

@@ -1,5 +1,5 @@
 -- What the machine alone does, the evaluator does.
-use Rattle.std.proofs.Common.{◌≡◌, ℕ, List, Result, Ok, Err, OnOk, sym, subst}
+use Rattle.std.proofs.Common.{◌≡◌, ℕ, List, Result, Ok, Err, OnOk, ap, sym, subst}
 use Rattle.isl_plain.specs.Moment.{Setting, Moment}
 use Rattle.isl_store.specs.View.{Beside}
 use Rattle.isl_machine.specs.declared.machine.Machine.{Machine}
@@ -23,6 +23,7 @@ pub lifted : (old new : Evaluator) (f : List (List ℕ) → Setting → Beside �
     → Steps old.machine new.machine f → Runs old new f
 lifted old new f same x = record {
   given = x.given;
+  ended = ap (λ (e : Evaluator). e.ended) same;
   comes = λ names written unread b k s. record {
     beside = b;
     stands = subst (λ e. Stands names e written unread b) (sym same) (beside_another names old new.machine written unread b s);

@@ -1,5 +1,5 @@
 -- Variables of names: what stands in the evaluator's tables is what the meaning finds.
-use Rattle.std.proofs.Common.{◌≡◌, ℕ, List, ◌∷◌, Option, None, Result, Ok, Err, OnOk, ap, sym, ◌∙◌}
+use Rattle.std.proofs.Common.{◌≡◌, ℕ, List, ◌∷◌, Option, None, Result, Ok, Err, OnOk, refl, ap, sym, ◌∙◌}
 use Rattle.isl_meaning.specs.Lookup.{text, under_text}
 use Rattle.isl_meaning.specs.Values.{Value}
 use Rattle.isl_plain.specs.Applications.{signal_unbound}
@@ -24,6 +24,7 @@ pub went : (e : Evaluator) (m : Machine) (f g : List (List ℕ) → Setting → 
     → Runs e (record e { machine = m }) g
 went e m f g s same = record {
   given = s.given;
+  ended = refl;
   comes = λ names written unread b k st. record {
     beside = b;
     stands = beside_another names e m written unread b st;
@@ -32,13 +33,14 @@ went e m f g s same = record {
 }
 
 -- a table has changed too
-pub went_with : (e new : Evaluator) (f g : List (List ℕ) → Setting → Beside → Moment) (h : List (List ℕ) → Beside → Beside) → Steps e.machine new.machine f
+pub went_with : (e new : Evaluator) (f g : List (List ℕ) → Setting → Beside → Moment) (h : List (List ℕ) → Beside → Beside) → new.ended ≡ e.ended → Steps e.machine new.machine f
     → ((names : List (List ℕ)) (written unread : List ℕ) (b : Beside) → Stands names e written unread b → Stands names new written unread (h names b))
     → ((names : List (List ℕ)) (written unread : List ℕ) (b : Beside) → Stands names e written unread b
     → f names (setting_of names e.machine.given) (h names b) ≡ g names (setting_of names e.machine.given) b)
     → Runs e new g
-went_with e new f g h s stands same = record {
+went_with e new f g h as_before s stands same = record {
   given = s.given;
+  ended = as_before;
   comes = λ names written unread b k st. record {
     beside = h names b;
     stands = stands names written unread b st;

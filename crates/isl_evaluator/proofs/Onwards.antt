@@ -24,6 +24,7 @@ steps_more s (suc n) m = steps_more s n (next s m)
 pub reached_none : (e : Evaluator) → HasReached e e 0
 reached_none e = record {
   given = refl;
+  ended = refl;
   comes = λ names written unread b k st. record { beside = b; stands = st; is = refl };
   begun = λ names written unread b k st. refl;
 }
@@ -46,6 +47,7 @@ pub reached_more : (old mid new : Evaluator) (n : ℕ) → HasReached old mid n 
     → HasStepped mid new → HasReached old new (suc n)
 reached_more old mid new n r quiet h = record {
   given = h.comes.given ∙ r.given;
+  ended = h.comes.ended ∙ r.ended;
   comes = λ names written unread b g st.
       let start : Moment = moment_of names old.machine b in
       let s : Setting = setting_of names old.machine.given in
@@ -75,6 +77,7 @@ reached_more old mid new n r quiet h = record {
 pub reached_end : (old mid new : Evaluator) (n : ℕ) → HasReached old mid n → HasEnded mid new → HasReached old new n
 reached_end old mid new n r h = record {
   given = h.stays.given ∙ r.given;
+  ended = h.stays.ended ∙ r.ended;
   comes = λ names written unread b g st.
       let P : Given → Type 0 = λ y. IsGiven names y in
       let a : IsAt names mid written unread (steps (setting_of names old.machine.given) n (moment_of names old.machine b)) = r.comes names written unread b g st in

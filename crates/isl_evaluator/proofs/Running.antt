@@ -28,6 +28,7 @@ pub runs_on : (old new : Evaluator) (f g : List (List ℕ) → Setting → Besid
     → ((names : List (List ℕ)) (s : Setting) (b : Beside) → f names s b ≡ g names s b) → Runs old new g
 runs_on old new f g x h = record {
   given = x.given;
+  ended = x.ended;
   comes = λ names written unread b k st.
       let a : IsAt names new written unread (f names (setting_of names old.machine.given) b) = x.comes names written unread b k st in
       record { beside = a.beside; stands = a.stands; is = a.is ∙ h names (setting_of names old.machine.given) b };
@@ -39,6 +40,7 @@ pub runs_from : (old : Evaluator) (mid : Machine) (new : Evaluator) (f g : List 
     → ((names : List (List ℕ)) (s : Setting) (b : Beside) → f names s b ≡ g names s b) → Runs old new g
 runs_from old mid new f g e x h = record {
   given = x.given ∙ e;
+  ended = x.ended;
   comes = λ names written unread b k st.
       let P : Given → Type 0 = λ y. IsGiven names y in
       let a : IsAt names new written unread (f names (setting_of names mid.given) b) = x.comes names written unread b (subst P (sym e) k) (beside_another names old mid written unread b st) in

@@ -64,6 +64,7 @@ found_runs e mid m n v q found other is s =
     let given_is : mid.given ≡ e.machine.given = ap (λ (x : Machine). x.given) is.same in
     record {
       given = s.given ∙ given_is;
+      ended = refl;
       comes = λ names written unread b k st. record {
         beside = b;
         stands = beside_another names e m written unread b st;
@@ -91,6 +92,7 @@ unfound_runs e new mid n q found other is r =
     let given_is : mid.given ≡ e.machine.given = ap (λ (x : Machine). x.given) is.same in
     record {
       given = r.given ∙ given_is;
+      ended = r.ended;
       comes = λ names written unread b k st.
           let there : IsAt names new written unread (other names (setting_of names mid.given) (at names mid q) (frames names mid 0) (state names mid b)) =
           r.comes names written unread b (let P : Given → Type 0 = λ x. IsGiven names x in subst P (sym given_is) k)

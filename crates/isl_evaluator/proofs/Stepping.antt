@@ -43,6 +43,7 @@ come_to_items names m n o b c e same =
 stays_there : (old new : Evaluator) (o : Outcome) → old.machine.control ≡ ComeTo o → NoTop old new → Runs old new (λ names s b. moment_of names old.machine b)
 stays_there old new o e n = record {
   given = ap (λ (x : Evaluator). x.machine.given) n.same;
+  ended = ap (λ (x : Evaluator). x.ended) n.same;
   comes = λ names written unread b g st. record {
     beside = b;
     stands = subst (λ x. Stands names x written unread b) (sym n.same)

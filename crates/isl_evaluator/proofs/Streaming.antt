@@ -57,6 +57,7 @@ streamed_told old mid new down which n level around a h d same t =
     let given_is : down.given ≡ old.machine.given = ap (λ (m : Machine). m.given) all in
     record {
       given = t.given ∙ given_is;
+      ended = ap (λ (e : Evaluator). e.ended) same ∙ h.ended;
       comes = λ names written unread b g s.
           let q : IsAnsweredBeside names mid written unread b which (last_of n old.machine.operands.items) a = h.comes names written unread b s in
           let answer : Answer = primitive names (tables old.machine.given.program.now) which (top names old.machine n) (state names old.machine b).state in
@@ -90,6 +91,7 @@ pub stays_told : (e : Evaluator) (which : Primitive) (ws : List Word) (a : Told)
     → IsStreamed e e which ws a
 stays_told e which ws a h = record {
   machine = refl;
+  ended = refl;
   comes = λ names written unread b s. record { beside = b; stands = s; told = λ rows. h names written unread b rows s };
 }
 
@@ -144,6 +146,7 @@ taken_byte : (e : Evaluator) (x : ℕ) → slice_get e.ahead.items e.taken ≡ S
     → IsStreamed e (record e { taken = e.taken + 1 }) p.GetByte [] (Gives (Integer (pos x)))
 taken_byte e x i = record {
   machine = refl;
+  ended = refl;
   comes = λ names written unread b s.
       let input : b.input ≡ x ∷ (drop (suc e.taken) e.ahead.items ++ unread) = s.input ∙ next_there e.ahead.items unread e.taken x i in
       record {
@@ -167,6 +170,7 @@ taken_one e x w is i = subst (λ v. IsStreamed e (record e { taken = e.taken + 1
 pub taken_none : (e : Evaluator) → slice_get e.ahead.items e.taken ≡ None → is_fed e ≡ true → IsStreamed e e p.GetByte [] (Gives (Integer (negsuc 0)))
 taken_none e n fed = record {
   machine = refl;
+  ended = refl;
   comes = λ names written unread b s.
       let input : b.input ≡ [] = s.input ∙ none_left e unread n fed s.ended in
       record {
@@ -220,6 +224,7 @@ pub put_done : (old new : Evaluator) (v w : Word) (q : Bool) (code : ℕ) → q 
     → IsStreamed old new p.PutChar (v ∷ w ∷ []) (Gives Nil)
 put_done old new v w q code granted h k x = record {
   machine = x.machine;
+  ended = x.ended;
   comes = λ names written unread b s. record {
     beside = record b { printed = b.printed ++ code ∷ [] };
     stands = x.stands names written unread b s;
@@ -241,6 +246,7 @@ pub printed_more : (old new : Evaluator) (byte : ℕ) → new.printed.items ≡ 
     → new ≡ record old { printed = new.printed; at_start = byte == 10 } → IsPrinted old new byte
 printed_more old new byte items same = record {
   machine = ap (λ (e : Evaluator). e.machine) same;
+  ended = ap (λ (e : Evaluator). e.ended) same;
   stands = λ names written unread b s. subst (λ e. Stands names e written unread (record b { printed = b.printed ++ byte ∷ [] })) (sym same) (record {
     globals = s.globals;
     dynamics = s.dynamics;

@@ -10,6 +10,7 @@ use Rattle.isl_evaluator.specs.Runs.{Stands, IsAt}
 -- it has come to the moment after so many steps, in which no form began, whatever stood beside it
 pub record HasReached (old new : Evaluator) (n : ℕ) : Type 0 where
   pub given : new.machine.given ≡ old.machine.given
+  pub ended : new.ended ≡ old.ended
   pub comes : (names : List (List ℕ)) (written unread : List ℕ) (b : Beside) → IsGiven names old.machine.given → Stands names old written unread b
       → IsAt names new written unread (steps (setting_of names old.machine.given) n (moment_of names old.machine b))
   pub begun : (names : List (List ℕ)) (written unread : List ℕ) (b : Beside) → IsGiven names old.machine.given → Stands names old written unread b

@@ -17,6 +17,7 @@ pub record IsGivenBytes (old new : Evaluator) (bytes : List ℕ) : Type 0 where
   pub machine : new.machine ≡ old.machine
   pub ahead : new.ahead.items ≡ bytes
   pub taken : new.taken ≡ 0
+  pub same : new ≡ record old { ahead = new.ahead; taken = new.taken }
   pub stands : (names : List (List ℕ)) (written unread : List ℕ) (b : Beside) → Stands names old written (bytes ++ unread) b
       → Stands names new written unread b
 
@@ -24,4 +25,5 @@ pub record IsGivenBytes (old new : Evaluator) (bytes : List ℕ) : Type 0 where
 pub record IsAllRead (old new : Evaluator) : Type 0 where
   pub machine : new.machine ≡ old.machine
   pub ended : new.ended ≡ true
+  pub same : new ≡ record old { ended = new.ended }
   pub stands : (names : List (List ℕ)) (written : List ℕ) (b : Beside) → Stands names old written [] b → Stands names new written [] b

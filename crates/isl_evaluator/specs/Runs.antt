@@ -23,8 +23,9 @@ pub record IsAt (names : List (List ℕ)) (e : Evaluator) (written unread : List
   pub stands : Stands names e written unread beside
   pub is : moment_of names e.machine beside ≡ m
 
--- it has come to that moment, whatever stood beside it
+-- it has come to that moment, whatever stood beside it; whether all was read is as it was
 pub record Runs (old new : Evaluator) (f : List (List ℕ) → Setting → Beside → Moment) : Type 0 where
   pub given : new.machine.given ≡ old.machine.given
+  pub ended : new.ended ≡ old.ended
   pub comes : (names : List (List ℕ)) (written unread : List ℕ) (b : Beside) → IsGiven names old.machine.given → Stands names old written unread b
       → IsAt names new written unread (f names (setting_of names old.machine.given) b)

@@ -54,6 +54,7 @@ pub record IsAnsweredBeside (names : List (List ℕ)) (new : Evaluator) (written
 -- the machine is as it was
 pub record IsStreamed (old new : Evaluator) (which : Primitive) (ws : List Word) (a : Answer) : Type 0 where
   pub machine : new.machine ≡ old.machine
+  pub ended : new.ended ≡ old.ended
   pub comes : (names : List (List ℕ)) (written unread : List ℕ) (b : Beside) → Stands names old written unread b
       → IsAnsweredBeside names new written unread b which ws a
 
@@ -67,5 +68,6 @@ pub record IsCharacter (w : Word) (code : ℕ) : Type 0 where
 -- a byte more was printed
 pub record IsPrinted (old new : Evaluator) (byte : ℕ) : Type 0 where
   pub machine : new.machine ≡ old.machine
+  pub ended : new.ended ≡ old.ended
   pub stands : (names : List (List ℕ)) (written unread : List ℕ) (b : Beside) → Stands names old written unread b
       → Stands names new written unread (record b { printed = b.printed ++ byte ∷ [] })

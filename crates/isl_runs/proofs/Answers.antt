@@ -23,11 +23,8 @@ state_of (fails class vs z) = z
 state_of (domain_error v expected z) = z
 
 abbrev pub FineAnswer : Answer → Type 0
-FineAnswer (result v z) = ⊤
 FineAnswer (makes size besides o z) = 0 < size
-FineAnswer (makes_symbol z) = ⊤
-FineAnswer (fails class vs z) = ⊤
-FineAnswer (domain_error v expected z) = ⊤
+FineAnswer other = ⊤
 
 -- an answer after what was printed before
 pub record Answers (before : List ℕ) (a : Answer) : Type 0 where
@@ -78,11 +75,8 @@ two_kept h (v ∷ w ∷ u ∷ us) z = at (same _) tt
 
 three_kept : {f : Value → Value → Value → State → Answer} → ((v w u : Value) (z : State) → Answers z.printed (f v w u z))
     → (vs : List Value) (z : State) → Answers z.printed (of_three f vs z)
-three_kept h [] z = at (same _) tt
-three_kept h (v ∷ []) z = at (same _) tt
-three_kept h (v ∷ w ∷ []) z = at (same _) tt
 three_kept h (v ∷ w ∷ u ∷ []) z = h v w u z
-three_kept h (v ∷ w ∷ u ∷ x ∷ us) z = at (same _) tt
+three_kept h other z = at (same _) tt
 
 integers_kept : {f : ℤ → ℤ → State → Answer} → ((a b : ℤ) (z : State) → Answers z.printed (f a b z))
     → (vs : List Value) (z : State) → Answers z.printed (of_integers f vs z)
@@ -98,10 +92,7 @@ division_kept f a b z = either (int_equal b (pos 0)) z (at (same _) tt) (integer
 
 change_kept : (v : Value) (o : Object) (z : State) → IsPrefix z.printed (change v o z).printed
 change_kept (object i) o z = same z.printed
-change_kept (integer n) o z = same z.printed
-change_kept (character c) o z = same z.printed
-change_kept (symbol s) o z = same z.printed
-change_kept nil o z = same z.printed
+change_kept other o z = same z.printed
 
 place_kept : (rows : List SlotRow) (p : SlotRow → Bool) (z : State) → Answers z.printed (slot_place rows p z)
 place_kept rows p z =
@@ -134,15 +125,6 @@ answers names program NumberAtMost = integers_kept (λ a b z. at (same _) tt)
 answers names program NumberGreater = integers_kept (λ a b z. at (same _) tt)
 answers names program NumberAtLeast = integers_kept (λ a b z. at (same _) tt)
 answers names program Same = two_kept (λ v w z. at (same _) tt)
-answers names program IsNull = one_kept (λ v z. at (same _) tt)
-answers names program IsCons = one_kept (λ v z. at (same _) tt)
-answers names program IsInteger = one_kept (λ v z. at (same _) tt)
-answers names program IsSymbol = one_kept (λ v z. at (same _) tt)
-answers names program IsCharacter = one_kept (λ v z. at (same _) tt)
-answers names program IsString = one_kept (λ v z. at (same _) tt)
-answers names program IsVector = one_kept (λ v z. at (same _) tt)
-answers names program IsFunction = one_kept (λ v z. at (same _) tt)
-answers names program IsGeneric = one_kept (λ v z. at (same _) tt)
 answers names program Cons = two_kept (λ v w z. at (same _) (some_words 0))
 answers names program Car = one_kept (λ v z. needed (as_cons (fetch z v)) z (at (same _) tt) (λ c. at (same _) tt))
 answers names program Cdr = one_kept (λ v z. needed (as_cons (fetch z v)) z (at (same _) tt) (λ c. at (same _) tt))
@@ -174,7 +156,6 @@ answers names program CodeChar = one_kept (λ v z.
 answers names program SymbolName = one_kept (λ v z. needed (as_symbol z v) z (at (same _) tt) (λ s. at (same _) (some_words _)))
 answers names program SymbolSerial = one_kept (λ v z. needed (as_symbol z v) z (at (same _) tt) (λ s. at (same _) tt))
 answers names program Gensym = none_kept (λ z. at (same _) tt)
-answers names program ClassOf = one_kept (λ v z. at (same _) tt)
 answers names program ClassName = one_kept (λ v z. needed (as_class (fetch z v)) z (at (same _) tt) (λ c. at (same _) tt))
 answers names program IsSubclass = two_kept (λ v w z.
     needed (as_class (fetch z v)) z (at (same _) tt) (λ c. needed (as_class (fetch z w)) z (at (same _) tt) (λ d.
@@ -204,3 +185,4 @@ answers names program PutChar = two_kept (λ v w z.
 answers names program IsFreshLine = none_kept (λ z. at (same _) tt)
 answers names program GetByte = none_kept (λ z. at (same _) tt)
 answers names program PeekByte = none_kept (λ z. at (same _) tt)
+answers names program other = one_kept (λ v z. at (same _) tt)

@@ -142,36 +142,22 @@ module _ (s : Setting) where
   pub forms_lead : (f : FlatForm) (at : Situation) (frames : List Frame) (z : FlatState) → Leads frames z.state.printed (form_step s f at frames z)
   forms_lead (literal id) at frames z = literals id (slice_get s.program.literals id) at frames (charged_for (literal id) z)
   forms_lead (local p) at frames z = value_here _ frames (charged_for (local p) z)
-  forms_lead (set_local p f) at frames z = framed (same _) tt tt
   forms_lead (global n) at frames z = globals (text s.names n) at frames (charged_for (global n) z)
-  forms_lead (set_global n f) at frames z = framed (same _) tt tt
-  forms_lead (def_global n f) at frames z = framed (same _) tt tt
   forms_lead (clauses cs) at frames z = clauses_lead cs at frames (charged_for (clauses cs) z)
   forms_lead (sequence fs) at frames z = sequences nil fs at frames (charged_for (sequence fs) z)
   forms_lead (let_form bs body) at frames z = bindings_lead bs [] bs body at frames (charged_for (let_form bs body) z)
   forms_lead (make_function p parts) at frames z = ends (makes_function s.limit p _ (charged_for (make_function p parts) z))
   forms_lead (call n fs) at frames z = arguments_lead (call_name n) fs [] at frames (charged_for (call n fs) z)
   forms_lead (call_value fs) at frames z = arguments_lead call_first fs [] at frames (charged_for (call_value fs) z)
-  forms_lead (apply f list) at frames z = framed (same _) tt tt
   forms_lead (prim which fs) at frames z = arguments_lead (compute which) fs [] at frames (charged_for (prim which fs) z)
-  forms_lead (while_form test body) at frames z = framed (same _) tt tt
-  forms_lead (block body) at frames z = framed (same _) tt tt
-  forms_lead (return_from x f) at frames z = framed (same _) tt tt
   forms_lead (tagbody segments) at frames z =
       segments_lead z.state.exits segments segments (record at { environment = with_exit z at.environment }) frames
       (exit_made (charged_for (tagbody segments) z))
   forms_lead (go x segment) at frames z =
       transfers s (exit_of x at.environment) nil (at_segment segment) at.level at.around frames (charged_for (go x segment) z)
-  forms_lead (catch_form tag body) at frames z = framed (same _) tt tt
-  forms_lead (throw tag f) at frames z = framed (same _) tt tt
-  forms_lead (unwind f cleanup) at frames z = framed (same _) tt tt
   forms_lead (dynamic_let bs body) at frames z = dynamics_lead bs [] bs body at frames (charged_for (dynamic_let bs body) z)
   forms_lead (dynamic n) at frames z = dynamics (text s.names n) at frames (charged_for (dynamic n) z)
-  forms_lead (set_dynamic n f) at frames z = framed (same _) tt tt
-  forms_lead (def_dynamic n f) at frames z = framed (same _) tt tt
-  forms_lead (with_handler handler body) at frames z = framed (same _) tt tt
-  forms_lead (signal_form condition continuable) at frames z = framed (same _) tt tt
-  forms_lead (continue_form condition f) at frames z = framed (same _) tt tt
   forms_lead (next_method m) at frames z = methods_next (method_of m at.environment) at frames (charged_for (next_method m) z)
   forms_lead (has_next m) at frames z = value_here _ frames (charged_for (has_next m) z)
   forms_lead (sited site f) at frames z = there (same _) tt
+  forms_lead other at frames z = framed (same _) tt tt

@@ -135,10 +135,7 @@ module _ (s : Setting) where
   outcomes (catches e) o frames z = catching e o frames z
   outcomes (turns e all at) o frames z = turning e all at o frames z
   outcomes (cleans cleanup at) o frames z = cleaning cleanup at o frames z
-  outcomes (restores_stack n) o frames z = passes (same _)
-  outcomes (restores_slots frame) o frames z = passes (same _)
-  outcomes unbinds o frames z = passes (same _)
-  outcomes (drops_slots n) o frames z = passes (same _)
+  outcomes other o frames z = passes (same _)
 
   -- one step
   pub next_keeps : (c : Control) (frames : List Frame) (z : FlatState) → Keeps (moment c frames z) (next_or (moment c frames z) (control_step s c frames z))

@@ -93,12 +93,7 @@ part_below names o i s (function w) l p = absurd p
 
 same_low : (o i : Around) (s : Tables) (x : Part) (xs : List Part) → AllLow o.spot.top i.spot.top xs → AllLow o.spot.top (behind i s x).spot.top xs
 same_low o i s (form d) xs l = l
-same_low o i s (below d) xs l = l
-same_low o i s (inner d) xs l = l
-same_low o i s (bind x d) xs l = l
-same_low o i s (parameter x) xs l = l
-same_low o i s (wrong p r) xs l = l
-same_low o i s (function w) xs l = l
+same_low o i s other xs l = l
 
 mutual
   node_nothing : (names : List (List ℕ)) (x : Node) (v : Verdict) → Comes names x v → (s : Tables) → IsBelow s x → DefinesNothing s v

@@ -37,11 +37,7 @@ found_one h a i k d (Parameter v ∷ rs) l o m = absurd m.0
 
 pub one_ends : (k : One) (t : Tables) → defined (finish_one k t) ≡ defined t
 one_ends (SetVariable v) t = refl
-one_ends (SetGlobal n) t = refl
-one_ends (DefineGlobal row) t = refl
-one_ends (SetDynamic n) t = refl
-one_ends (DefineDynamic row) t = refl
-one_ends (ReturnTo x) t = refl
+one_ends other t = refl
 
 pub found_two : (h : Definitions) (a i : Around) (k : Two) (d e : Item) (rs : List Found) → a.spot.depth + 1 ≤ 1000
     → AllMatch (spots h (deeper 1 a) i rs) (form d ∷ form e ∷ []) rs → RightAt h a (make_two k (forms_found rs))

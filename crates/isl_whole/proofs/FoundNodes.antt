@@ -23,13 +23,10 @@ use Rattle.isl_whole.proofs.Nodes.{nodes_in, added, found_nodes, body_nodes, one
 -- parts that bind no variable with a value
 
 abbrev pub IsPlain : Part → Type 0
-IsPlain (form d) = Unit {0}
-IsPlain (below d) = Unit {0}
-IsPlain (inner d) = Unit {0}
 IsPlain (bind x d) = ⊥
-IsPlain (parameter x) = Unit {0}
 IsPlain (wrong p r) = ⊥
 IsPlain (function w) = ⊥
+IsPlain other = Unit {0}
 
 abbrev pub AllPlain : List Part → Type 0
 AllPlain xs = Each IsPlain xs

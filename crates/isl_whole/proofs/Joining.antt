@@ -36,42 +36,30 @@ use Rattle.isl_whole.proofs.Methods.{Joined}
 -- parts that are functions, or are wrong
 
 abbrev pub IsFunction : Part → Type 0
-IsFunction (form d) = ⊥
-IsFunction (below d) = ⊥
-IsFunction (inner d) = ⊥
-IsFunction (bind x d) = ⊥
-IsFunction (parameter x) = ⊥
 IsFunction (wrong p r) = Unit {0}
 IsFunction (function (initform d)) = Unit {0}
 IsFunction (function (accessor n k d)) = is_formed d ≡ true
 IsFunction (function (method n has_next ps fs)) = Unit {0}
+IsFunction other = ⊥
 
 abbrev pub AllFunctions : List Part → Type 0
 AllFunctions xs = Each IsFunction xs
 
 apt_function : (n w : ℕ) (o i a : Around) (x : Part) → a.spot.top ≡ true → SoundPart n w o i x → IsFunction x → AptPart n a x
-apt_function n w o i a (form d) e s f = absurd f
-apt_function n w o i a (below d) e s f = absurd f
-apt_function n w o i a (inner d) e s f = absurd f
-apt_function n w o i a (bind x d) e s f = absurd f
-apt_function n w o i a (parameter x) e s f = absurd f
 apt_function n w o i a (wrong p r) e s f = tt
 apt_function n w o i a (function (initform d)) e s f = (s.0, e)
 apt_function n w o i a (function (accessor m k d)) e s f = (f, e)
 apt_function n w o i a (function (method m has_next ps fs)) e s f = (s.0, e)
+apt_function n w o i a other e s f = absurd f
 
 apt_functions : (n w : ℕ) (o i a : Around) (xs : List Part) → a.spot.top ≡ true → AllSound n w o i xs → AllFunctions xs → AllApt n a xs
 apt_functions n w o i a [] e s f = tt
 apt_functions n w o i a (x ∷ xs) e s f = (apt_function n w o i a x e s.0 f.0, apt_functions n w o i a xs e s.1 f.1)
 
 low_function : (o i : Bool) (x : Part) → IsFunction x → IsLow o i x
-low_function o i (form d) f = absurd f
-low_function o i (below d) f = absurd f
-low_function o i (inner d) f = absurd f
-low_function o i (bind x d) f = absurd f
-low_function o i (parameter x) f = absurd f
 low_function o i (wrong p r) f = tt
 low_function o i (function w) f = tt
+low_function o i other f = absurd f
 
 low_functions : (o i : Bool) (xs : List Part) → AllFunctions xs → AllLow o i xs
 low_functions o i [] f = tt

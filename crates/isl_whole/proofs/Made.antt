@@ -47,18 +47,12 @@ each_dropped P (suc n) (f ∷ fs) e = each_dropped P n fs e.1
 abbrev pub OneStands : LexicalScope → One → Type 0
 OneStands s (SetVariable v) = is_variable s v ≡ true
 OneStands s (ReturnTo x) = exit_around x s.exits ≡ Some exit.Block
-OneStands s (SetGlobal n) = Unit {0}
-OneStands s (DefineGlobal row) = Unit {0}
-OneStands s (SetDynamic n) = Unit {0}
-OneStands s (DefineDynamic row) = Unit {0}
+OneStands s other = Unit {0}
 
 pub made_one : (g : Definitions) (s : LexicalScope) (n : ℕ) (k : One) (f : Form) → n + 1 ≤ 1000 → OneStands s k → RightIn g s (n + 1) f → RightIn g s n (one_of k f)
 made_one g s n (SetVariable v) f l h r = right_whole g s n _ refl refl l h refl (r, tt) tt
 made_one g s n (ReturnTo x) f l h r = right_whole g s n _ refl refl l (ap is_block h) refl (r, tt) tt
-made_one g s n (SetGlobal name) f l h r = right_whole g s n _ refl refl l refl refl (r, tt) tt
-made_one g s n (DefineGlobal row) f l h r = right_whole g s n _ refl refl l refl refl (r, tt) tt
-made_one g s n (SetDynamic name) f l h r = right_whole g s n _ refl refl l refl refl (r, tt) tt
-made_one g s n (DefineDynamic row) f l h r = right_whole g s n _ refl refl l refl refl (r, tt) tt
+made_one g s n other f l h r = right_whole g s n _ refl refl l refl refl (r, tt) tt
 
 pub made_two : (g : Definitions) (s : LexicalScope) (n : ℕ) (k : Two) (f h : Form) → n + 1 ≤ 1000 → RightIn g s (n + 1) f → RightIn g s (n + 1) h → RightIn g s n (two_of k f h)
 made_two g s n Applying f h l r q = right_whole g s n _ refl refl l refl refl (r, (q, tt)) tt

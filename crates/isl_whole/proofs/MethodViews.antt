@@ -25,13 +25,8 @@ use Rattle.isl_whole.proofs.ValueRows.{class_there}
 -- parts none of which is wrong
 
 abbrev pub IsRight : Part → Type 0
-IsRight (form d) = Unit {0}
-IsRight (below d) = Unit {0}
-IsRight (inner d) = Unit {0}
-IsRight (bind x d) = Unit {0}
-IsRight (parameter x) = Unit {0}
 IsRight (wrong p r) = ⊥
-IsRight (function w) = Unit {0}
+IsRight other = Unit {0}
 
 abbrev pub AllRight : List Part → Type 0
 AllRight xs = Each IsRight xs

@@ -86,11 +86,7 @@ sequence_nodes fs = omega (arith, body_nodes fs)
 
 pub one_nodes : (k : One) (f : Form) → all_nodes f + 1 ≤ all_nodes (one_of k f)
 one_nodes (SetVariable v) f = omega arith
-one_nodes (SetGlobal n) f = omega arith
-one_nodes (DefineGlobal row) f = omega arith
-one_nodes (SetDynamic n) f = omega arith
-one_nodes (DefineDynamic row) f = omega arith
-one_nodes (ReturnTo x) f = omega arith
+one_nodes other f = omega arith
 
 pub two_nodes : (k : Two) (f g : Form) → all_nodes f + all_nodes g + 1 ≤ all_nodes (two_of k f g)
 two_nodes Applying f g = omega arith

@@ -125,7 +125,6 @@ segments_numbered g h [] fs e = tt
 segments_numbered g h (n ∷ ns) fs e = (body_numbered g h (take n fs) (each_taken _ n fs e), segments_numbered g h ns (drop n fs) (each_dropped _ n fs e))
 
 pub make_numbered : (g h : Definitions) (k : Making) (rs : List Found) → AllNumbered g h rs → OwnNumbers g h k rs → Numbered g h (make k rs)
-make_numbered g h (Ready l) rs a o = o
 make_numbered g h (OfOne k) rs a o = one_numbered g h k (forms_found rs) a.forms
 make_numbered g h (OfTwo k) rs a o = two_numbered g h k (forms_found rs) a.forms
 make_numbered g h (OfBody k) rs a o = with_body_numbered g h k (forms_found rs) a.forms
@@ -145,11 +144,9 @@ make_numbered g h (OfFunction n rest parts) rs a o =
     numbered_whole g h _ (and_from _ _ o refl) tt (body_numbered g h (forms_found rs) a.forms, tt)
 make_numbered g h (OfBlock x) rs a o = numbered_whole g h _ (and_from _ _ o refl) tt (body_numbered g h (forms_found rs) a.forms, tt)
 make_numbered g h (OfSegments x ns) rs a o = numbered_whole g h _ (and_from _ _ o refl) tt (segments_numbered g h ns (forms_found rs) a.forms)
-make_numbered g h (OfFunctionNamed name n rest of_file l) rs a o = o
 make_numbered g h (OfProcedure name n rest) rs a o = record { numbers = refl }
 make_numbered g h (OfAccessor name k v l) rs a o = record { numbers = refl }
-make_numbered g h (OfMethods t hs p of_file l) rs a o = o
-make_numbered g h (OfClass c p of_file l) rs a o = o
+make_numbered g h other rs a o = o
 
 pub site_numbered : (g h : Definitions) (site : Option ℕ) (f : Form) → Numbered g h f → Numbered g h (at_site site f)
 site_numbered g h None f n = n

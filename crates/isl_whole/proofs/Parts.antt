@@ -48,23 +48,15 @@ part_place o i (wrong p r) = never
 part_place o i (function w) = one_procedure w
 
 abbrev pub part_spot : Around → Around → Part → Spot
-part_spot o i (form d) = o.spot
 part_spot o i (below d) = (deeper 1 o).spot
 part_spot o i (inner d) = i.spot
-part_spot o i (bind x d) = o.spot
-part_spot o i (parameter x) = o.spot
-part_spot o i (wrong p r) = o.spot
-part_spot o i (function w) = o.spot
+part_spot o i other = o.spot
 
 -- the tables with the variable that the part takes
 abbrev pub part_tables : Tables → Part → Tables
-part_tables s (form d) = s
-part_tables s (below d) = s
-part_tables s (inner d) = s
 part_tables s (bind x d) = with_variable s
 part_tables s (parameter x) = with_variable s
-part_tables s (wrong p r) = s
-part_tables s (function w) = s
+part_tables s other = s
 
 -- from a derived form to its step
 

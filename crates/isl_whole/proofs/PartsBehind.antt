@@ -205,22 +205,14 @@ part_counted o i s (wrong p q) m k n e c t =
 part_counted o i s (function w) m k n e c t = counted_then o.spot.sited (defined s) (defined m.tables) k 0 n c t
 
 pub later_part : (s : Tables) (x : Part) (h : Definitions) → SoundDefinitions (defined s) → Later (defined (part_tables s x)) h → Later (defined s) h
-later_part s (form d) h w l = l
-later_part s (below d) h w l = l
-later_part s (inner d) h w l = l
 later_part s (bind x d) h w l = later_then (defined s) (defined (with_variable s)) h (variable_entered s w).later l
 later_part s (parameter x) h w l = later_then (defined s) (defined (with_variable s)) h (variable_entered s w).later l
-later_part s (wrong p r) h w l = l
-later_part s (function f) h w l = l
+later_part s other h w l = l
 
 later_tables : (s : Tables) (x : Part) → SoundDefinitions (defined s) → Later (defined s) (defined (part_tables s x))
-later_tables s (form d) w = later_same (defined s)
-later_tables s (below d) w = later_same (defined s)
-later_tables s (inner d) w = later_same (defined s)
 later_tables s (bind x d) w = (variable_entered s w).later
 later_tables s (parameter x) w = (variable_entered s w).later
-later_tables s (wrong p r) w = later_same (defined s)
-later_tables s (function f) w = later_same (defined s)
+later_tables s other w = later_same (defined s)
 
 -- what a part leaves is later
 pub leaves_later : (Q : Want) (top : Bool) (g h : Definitions) → LeavesAs Q top g h → Later g h
@@ -273,24 +265,17 @@ one_more_came o i s x xs m (one_ended y) n w e a c b = tt
 
 pub good_behind : (i : Around) (s : Tables) (x : Part) (n : ℕ) (h : Definitions) → AptPart n i x → GoodAround (defined s) i → Later (defined (part_tables s x)) h
     → GoodAround h (behind i s x)
-good_behind i s (form d) n h a g l = good_later (defined s) h i l g
-good_behind i s (below d) n h a g l = good_later (defined s) h i l g
-good_behind i s (inner d) n h a g l = good_later (defined s) h i l g
 good_behind i s (bind x d) n h a g l =
     good_later (defined (with_variable s)) h (bind_in (Variable x s.variables) i) l (good_variable (defined s) x i a.1 g)
 good_behind i s (parameter x) n h a g l =
     good_later (defined (with_variable s)) h (bind_in (Variable x s.variables) i) l (good_variable (defined s) x i a g)
-good_behind i s (wrong p r) n h a g l = good_later (defined s) h i l g
-good_behind i s (function w) n h a g l = good_later (defined s) h i l g
+good_behind i s other n h a g l = good_later (defined s) h i l g
 
 part_elsewhere : (n : ℕ) (i j : Around) (x : Part) → i.spot ≡ j.spot → AptPart n i x → AptPart n j x
-part_elsewhere n i j (form d) e a = a
-part_elsewhere n i j (below d) e a = a
-part_elsewhere n i j (inner d) e a = a
 part_elsewhere n i j (bind x d) e a = (a.0, ap (λ (t : Spot). t.top) (sym e) ∙ a.1)
 part_elsewhere n i j (parameter x) e a = ap (λ (t : Spot). t.top) (sym e) ∙ a
-part_elsewhere n i j (wrong p r) e a = a
 part_elsewhere n i j (function w) e a = (a.0, ap (λ (t : Spot). t.top) (sym e) ∙ a.1)
+part_elsewhere n i j other e a = a
 
 pub elsewhere : (n : ℕ) (i j : Around) (xs : List Part) → i.spot ≡ j.spot → AllApt n i xs → AllApt n j xs
 elsewhere n i j [] e a = tt
@@ -298,9 +283,4 @@ elsewhere n i j (x ∷ xs) e a = (part_elsewhere n i j x e a.0, elsewhere n i j 
 
 pub same_spot : (i : Around) (s : Tables) (x : Part) → i.spot ≡ (behind i s x).spot
 same_spot i s (form d) = refl
-same_spot i s (below d) = refl
-same_spot i s (inner d) = refl
-same_spot i s (bind x d) = refl
-same_spot i s (parameter x) = refl
-same_spot i s (wrong p r) = refl
-same_spot i s (function w) = refl
+same_spot i s other = refl

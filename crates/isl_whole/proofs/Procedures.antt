@@ -55,13 +55,8 @@ pub record OneMore (w : Written) (g h : Definitions) : Type 0 where
 
 -- parts that leave no procedure of their own
 abbrev pub IsOrdinary : Part → Type 0
-IsOrdinary (form d) = Unit {0}
-IsOrdinary (below d) = Unit {0}
-IsOrdinary (inner d) = Unit {0}
-IsOrdinary (bind x d) = Unit {0}
-IsOrdinary (parameter x) = Unit {0}
-IsOrdinary (wrong p r) = Unit {0}
 IsOrdinary (function w) = ⊥
+IsOrdinary other = Unit {0}
 
 abbrev pub AllOrdinary : List Part → Type 0
 AllOrdinary xs = Each IsOrdinary xs

@@ -121,26 +121,9 @@ MakesNothing k = (rs : List Found) (u : Tables) → NothingDefined u (finish k r
 -- was judged by are known
 
 abbrev pub IsSimple : Making → Type 0
-IsSimple (Ready l) = Unit {0}
-IsSimple (OfOne k) = Unit {0}
-IsSimple (OfTwo k) = Unit {0}
-IsSimple (OfBody k) = Unit {0}
-IsSimple InSequence = Unit {0}
-IsSimple (CallOf n) = Unit {0}
-IsSimple CallOfValue = Unit {0}
-IsSimple (CallOfLocal v) = Unit {0}
-IsSimple (CallOfPrimitive p) = Unit {0}
-IsSimple (OfClauses ns) = Unit {0}
-IsSimple OfVariables = Unit {0}
-IsSimple (OfDynamics ns) = Unit {0}
-IsSimple (OfFunction n rest parts) = Unit {0}
-IsSimple (OfBlock x) = Unit {0}
-IsSimple (OfSegments x ns) = Unit {0}
-IsSimple (OfFunctionNamed name n rest of_file l) = Unit {0}
-IsSimple (OfProcedure name n rest) = Unit {0}
-IsSimple (OfAccessor name k v l) = Unit {0}
 IsSimple (OfMethods t hs p of_file l) = ⊥
 IsSimple (OfClass c p of_file l) = ⊥
+IsSimple other = Unit {0}
 
 pub record JoinsSuited (s t : Tables) (xs : List Part) (k : Making) : Type 0 where
   pub functions : AllFunctions xs
@@ -216,31 +199,20 @@ starts_literal s a p row = starts_unsited s a p (with_literal row s) _ (grows_li
 
 -- what sets defines nothing
 abbrev pub Sets : One → Type 0
-Sets (SetVariable v) = Unit {0}
-Sets (SetGlobal n) = Unit {0}
 Sets (DefineGlobal row) = ⊥
-Sets (SetDynamic n) = Unit {0}
 Sets (DefineDynamic row) = ⊥
-Sets (ReturnTo x) = Unit {0}
+Sets other = Unit {0}
 
 pub sets_nothing : (k : One) → Sets k → MakesNothing (OfOne k)
-sets_nothing (SetVariable v) h = λ rs u. none_defined u
-sets_nothing (SetGlobal n) h = λ rs u. none_defined u
 sets_nothing (DefineGlobal row) h = absurd h
-sets_nothing (SetDynamic n) h = λ rs u. none_defined u
 sets_nothing (DefineDynamic row) h = absurd h
-sets_nothing (ReturnTo x) h = λ rs u. none_defined u
+sets_nothing other h = λ rs u. none_defined u
 
 -- parts that leave no procedure
 
 plain_part : (x : Part) → IsPlain x → IsOrdinary x
-plain_part (form d) h = tt
-plain_part (below d) h = tt
-plain_part (inner d) h = tt
-plain_part (bind x d) h = tt
-plain_part (parameter x) h = tt
-plain_part (wrong p r) h = tt
 plain_part (function w) h = absurd h
+plain_part other h = tt
 
 pub plain_ordinary : (xs : List Part) → AllPlain xs → AllOrdinary xs
 plain_ordinary xs h = each_more IsPlain IsOrdinary plain_part xs h

@@ -68,12 +68,7 @@ starts_set_as s a p x None d = starts_set_free s a p x d
 
 starts_set_datum : (s : Tables) (a : Around) (p : Place) (v d : Item) → Starts s a.spot.top (set_datum a s p v d)
 starts_set_datum s a p (item q (symbol x)) d = starts_if s a.spot.top (is_true s.words x) _ _ tt (starts_set_as s a p x (variable_of a.bound x) d)
-starts_set_datum s a p (item q nil) d = tt
-starts_set_datum s a p (item q (integer z)) d = tt
-starts_set_datum s a p (item q (character c)) d = tt
-starts_set_datum s a p (item q (string bytes)) d = tt
-starts_set_datum s a p (item q (vector ds)) d = tt
-starts_set_datum s a p (item q (list ds t)) d = tt
+starts_set_datum s a p other d = tt
 
 pub starts_setq : (s : Tables) (a : Around) (p : Place) (ds : List Item) → Starts s a.spot.top (setq_row a s p ds)
 starts_setq s a p (v ∷ x ∷ []) = starts_set_datum s a p v x

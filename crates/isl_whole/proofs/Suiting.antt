@@ -50,13 +50,9 @@ offence_ends names x v (made o i s xs m w g) h = absurd h
 -- one function that stands
 function_stands : (names : List (List ℕ)) (o i : Around) (s : Tables) (x : Part) (m : Standing) → Comes names (subject names o i s x) (comes_to m) → IsFunction x
     → IsRight x × SameNames s m.tables
-function_stands names o i s (form d) m c f = absurd f
-function_stands names o i s (below d) m c f = absurd f
-function_stands names o i s (inner d) m c f = absurd f
-function_stands names o i s (bind x d) m c f = absurd f
-function_stands names o i s (parameter x) m c f = absurd f
 function_stands names o i s (wrong p r) m c f = absurd (offence_ends names (offends p r) (comes_to m) c tt)
 function_stands names o i s (function w) m c f = let one : OneProcedure s m.tables = function_leaves_one names o s w m c in (tt, one.names)
+function_stands names o i s other m c f = absurd f
 
 abbrev FunctionsStand : Tables → List Part → Verdicts → Type 0
 FunctionsStand s xs (all_stand r) = AllRight xs × SameNames s r.tables
@@ -78,56 +74,20 @@ functions_stand names o i s xs w (stops o2 i2 s2 x ys e c) f = tt
 -- any other form suits all tables, and leaves what is known
 
 simple_suits : (k : Making) → IsSimple k → (u : Tables) → Suits k u
-simple_suits (Ready l) h u = tt
-simple_suits (OfOne k) h u = tt
-simple_suits (OfTwo k) h u = tt
-simple_suits (OfBody k) h u = tt
-simple_suits InSequence h u = tt
-simple_suits (CallOf n) h u = tt
-simple_suits CallOfValue h u = tt
-simple_suits (CallOfLocal v) h u = tt
-simple_suits (CallOfPrimitive p) h u = tt
-simple_suits (OfClauses ns) h u = tt
-simple_suits OfVariables h u = tt
-simple_suits (OfDynamics ns) h u = tt
-simple_suits (OfFunction n rest parts) h u = tt
-simple_suits (OfBlock x) h u = tt
-simple_suits (OfSegments x ns) h u = tt
-simple_suits (OfFunctionNamed name n rest of_file l) h u = tt
-simple_suits (OfProcedure name n rest) h u = tt
-simple_suits (OfAccessor name k v l) h u = tt
 simple_suits (OfMethods t hs p of_file l) h u = absurd h
 simple_suits (OfClass c p of_file l) h u = absurd h
+simple_suits other h u = tt
 
 one_known : (k : One) (u : Tables) → KnownTables u → KnownTables (finish_one k u)
 one_known (SetVariable v) u w = w
-one_known (SetGlobal n) u w = w
-one_known (DefineGlobal row) u w = w
-one_known (SetDynamic n) u w = w
-one_known (DefineDynamic row) u w = w
-one_known (ReturnTo x) u w = w
+one_known other u w = w
 
 simple_known : (k : Making) → IsSimple k → (rs : List Found) (u : Tables) → KnownTables u → KnownTables (finish k rs u)
-simple_known (Ready l) h rs u w = w
 simple_known (OfOne k) h rs u w = one_known k u w
-simple_known (OfTwo k) h rs u w = w
-simple_known (OfBody k) h rs u w = w
-simple_known InSequence h rs u w = w
-simple_known (CallOf n) h rs u w = w
-simple_known CallOfValue h rs u w = w
-simple_known (CallOfLocal v) h rs u w = w
-simple_known (CallOfPrimitive p) h rs u w = w
-simple_known (OfClauses ns) h rs u w = w
-simple_known OfVariables h rs u w = w
-simple_known (OfDynamics ns) h rs u w = w
-simple_known (OfFunction n rest parts) h rs u w = w
-simple_known (OfBlock x) h rs u w = w
-simple_known (OfSegments x ns) h rs u w = w
 simple_known (OfFunctionNamed name n rest of_file l) h rs u w = known_function u _ w
-simple_known (OfProcedure name n rest) h rs u w = w
-simple_known (OfAccessor name k v l) h rs u w = w
 simple_known (OfMethods t hs p of_file l) h rs u w = absurd h
 simple_known (OfClass c p of_file l) h rs u w = absurd h
+simple_known other h rs u w = w
 
 -- nodes
 

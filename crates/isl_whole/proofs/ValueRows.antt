@@ -96,12 +96,7 @@ apt_set_as n a s p x None d b e g = apt_set_free n a s p x d b g
 apt_set_datum : (n : ℕ) (a : Around) (s : Tables) (p : Place) (v d : Item) → Stage a s → Good n d → AptAt n a s (set_datum a s p v d)
 apt_set_datum n a s p (item q (symbol x)) d b g =
     apt_if n a s (is_true s.words x) _ _ tt (apt_set_as n a s p x (variable_of a.bound x) d b refl g)
-apt_set_datum n a s p (item q nil) d b g = tt
-apt_set_datum n a s p (item q (integer z)) d b g = tt
-apt_set_datum n a s p (item q (character c)) d b g = tt
-apt_set_datum n a s p (item q (string bytes)) d b g = tt
-apt_set_datum n a s p (item q (vector ds)) d b g = tt
-apt_set_datum n a s p (item q (list ds t)) d b g = tt
+apt_set_datum n a s p other d b g = tt
 
 pub apt_setq : (n : ℕ) (a : Around) (s : Tables) (p : Place) (ds : List Item) → Stage a s → AllOf (Good n) ds → AptAt n a s (setq_row a s p ds)
 apt_setq n a s p (v ∷ x ∷ []) b g = apt_set_datum n a s p v x b g.1.0

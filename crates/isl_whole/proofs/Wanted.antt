@@ -69,13 +69,8 @@ AllApt n i [] = Unit {0}
 AllApt n i (x ∷ xs) = AptPart n i x × AllApt n i xs
 
 part_ordinary : (n : ℕ) (i : Around) (x : Part) → i.spot.top ≡ false → AptPart n i x → IsOrdinary x
-part_ordinary n i (form d) e a = tt
-part_ordinary n i (below d) e a = tt
-part_ordinary n i (inner d) e a = tt
-part_ordinary n i (bind x d) e a = tt
-part_ordinary n i (parameter x) e a = tt
-part_ordinary n i (wrong p r) e a = tt
 part_ordinary n i (function w) e a = absurd (cc (e, a.1))
+part_ordinary n i other e a = tt
 
 -- below top level all parts are ordinary
 pub all_ordinary : (n : ℕ) (i : Around) (xs : List Part) → i.spot.top ≡ false → AllApt n i xs → AllOrdinary xs
@@ -85,13 +80,8 @@ all_ordinary n i (x ∷ xs) e a = (part_ordinary n i x e a.0, all_ordinary n i x
 -- nodes that are counted where the whole stands: those of a function of a definition are counted by its procedure
 
 abbrev pub part_nodes : Part → Found → ℕ
-part_nodes (form d) r = nodes_of r
-part_nodes (below d) r = nodes_of r
-part_nodes (inner d) r = nodes_of r
-part_nodes (bind x d) r = nodes_of r
-part_nodes (parameter x) r = nodes_of r
-part_nodes (wrong p q) r = nodes_of r
 part_nodes (function w) r = 0
+part_nodes other r = nodes_of r
 
 abbrev pub counted_nodes : List Part → List Found → ℕ
 counted_nodes [] rs = 0
@@ -100,12 +90,7 @@ counted_nodes (x ∷ xs) (r ∷ rs) = part_nodes x r + counted_nodes xs rs
 
 part_at_most : (x : Part) (r : Found) → part_nodes x r ≤ nodes_of r
 part_at_most (form d) r = omega arith
-part_at_most (below d) r = omega arith
-part_at_most (inner d) r = omega arith
-part_at_most (bind x d) r = omega arith
-part_at_most (parameter x) r = omega arith
-part_at_most (wrong p q) r = omega arith
-part_at_most (function w) r = omega arith
+part_at_most other r = omega arith
 
 pub counted_at_most : (xs : List Part) (rs : List Found) → counted_nodes xs rs ≤ found_nodes rs
 counted_at_most [] rs = omega arith

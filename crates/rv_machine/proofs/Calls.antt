@@ -31,10 +31,6 @@ chosen false which w pc t e = absurd (cc)
 
 -- a row that is a call is one of five
 pub one_of_five : (i : Instr) (s : State) (w : ℕ) → execute i s ≡ environment_call w → w < 5
-one_of_five (Lui rd imm) s w e = next-none _ w e
-one_of_five (Auipc rd imm) s w e = next-none _ w e
-one_of_five (Jal rd offset) s w e = next-none _ w e
-one_of_five (Jalr rd rs1 offset) s w e = next-none _ w e
 one_of_five (Beq rs1 rs2 offset) s w e = branch-none _ offset w s e
 one_of_five (Bne rs1 rs2 offset) s w e = branch-none _ offset w s e
 one_of_five (Blt rs1 rs2 offset) s w e = branch-none _ offset w s e
@@ -49,36 +45,9 @@ one_of_five (Lhu rd rs1 offset) s w e = load-none _ w _ s e
 one_of_five (Sb rs2 rs1 offset) s w e = store-none w _ s e
 one_of_five (Sh rs2 rs1 offset) s w e = store-none w _ s e
 one_of_five (Sw rs2 rs1 offset) s w e = store-none w _ s e
-one_of_five (Addi rd rs1 imm) s w e = next-none _ w e
-one_of_five (Slti rd rs1 imm) s w e = next-none _ w e
-one_of_five (Sltiu rd rs1 imm) s w e = next-none _ w e
-one_of_five (Xori rd rs1 imm) s w e = next-none _ w e
-one_of_five (Ori rd rs1 imm) s w e = next-none _ w e
-one_of_five (Andi rd rs1 imm) s w e = next-none _ w e
-one_of_five (Slli rd rs1 shift) s w e = next-none _ w e
-one_of_five (Srli rd rs1 shift) s w e = next-none _ w e
-one_of_five (Srai rd rs1 shift) s w e = next-none _ w e
-one_of_five (Add rd rs1 rs2) s w e = next-none _ w e
-one_of_five (Sub rd rs1 rs2) s w e = next-none _ w e
-one_of_five (Sll rd rs1 rs2) s w e = next-none _ w e
-one_of_five (Slt rd rs1 rs2) s w e = next-none _ w e
-one_of_five (Sltu rd rs1 rs2) s w e = next-none _ w e
-one_of_five (Xor rd rs1 rs2) s w e = next-none _ w e
-one_of_five (Srl rd rs1 rs2) s w e = next-none _ w e
-one_of_five (Sra rd rs1 rs2) s w e = next-none _ w e
-one_of_five (Or rd rs1 rs2) s w e = next-none _ w e
-one_of_five (And rd rs1 rs2) s w e = next-none _ w e
-one_of_five (Mul rd rs1 rs2) s w e = next-none _ w e
-one_of_five (Mulh rd rs1 rs2) s w e = next-none _ w e
-one_of_five (Mulhsu rd rs1 rs2) s w e = next-none _ w e
-one_of_five (Mulhu rd rs1 rs2) s w e = next-none _ w e
-one_of_five (Div rd rs1 rs2) s w e = next-none _ w e
-one_of_five (Divu rd rs1 rs2) s w e = next-none _ w e
-one_of_five (Rem rd rs1 rs2) s w e = next-none _ w e
-one_of_five (Remu rd rs1 rs2) s w e = next-none _ w e
-one_of_five (Fence rd rs1 mode predecessor successor) s w e = next-none _ w e
 one_of_five Ecall s w e = chosen (nat_lt (register s 17) 5) (register s 17) w s.pc refl e
 one_of_five Ebreak s w e = absurd (cc)
+one_of_five other s w e = next-none _ w e
 
 -- so is a call that a step answers
 pub answered : (i : Instr) (old new : Counted) (end : StepEnd) (w : ℕ) → Does (execute i old.state) old end new → end ≡ Call w → w < 5

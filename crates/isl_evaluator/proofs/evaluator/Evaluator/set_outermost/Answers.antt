@@ -1,5 +1,5 @@
 -- The table has the value, or there is a condition.
-use Rattle.std.proofs.Common.{ap, sym, ◌∷◌}
+use Rattle.std.proofs.Common.{ap, sym, ◌∷◌, refl}
 use Rattle.isl_meaning.specs.Lookup.{text}
 use Rattle.isl_meaning.specs.State.{State}
 use Rattle.isl_closure.specs.FlatState.{gives, on_state}
@@ -15,7 +15,7 @@ returns-in_ok-set-in-Some c =
     let e = c.args.self.now in
     let q = c.args.situation in
     let n = c.args.name.0 in
-    went_with e (record e { machine = c.gives.new.self; dynamics = c.set.new.self }) _ _ (with_dynamic n c.args.word) c.gives.ensures
+    went_with e (record e { machine = c.gives.new.self; dynamics = c.set.new.self }) _ _ (with_dynamic n c.args.word) refl c.gives.ensures
     (dynamic_stands e c.set.new.self c.gives.new.self n c.args.word c.in_ok-set-in-Some.ensures.ok)
     (λ names written unread b st.
     sym (ap (λ o. some_or o (signal_unbound (setting_of names e.machine.given) (text names n) (at names e.machine q).level (at names e.machine q).around)
