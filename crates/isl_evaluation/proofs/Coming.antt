@@ -41,13 +41,13 @@ none_more : (a b c n : ℕ) → a ≡ b + c → c ≡ 0 → b ≡ n → a ≡ n
 none_more a b c n p q r = omega arith
 
 -- it has reached another moment, and no form began
-pub came : (e : Evaluation) (left left' given given' : Option (List ℕ)) (forms : ℕ) (all : Bool) (old new : Evaluator) (n : ℕ) → HasReached old new n
-    → UnderWay e left left' given given' forms all old → UnderWay e left left' given given' forms all new
-came e left left' given given' forms all old new n r u = record {
+pub came : (e : Evaluation) (left left' given given' : Option (List ℕ)) (forms : ℕ) (old new : Evaluator) (n : ℕ) → HasReached old new n
+    → UnderWay e left left' given given' forms old → UnderWay e left left' given given' forms new
+came e left left' given given' forms old new n r u = record {
   runs = runs_as e old new r.given u.runs;
   taken = u.taken;
   was_taken = u.was_taken;
-  all_is = u.all_is;
+  all_is = u.all_is ∙ sym r.ended;
   written = u.written;
   was_given = u.was_given;
   count = u.count + n;
@@ -76,14 +76,14 @@ one_more a b n true p q r = omega arith
 one_more a b n false p q r = absurd (cc q)
 
 -- it has stepped where a form begins
-pub began : (e : Evaluation) (left left' given given' : Option (List ℕ)) (forms : ℕ) (all : Bool) (old new : Evaluator) → HasStepped old new
+pub began : (e : Evaluation) (left left' given given' : Option (List ℕ)) (forms : ℕ) (old new : Evaluator) → HasStepped old new
     → ((names : List (List ℕ)) (b : Beside) → begins (moment_of names old.machine b).control ≡ true)
-    → UnderWay e left left' given given' forms all old → UnderWay e left left' given given' (forms + 1) all new
-began e left left' given given' forms all old new h form u = record {
+    → UnderWay e left left' given given' forms old → UnderWay e left left' given given' (forms + 1) new
+began e left left' given given' forms old new h form u = record {
   runs = runs_as e old new h.comes.given u.runs;
   taken = u.taken;
   was_taken = u.was_taken;
-  all_is = u.all_is;
+  all_is = u.all_is ∙ sym h.comes.ended;
   written = u.written;
   was_given = u.was_given;
   count = suc u.count;
@@ -120,10 +120,10 @@ goes_on s (come_to o) frames z form none = absurd (cc form)
 pub nowhere : Beside
 nowhere = record { globals = []; dynamics = []; input = []; printed = []; frame = [] }
 
-pub began_so : (e : Evaluation) (left left' given given' : Option (List ℕ)) (forms : ℕ) (all : Bool) (old new : Evaluator) (went : Bool) → IsStepped old new went
+pub began_so : (e : Evaluation) (left left' given given' : Option (List ℕ)) (forms : ℕ) (old new : Evaluator) (went : Bool) → IsStepped old new went
     → ((names : List (List ℕ)) (b : Beside) → begins (moment_of names old.machine b).control ≡ true)
-    → UnderWay e left left' given given' forms all old → UnderWay e left left' given given' (forms + 1) all new
-began_so e left left' given given' forms all old new true h form u = began e left left' given given' forms all old new h form u
-began_so e left left' given given' forms all old new false h form u =
+    → UnderWay e left left' given given' forms old → UnderWay e left left' given given' (forms + 1) new
+began_so e left left' given given' forms old new true h form u = began e left left' given given' forms old new h form u
+began_so e left left' given given' forms old new false h form u =
     let m : Moment = moment_of [] old.machine nowhere in
     absurd (goes_on (setting_of e) m.control m.frames m.state (form [] nowhere) (h.is_end [] (setting_of e) nowhere))

@@ -1,5 +1,5 @@
 -- An evaluator that is given a program made flat is under way, where it has not begun.
-use Rattle.std.proofs.Common.{◌≡◌, ℕ, false, List, [], Option, Some, Result, Ok, Err, IfOk, IfErr, refl, ap, sym, ◌∙◌, subst}
+use Rattle.std.proofs.Common.{◌≡◌, ℕ, List, [], Option, Some, Result, Ok, Err, IfOk, IfErr, refl, ap, sym, ◌∙◌, subst}
 use Rattle.isl_meaning.specs.declared.program.ProgramRows.{ProgramRows}
 use Rattle.isl_meaning.specs.State.{words}
 use Rattle.isl_closure.specs.declared.program.FlatProgram.{FlatProgram}
@@ -35,7 +35,7 @@ same_setting names rows w program limit h q =
 
 pub outset : (names : List (List ℕ)) (rows : ProgramRows) (levels w : ℕ) (left given : Option (List ℕ)) (g : Given) (store : Store) (v : Evaluator)
     → g.program.now ≡ flat_program rows → g.limit ≡ Some w → machine.IsGiven names g → IsLaidOut names g.program.now store g.layout.now → IsStarted g store levels v
-    → UnderWay (record { names = names; program = rows; levels = levels; words = w }) left left given given 0 false v
+    → UnderWay (record { names = names; program = rows; levels = levels; words = w }) left left given given 0 v
 outset names rows levels w left given g store v made limit known laid h =
     let e : Evaluation = record { names = names; program = rows; levels = levels; words = w } in
     let s : machine.setting_of names g ≡ setting_of e = same_setting names rows w g.program.now g.limit made limit in
@@ -46,7 +46,7 @@ outset names rows levels w left given g store v made limit known laid h =
       };
       taken = nothing;
       was_taken = none_taken left;
-      all_is = refl;
+      all_is = sym h.not_ended;
       written = [];
       was_given = none_given given;
       count = 0;
@@ -63,7 +63,7 @@ outset names rows levels w left given g store v made limit known laid h =
 pub outset_of : (names : List (List ℕ)) (rows : ProgramRows) (levels w : ℕ) (left given : Option (List ℕ)) (g : Given) (store : Store) (v : Evaluator)
     → g.program.now ≡ flat_program rows → g.limit ≡ Some w → IsReady names g.program.now g.spellings g.layout.now g.primitives.now store
     → AreSizes g.program.now g.sizes.now → AreTablesOf (with_classes g.program.now.classes) g.program.now.generics g.tables.now → IsStarted g store levels v
-    → UnderWay (record { names = names; program = rows; levels = levels; words = w }) left left given given 0 false v
+    → UnderWay (record { names = names; program = rows; levels = levels; words = w }) left left given given 0 v
 outset_of names rows levels w left given g store v made limit ready sizes dispatch h =
     let known : machine.IsGiven names g = record {
       spelling = ready.spelling;
@@ -79,7 +79,7 @@ module _ (g : Given) (store : Store) (levels w : ℕ) (v : Evaluator) (limit : g
     (dispatch : AreTablesOf (with_classes g.program.now.classes) g.program.now.generics g.tables.now) (h : IsStarted g store levels v)
     (left left' given given' : Option (List ℕ)) where
   pub run_ends : (r : Result PlainEnd Stop)
-      → IfOk r (λ end. (e : Evaluation) → UnderWay e left left given given 0 false v → HasRun e left left' given given' end)
+      → IfOk r (λ end. (e : Evaluation) → UnderWay e left left given given 0 v → HasRun e left left' given given' end)
       → IfOk r (λ end. (names : List (List ℕ)) → IsReady names g.program.now g.spellings g.layout.now g.primitives.now store
       → FlatRuns names g.program.now levels w left left' given given' end)
   run_ends (Ok end) run = λ names ready rows made. run (record { names = names; program = rows; levels = levels; words = w })
@@ -87,7 +87,7 @@ module _ (g : Given) (store : Store) (levels w : ℕ) (v : Evaluator) (limit : g
   run_ends (Err s) run = tt
 
   pub run_stops : (r : Result PlainEnd Stop)
-      → IfErr r (λ s. (e : Evaluation) → UnderWay e left left given given 0 false v → StopsSo s e left left' given given')
+      → IfErr r (λ s. (e : Evaluation) → UnderWay e left left given given 0 v → StopsSo s e left left' given given')
       → IfErr r (λ s. (names : List (List ℕ)) → IsReady names g.program.now g.spellings g.layout.now g.primitives.now store
       → FlatStops names g.program.now levels w left left' given given' s)
   run_stops (Ok end) run = tt

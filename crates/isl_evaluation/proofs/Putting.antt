@@ -5,7 +5,7 @@ use Rattle.std.proofs.lemmas.Bool.{eqb-true}
 use Rattle.std.proofs.lemmas.List.{take-append-drop, length-take-le}
 use Rattle.std.proofs.Math.Seq.{drop-nil}
 use Rattle.std.proofs.Common.{◌≡◌, ◌<◌, ◌≤◌, ◌≢◌, ℕ, Bool, true, false, ◌||◌, List, [], ◌∷◌, ◌++◌, Option, Some, None, length, take, drop, refl, ap, sym, ◌∙◌, subst, ⊎_elim, append_assoc, arith}
-use Rattle.std.specs.Prelude.{Result, Ok, Err, IfOk, IfErr, IfSome, slice_get, is_some, ◌==◌}
+use Rattle.std.specs.Prelude.{Result, Ok, Err, OnOk, IfErr, IfSome, slice_get, is_some, ◌==◌}
 use Rattle.isl_base.specs.Outside.{TakesFront}
 use Rattle.isl_plain.specs.Moment.{Moment}
 use Rattle.isl_machine.specs.declared.machine.Machine.{Machine}
@@ -47,18 +47,18 @@ taken_behind (Some input) left' left'' t bytes p w =
       q.1.1,
     )
 
-pub put : (e : Evaluation) (left left' left'' given given' : Option (List ℕ)) (forms : ℕ) (old new : Evaluator) (bytes : List ℕ) → IsGivenBytes old new bytes
-    → IsPutBehind left' bytes left'' → UnderWay e left left' given given' forms false old → UnderWay e left left'' given given' forms false new
-put e left left' left'' given given' forms old new bytes i p u = record {
+pub put : (e : Evaluation) (left left' left'' given given' : Option (List ℕ)) (forms : ℕ) (old new : Evaluator) (bytes : List ℕ) → old.ended ≡ false → IsGivenBytes old new bytes
+    → IsPutBehind left' bytes left'' → UnderWay e left left' given given' forms old → UnderWay e left left'' given given' forms new
+put e left left' left'' given given' forms old new bytes more i p u = record {
   runs = runs_as e old new (ap (λ (m : Machine). m.given) i.machine) u.runs;
   taken = put_behind u.taken bytes;
   was_taken = taken_behind left left' left'' u.taken bytes p u.was_taken;
-  all_is = refl;
+  all_is = sym (ap (λ (x : Evaluator). x.ended) i.same ∙ more);
   written = u.written;
   was_given = u.was_given;
   count = u.count;
   comes = λ input b.
-      let before : Begins u.taken input = begins_before u.taken bytes input u.all_is b in
+      let before : Begins u.taken input = begins_before u.taken bytes input (u.all_is ∙ more) b in
       let h : HasCome e u.taken u.written u.count forms old input before = u.comes input before in
       let a : IsAt e.names old u.written (bytes ++ b.rest) (moment_after e input u.count) = h.is_at in
       record {
@@ -72,13 +72,13 @@ put e left left' left'' given given' forms old new bytes i p u = record {
 }
 
 -- they were read, and not given on
-pub put_broken : (e : Evaluation) (left left' left'' given given' : Option (List ℕ)) (forms : ℕ) (v : Evaluator) (bytes : List ℕ)
-    → IsPutBehind left' bytes left'' → UnderWay e left left' given given' forms false v → HasBroken e left left'' given given'
-put_broken e left left' left'' given given' forms v bytes p u = record {
+pub put_broken : (e : Evaluation) (left left' left'' given given' : Option (List ℕ)) (forms : ℕ) (v : Evaluator) (bytes : List ℕ) → v.ended ≡ false
+    → IsPutBehind left' bytes left'' → UnderWay e left left' given given' forms v → HasBroken e left left'' given given'
+put_broken e left left' left'' given given' forms v bytes more p u = record {
   taken = put_behind u.taken bytes;
   was_taken = taken_behind left left' left'' u.taken bytes p u.was_taken;
   cut_off = λ input b.
-      let before : Begins u.taken input = begins_before u.taken bytes input u.all_is b in
+      let before : Begins u.taken input = begins_before u.taken bytes input (u.all_is ∙ more) b in
       broken_at e input given given' forms v u.taken u.written u.count before (u.comes input before) u.was_given;
 }
 
@@ -111,12 +111,12 @@ taken_all (Some input) left' left'' t bytes none p w =
     )
 
 pub met_end : (e : Evaluation) (left left' left'' given given' : Option (List ℕ)) (forms : ℕ) (old new : Evaluator) (bytes : List ℕ) → bytes ≡ [] → IsAllRead old new
-    → IsPutBehind left' bytes left'' → UnderWay e left left' given given' forms false old → UnderWay e left left'' given given' forms true new
+    → IsPutBehind left' bytes left'' → UnderWay e left left' given given' forms old → UnderWay e left left'' given given' forms new
 met_end e left left' left'' given given' forms old new bytes none i p u = record {
   runs = runs_as e old new (ap (λ (m : Machine). m.given) i.machine) u.runs;
   taken = all_of u.taken;
   was_taken = taken_all left left' left'' u.taken bytes none p u.was_taken;
-  all_is = refl;
+  all_is = sym i.ended;
   written = u.written;
   was_given = u.was_given;
   count = u.count;
@@ -124,22 +124,6 @@ met_end e left left' left'' given given' forms old new bytes none i p u = record
       let before : Begins u.taken input = record { rest = b.rest; joined = b.joined; ends = λ h. b.ends refl } in
       let h : HasCome e u.taken u.written u.count forms old input before = u.comes input before in
       record { is_at = all_at e.names old new u.written b.rest (moment_after e input u.count) i (b.ends refl) h.is_at; begun = h.begun };
-}
-
--- it was met before
-pub was_met : (e : Evaluation) (left left' given given' : Option (List ℕ)) (forms : ℕ) (all : Bool) (old new : Evaluator) → all ≡ true → IsAllRead old new
-    → UnderWay e left left' given given' forms all old → UnderWay e left left' given given' forms true new
-was_met e left left' given given' forms all old new met i u = record {
-  runs = runs_as e old new (ap (λ (m : Machine). m.given) i.machine) u.runs;
-  taken = u.taken;
-  was_taken = u.was_taken;
-  all_is = u.all_is ∙ met;
-  written = u.written;
-  was_given = u.was_given;
-  count = u.count;
-  comes = λ input b.
-      let h : HasCome e u.taken u.written u.count forms old input b = u.comes input b in
-      record { is_at = all_at e.names old new u.written b.rest (moment_after e input u.count) i (b.ends (u.all_is ∙ met)) h.is_at; begun = h.begun };
 }
 
 -- whether a piece has bytes
@@ -163,6 +147,13 @@ there_first : (bytes : List ℕ) → (bytes ≡ [] → ⊥) → is_some (slice_g
 there_first [] h = absurd (h refl)
 there_first (x ∷ xs) h = refl
 
+pub not_ended : (v : Evaluator) → is_fed v ≡ false → v.ended ≡ false
+not_ended v h = first v.ended (is_some (slice_get v.ahead.items v.taken)) h
+  where
+    first : (a b : Bool) → a || b ≡ false → a ≡ false
+    first true b h = h
+    first false b h = refl
+
 pub fed_by : (old new : Evaluator) (bytes : List ℕ) → (bytes ≡ [] → ⊥) → IsGivenBytes old new bytes → is_fed new ≡ true
 fed_by old new bytes some i =
     or_true new.ended (is_some (slice_get new.ahead.items new.taken))
@@ -179,23 +170,21 @@ pub none_ahead : (v : Evaluator) → is_fed v ≡ false → drop v.taken v.ahead
 none_ahead v h = drop_of_length-le v.ahead.items (all_taken v h)
 
 -- after a read, where the piece was there or none
-pub more_read : (r : Result Bool Stop) (from to : Option (List ℕ)) (bytes : List ℕ) (all : Bool) (old new : Evaluator) → all ≡ false → IsPutBehind from bytes to
-    → IfOk r (λ met. (e : Evaluation) (left left' left'' given given' : Option (List ℕ)) (forms : ℕ) → IsPutBehind left' bytes left''
-    → UnderWay e left left' given given' forms false old → UnderWay e left left'' given given' forms met new)
-    → IfOk r (λ met. (e : Evaluation) (left given given' : Option (List ℕ)) (forms : ℕ) → UnderWay e left from given given' forms all old
-    → UnderWay e left to given given' forms met new)
-more_read (Ok met) from to bytes all old new more p h = λ e left given given' forms u.
-    h e left from to given given' forms p (subst (λ x. UnderWay e left from given given' forms x old) more u)
-more_read (Err s) from to bytes all old new more p h = tt
+pub more_read : {T : Type 0} (r : Result T Stop) (from to : Option (List ℕ)) (bytes : List ℕ) (old new : Evaluator) → IsPutBehind from bytes to
+    → OnOk r ((e : Evaluation) (left left' left'' given given' : Option (List ℕ)) (forms : ℕ) → IsPutBehind left' bytes left''
+    → UnderWay e left left' given given' forms old → UnderWay e left left'' given given' forms new)
+    → OnOk r ((e : Evaluation) (left given given' : Option (List ℕ)) (forms : ℕ) → UnderWay e left from given given' forms old
+    → UnderWay e left to given given' forms new)
+more_read (Ok x) from to bytes old new p h = λ e left given given' forms u. h e left from to given given' forms p u
+more_read (Err s) from to bytes old new p h = tt
 
-pub read_stops : (r : Result Bool Stop) (from to : Option (List ℕ)) (bytes : List ℕ) (all : Bool) (old : Evaluator) → all ≡ false → IsPutBehind from bytes to
+pub read_stops : {T : Type 0} (r : Result T Stop) (from to : Option (List ℕ)) (bytes : List ℕ) (old : Evaluator) → IsPutBehind from bytes to
     → IfErr r (λ stop. (e : Evaluation) (left left' left'' given given' : Option (List ℕ)) (forms : ℕ) → IsPutBehind left' bytes left''
-    → UnderWay e left left' given given' forms false old → StopsSo stop e left left'' given given')
-    → IfErr r (λ stop. (e : Evaluation) (left given given' : Option (List ℕ)) (forms : ℕ) → UnderWay e left from given given' forms all old
+    → UnderWay e left left' given given' forms old → StopsSo stop e left left'' given given')
+    → IfErr r (λ stop. (e : Evaluation) (left given given' : Option (List ℕ)) (forms : ℕ) → UnderWay e left from given given' forms old
     → StopsSo stop e left to given given')
-read_stops (Ok met) from to bytes all old more p h = tt
-read_stops (Err s) from to bytes all old more p h = λ e left given given' forms u.
-    h e left from to given given' forms p (subst (λ x. UnderWay e left from given given' forms x old) more u)
+read_stops (Ok x) from to bytes old p h = tt
+read_stops (Err s) from to bytes old p h = λ e left given given' forms u. h e left from to given given' forms p u
 
 -- what a read put into the buffer is what it took of the source
 none_taken : (n : ℕ) (xs : List ℕ) → n ≤ length xs → take n xs ≡ [] → (xs ≢ [] → 0 < n) → xs ≡ []

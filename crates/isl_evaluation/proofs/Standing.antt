@@ -23,9 +23,9 @@ pub begins_still : (old v : Evaluator) (more : Bool) → more ≡ true → v.mac
 begins_still old v more is same h = stopped_still old v true same (subst (IsStopped old) is h)
 
 -- what stops behind a write
-pub stops_behind : (r : Result Bool Stop) (from to given'' given' : Option (List ℕ)) (all : Bool) (old mid : Evaluator)
-    → ((e : Evaluation) (left given : Option (List ℕ)) (forms : ℕ) → UnderWay e left from given given' forms all old → UnderWay e left from given given'' forms all mid)
-    → IfErr r (λ stop. (e : Evaluation) (left given given' : Option (List ℕ)) (forms : ℕ) → UnderWay e left from given given' forms all mid → StopsSo stop e left to given given')
-    → IfErr r (λ stop. (e : Evaluation) (left given : Option (List ℕ)) (forms : ℕ) → UnderWay e left from given given' forms all old → StopsSo stop e left to given given'')
-stops_behind (Ok met) from to given'' given' all old mid w h = tt
-stops_behind (Err s) from to given'' given' all old mid w h = λ e left given forms u. h e left given given'' forms (w e left given forms u)
+pub stops_behind : {T : Type 0} (r : Result T Stop) (from to given'' given' : Option (List ℕ)) (old mid : Evaluator)
+    → ((e : Evaluation) (left given : Option (List ℕ)) (forms : ℕ) → UnderWay e left from given given' forms old → UnderWay e left from given given'' forms mid)
+    → IfErr r (λ stop. (e : Evaluation) (left given given' : Option (List ℕ)) (forms : ℕ) → UnderWay e left from given given' forms mid → StopsSo stop e left to given given')
+    → IfErr r (λ stop. (e : Evaluation) (left given : Option (List ℕ)) (forms : ℕ) → UnderWay e left from given given' forms old → StopsSo stop e left to given given'')
+stops_behind (Ok x) from to given'' given' old mid w h = tt
+stops_behind (Err s) from to given'' given' old mid w h = λ e left given forms u. h e left given given'' forms (w e left given forms u)

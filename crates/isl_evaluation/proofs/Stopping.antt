@@ -1,5 +1,5 @@
 -- An evaluation on its way stops: at its end, where another form would be too many, where a byte is wanted, and anywhere.
-use Rattle.std.proofs.Common.{◌≡◌, ◌≤◌, ℕ, Bool, true, false, List, [], ◌++◌, Option, Some, None, drop, ap, sym, ◌∙◌, subst, append_assoc, append-nil, arith}
+use Rattle.std.proofs.Common.{◌≡◌, ◌≤◌, ℕ, true, false, List, [], ◌++◌, Option, Some, None, drop, ap, sym, ◌∙◌, subst, append_assoc, append-nil, arith}
 use Rattle.std.specs.Prelude.{⊤, IfSome}
 use Rattle.isl_meaning.specs.Meaning.{Meant, Ending, with_value, by_class, for_words, for_levels, ending_of}
 use Rattle.isl_output.specs.Given.{WasGiven, WasGivenFront}
@@ -39,13 +39,13 @@ printed_all : (names : List (List ℕ)) (v : Evaluator) (written unread : List �
 printed_all names v written unread m none a = sym (printed_so names v written unread m a ∙ ap (λ xs. written ++ xs) none ∙ append-nil written)
 
 -- all that was printed was written
-pub wrote : (e : Evaluation) (left left' given given' given'' : Option (List ℕ)) (forms : ℕ) (all : Bool) (old new : Evaluator) → WasGiven given' old.printed.items given''
-    → IsWritten old new → UnderWay e left left' given given' forms all old → UnderWay e left left' given given'' forms all new
-wrote e left left' given given' given'' forms all old new g w u = record {
+pub wrote : (e : Evaluation) (left left' given given' given'' : Option (List ℕ)) (forms : ℕ) (old new : Evaluator) → WasGiven given' old.printed.items given''
+    → IsWritten old new → UnderWay e left left' given given' forms old → UnderWay e left left' given given'' forms new
+wrote e left left' given given' given'' forms old new g w u = record {
   runs = runs_as e old new (ap (λ (m : Machine). m.given) w.machine) u.runs;
   taken = u.taken;
   was_taken = u.was_taken;
-  all_is = u.all_is;
+  all_is = u.all_is ∙ sym (ap (λ (x : Evaluator). x.ended) w.same);
   written = u.written ++ old.printed.items;
   was_given = given_more given given' given'' u.written old.printed.items u.was_given g;
   count = u.count;
@@ -63,9 +63,9 @@ wrote e left left' given given' given'' forms all old new g w u = record {
 }
 
 -- a front of it was
-pub cut : (e : Evaluation) (left left' given given' given'' : Option (List ℕ)) (forms : ℕ) (all : Bool) (v : Evaluator) → WasGivenFront given' v.printed.items given''
-    → UnderWay e left left' given given' forms all v → HasRun e left left' given given'' plain.WriteFault
-cut e left left' given given' given'' forms all v g u = record {
+pub cut : (e : Evaluation) (left left' given given' given'' : Option (List ℕ)) (forms : ℕ) (v : Evaluator) → WasGivenFront given' v.printed.items given''
+    → UnderWay e left left' given given' forms v → HasRun e left left' given given'' plain.WriteFault
+cut e left left' given given' given'' forms v g u = record {
   taken = u.taken;
   was_taken = u.was_taken;
   comes = λ input b.
@@ -91,8 +91,8 @@ broken_at e input given given' forms v t written count b h g = record {
   printed = g;
 }
 
-pub broken : (e : Evaluation) (left left' given given' : Option (List ℕ)) (forms : ℕ) (all : Bool) (v : Evaluator) → UnderWay e left left' given given' forms all v → HasBroken e left left' given given'
-broken e left left' given given' forms all v u = record {
+pub broken : (e : Evaluation) (left left' given given' : Option (List ℕ)) (forms : ℕ) (v : Evaluator) → UnderWay e left left' given given' forms v → HasBroken e left left' given given'
+broken e left left' given given' forms v u = record {
   taken = u.taken;
   was_taken = u.was_taken;
   cut_off = λ input b. broken_at e input given given' forms v u.taken u.written u.count b (u.comes input b) u.was_given;
@@ -135,10 +135,10 @@ few : (a b c : ℕ) → a ≡ b → b ≤ c → a ≤ c
 few a b c e h = omega arith
 
 -- the machine has ended
-pub ended : (e : Evaluation) (left left' given given' : Option (List ℕ)) (forms : ℕ) (all : Bool) (v : Evaluator) (end : PlainEnd) → forms ≤ most_forms
+pub ended : (e : Evaluation) (left left' given given' : Option (List ℕ)) (forms : ℕ) (v : Evaluator) (end : PlainEnd) → forms ≤ most_forms
     → v.printed.items ≡ [] → IsStopped v false → ((names : List (List ℕ)) (b : Beside) → end_of (done (moment_of names v.machine b)) ≡ end)
-    → UnderWay e left left' given given' forms all v → HasRun e left left' given given' end
-ended e left left' given given' forms all v end h none stopped is u = record {
+    → UnderWay e left left' given given' forms v → HasRun e left left' given given' end
+ended e left left' given given' forms v end h none stopped is u = record {
   taken = u.taken;
   was_taken = u.was_taken;
   comes = λ input b.
@@ -156,9 +156,9 @@ ended e left left' given given' forms all v end h none stopped is u = record {
 }
 
 -- another form is to begin, after so many
-pub spent : (e : Evaluation) (left left' given given' : Option (List ℕ)) (forms : ℕ) (all : Bool) (v : Evaluator) → forms ≡ most_forms
-    → v.printed.items ≡ [] → IsStopped v true → UnderWay e left left' given given' forms all v → HasRun e left left' given given' plain.Spent
-spent e left left' given given' forms all v h none stopped u = record {
+pub spent : (e : Evaluation) (left left' given given' : Option (List ℕ)) (forms : ℕ) (v : Evaluator) → forms ≡ most_forms
+    → v.printed.items ≡ [] → IsStopped v true → UnderWay e left left' given given' forms v → HasRun e left left' given given' plain.Spent
+spent e left left' given given' forms v h none stopped u = record {
   taken = u.taken;
   was_taken = u.was_taken;
   comes = λ input b.
@@ -186,10 +186,10 @@ taken_still None left' left'' t same w = tt
 taken_still (Some input) left' left'' t same w = (w.0, subst (λ l. IfSome l (λ xs. left'' ≡ Some xs)) w.1 same)
 
 -- a byte is wanted, and all that was read was taken
-pub wants : (e : Evaluation) (left left' left'' given given' : Option (List ℕ)) (forms : ℕ) (all : Bool) (v : Evaluator) → IfSome left' (λ xs. left'' ≡ Some xs)
+pub wants : (e : Evaluation) (left left' left'' given given' : Option (List ℕ)) (forms : ℕ) (v : Evaluator) → IfSome left' (λ xs. left'' ≡ Some xs)
     → v.printed.items ≡ [] → control_reads v.machine.control ≡ true → drop v.taken v.ahead.items ≡ []
-    → UnderWay e left left' given given' forms all v → HasRun e left left'' given given' plain.ReadFault
-wants e left left' left'' given given' forms all v same none reads all_taken u = record {
+    → UnderWay e left left' given given' forms v → HasRun e left left'' given given' plain.ReadFault
+wants e left left' left'' given given' forms v same none reads all_taken u = record {
   taken = u.taken;
   was_taken = taken_still left left' left'' u.taken same u.was_taken;
   comes = λ input b.

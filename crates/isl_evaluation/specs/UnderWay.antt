@@ -1,6 +1,6 @@
 -- An evaluation that is under way: how far the source was read and the sink written, and at which moment the evaluator is; and how a run
 -- comes to its end. What the program means is not spoken of here.
-use Rattle.std.specs.Prelude.{◌≡◌, ◌≤◌, ⊤, ℕ, Bool, true, List, [], ◌++◌, Option, Some, None, Result, Ok, Err, IfSome}
+use Rattle.std.specs.Prelude.{◌≡◌, ◌≤◌, ⊤, ℕ, true, List, [], ◌++◌, Option, Some, None, Result, Ok, Err, IfSome}
 use Rattle.isl_meaning.specs.Laws.{IsPrefix}
 use Rattle.isl_output.specs.Given.{WasGiven}
 use Rattle.isl_plain.specs.Run.{begins, IsEnd, done}
@@ -26,12 +26,12 @@ pub record HasCome (e : Evaluation) (t : Taken) (written : List ℕ) (count form
   pub is_at : IsAt e.names v written b.rest (moment_after e input count)
   pub begun : forms_after e input count ≡ forms
 
--- an evaluation on its way: so many forms began, and whether the end of the source was met
-pub record UnderWay (e : Evaluation) (left left' given given' : Option (List ℕ)) (forms : ℕ) (all : Bool) (v : Evaluator) : Type 0 where
+-- an evaluation on its way: so many forms began, and the evaluator knows whether the end of the source was met
+pub record UnderWay (e : Evaluation) (left left' given given' : Option (List ℕ)) (forms : ℕ) (v : Evaluator) : Type 0 where
   pub runs : RunsFor e v
   pub taken : Taken
   pub was_taken : WasTaken left taken left'
-  pub all_is : taken.all ≡ all
+  pub all_is : taken.all ≡ v.ended
   pub written : List ℕ
   pub was_given : WasGiven given written given'
   pub count : ℕ

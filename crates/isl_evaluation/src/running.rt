@@ -11,7 +11,7 @@ ghost use Rattle.isl_evaluation.specs.Evaluation.{Evaluation, most_forms};
 ghost use Rattle.isl_evaluation.specs.UnderWay.{UnderWay, HasRun, IsOwnEnd, StopsSo, StopTells};
 
 use crate::end::{PlainEnd, end_at};
-use crate::feeding::fed;
+use crate::feeding::feed;
 use crate::stop::Stop;
 use crate::writing::{write_much, write_printed};
 use isl_base::{Sink, Source};
@@ -27,23 +27,22 @@ pub(crate) fn run<S: Source, K: Sink>(
     sink: &mut K,
 ) -> Result<PlainEnd, Stop>
     ensures ends { IfOk result (λ end. (e : Evaluation)
-        → UnderWay e (S.left source.old) (S.left source.old) (K.given sink.old) (K.given sink.old) 0 false evaluator.old
+        → UnderWay e (S.left source.old) (S.left source.old) (K.given sink.old) (K.given sink.old) 0 evaluator.old
         → HasRun e (S.left source.old) (S.left source.new) (K.given sink.old) (K.given sink.new) end) }
     ensures own { IfOk result IsOwnEnd }
     ensures stops { IfErr result (λ stop. (e : Evaluation)
-        → UnderWay e (S.left source.old) (S.left source.old) (K.given sink.old) (K.given sink.old) 0 false evaluator.old
+        → UnderWay e (S.left source.old) (S.left source.old) (K.given sink.old) (K.given sink.old) 0 evaluator.old
         → StopsSo stop e (S.left source.old) (S.left source.new) (K.given sink.old) (K.given sink.new)) }
     ensures fault { IfErr result (λ stop. StopTells stop (Rose (S.faults source.old) (S.faults source.new)) (Rose (K.faults sink.old) (K.faults sink.new))) }
     ensures count { S.faults source.old ≤ S.faults source.new }
     ensures sink_count { K.faults sink.old ≤ K.faults sink.new }
 {
-    let mut all = false;
     for _ in 0..MOST_FORMS {
         let more = to_form(evaluator)?;
         if !more {
             return finish(evaluator, sink);
         }
-        all = fed(evaluator, all, source, sink)?;
+        feed(evaluator, source, sink)?;
         begin(evaluator)?;
         write_much(evaluator, sink)?;
     }
@@ -57,12 +56,12 @@ pub(crate) fn run<S: Source, K: Sink>(
 
 // Steps up to the next form, or to the end; whether there is a form.
 fn to_form(evaluator: &mut Evaluator<'_>) -> Result<bool, Stop>
-    ensures under_way { IfOk result (λ more. (e : Evaluation) (left left' given given' : Option (List ℕ)) (forms : ℕ) (all : Bool)
-        → UnderWay e left left' given given' forms all evaluator.old
-        → UnderWay e left left' given given' forms all evaluator.new) }
+    ensures under_way { IfOk result (λ more. (e : Evaluation) (left left' given given' : Option (List ℕ)) (forms : ℕ)
+        → UnderWay e left left' given given' forms evaluator.old
+        → UnderWay e left left' given given' forms evaluator.new) }
     ensures stopped { IfOk result (IsStopped evaluator.new) }
-    ensures stops { IfErr result (λ stop. (e : Evaluation) (left left' given given' : Option (List ℕ)) (forms : ℕ) (all : Bool)
-        → UnderWay e left left' given given' forms all evaluator.old
+    ensures stops { IfErr result (λ stop. (e : Evaluation) (left left' given given' : Option (List ℕ)) (forms : ℕ)
+        → UnderWay e left left' given given' forms evaluator.old
         → StopsSo stop e left left' given given') }
     ensures fault { IfErr result (λ stop. StopTells stop ⊥ ⊥) }
 {
@@ -74,11 +73,11 @@ fn to_form(evaluator: &mut Evaluator<'_>) -> Result<bool, Stop>
 fn begin(evaluator: &mut Evaluator<'_>) -> Result<(), Stop>
     requires begins { (names : List (List ℕ)) (b : Beside) → begins (moment_of names evaluator.old.machine b).control ≡ true }
     requires there { control_reads evaluator.old.machine.control ≡ true → is_fed evaluator.old ≡ true }
-    ensures under_way { OnOk result ((e : Evaluation) (left left' given given' : Option (List ℕ)) (forms : ℕ) (all : Bool)
-        → UnderWay e left left' given given' forms all evaluator.old
-        → UnderWay e left left' given given' (forms + 1) all evaluator.new) }
-    ensures stops { IfErr result (λ stop. (e : Evaluation) (left left' given given' : Option (List ℕ)) (forms : ℕ) (all : Bool)
-        → UnderWay e left left' given given' forms all evaluator.old
+    ensures under_way { OnOk result ((e : Evaluation) (left left' given given' : Option (List ℕ)) (forms : ℕ)
+        → UnderWay e left left' given given' forms evaluator.old
+        → UnderWay e left left' given given' (forms + 1) evaluator.new) }
+    ensures stops { IfErr result (λ stop. (e : Evaluation) (left left' given given' : Option (List ℕ)) (forms : ℕ)
+        → UnderWay e left left' given given' forms evaluator.old
         → StopsSo stop e left left' given given') }
     ensures fault { IfErr result (λ stop. StopTells stop ⊥ ⊥) }
 {
@@ -89,12 +88,12 @@ fn begin(evaluator: &mut Evaluator<'_>) -> Result<(), Stop>
 // All that was printed is written at the end; the end.
 fn finish<K: Sink>(evaluator: &mut Evaluator<'_>, sink: &mut K) -> Result<PlainEnd, Stop>
     requires ended { IsStopped evaluator.old false }
-    ensures ends { IfOk result (λ end. (e : Evaluation) (left left' given : Option (List ℕ)) (forms : ℕ) (all : Bool) → forms ≤ most_forms
-        → UnderWay e left left' given (K.given sink.old) forms all evaluator.old
+    ensures ends { IfOk result (λ end. (e : Evaluation) (left left' given : Option (List ℕ)) (forms : ℕ) → forms ≤ most_forms
+        → UnderWay e left left' given (K.given sink.old) forms evaluator.old
         → HasRun e left left' given (K.given sink.new) end) }
     ensures own { IfOk result IsOwnEnd }
-    ensures stops { IfErr result (λ stop. (e : Evaluation) (left left' given : Option (List ℕ)) (forms : ℕ) (all : Bool)
-        → UnderWay e left left' given (K.given sink.old) forms all evaluator.old
+    ensures stops { IfErr result (λ stop. (e : Evaluation) (left left' given : Option (List ℕ)) (forms : ℕ)
+        → UnderWay e left left' given (K.given sink.old) forms evaluator.old
         → StopsSo stop e left left' given (K.given sink.new)) }
     ensures fault { IfErr result (λ stop. StopTells stop ⊥ (Rose (K.faults sink.old) (K.faults sink.new))) }
     ensures count { K.faults sink.old ≤ K.faults sink.new }

@@ -18,13 +18,13 @@ pub(crate) fn write_printed<K: Sink>(
     evaluator: &mut Evaluator<'_>,
     sink: &mut K,
 ) -> Result<(), Stop>
-    ensures under_way { OnOk result ((e : Evaluation) (left left' given : Option (List ℕ)) (forms : ℕ) (all : Bool)
-        → UnderWay e left left' given (K.given sink.old) forms all evaluator.old
-        → UnderWay e left left' given (K.given sink.new) forms all evaluator.new) }
+    ensures under_way { OnOk result ((e : Evaluation) (left left' given : Option (List ℕ)) (forms : ℕ)
+        → UnderWay e left left' given (K.given sink.old) forms evaluator.old
+        → UnderWay e left left' given (K.given sink.new) forms evaluator.new) }
     ensures all { OnOk result (evaluator.new.printed.items ≡ []) }
     ensures same { OnOk result (evaluator.new ≡ record evaluator.old { printed = evaluator.new.printed }) }
-    ensures stops { IfErr result (λ stop. (e : Evaluation) (left left' given : Option (List ℕ)) (forms : ℕ) (all : Bool)
-        → UnderWay e left left' given (K.given sink.old) forms all evaluator.old
+    ensures stops { IfErr result (λ stop. (e : Evaluation) (left left' given : Option (List ℕ)) (forms : ℕ)
+        → UnderWay e left left' given (K.given sink.old) forms evaluator.old
         → StopsSo stop e left left' given (K.given sink.new)) }
     ensures fault { IfErr result (λ stop. StopTells stop ⊥ (Rose (K.faults sink.old) (K.faults sink.new))) }
     ensures count { K.faults sink.old ≤ K.faults sink.new }
@@ -40,11 +40,11 @@ pub(crate) fn write_printed<K: Sink>(
 
 /// What was printed is written where it is much.
 pub(crate) fn write_much<K: Sink>(evaluator: &mut Evaluator<'_>, sink: &mut K) -> Result<(), Stop>
-    ensures under_way { OnOk result ((e : Evaluation) (left left' given : Option (List ℕ)) (forms : ℕ) (all : Bool)
-        → UnderWay e left left' given (K.given sink.old) forms all evaluator.old
-        → UnderWay e left left' given (K.given sink.new) forms all evaluator.new) }
-    ensures stops { IfErr result (λ stop. (e : Evaluation) (left left' given : Option (List ℕ)) (forms : ℕ) (all : Bool)
-        → UnderWay e left left' given (K.given sink.old) forms all evaluator.old
+    ensures under_way { OnOk result ((e : Evaluation) (left left' given : Option (List ℕ)) (forms : ℕ)
+        → UnderWay e left left' given (K.given sink.old) forms evaluator.old
+        → UnderWay e left left' given (K.given sink.new) forms evaluator.new) }
+    ensures stops { IfErr result (λ stop. (e : Evaluation) (left left' given : Option (List ℕ)) (forms : ℕ)
+        → UnderWay e left left' given (K.given sink.old) forms evaluator.old
         → StopsSo stop e left left' given (K.given sink.new)) }
     ensures fault { IfErr result (λ stop. StopTells stop ⊥ (Rose (K.faults sink.old) (K.faults sink.new))) }
     ensures count { K.faults sink.old ≤ K.faults sink.new }

@@ -69,6 +69,7 @@ pub started : (given : Given) (store : Store) (level : ℕ) (e : Evaluator) → 
     → e.printed.items ≡ [] → e.at_start ≡ true → e.ahead.items ≡ [] → e.ended ≡ false → IsStarted given store level e
 started given store level e f globals dynamics printed at_start ahead not_ended = record {
   is_given = f.given_is;
+  not_ended = not_ended;
   comes = λ names input spelling laid.
       let b : Beside = record { globals = []; dynamics = []; input = input; printed = []; frame = [] } in
       let stands : Stands names e [] input b = record {

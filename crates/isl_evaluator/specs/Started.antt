@@ -1,5 +1,5 @@
 -- The evaluator before its first step, and the machine of the definitions there.
-use Rattle.std.specs.Prelude.{◌≡◌, ℕ, List, []}
+use Rattle.std.specs.Prelude.{◌≡◌, ℕ, false, List, []}
 use Rattle.isl_plain.specs.Run.{start}
 use Rattle.isl_store.specs.declared.store.Store.{Store}
 use Rattle.isl_store.specs.Spelling.{IsSpelling}
@@ -12,5 +12,6 @@ use Rattle.isl_evaluator.specs.Runs.{IsAt}
 -- it is there, where nothing was written yet, whatever is to be read
 pub record IsStarted (given : Given) (store : Store) (level : ℕ) (e : Evaluator) : Type 0 where
   pub is_given : e.machine.given ≡ given
+  pub not_ended : e.ended ≡ false
   pub comes : (names : List (List ℕ)) (input : List ℕ) → IsSpelling names given.spellings → IsLaidOut names given.program.now store given.layout.now
       → IsAt names e [] input (start (setting_of names given) input level)

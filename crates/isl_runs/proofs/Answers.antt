@@ -3,10 +3,10 @@ use Rattle.std.proofs.Common.{ℕ, ◌+◌, ◌<◌, Bool, true, false, List, []
 use Rattle.std.specs.List.{position_or_len}
 use Rattle.std.specs.Prelude.{⊤, ℤ, pos, ◌+ℤ◌, ◌-ℤ◌, ◌*ℤ◌, slice_get, slice_set, if◌then◌else◌}
 use Rattle.isl_meaning.specs.declared.primitive.Primitive.{Primitive}
-use Rattle.isl_meaning.specs.declared.primitive.Primitive.TheVariants.{Add, Subtract, Multiply, Divide, Modulo, NumberEqual, NumberNotEqual, NumberLess, NumberAtMost, NumberGreater, NumberAtLeast, Same, IsNull, IsCons, IsInteger, IsSymbol, IsCharacter, IsString, IsVector, IsFunction, IsGeneric, Cons, Car, Cdr, SetCar, SetCdr, MakeString, MakeVector, StringLength, VectorLength, CharAt, VectorRef, SetCharAt, SetVectorRef, CharCode, CodeChar, SymbolName, SymbolSerial, Gensym, ClassOf, ClassName, IsSubclass, IsInstance, Allocate, SlotCount, SlotPlace, SlotRef, SlotSet, SlotBound, SlotInitargs, SlotInitform, Continuable, StandardInput, StandardOutput, PutChar, IsFreshLine, GetByte, PeekByte}
+use Rattle.isl_meaning.specs.declared.primitive.Primitive.TheVariants.{Add, Subtract, Multiply, Divide, Modulo, NumberEqual, NumberNotEqual, NumberLess, NumberAtMost, NumberGreater, NumberAtLeast, Same, Cons, Car, Cdr, SetCar, SetCdr, MakeString, MakeVector, StringLength, VectorLength, CharAt, VectorRef, SetCharAt, SetVectorRef, CharCode, CodeChar, SymbolName, SymbolSerial, Gensym, ClassName, IsSubclass, IsInstance, Allocate, SlotCount, SlotPlace, SlotRef, SlotSet, SlotBound, SlotInitargs, SlotInitform, Continuable, StandardInput, StandardOutput, PutChar, IsFreshLine, GetByte, PeekByte}
 use Rattle.isl_meaning.specs.declared.program.ProgramRows.{ProgramRows}
 use Rattle.isl_meaning.specs.declared.program.SlotRow.{SlotRow}
-use Rattle.isl_meaning.specs.Values.{Value, integer, character, symbol, nil, object, in_range, int_equal}
+use Rattle.isl_meaning.specs.Values.{Value, object, in_range, int_equal}
 use Rattle.isl_meaning.specs.Objects.{Object, cons, string, vector, instance, serious_condition_class}
 use Rattle.isl_meaning.specs.State.{State}
 use Rattle.isl_meaning.specs.Laws.{IsPrefix}

@@ -12,7 +12,7 @@ use Rattle.isl_meaning.specs.Literals.{function_row}
 use Rattle.isl_meaning.specs.Classes.{fetch, is_condition}
 use Rattle.isl_meaning.specs.Primitives.{is_function}
 use Rattle.isl_meaning.specs.Meaning.{spread, Spread, with_turns}
-use Rattle.isl_closure.specs.FlatForm.{FlatForm, literal, local, set_local, global, set_global, def_global, clauses, sequence, let_form, make_function, call, call_value, apply, prim, while_form, block, return_from, tagbody, go, catch_form, throw, unwind, dynamic_let, dynamic, set_dynamic, def_dynamic, with_handler, signal_form, continue_form, next_method, has_next, sited}
+use Rattle.isl_closure.specs.FlatForm.{FlatForm, literal, local, global, clauses, sequence, let_form, make_function, call, call_value, prim, tagbody, go, dynamic_let, dynamic, next_method, has_next, sited}
 use Rattle.isl_closure.specs.FlatForm.{FlatForms, no_form, form_and, FlatClauses, no_clause, clause_and, FlatBody, no_body, with_body}
 use Rattle.isl_closure.specs.FlatForm.{FlatBindings, no_binding, binding_and, FlatDynamics, no_dynamic, dynamic_and}
 use Rattle.isl_closure.specs.FlatNodes.{tables}

@@ -15,7 +15,7 @@ use Rattle.isl_closure.specs.FlatState.{FlatState, exit_of, gives}
 use Rattle.isl_closure.specs.FlatMeaning.{from_segment}
 use Rattle.isl_plain.specs.Moment.{Setting, Situation, Wait, Frame, Control, evaluate, signals, come_to, Moment, moment, ended}
 use Rattle.isl_plain.specs.Moment.{set_local_value, set_global_value, def_global_value, sequence_form, clause_test, binding_value, argument, applied_function, applied_list, while_test, while_body, return_value, last_segment, catch_tag, throw_tag, throw_value, dynamic_value, set_dynamic_value, def_dynamic_value, handler_value, signal_condition, signal_mark, continue_condition, continue_value}
-use Rattle.isl_plain.specs.Moment.{kept, method_value, before_methods, primary_method, handler_return, main_form, main_forms, awaits, catches, turns, cleans, restores_stack, restores_slots, drops_slots, unbinds}
+use Rattle.isl_plain.specs.Moment.{kept, method_value, before_methods, primary_method, handler_return, main_form, main_forms, awaits, catches, turns, cleans}
 use Rattle.isl_plain.specs.Step.{value_step, turn_step, cleanup_step, outcome_step, control_step}
 use Rattle.isl_plain.specs.Run.{next_or}
 use Rattle.isl_runs.specs.Laws.{printed_at}

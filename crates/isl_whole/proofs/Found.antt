@@ -10,7 +10,7 @@ use Rattle.isl_profile.specs.declared.tables.Tables.{Tables}
 use Rattle.isl_profile.specs.declared.making.Found.{Found}
 use Rattle.isl_profile.specs.declared.making.Found.TheVariants.{Value, Binding, Parameter}
 use Rattle.isl_profile.specs.declared.making.One.{One}
-use Rattle.isl_profile.specs.declared.making.One.TheVariants.{SetVariable, SetGlobal, DefineGlobal, SetDynamic, DefineDynamic, ReturnTo}
+use Rattle.isl_profile.specs.declared.making.One.TheVariants.{SetVariable}
 use Rattle.isl_profile.specs.declared.making.Two.{Two}
 use Rattle.isl_profile.specs.declared.making.WithBody.{WithBody}
 use Rattle.isl_profile.specs.Nodes.{Around, form}

@@ -16,7 +16,7 @@ use Rattle.isl_meaning.specs.model.View.{forms, forms_back}
 use Rattle.isl_meaning.specs.bridge.Lengths.{forms_counted}
 use Rattle.isl_meaning.specs.bridge.Judged.{fits_folded, stands_folded}
 use Rattle.isl_profile.specs.declared.making.One.{One}
-use Rattle.isl_profile.specs.declared.making.One.TheVariants.{SetVariable, SetGlobal, DefineGlobal, SetDynamic, DefineDynamic, ReturnTo}
+use Rattle.isl_profile.specs.declared.making.One.TheVariants.{SetVariable, ReturnTo}
 use Rattle.isl_profile.specs.declared.making.Two.{Two}
 use Rattle.isl_profile.specs.declared.making.Two.TheVariants.{Applying, Throwing, Signalling, Continuing}
 use Rattle.isl_profile.specs.declared.making.WithBody.{WithBody}

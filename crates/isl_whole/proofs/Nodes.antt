@@ -12,7 +12,7 @@ use Rattle.isl_meaning.specs.bridge.Walks.{folded}
 use Rattle.isl_profile.specs.declared.making.Found.{Found}
 use Rattle.isl_profile.specs.declared.making.Found.TheVariants.{Value, Binding, Parameter}
 use Rattle.isl_profile.specs.declared.making.One.{One}
-use Rattle.isl_profile.specs.declared.making.One.TheVariants.{SetVariable, SetGlobal, DefineGlobal, SetDynamic, DefineDynamic, ReturnTo}
+use Rattle.isl_profile.specs.declared.making.One.TheVariants.{SetVariable}
 use Rattle.isl_profile.specs.declared.making.Two.{Two}
 use Rattle.isl_profile.specs.declared.making.Two.TheVariants.{Applying, Throwing, Signalling, Continuing}
 use Rattle.isl_profile.specs.declared.making.WithBody.{WithBody}

@@ -10,10 +10,10 @@ use Rattle.isl_profile.specs.declared.tables.Tables.{Tables}
 use Rattle.isl_profile.specs.declared.making.Leaf.{Leaf}
 use Rattle.isl_profile.specs.declared.making.Found.{Found}
 use Rattle.isl_profile.specs.declared.making.One.{One}
-use Rattle.isl_profile.specs.declared.making.One.TheVariants.{SetVariable, SetGlobal, DefineGlobal, SetDynamic, DefineDynamic, ReturnTo}
+use Rattle.isl_profile.specs.declared.making.One.TheVariants.{DefineGlobal, DefineDynamic}
 use Rattle.isl_profile.specs.declared.making.Making.{Making}
-use Rattle.isl_profile.specs.declared.making.Making.TheVariants.{Ready, OfOne, OfTwo, OfBody, InSequence, CallOf, CallOfValue, CallOfLocal, CallOfPrimitive, OfClauses, OfVariables, OfDynamics, OfFunction, OfBlock, OfSegments, OfFunctionNamed, OfProcedure, OfAccessor, OfMethods, OfClass}
-use Rattle.isl_profile.specs.Nodes.{Around, Part, form, below, inner, bind, parameter, wrong, function, Node, offends, unnamed, steps, whole}
+use Rattle.isl_profile.specs.declared.making.Making.TheVariants.{Ready, OfOne, OfMethods, OfClass}
+use Rattle.isl_profile.specs.Nodes.{Around, Part, function, Node, offends, unnamed, steps, whole}
 use Rattle.isl_profile.specs.Shapes.{Pair}
 use Rattle.isl_profile.specs.RowWords.{deeper, with_site_if, within_depth, made_of, made_at_once, unsited, with_literal, literal_node, each_bound}
 use Rattle.isl_profile.specs.ValueRows.{with_set}

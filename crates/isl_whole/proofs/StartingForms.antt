@@ -5,7 +5,7 @@ use Rattle.isl_base.specs.declared.datum.Name.{Name}
 use Rattle.isl_base.specs.declared.datum.Symbol.{Symbol}
 use Rattle.isl_base.specs.declared.datum.Symbol.TheVariants.{Named, Fresh}
 use Rattle.isl_base.specs.declared.reason.Reason.{Reason}
-use Rattle.isl_base.specs.Data.{Item, item, integer, character, symbol, string, vector, nil, list, place_of}
+use Rattle.isl_base.specs.Data.{Item, item, symbol, place_of}
 use Rattle.isl_classes.specs.InheritedClasses.{class_named}
 use Rattle.isl_profile.specs.declared.bound.Bound.{Bound}
 use Rattle.isl_profile.specs.declared.bound.Bound.TheVariants.{Block, Tags}

@@ -7,9 +7,9 @@ use Rattle.isl_profile.specs.declared.tables.Tables.{Tables}
 use Rattle.isl_profile.specs.declared.making.Found.{Found}
 use Rattle.isl_profile.specs.declared.making.Made.{Made}
 use Rattle.isl_profile.specs.declared.making.One.{One}
-use Rattle.isl_profile.specs.declared.making.One.TheVariants.{SetVariable, SetGlobal, DefineGlobal, SetDynamic, DefineDynamic, ReturnTo}
+use Rattle.isl_profile.specs.declared.making.One.TheVariants.{SetVariable}
 use Rattle.isl_profile.specs.declared.making.Making.{Making}
-use Rattle.isl_profile.specs.declared.making.Making.TheVariants.{Ready, OfOne, OfTwo, OfBody, InSequence, CallOf, CallOfValue, CallOfLocal, CallOfPrimitive, OfClauses, OfVariables, OfDynamics, OfFunction, OfBlock, OfSegments, OfFunctionNamed, OfProcedure, OfAccessor, OfMethods, OfClass}
+use Rattle.isl_profile.specs.declared.making.Making.TheVariants.{OfOne, OfFunctionNamed, OfMethods, OfClass}
 use Rattle.isl_profile.specs.Nodes.{Around, Part, form, below, inner, bind, parameter, wrong, function, Written, initform, accessor, method, Node, offends, unnamed, steps, whole, Standing, Verdict, stands as comes_to, ended, behind, recorded}
 use Rattle.isl_profile.specs.RowWords.{deeper}
 use Rattle.isl_profile.specs.FunctionNodes.{variables_of, with_accessor, function_node}

@@ -5,7 +5,7 @@ use Rattle.isl_base.specs.declared.place.Place.{Place}
 use Rattle.isl_base.specs.declared.datum.Name.{Name}
 use Rattle.isl_base.specs.declared.datum.Symbol.{Symbol}
 use Rattle.isl_base.specs.declared.datum.Symbol.TheVariants.{Named, Fresh}
-use Rattle.isl_base.specs.Data.{Item, item, integer, character, symbol, string, vector, nil, list, place_of}
+use Rattle.isl_base.specs.Data.{Item, item, symbol, place_of}
 use Rattle.isl_base.specs.DataFormed.{formed_tells}
 use Rattle.isl_base.specs.DataParts.{AllOf}
 use Rattle.isl_base.specs.GoodData.{Good}

@@ -6,4 +6,4 @@ abbrev pub invariant-loop : goal.invariant-loop
 invariant-loop g l =
     HasTurned (g.S.Source.left l.initial.source) (g.S.Source.left l.source) (g.K.Sink.given l.initial.sink) (g.K.Sink.given l.sink)
     (g.S.Source.faults l.initial.source) (g.S.Source.faults l.source) (g.K.Sink.faults l.initial.sink) (g.K.Sink.faults l.sink)
-    l.initial.evaluator l.evaluator l.counter l.all
+    l.initial.evaluator l.evaluator l.counter
