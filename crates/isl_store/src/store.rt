@@ -1,6 +1,6 @@
 // The store of a run: its objects, its variables, and its charges.
 
-ghost use Rattle.std.specs.Prelude.{◌≡◌, ◌+◌, ◌<◌, ◌^◌, ℕ, List, [], ◌∷◌, length, Option, None, MatchOption, MatchResult, OnErr, OnOk, IfOk, SomeIff, ◌≤◌, ◌-◌, option_copied, slice_get, slice_set, Some};
+ghost use Rattle.std.specs.Prelude.{◌≡◌, ◌+◌, ◌<◌, ◌^◌, ℕ, List, [], ◌∷◌, length, Option, None, MatchOption, MatchResult, OnErr, OnOk, IfOk, IfErr, SomeIff, ◌≤◌, ◌-◌, option_copied, slice_get, slice_set, Some};
 ghost use Rattle.isl_meaning.specs.Values.{Value, nil, object};
 ghost use Rattle.isl_meaning.specs.State.{State};
 ghost use Rattle.isl_meaning.specs.Lookup.{value_at, set_at};
@@ -77,11 +77,12 @@ impl<'p> Store<'p> {
         self.objects.get(number)
     }
 
-    /// Units are counted.
+    /// Units are counted; `Spent`, where 64 bits do not hold as many.
     pub fn charge(&mut self, units: u64) -> Result<(), Halt>
         ensures answer { Answers result (λ names _. nil) self.old self.new (λ names b z. gives nil (charged units z)) }
         ensures err { OnErr result (Stays self.old self.new) }
         ensures spent { OnErr result ((names : List (List ℕ)) (b : Beside) → 2 ^ 64 ≤ (seen names self.old b).state.units + units) }
+        ensures why { IfErr result (λ h. h ≡ halt.Spent) }
     {
         let Some(now) = self.units.checked_add(units) else {
             return Err(Halt::Spent);
@@ -213,11 +214,12 @@ impl<'p> Store<'p> {
         Ok(number)
     }
 
-    /// The number of a new exit.
+    /// The number of a new exit; `Spent`, where 64 bits do not hold how many there are.
     pub fn make_exit(&mut self) -> Result<u64, Halt>
         ensures number { IfOk result (λ n. n ≡ self.old.exits) }
         ensures ok { OnOk result (Becomes self.old self.new (λ names b z. exit_made z)) }
         ensures err { OnErr result (Stays self.old self.new × (2 ^ 64 ≤ self.old.exits + 1)) }
+        ensures why { IfErr result (λ h. h ≡ halt.Spent) }
     {
         let number = self.exits;
         let Some(next) = number.checked_add(1) else {
