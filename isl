@@ -4,8 +4,8 @@
 # `isl --build` proves and builds; `rt ci` leaves the program built too.
 set -u
 top=$(dirname "$(readlink -f "$0")")
-crate=$top/crates/isl_cli
-program=$crate/out/isl_cli
+crate=$top/crates/isl
+program=$crate/out/isl
 
 # Whether a source is newer than the program.
 is_old() {

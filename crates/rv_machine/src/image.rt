@@ -2,7 +2,7 @@
 
 ghost use Rattle.std.specs.Prelude.{◌≡◌, ◌+◌, ◌*◌, ◌%◌, ◌<◌, ◌≤◌, length};
 
-use isl_base::WordList;
+use base::WordList;
 
 /// The words of a program, placed from address 0 on, and the address of its first instruction: 1 to
 /// 16,777,216 words, and an entry among them.

@@ -13,7 +13,7 @@ mod transfers;
 
 use crate::ending::TooBig;
 use crate::image::Image;
-use isl_base::{NoMemory, WordList};
+use base::{NoMemory, WordList};
 use std::alloc::Global;
 use std::marker::Model;
 

@@ -1,12 +1,12 @@
 // A run of the machine: steps, and the environment calls between them.
 
 ghost use Rattle.std.specs.Prelude.{◌≡◌, ◌≢◌, ℕ, ◌+◌, ◌<◌, ◌≤◌, ◌^◌, List, [], Some, IfSome};
-ghost use Rattle.isl_base.specs.Outside.{Rose};
+ghost use Rattle.base.specs.Outside.{Rose};
 ghost use Rattle.rv_machine.specs.Run.{CutOff, Feeds, IsNoFault, StandsAt, first, outside, run_from};
 
 use crate::ending::Ending;
 use crate::machine::Machine;
-use isl_base::{Sink, Source};
+use base::{Sink, Source};
 
 impl Machine {
     /// Executes at most `n` instructions. Of the environment calls, in register 17, 0 halts with

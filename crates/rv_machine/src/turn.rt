@@ -1,14 +1,14 @@
 // One instruction of a run, with its environment call.
 
 ghost use Rattle.std.specs.Prelude.{◌≡◌, ◌≢◌, ℕ, ◌+◌, ◌<◌, ◌≤◌, ◌^◌, List, [], ◌∷◌, Some, drop, IfSome, OnOk, OnErr, MatchResult};
-ghost use Rattle.isl_base.specs.Outside.{Rose};
+ghost use Rattle.base.specs.Outside.{Rose};
 ghost use Rattle.rv_machine.specs.Step.{environment_call, step_of};
 ghost use Rattle.rv_machine.specs.Run.{Gave, got, outside};
 ghost use Rattle.rv_machine.specs.Turn.{Counts, IsPlain, StandsBefore, Turned, acted};
 
 use crate::ending::{Ending, StepEnd};
 use crate::machine::Machine;
-use isl_base::{Failed, Sink, Source};
+use base::{Failed, Sink, Source};
 
 impl Machine {
     // One instruction, with its environment call: none where the run goes on. After a fault the

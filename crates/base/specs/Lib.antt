@@ -1,0 +1,17 @@
+pub mod Outside
+pub mod Reason
+pub mod Calls
+pub mod Memory
+pub mod Sure
+pub mod formers
+pub mod Data
+pub mod model
+pub mod bridge
+pub mod DataMeasures
+pub mod DataFormed
+pub mod DataParts
+pub mod DataNames
+pub mod GoodData
+pub mod Names
+pub mod NameNumbers
+pub mod Given

@@ -1,0 +1,11 @@
+-- The code of the procedure is entered.
+use Rattle.std.proofs.Common.{None, refl}
+use Rattle.eval_state.proofs.Stepping.{on_ok}
+use Rattle.eval_application.proofs.Applying.{procedure_applied}
+use Rattle.eval_application.proofs.procedures.apply_procedure.Goals as goal
+
+pub returns : goal.returns
+returns c =
+    on_ok c.apply_code.result _ _
+    (procedure_applied c.args.machine.now c.apply_code.new.machine c.procedure-code.result (record { captured = None; method = c.args.called; slots = 0 }) c.args.number c.args.operands c.args.level c.args.around (λ names. refl) c.procedure-code.ensures)
+    c.apply_code.ensures

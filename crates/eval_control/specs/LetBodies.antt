@@ -1,0 +1,12 @@
+-- Bodies with new variables, once the words of their cells are there.
+use Rattle.std.specs.Prelude.{List, ◌∷◌, length}
+use Rattle.lang_meaning.specs.Values.{Value}
+use Rattle.flat_language.specs.FlatForm.{FlatForm, FlatBindings}
+use Rattle.flat_language.specs.FlatState.{with_slots}
+use Rattle.flat_language.specs.FlatMeaning.{binding_homes}
+use Rattle.eval_machine.specs.Moment.{Situation, Step, moment, evaluate, drops_slots}
+
+-- the variables are made, and the body is evaluated
+abbrev pub let_enters : FlatBindings → FlatForm → List Value → Situation → Step
+let_enters all body vs at frames z =
+    moment (evaluate body at) (drops_slots (length z.frame) ∷ frames) (with_slots (binding_homes all) vs z)

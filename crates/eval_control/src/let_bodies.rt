@@ -1,0 +1,50 @@
+// Bodies with new variables.
+
+ghost use Rattle.std.specs.Prelude.{OnOk};
+ghost use Rattle.flat_language.specs.model.View.{bindings_of};
+ghost use Rattle.eval_machine.specs.Step.{let_step};
+ghost use Rattle.eval_state.specs.View.{Steps, at, top, frames, state};
+ghost use Rattle.eval_control.specs.LetBodies.{let_enters};
+
+use base::NoMemory;
+use eval_state::frame::Frame;
+use eval_state::machine::Machine;
+use eval_state::situation::Situation;
+use flat_language::{FlatBindingList, FlatCore};
+
+/// The values of bindings are there, which are the last operands: the variables are made, and the body is evaluated.
+pub fn let_body<'p>(
+    machine: &mut Machine<'p>,
+    list: &'p FlatBindingList,
+    count: usize,
+    body: &'p FlatCore,
+    situation: Situation,
+) -> Result<(), NoMemory>
+    ensures { OnOk result (Steps machine.old machine.new (λ names s b. let_step s (bindings_of list.now) body.now (top names machine.old count) (at names machine.old situation) (frames names machine.old count) (state names machine.old b))) }
+{
+    if machine.take_binding_cells(list)? {
+        enter_let(machine, list, count, body, situation)
+    } else {
+        machine.drop_operands(count);
+        Ok(())
+    }
+}
+
+// The words of the cells are there: the variables are made, and the body is evaluated.
+fn enter_let<'p>(
+    machine: &mut Machine<'p>,
+    list: &'p FlatBindingList,
+    count: usize,
+    body: &'p FlatCore,
+    situation: Situation,
+) -> Result<(), NoMemory>
+    ensures { OnOk result (Steps machine.old machine.new (λ names s b. let_enters (bindings_of list.now) body.now (top names machine.old count) (at names machine.old situation) (frames names machine.old count) (state names machine.old b))) }
+{
+    let before = machine.slot_count();
+    let held = machine.held_operands(count);
+    machine.push_frame(Frame::DropsSlots(before))?;
+    machine.add_bindings(list, held)?;
+    machine.drop_operands(count);
+    machine.evaluate(body, situation);
+    Ok(())
+}

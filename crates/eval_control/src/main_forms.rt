@@ -1,0 +1,93 @@
+// The main forms of a program run one after another, each in an activation of its own with words of the stack.
+
+ghost use Rattle.std.specs.Prelude.{◌≡◌, OnOk, drop};
+ghost use Rattle.eval_machine.specs.Moment.{main_form, main_forms};
+ghost use Rattle.eval_machine.specs.Step.{value_step};
+ghost use Rattle.eval_store.specs.Words.{value_of_word};
+ghost use Rattle.eval_state.specs.View.{Steps, frames, state};
+ghost use Rattle.eval_control.specs.Mains.{main_form_step};
+
+use base::{NoMemory, Place};
+use eval_state::frame::Frame;
+use eval_state::machine::Machine;
+use eval_state::places::after;
+use eval_state::situation::{Activation, Around, Situation};
+use eval_state::sizes::form_words;
+use eval_store::Word;
+use flat_language::{FlatCore, FlatCoreList};
+use std::mem;
+
+// Where main forms are evaluated, with a link to the exit of the program's end.
+fn outermost(level: u64, link: usize) -> Situation
+    ensures { result ≡ record { level = level; own = 0; around = record { exits = link; handlers = 0; bindings = 0; site = record { line = 0; column = 0 } } } }
+{
+    Situation {
+        level,
+        own: 0,
+        around: Around {
+            exits: link,
+            handlers: 0,
+            bindings: 0,
+            site: Place { line: 0, column: 0 },
+        },
+    }
+}
+
+/// Main forms from one of them on; the value is that of the last one, or the given one where none is left.
+pub fn main_forms<'p>(
+    machine: &mut Machine<'p>,
+    level: u64,
+    list: &'p FlatCoreList,
+    place: usize,
+    last: Word,
+) -> Result<(), NoMemory>
+    ensures { OnOk result (Steps machine.old machine.new (λ names s b. value_step s (main_forms level (drop place list.now)) (value_of_word names last) (frames names machine.old 0) (state names machine.old b))) }
+{
+    match list.get(place) {
+        Some(form) => {
+            let left = after(place)?;
+            main_form(machine, level, list, left, form)
+        }
+        None => {
+            machine.gives(last);
+            Ok(())
+        }
+    }
+}
+
+// A main form, and those from a place on behind it.
+fn main_form<'p>(
+    machine: &mut Machine<'p>,
+    level: u64,
+    list: &'p FlatCoreList,
+    left: usize,
+    form: &'p FlatCore,
+) -> Result<(), NoMemory>
+    ensures { OnOk result (Steps machine.old machine.new (λ names s b. main_form_step s level (drop left list.now) form.now (frames names machine.old 0) (state names machine.old b))) }
+{
+    let words = form_words(form)?;
+    let before = machine.store.stack();
+    let link = machine.next_link()?;
+    machine.push_frame(Frame::MainForms(level, list, left))?;
+    if !machine.ask(0, words)? {
+        return Ok(());
+    }
+    machine.push_frame(Frame::MainForm(before))?;
+    let activation = Activation {
+        captured: None,
+        method: None,
+        slots: 0,
+    };
+    let caller = mem::replace(&mut machine.current, activation);
+    machine.push_frame(Frame::RestoresSlots(caller))?;
+    machine.evaluate(form, outermost(level, link));
+    Ok(())
+}
+
+/// The value of a main form: the words of the stack are as many as before it.
+pub fn main_value(machine: &mut Machine<'_>, stack: u64, word: Word)
+    ensures { Steps machine.old machine.new (λ names s b. value_step s (main_form stack) (value_of_word names word) (frames names machine.old 0) (state names machine.old b)) }
+{
+    machine.store.set_stack(stack);
+    machine.gives(word);
+}

@@ -1,0 +1,12 @@
+pub mod Reach
+pub mod Applied
+pub mod Forms
+pub mod Levels
+pub mod Law
+pub mod Kept
+pub mod KeptAnswers
+pub mod KeptWords
+pub mod KeptApplied
+pub mod KeptForms
+pub mod Outcomes
+pub mod KeptLaw

@@ -1,0 +1,6 @@
+pub mod Moment
+pub mod Applications
+pub mod Step
+pub mod Run
+pub mod Law
+pub mod RunLaws

@@ -1,0 +1,13 @@
+-- It is made, where its length is one.
+use Rattle.std.proofs.Common.{◌≡◌, Some, rules, w32}
+use Rattle.std.proofs.lemmas.Int.{to_z-of_z}
+use mir.Val.{SFits}
+use Rattle.lang_meaning.specs.Primitives.{length_of}
+use Rattle.eval_primitives.proofs.Placing.{vector_done}
+use Rattle.eval_primitives.proofs.making.make_vector.Goals as goal
+
+pub returns-in-Some-natural : goal.returns-in-Some-natural
+returns-in-Some-natural c =
+    let fits : SFits w32 c.in-Some.number = search rules in
+    let e : length_of c.in-Some.number ≡ Some c.in-Some-natural.count = rw (to_z-of_z w32 c.in-Some.number fits) at c.in-Some-natural.ensures.value in
+    vector_done c.args.limit c.args.length c.args.element c.in-Some.number c.in-Some-natural.count c.args.store.now c.vector.new.store c.vector.result c.in-Some.ensures e c.vector.ensures

@@ -1,0 +1,40 @@
+-- The end that an evaluator has come to: the class of the condition, and the place.
+use Rattle.std.proofs.Common.{◌≡◌, ℕ, List, refl, ap, ◌∙◌}
+use Rattle.base.specs.declared.place.Place.{Place}
+use Rattle.lang_meaning.specs.Objects.{Object}
+use Rattle.lang_meaning.specs.State.{Outcome, exit}
+use Rattle.lang_meaning.specs.Values.{Value}
+use Rattle.lang_meaning.specs.Meaning.{class_in, ending_of, ended_unhandled}
+use Rattle.lang_meaning.specs.Meaning as meaning
+use Rattle.eval_store.specs.declared.store.Store.{Store}
+use Rattle.eval_store.specs.declared.word.Word.{Word}
+use Rattle.eval_store.specs.declared.word.Word.TheVariants.{Nil, True, Integer, Character, Symbol, Unnamed}
+use Rattle.eval_store.specs.declared.word.Word.TheVariants as word
+use Rattle.eval_store.specs.View.{Beside, state_of}
+use Rattle.eval_store.specs.Words.{value_of_word}
+use Rattle.eval_primitives.specs.Classing.{HasClassOf}
+use Rattle.eval_state.specs.declared.frame.Landing.{Landing}
+use Rattle.eval_state.specs.Frames.{landing_of}
+use Rattle.eval_run.specs.declared.end.PlainEnd.{PlainEnd}
+use Rattle.eval_run.specs.declared.end.PlainEnd.TheVariants as plain
+use Rattle.eval_run.specs.Evaluation.{end_for}
+
+pub of_object : (s : Store) (w : Word) (n c : ℕ) → w ≡ word.Object n → HasClassOf s (word.Object n) c → (names : List (List ℕ)) (b : Beside)
+    → class_in (state_of names s b).store (value_of_word names w) ≡ c
+of_object s w n c e h names b =
+    ap (λ x. class_in (state_of names s b).store (value_of_word names x)) e ∙ h.seen names b
+
+pub of_other : (s : Store) (w : Word) → ((n : ℕ) → w ≡ word.Object n → ⊥) → (names : List (List ℕ)) (b : Beside)
+    → class_in (state_of names s b).store (value_of_word names w) ≡ 0
+of_other s (word.Object n) h names b = absurd (h n refl)
+of_other s w h names b = refl
+
+-- how an outcome ends a program, with the objects that are there
+abbrev pub ends_by : List Object → Outcome → PlainEnd
+ends_by store o = end_for (ending_of (meaning.end_of o) store)
+
+pub ends_unhandled : (store : List Object) (e class : ℕ) (v : Value) (l : Landing) (site : Place)
+    → ((e : ℕ) (v : Value) → meaning.end_of (exit e v (landing_of l)) ≡ ended_unhandled v site) → class_in store v ≡ class
+    → ends_by store (exit e v (landing_of l)) ≡ plain.Unhandled class site
+ends_unhandled store e class v l site h k =
+    ap (λ x. end_for (ending_of x store)) (h e v) ∙ ap (λ c. plain.Unhandled c site) k

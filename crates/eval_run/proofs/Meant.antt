@@ -1,0 +1,156 @@
+-- What a run of the machine comes to is what the program means.
+use Rattle.std.proofs.Common.{◌≡◌, ◌≤◌, ◌<◌, ℕ, List, ◌++◌, Option, None, refl, ap, sym, ◌∙◌, subst, append_assoc, arith}
+use Rattle.lang_meaning.specs.Objects.{Object}
+use Rattle.lang_meaning.specs.Values.{Value}
+use Rattle.lang_meaning.specs.State.{Outcome, value, exit, full, more, at_segment, at_site, words}
+use Rattle.lang_meaning.specs.Laws.{IsPrefix}
+use Rattle.lang_meaning.specs.Meaning.{Meant, End, ended_value, ended_unhandled, ended_full, ended_more, by_class, class_in, ending_of}
+use Rattle.lang_meaning.specs.Meaning as meaning
+use Rattle.flat_language.specs.FlatState.{FlatState}
+use Rattle.flat_language.specs.FlatMeaning.{flat_meaning}
+use Rattle.flat_language.specs.Flatten.{flat_program}
+use Rattle.flat_language.specs.Law.{SameRun}
+use Rattle.base.specs.Given.{WasGiven}
+use Rattle.eval_machine.specs.Moment.{Setting, Control, evaluate, signals, come_to, Frame, Moment}
+use Rattle.eval_machine.specs.Step.{control_step}
+use Rattle.eval_machine.specs.Run.{IsEnd, outcome_of, done}
+use Rattle.eval_machine.specs.Law.{LawOfMachine, Ends}
+use Rattle.eval_machine.specs.RunLaws.{printed_at, LawOfPrinting, LawOfWords}
+use Rattle.eval_run.specs.declared.end.PlainEnd.{PlainEnd}
+use Rattle.eval_run.specs.declared.end.PlainEnd.TheVariants as plain
+use Rattle.eval_run.specs.Evaluation.{Evaluation, meaning_with, end_for, end_of, setting_of, moment_after, forms_after, most_forms}
+use Rattle.eval_run.specs.Taken.{Taken, Begins}
+use Rattle.eval_run.specs.Evaluates.{HasEnded, IsCutOff, EndsSo, Evaluates, BreaksOff}
+use Rattle.eval_run.specs.UnderWay.{StopsAt, CutOffAt, ComesTo, HasRun, HasBroken}
+use Rattle.eval_run.proofs.Counting.{forms_up_to_end, printed_up_to_end}
+
+-- what the flat program means
+abbrev flat_with : Evaluation → List ℕ → Meant
+flat_with e input = flat_meaning e.names (flat_program e.program) input e.levels (words e.words)
+
+-- the laws of runs, and that the flat program means the same
+pub record Known (e : Evaluation) : Type 0 where
+  pub machine : LawOfMachine
+  pub printing : LawOfPrinting
+  pub full : LawOfWords
+  pub same : (input : List ℕ) → SameRun (meaning_with e input) (flat_meaning e.names (flat_program e.program) input e.levels (words e.words))
+
+-- a machine that has ended has done what the program means
+done_so : (e : Evaluation) → Known e → (input : List ℕ) (n : ℕ) → IsEnd (setting_of e) (moment_after e input n)
+    → done (moment_after e input n) ≡ flat_with e input
+done_so e known input n h = (known.machine e.names (flat_program e.program) input e.levels (words e.words)).leads n h
+
+printed_so : (e : Evaluation) → Known e → (input : List ℕ) (n : ℕ) → IsEnd (setting_of e) (moment_after e input n)
+    → printed_at (moment_after e input n) ≡ (meaning_with e input).printed
+printed_so e known input n h = ap (λ (m : Meant). m.printed) (done_so e known input n h) ∙ (known.same input).printed
+
+-- the end is told alike in stores where each value is of the same class
+ending_alike : (end : End) (one other : List Object) → ((v : Value) → class_in other v ≡ class_in one v) → ending_of end other ≡ ending_of end one
+ending_alike (ended_value v) one other h = refl
+ending_alike (ended_unhandled c place) one other h = ap (λ class. by_class class place) (h c)
+ending_alike (ended_full asked left) one other h = refl
+ending_alike ended_more one other h = refl
+
+ends_alike : (one other : Meant) → SameRun one other → end_of other ≡ end_of one
+ends_alike one other h =
+    ap (λ x. end_for (ending_of x other.store)) h.end ∙ ap end_for (ending_alike one.end one.store other.store h.class)
+
+ends_so : (e : Evaluation) → Known e → (input : List ℕ) (n : ℕ) (end : PlainEnd) → IsEnd (setting_of e) (moment_after e input n)
+    → end_of (done (moment_after e input n)) ≡ end → end_of (meaning_with e input) ≡ end
+ends_so e known input n end h q =
+    sym (ends_alike (meaning_with e input) (flat_with e input) (known.same input)) ∙ sym (ap end_of (done_so e known input n h)) ∙ q
+
+-- what was printed up to any moment is a beginning of what the program prints
+prefix_so : (e : Evaluation) → Known e → (input : List ℕ) (n : ℕ) → IsPrefix (printed_at (moment_after e input n)) (meaning_with e input).printed
+prefix_so e known input n =
+    let ends : Ends (setting_of e) (moment_after e input 0) = (known.machine e.names (flat_program e.program) input e.levels (words e.words)).ends in
+    subst (IsPrefix (printed_at (moment_after e input n))) (printed_so e known input ends.count ends.is_end)
+    (printed_up_to_end known.printing (setting_of e) (moment_after e input 0) n ends.count ends.is_end)
+
+prefix_then : (a b c : List ℕ) → IsPrefix a b → IsPrefix b c → IsPrefix a c
+prefix_then a b c h q = record {
+  rest = h.rest ++ q.rest;
+  is = sym (append_assoc a h.rest q.rest) ∙ ap (λ x. x ++ q.rest) h.is ∙ q.is;
+}
+
+-- the words are full only where more of them were asked for than were left
+full_outcome : (o : Outcome) (store : List Object) (asked left : ℕ) → end_for (ending_of (meaning.end_of o) store) ≡ plain.Full asked left → o ≡ full asked left
+full_outcome (value v) store asked left h = absurd (cc h)
+full_outcome (exit n v (at_site place)) store asked left h = absurd (cc h)
+full_outcome (exit n v (at_segment segment)) store asked left h = absurd (cc h)
+full_outcome (full a l) store asked left h = cc h
+full_outcome more store asked left h = absurd (cc h)
+
+full_control : (s : Setting) (c : Control) (frames : List Frame) (z : FlatState) (store : List Object) (asked left : ℕ) → control_step s c frames z ≡ None
+    → end_for (ending_of (meaning.end_of (outcome_of c)) store) ≡ plain.Full asked left → c ≡ come_to (full asked left)
+full_control s (evaluate f at) frames z store asked left h q = absurd (cc h)
+full_control s (signals c mark level around) frames z store asked left h q = absurd (cc q)
+full_control s (come_to o) frames z store asked left h q = ap come_to (full_outcome o store asked left q)
+
+full_so : (e : Evaluation) → Known e → (input : List ℕ) (n asked left : ℕ) → IsEnd (setting_of e) (moment_after e input n)
+    → end_of (done (moment_after e input n)) ≡ plain.Full asked left → left < asked
+full_so e known input n asked left h q =
+    let m : Moment = moment_after e input n in
+    known.full (setting_of e) input e.levels n asked left
+    (full_control (setting_of e) m.control m.frames m.state m.state.state.store asked left h q)
+
+-- the ends
+within : (a b c : ℕ) → a ≤ b → b ≤ c → a ≤ c
+within a b c h q = omega arith
+
+ended : (e : Evaluation) → Known e → (input : List ℕ) (given given' : Option (List ℕ)) (end : PlainEnd) → StopsAt e input given given' end
+    → HasEnded e input given given' end
+ended e known input given given' end h = record {
+  ends = ends_so e known input h.count end h.stops h.ends;
+  printed = subst (λ bytes. WasGiven given bytes given') (printed_so e known input h.count h.stops) h.printed;
+  few = λ n.
+      let less : forms_after e input n ≤ forms_after e input h.count = forms_up_to_end (setting_of e) (moment_after e input 0) n h.count h.stops in
+      within (forms_after e input n) (forms_after e input h.count) most_forms less h.few;
+}
+
+cut_off : (e : Evaluation) → Known e → (input : List ℕ) (given given' : Option (List ℕ)) → CutOffAt e input given given' → IsCutOff e input given given'
+cut_off e known input given given' h = record {
+  front = h.front;
+  prefix = prefix_then h.front (printed_at (moment_after e input h.count)) (meaning_with e input).printed h.prefix (prefix_so e known input h.count);
+  printed = h.printed;
+}
+
+ends_there : (e : Evaluation) → Known e → (end : PlainEnd) (t : Taken) (input : List ℕ) (b : Begins t input) (given given' : Option (List ℕ))
+    → ComesTo end e t input b given given' → EndsSo end e t input b given given'
+ends_there e known plain.Value t input b given given' h = ended e known input given given' plain.Value h
+ends_there e known (plain.Unhandled class site) t input b given given' h = ended e known input given given' (plain.Unhandled class site) h
+ends_there e known (plain.Full asked left) t input b given given' h =
+    (full_so e known input h.count asked left h.stops h.ends, ended e known input given given' (plain.Full asked left) h)
+ends_there e known plain.More t input b given given' h = ended e known input given given' plain.More h
+ends_there e known plain.Spent t input b given given' h = record {
+  count = h.count;
+  forms = h.forms;
+  goes_on = h.goes_on;
+  printed = h.printed;
+  prefix = prefix_so e known input h.count;
+}
+ends_there e known plain.ReadFault t input b given given' h = record {
+  count = h.count;
+  wants = h.wants;
+  left = h.left;
+  printed = h.printed;
+  prefix = prefix_so e known input h.count;
+}
+ends_there e known plain.WriteFault t input b given given' h = cut_off e known input given given' h
+
+-- a run that has ended, and one that broke off
+pub evaluated : (e : Evaluation) → Known e → (left left' given given' : Option (List ℕ)) (end : PlainEnd) → HasRun e left left' given given' end
+    → Evaluates e left left' given given' end
+evaluated e known left left' given given' end h = record {
+  taken = h.taken;
+  was_taken = h.was_taken;
+  ends = λ input b. ends_there e known end h.taken input b given given' (h.comes input b);
+}
+
+pub broken : (e : Evaluation) → Known e → (left left' given given' : Option (List ℕ)) → HasBroken e left left' given given'
+    → BreaksOff e left left' given given'
+broken e known left left' given given' h = record {
+  taken = h.taken;
+  was_taken = h.was_taken;
+  cut_off = λ input b. cut_off e known input given given' (h.cut_off input b);
+}

@@ -1,0 +1,68 @@
+// How the evaluation of a program ends.
+
+ghost use Rattle.std.specs.Prelude.{◌≡◌, List, ℕ};
+ghost use Rattle.lang_meaning.specs.State.{exit};
+ghost use Rattle.lang_meaning.specs.Meaning.{class_in, end_of as end_of_outcome, ended_unhandled};
+ghost use Rattle.lang_meaning.specs.Values.{Value};
+ghost use Rattle.eval_machine.specs.Run.{done};
+ghost use Rattle.eval_store.specs.View.{Beside, state_of};
+ghost use Rattle.eval_store.specs.Words.{value_of_word};
+ghost use Rattle.eval_state.specs.Frames.{landing_of};
+ghost use Rattle.eval_state.specs.View.{moment_of};
+ghost use Rattle.eval_run.specs.Evaluation.{end_of};
+
+use base::Place;
+use eval_primitives::class_of;
+use eval_state::frame::{Landing, Outcome};
+use eval_step::evaluator::Evaluator;
+use eval_store::{Store, Word};
+use lang_meaning::ClassId;
+
+/// How the evaluation of a program ended: with a value; with a condition of a class that no handler took, at the place of the form
+/// that signalled it, or 0:0; for want of words, where more were asked for than were left; for want of levels; after 2^63 forms; or
+/// because the source failed, or the sink.
+#[derive(Clone, Copy)]
+pub enum PlainEnd {
+    Value,
+    Unhandled { class: ClassId, site: Place },
+    Full { asked: u64, left: u64 },
+    More,
+    Spent,
+    ReadFault,
+    WriteFault,
+}
+
+/// The end that an evaluator has come to.
+pub(crate) fn end_at(evaluator: &Evaluator<'_>) -> PlainEnd
+    ensures { (names : List (List ℕ)) (b : Beside) → end_of (done (moment_of names evaluator.now.machine b)) ≡ result }
+{
+    match evaluator.outcome() {
+        Outcome::Value(_word) => PlainEnd::Value,
+        Outcome::Exit(_number, word, landing) => PlainEnd::Unhandled {
+            class: class_in(&evaluator.machine.store, word),
+            site: site_of(landing),
+        },
+        Outcome::Full { asked, left } => PlainEnd::Full { asked, left },
+        Outcome::More => PlainEnd::More,
+    }
+}
+
+// The place at which a transfer to the program's end arrives.
+fn site_of(landing: Landing) -> Place
+    ensures { (e : ℕ) (v : Value) → end_of_outcome (exit e v (landing_of landing)) ≡ ended_unhandled v result }
+{
+    match landing {
+        Landing::Site(place) => place,
+        Landing::Segment(_segment) => Place { line: 0, column: 0 },
+    }
+}
+
+// The class of an object; 0 of any other value.
+fn class_in(store: &Store<'_>, word: Word) -> ClassId
+    ensures { (names : List (List ℕ)) (b : Beside) → class_in (state_of names store.now b).store (value_of_word names word) ≡ result }
+{
+    match word {
+        Word::Object(_number) => class_of(store, word),
+        _ => 0,
+    }
+}

@@ -1,0 +1,58 @@
+// A program is evaluated by its meaning.
+
+ghost use Rattle.std.specs.Prelude.{◌≡◌, Some, None, IfOk, OnErr, MatchResult};
+ghost use Rattle.base.specs.Outside.{Rose};
+ghost use Rattle.eval_run.specs.Evaluates.{Evaluates, BreaksOff, Tells};
+ghost use Rattle.eval_run.specs.UnderWay.{end_told};
+
+use crate::end::PlainEnd;
+use crate::setting_up::run_flat;
+use crate::stop::Stop;
+use base::{Names, NoMemory, Sink, Source};
+use eval_machine::laws::law_machine;
+use eval_machine::run_laws::{law_printing, law_words};
+use flat_conversion::flatten;
+use lang_meaning::Program;
+use std::alloc::Global;
+
+/// Evaluates a program with these names by its meaning (ISO/IEC 13816:2007, 12 to 29), within so many levels and words: reads of
+/// the source what the program reads, in pieces of at most 4,096 bytes, and gives the sink what it prints, before each read
+/// and at the end. The end and the bytes are those of the meaning. After 2^63 forms, when another one is to begin, it is `Spent`. A fault
+/// comes only where the count of the source's faults, or of the sink's, rose. After a fault, `Spent` or `NoMemory` the sink was given a
+/// beginning of what the program prints.
+pub fn evaluate<S: Source, K: Sink>(
+    alloc: Global,
+    program: &Program,
+    names: &Names,
+    levels: u64,
+    words: u64,
+    source: &mut S,
+    sink: &mut K,
+) -> Result<PlainEnd, NoMemory>
+    ensures ends { IfOk result (Evaluates (record { names = names.now; program = program.now; levels = levels; words = words })
+        (S.left source.old) (S.left source.new) (K.given sink.old) (K.given sink.new)) }
+    ensures fault { IfOk result (λ end. Tells end (Rose (S.faults source.old) (S.faults source.new)) (Rose (K.faults sink.old) (K.faults sink.new))) }
+    ensures breaks_off { OnErr result (BreaksOff (record { names = names.now; program = program.now; levels = levels; words = words })
+        (S.left source.old) (S.left source.new) (K.given sink.old) (K.given sink.new)) }
+{
+    law_machine();
+    law_printing();
+    law_words();
+    let _rows = program.rows();
+    let flat = flatten(alloc, program)?;
+    let ended = run_flat(alloc, &flat, names, levels, words, source, sink);
+    drop(flat);
+    end_of(ended)
+}
+
+// A stop by a fault is an end.
+fn end_of(ended: Result<PlainEnd, Stop>) -> Result<PlainEnd, NoMemory>
+    ensures { MatchResult result (λ end. end_told ended ≡ Some end) (λ _. end_told ended ≡ None) }
+{
+    match ended {
+        Ok(end) => Ok(end),
+        Err(Stop::ReadFault) => Ok(PlainEnd::ReadFault),
+        Err(Stop::WriteFault) => Ok(PlainEnd::WriteFault),
+        Err(Stop::NoMemory) => Err(NoMemory),
+    }
+}

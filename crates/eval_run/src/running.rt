@@ -1,0 +1,103 @@
+// The run of a program, form by form.
+
+ghost use Rattle.std.specs.Prelude.{◌≡◌, ◌≤◌, ◌+◌, true, false, List, ℕ, Option, Bool, OnOk, IfOk, IfErr};
+ghost use Rattle.base.specs.Outside.{Rose};
+ghost use Rattle.eval_machine.specs.Run.{begins};
+ghost use Rattle.eval_store.specs.View.{Beside};
+ghost use Rattle.eval_state.specs.View.{moment_of};
+ghost use Rattle.eval_step.specs.Advanced.{IsStopped};
+ghost use Rattle.eval_step.specs.Streams.{control_reads, is_fed};
+ghost use Rattle.eval_run.specs.Evaluation.{Evaluation, most_forms};
+ghost use Rattle.eval_run.specs.UnderWay.{UnderWay, HasRun, IsOwnEnd, StopsSo, StopTells};
+
+use crate::end::{PlainEnd, end_at};
+use crate::feeding::feed;
+use crate::stop::Stop;
+use crate::writing::{write_much, write_printed};
+use base::{Sink, Source};
+use eval_step::evaluator::Evaluator;
+
+// So many forms may begin.
+const MOST_FORMS: u64 = 9_223_372_036_854_775_808;
+
+/// Runs an evaluation from its start to its end, or until 2^63 forms have begun and another one is to begin.
+pub(crate) fn run<S: Source, K: Sink>(
+    evaluator: &mut Evaluator<'_>,
+    source: &mut S,
+    sink: &mut K,
+) -> Result<PlainEnd, Stop>
+    ensures ends { IfOk result (λ end. (e : Evaluation)
+        → UnderWay e (S.left source.old) (S.left source.old) (K.given sink.old) (K.given sink.old) 0 evaluator.old
+        → HasRun e (S.left source.old) (S.left source.new) (K.given sink.old) (K.given sink.new) end) }
+    ensures own { IfOk result IsOwnEnd }
+    ensures stops { IfErr result (λ stop. (e : Evaluation)
+        → UnderWay e (S.left source.old) (S.left source.old) (K.given sink.old) (K.given sink.old) 0 evaluator.old
+        → StopsSo stop e (S.left source.old) (S.left source.new) (K.given sink.old) (K.given sink.new)) }
+    ensures fault { IfErr result (λ stop. StopTells stop (Rose (S.faults source.old) (S.faults source.new)) (Rose (K.faults sink.old) (K.faults sink.new))) }
+    ensures count { S.faults source.old ≤ S.faults source.new }
+    ensures sink_count { K.faults sink.old ≤ K.faults sink.new }
+{
+    for _ in 0..MOST_FORMS {
+        let more = to_form(evaluator)?;
+        if !more {
+            return finish(evaluator, sink);
+        }
+        feed(evaluator, source, sink)?;
+        begin(evaluator)?;
+        write_much(evaluator, sink)?;
+    }
+    let more = to_form(evaluator)?;
+    if !more {
+        return finish(evaluator, sink);
+    }
+    write_printed(evaluator, sink)?;
+    Ok(PlainEnd::Spent)
+}
+
+// Steps up to the next form, or to the end; whether there is a form.
+fn to_form(evaluator: &mut Evaluator<'_>) -> Result<bool, Stop>
+    ensures under_way { IfOk result (λ more. (e : Evaluation) (left left' given given' : Option (List ℕ)) (forms : ℕ)
+        → UnderWay e left left' given given' forms evaluator.old
+        → UnderWay e left left' given given' forms evaluator.new) }
+    ensures stopped { IfOk result (IsStopped evaluator.new) }
+    ensures stops { IfErr result (λ stop. (e : Evaluation) (left left' given given' : Option (List ℕ)) (forms : ℕ)
+        → UnderWay e left left' given given' forms evaluator.old
+        → StopsSo stop e left left' given given') }
+    ensures fault { IfErr result (λ stop. StopTells stop ⊥ ⊥) }
+{
+    let more = evaluator.to_form()?;
+    Ok(more)
+}
+
+// A form begins.
+fn begin(evaluator: &mut Evaluator<'_>) -> Result<(), Stop>
+    requires begins { (names : List (List ℕ)) (b : Beside) → begins (moment_of names evaluator.old.machine b).control ≡ true }
+    requires there { control_reads evaluator.old.machine.control ≡ true → is_fed evaluator.old ≡ true }
+    ensures under_way { OnOk result ((e : Evaluation) (left left' given given' : Option (List ℕ)) (forms : ℕ)
+        → UnderWay e left left' given given' forms evaluator.old
+        → UnderWay e left left' given given' (forms + 1) evaluator.new) }
+    ensures stops { IfErr result (λ stop. (e : Evaluation) (left left' given given' : Option (List ℕ)) (forms : ℕ)
+        → UnderWay e left left' given given' forms evaluator.old
+        → StopsSo stop e left left' given given') }
+    ensures fault { IfErr result (λ stop. StopTells stop ⊥ ⊥) }
+{
+    let _ = evaluator.step()?;
+    Ok(())
+}
+
+// All that was printed is written at the end; the end.
+fn finish<K: Sink>(evaluator: &mut Evaluator<'_>, sink: &mut K) -> Result<PlainEnd, Stop>
+    requires ended { IsStopped evaluator.old false }
+    ensures ends { IfOk result (λ end. (e : Evaluation) (left left' given : Option (List ℕ)) (forms : ℕ) → forms ≤ most_forms
+        → UnderWay e left left' given (K.given sink.old) forms evaluator.old
+        → HasRun e left left' given (K.given sink.new) end) }
+    ensures own { IfOk result IsOwnEnd }
+    ensures stops { IfErr result (λ stop. (e : Evaluation) (left left' given : Option (List ℕ)) (forms : ℕ)
+        → UnderWay e left left' given (K.given sink.old) forms evaluator.old
+        → StopsSo stop e left left' given (K.given sink.new)) }
+    ensures fault { IfErr result (λ stop. StopTells stop ⊥ (Rose (K.faults sink.old) (K.faults sink.new))) }
+    ensures count { K.faults sink.old ≤ K.faults sink.new }
+{
+    write_printed(evaluator, sink)?;
+    Ok(end_at(evaluator))
+}

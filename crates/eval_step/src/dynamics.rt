@@ -1,0 +1,96 @@
+// Dynamic variables: the innermost binding counts, else the outermost value.
+
+ghost use Rattle.std.specs.Prelude.{OnOk};
+ghost use Rattle.lang_meaning.specs.Lookup.{text};
+ghost use Rattle.eval_machine.specs.Moment.{def_dynamic_value};
+ghost use Rattle.eval_machine.specs.Step.{dynamic_step, set_dynamic_step, value_step};
+ghost use Rattle.eval_store.specs.Words.{value_of_word};
+ghost use Rattle.eval_state.specs.View.{at, frames, state};
+ghost use Rattle.eval_step.specs.Outermost.{outermost_step, set_outermost_step};
+ghost use Rattle.eval_step.specs.Runs.{Runs};
+
+use crate::evaluator::Evaluator;
+use base::{Name, NoMemory};
+use eval_control::bound::find_binding;
+use eval_state::situation::Situation;
+use eval_store::Word;
+
+impl<'p> Evaluator<'p> {
+    /// The value of a dynamic variable: of its innermost binding, or its outermost value.
+    pub fn dynamic(&mut self, name: Name, situation: Situation) -> Result<(), NoMemory>
+        ensures { OnOk result (Runs self.old self.new (λ names s b. dynamic_step s (text s.names name.0) (at names self.old.machine situation) (frames names self.old.machine 0) (state names self.old.machine b))) }
+    {
+        match find_binding(&mut self.machine, name, situation.around.bindings)? {
+            Some(number) => {
+                let word = self.machine.store.variable(Some(number));
+                self.machine.gives(word);
+                Ok(())
+            }
+            None => self.outermost(name, situation),
+        }
+    }
+
+    // The outermost value.
+    fn outermost(&mut self, name: Name, situation: Situation) -> Result<(), NoMemory>
+        ensures { OnOk result (Runs self.old self.new (λ names s b. outermost_step s (text s.names name.0) (at names self.old.machine situation) (frames names self.old.machine 0) (state names self.old.machine b))) }
+    {
+        match self.dynamics.get(name) {
+            Some(word) => {
+                self.machine.gives(word);
+                Ok(())
+            }
+            None => self
+                .machine
+                .signal_unbound(name, situation.level, situation.around),
+        }
+    }
+
+    /// A dynamic variable is set: that of its innermost binding, or its outermost value.
+    pub fn set_dynamic(
+        &mut self,
+        name: Name,
+        word: Word,
+        situation: Situation,
+    ) -> Result<(), NoMemory>
+        ensures { OnOk result (Runs self.old self.new (λ names s b. set_dynamic_step s (text s.names name.0) (value_of_word names word) (at names self.old.machine situation) (frames names self.old.machine 0) (state names self.old.machine b))) }
+    {
+        match find_binding(&mut self.machine, name, situation.around.bindings)? {
+            Some(number) => {
+                self.machine.store.set_variable(Some(number), word);
+                self.machine.gives(word);
+                Ok(())
+            }
+            None => self.set_outermost(name, word, situation),
+        }
+    }
+
+    // The outermost value is set.
+    fn set_outermost(
+        &mut self,
+        name: Name,
+        word: Word,
+        situation: Situation,
+    ) -> Result<(), NoMemory>
+        ensures { OnOk result (Runs self.old self.new (λ names s b. set_outermost_step s (text s.names name.0) (value_of_word names word) (at names self.old.machine situation) (frames names self.old.machine 0) (state names self.old.machine b))) }
+    {
+        match self.dynamics.get(name) {
+            Some(_) => {
+                self.dynamics.set(name, word)?;
+                self.machine.gives(word);
+                Ok(())
+            }
+            None => self
+                .machine
+                .signal_unbound(name, situation.level, situation.around),
+        }
+    }
+
+    /// A dynamic variable gets an outermost value.
+    pub fn define_dynamic(&mut self, name: Name, word: Word) -> Result<(), NoMemory>
+        ensures { OnOk result (Runs self.old self.new (λ names s b. value_step s (def_dynamic_value name.0) (value_of_word names word) (frames names self.old.machine 0) (state names self.old.machine b))) }
+    {
+        self.dynamics.set(name, word)?;
+        self.machine.gives(Word::Symbol(name));
+        Ok(())
+    }
+}

@@ -1,0 +1,97 @@
+// A form begins.
+
+ghost use Rattle.std.specs.Prelude.{◌≡◌, true, OnOk};
+ghost use Rattle.flat_language.specs.FlatForm.{while_form};
+ghost use Rattle.flat_language.specs.model.View.{view_form};
+ghost use Rattle.eval_machine.specs.Step.{form_step, arguments_step};
+ghost use Rattle.eval_state.specs.Frames.{forms_from, last_of, operation_of};
+ghost use Rattle.eval_state.specs.View.{at, top, frames, state};
+ghost use Rattle.eval_control.specs.Begins.{begins};
+ghost use Rattle.eval_step.specs.Runs.{Runs};
+ghost use Rattle.eval_step.specs.Streams.{operation_reads, form_reads, is_fed};
+
+use crate::evaluator::Evaluator;
+use base::NoMemory;
+use eval_application::calls::next_method_at;
+use eval_control::forms::{begin_kind, turn};
+use eval_state::frame::{Frame, Operation};
+use eval_state::nodes::own_nodes;
+use eval_state::situation::Situation;
+use flat_language::{FlatCore, FlatCoreForm, FlatCoreList};
+
+impl<'p> Evaluator<'p> {
+    /// A form begins: it is charged, and then it does its first part. What it reads is there.
+    pub fn begin(&mut self, form: &'p FlatCore, situation: Situation) -> Result<(), NoMemory>
+        requires { form_reads form.now ≡ true → is_fed self.old ≡ true }
+        ensures { OnOk result (Runs self.old self.new (λ names s b. form_step s form.now (at names self.old.machine situation) (frames names self.old.machine 0) (state names self.old.machine b))) }
+    {
+        let units = own_nodes(&form.form)?;
+        self.machine.charge(units)?;
+        self.begin_kind(&form.form, situation)
+    }
+
+    /// A loop goes on, as it began.
+    pub fn again(
+        &mut self,
+        test: &'p FlatCore,
+        body: &'p FlatCore,
+        situation: Situation,
+    ) -> Result<(), NoMemory>
+        ensures { OnOk result (Runs self.old self.new (λ names s b. form_step s (while_form test.now body.now) (at names self.old.machine situation) (frames names self.old.machine 0) (state names self.old.machine b))) }
+    {
+        self.machine.charge(1)?;
+        turn(&mut self.machine, test, body, situation)
+    }
+
+    // What a form does, once it is charged.
+    fn begin_kind(&mut self, form: &'p FlatCoreForm, situation: Situation) -> Result<(), NoMemory>
+        requires { form_reads (view_form form.now) ≡ true → is_fed self.old ≡ true }
+        ensures { OnOk result (Runs self.old self.new (λ names s b. begins s (view_form form.now) (at names self.old.machine situation) (frames names self.old.machine 0) (state names self.old.machine b))) }
+    {
+        match form {
+            FlatCoreForm::Global(name) => self.global(*name, situation),
+            FlatCoreForm::Dynamic(name) => self.dynamic(*name, situation),
+            FlatCoreForm::Call(name, list) => self.arguments(
+                Operation::CallName(*name),
+                list,
+                0,
+                situation,
+            ),
+            FlatCoreForm::CallValue(list) => self.arguments(
+                Operation::CallFirst,
+                list,
+                0,
+                situation,
+            ),
+            FlatCoreForm::Prim(which, list) => self.arguments(
+                Operation::Compute(*which),
+                list,
+                0,
+                situation,
+            ),
+            FlatCoreForm::NextMethod(place) => next_method_at(&mut self.machine, *place, situation),
+            _ => begin_kind(&mut self.machine, form, situation),
+        }
+    }
+
+    /// Arguments from one of them on, of which those in front are operands.
+    pub fn arguments(
+        &mut self,
+        operation: Operation,
+        list: &'p FlatCoreList,
+        count: usize,
+        situation: Situation,
+    ) -> Result<(), NoMemory>
+        requires { operation_reads operation (last_of count self.old.machine.operands.items) ≡ true → is_fed self.old ≡ true }
+        ensures { OnOk result (Runs self.old self.new (λ names s b. arguments_step s (operation_of operation) (forms_from list.now count) (top names self.old.machine count) (at names self.old.machine situation) (frames names self.old.machine count) (state names self.old.machine b))) }
+    {
+        match list.get(count) {
+            Some(form) => self.machine.hold(
+                Frame::Argument(operation, list, count, situation),
+                form,
+                situation,
+            ),
+            None => self.operate(operation, count, situation),
+        }
+    }
+}

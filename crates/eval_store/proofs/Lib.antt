@@ -1,0 +1,15 @@
+pub mod Capturing
+pub mod Making
+pub mod Setting
+pub mod Parts
+pub mod Spelt
+pub mod Holding
+pub mod Turns
+pub mod Made
+pub mod Data
+pub mod Named
+pub mod SlotParts
+pub mod ClassRange
+pub mod Found
+pub mod SlotPlaces
+pub mod Standing

@@ -1,0 +1,13 @@
+-- A function more.
+use Rattle.std.proofs.Common.{◌≤◌, length, arith}
+use Rattle.eval_store.proofs.Turns.{one_made_at, all_made_at}
+use Rattle.eval_store.proofs.Named.{function_added}
+use Rattle.eval_store.proofs.functions.add_functions.Goals as goal
+
+pub loop-at-preserved : goal.loop-at-preserved
+loop-at-preserved c = one_made_at c.loop-at.at c.in-Some.ensures c.in_ok-push.ensures.ok c.loop-at.invariant (function_added c.in-Some.row.now c.function_object.result c.in_ok-word.word c.function_object.ensures c.in_ok-word.ensures)
+
+pub returns : goal.returns
+returns c =
+    let past : length c.args.rows.now ≤ c.loop-at.at = omega (arith, c.len-at-end.ensures) in
+    all_made_at c.loop-at.at past c.loop-at.invariant

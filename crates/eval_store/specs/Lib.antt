@@ -1,0 +1,10 @@
+pub mod Words
+pub mod Spelling
+pub mod View
+pub mod Requests
+pub mod NamedValues
+pub mod bridge
+pub mod Recipes
+pub mod Parts
+pub mod Tables
+pub mod Layout

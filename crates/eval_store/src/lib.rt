@@ -1,0 +1,24 @@
+// The words and objects of a run, the store that has them, and the objects that are there before the first form of a program.
+#![tactic(auto)]
+
+pub mod called;
+mod classes;
+mod datum;
+pub mod functions;
+pub mod layout;
+mod literals;
+mod making;
+pub mod named_values;
+pub mod object;
+pub mod slots;
+pub mod spellings;
+pub mod store;
+pub mod word;
+
+pub use called::{Arguments, Called, Rest};
+pub use layout::{Layout, lay_out};
+pub use named_values::NamedValues;
+pub use object::{Captured, CapturedList, Elements, Instance, Object, Slots};
+pub use spellings::Spellings;
+pub use store::{Halt, Store};
+pub use word::Word;

@@ -1,0 +1,53 @@
+// The objects of a run.
+
+use crate::called::Called;
+use crate::word::Word;
+use base::{Bytes, ItemList};
+use lang_meaning::{ClassId, GenericId, ProcedureId};
+use std::rc::Rc;
+
+/// The elements of a vector.
+pub type Elements = ItemList<Word>;
+
+/// The slots of an instance, each with its value if it has one.
+pub type Slots = ItemList<Option<Word>>;
+
+/// What a function captured, in the order of its procedure.
+pub type CapturedList<'p> = ItemList<Captured<'p>>;
+
+/// What a function captured: a value; a cell, by its number among the variables; an exit, by its number; or the arguments
+/// and the other methods of a method.
+#[derive(Drop)]
+pub enum Captured<'p> {
+    Value(Word),
+    Cell(Option<usize>),
+    Exit(Option<u64>),
+    Method(Option<Called<'p>>),
+}
+
+/// An instance: its class, its slots, and a condition's mark.
+#[derive(Drop)]
+pub struct Instance {
+    pub class: ClassId,
+    pub slots: Slots,
+    pub mark: Word,
+}
+
+/// An object.
+#[derive(Drop)]
+pub enum Object<'p> {
+    Cons(Word, Word),
+    Text(Bytes),
+    Vector(Elements),
+    Instance(Instance),
+    /// The function of a procedure.
+    Function(ProcedureId),
+    /// The function of a procedure that a form made, with what it captured, which its activations share.
+    Closure(ProcedureId, Rc<CapturedList<'p>>),
+    Generic(GenericId),
+    Class(ClassId),
+    InputStream,
+    OutputStream,
+    /// A symbol that the program made, by its serial.
+    FreshSymbol(u64),
+}

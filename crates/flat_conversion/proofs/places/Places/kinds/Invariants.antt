@@ -1,0 +1,8 @@
+-- What is passed is made.
+use Rattle.std.proofs.Common.{◌≡◌, take}
+use Rattle.flat_language.specs.Scope.{kinds_of}
+use Rattle.flat_conversion.specs.Places.{scope_of}
+use Rattle.flat_conversion.proofs.places.Places.kinds.Given as goal
+
+abbrev pub invariant-loop-at : goal.invariant-loop-at
+invariant-loop-at l = l.kinds ≡ kinds_of (scope_of l.self) (take l.at l.parts)

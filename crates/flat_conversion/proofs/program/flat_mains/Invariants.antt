@@ -1,0 +1,14 @@
+-- With what is made of the rest all is made.
+use Rattle.std.proofs.Common.{◌≡◌}
+use Rattle.flat_language.specs.Scope.{no_scope}
+use Rattle.flat_language.specs.Flatten.{flat, functions, inner_procedures}
+use Rattle.flat_conversion.specs.Binders.{binders}
+use Rattle.flat_conversion.specs.Places.{scope_of}
+use Rattle.flat_conversion.proofs.Going.{Going}
+use Rattle.flat_conversion.proofs.program.flat_mains.Given as goal
+
+abbrev pub invariant-loop-at : goal.invariant-loop-at
+invariant-loop-at l = record {
+  alone : scope_of l.places ≡ no_scope;
+  going : Going (flat no_scope) (inner_procedures no_scope) functions binders l.binders l.list l.initial.progress l.at l.made l.progress;
+}

@@ -1,0 +1,8 @@
+-- It is left to see what the rest says.
+use Rattle.std.proofs.Common.{◌≡◌, drop}
+use Rattle.std.specs.List.{list_any}
+use Rattle.lang_classes.specs.InheritedSlots.{same_name}
+use Rattle.front_class_definitions.proofs.supers.has_name.Given as goal
+
+abbrev pub invariant-loop-other : goal.invariant-loop-other
+invariant-loop-other l = list_any (same_name l.name) (drop l.other-index l.names) ≡ list_any (same_name l.name) l.names

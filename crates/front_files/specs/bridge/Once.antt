@@ -1,0 +1,290 @@
+-- Under one table of names, a file has at most one verdict.
+use Rattle.std.specs.Prelude.{◌≡◌, ℕ, ◌<◌, ◌≤◌, List, [], refl}
+use Rattle.std.proofs.Common.{ap, sym, subst, ◌∙◌, arith, ⊎_elim}
+use Rattle.base.specs.declared.origin.Origin.{Origin}
+use Rattle.base.specs.declared.origin.Origin.TheVariants.{File}
+use Rattle.base.specs.declared.place.Place.{Place}
+use Rattle.base.specs.declared.reason.Reason.{Reason}
+use Rattle.base.specs.declared.reason.Refusal.{Refusal}
+use Rattle.base.specs.declared.reason.Stop.TheVariants.{Refused}
+use Rattle.base.specs.Names.{IsTable, Extends-same}
+use Rattle.base.specs.Data.{Item, place_of}
+use Rattle.lang_meaning.specs.declared.program.ProgramRows.{ProgramRows}
+use Rattle.front_profile.specs.declared.tables.Tables.{Tables}
+use Rattle.front_profile.specs.Nodes.{Around, Standing, Verdict as Come, stands, ended, refused as refused_at}
+use Rattle.front_profile.specs.Rows.{node}
+use Rattle.front_profile.specs.Judged.{Comes}
+use Rattle.front_profile.specs.Promises.{FormComes}
+use Rattle.front_reader.specs.Characters.{place_behind}
+use Rattle.front_reader.specs.Gaps.{Gap}
+use Rattle.front_reader.specs.Reads.{ReadsNext}
+use Rattle.front_reader.specs.Stops.{Stops, StopsFirst}
+use Rattle.front_scope.specs.Scopes.{top, with_main, rows_of, nodes_of, most_nodes, cells_of, most_cells, Given, IsTaken, IsTooLarge, HasManyCells, IsRefusedWhole, IsStopped}
+use Rattle.front_files.specs.declared.mode.Mode.{Mode}
+use Rattle.front_files.specs.declared.mode.Mode.TheVariants.{Run}
+use Rattle.front_files.specs.Shown.{printing_at, IsPrinting, IsForm, runs, not_last, last_stays, last_shown}
+use Rattle.front_files.specs.Verdicts.{JudgesText, IsOfFile, its_length, in_it, FormTaken, FormRefused, Judgement, all_taken, one_refused, behind_next, Judges, at_end, form_taken, form_refused, text_stops, Outcome, accepted, refused, BehindPrelude, Verdict, source_too_long, prelude_refused, file_refused, file_accepted}
+use Rattle.front_files.specs.bridge.First.{one_first, same_name}
+
+-- what is known of texts and of forms
+pub record Once (names : List (List ℕ)) : Type 0 where
+  pub table : IsTable names
+  pub form : (a : Around) (s : Tables) (d : Item) (v w : Come) → Comes names (node names a s d) v → Comes names (node names a s d) w → v ≡ w
+  pub next : (text : List ℕ) (p : Place) (d e : Item) (after left : List ℕ) (x : ReadsNext names text p d after) (y : ReadsNext names text p e left) →
+      (d ≡ e) × (after ≡ left) × (place_behind (place_behind p x.gap) x.bytes ≡ place_behind (place_behind p y.gap) y.bytes)
+  pub stop : (p : Place) (text : List ℕ) (a b : Place) (q r : Reason) → Stops p text a q → Stops p text b r → (a ≡ b) × (q ≡ r)
+  pub next_or_stop : (text : List ℕ) (p : Place) (d : Item) (after : List ℕ) (at : Place) (r : Reason) →
+      ReadsNext names text p d after → StopsFirst p text at r → ⊥
+  pub end_or_next : (text : List ℕ) (p : Place) (d : Item) (after : List ℕ) → Gap text [] → ReadsNext names text p d after → ⊥
+  pub end_or_stop : (text : List ℕ) (p : Place) (at : Place) (r : Reason) → Gap text [] → StopsFirst p text at r → ⊥
+
+-- ---- the form that is judged
+
+same_printing : (names : List (List ℕ)) (d e f : Item) → IsTable names → IsPrinting names d e → IsPrinting names d f → e ≡ f
+same_printing names d e f table a b =
+    a.is
+    ∙ ap (λ n. printing_at (place_of d) n a.standard_output d) (same_name names a.format b.format _ table a.is_format b.is_format)
+    ∙ ap (λ n. printing_at (place_of d) b.format n d) (same_name names a.standard_output b.standard_output _ table a.is_standard_output b.is_standard_output)
+    ∙ sym b.is
+
+same_form : (names : List (List ℕ)) (mode : Mode) (d : Item) (after : List ℕ) (e f : Item) → IsTable names → IsForm names mode d after e →
+    IsForm names mode d after f → e ≡ f
+same_form names mode d after e f table (runs a b) (runs a2 b2) = refl
+same_form names mode d after e f table (not_last a b n) (not_last a2 b2 n2) = refl
+same_form names mode d after e f table (not_last a b n) (last_stays a2 b2 s2) = refl
+same_form names mode d after e f table (not_last a b n) (last_shown a2 b2 c2 g2 s2 p2) = absurd (n g2)
+same_form names mode d after e f table (last_stays a b s) (not_last a2 b2 n2) = refl
+same_form names mode d after e f table (last_stays a b s) (last_stays a2 b2 s2) = refl
+same_form names mode d after e f table (last_stays a b s) (last_shown a2 b2 c2 g2 s2 p2) = absurd (cc)
+same_form names mode d after e f table (last_shown a b c g s p) (not_last a2 b2 n2) = absurd (n2 g)
+same_form names mode d after e f table (last_shown a b c g s p) (last_stays a2 b2 s2) = absurd (cc)
+same_form names mode d after e f table (last_shown a b c g s p) (last_shown a2 b2 c2 g2 s2 p2) = same_printing names a c c2 table p p2
+
+-- ---- what it comes to
+
+-- under the table itself
+now : (names : List (List ℕ)) (a : Around) (s : Tables) (d : Item) (v : Come) → FormComes names a s d v → Comes names (node names a s d) v
+now names a s d v c = c.under names (Extends-same names)
+
+same_standing : (m k : Standing) → stands m ≡ stands k → m ≡ k
+same_standing m k e = cc
+
+same_given : (names : List (List ℕ)) (origin : Origin) (s : Tables) (d : Item) (t u : Tables) → Once names → Given names origin s d t → Given names origin s d u → t ≡ u
+same_given names origin s d t u once g h =
+    let same : stands (record { form = g.form; tables = g.found }) ≡ stands (record { form = h.form; tables = h.found }) =
+    once.form (top origin) s d _ _ (now names _ s d _ g.comes) (now names _ s d _ h.comes) in
+    let standing : Standing = record { form = g.form; tables = g.found } in
+    let other : Standing = record { form = h.form; tables = h.found } in
+    let one = same_standing standing other same in
+    let form : g.form ≡ h.form = ap (λ (m : Standing). m.form) one in
+    let found : g.found ≡ h.found = ap (λ (m : Standing). m.tables) one in
+    g.now ∙ ap (λ f. with_main origin f g.found) form ∙ ap (λ x. with_main origin h.form x) found ∙ sym h.now
+
+given_or_ended : (names : List (List ℕ)) (origin : Origin) (s : Tables) (d : Item) (t : Tables) (r : Refusal) → Once names → Given names origin s d t →
+    FormComes names (top origin) s d (ended (refused_at r.place r.reason)) → ⊥
+given_or_ended names origin s d t r once g c =
+    let same : stands (record { form = g.form; tables = g.found }) ≡ ended (refused_at r.place r.reason) =
+    once.form (top origin) s d _ _ (now names _ s d _ g.comes) (now names _ s d _ c) in
+    absurd (cc)
+
+small_or_large : (t u : Tables) → t ≡ u → nodes_of t ≤ most_nodes → most_nodes < nodes_of u → ⊥
+small_or_large t u e h k = let same : nodes_of t ≡ nodes_of u = ap nodes_of e in omega arith
+
+few_or_many : (t u : Tables) → t ≡ u → cells_of t ≤ most_cells → most_cells < cells_of u → ⊥
+few_or_many t u e h k = let same : cells_of t ≡ cells_of u = ap cells_of e in omega arith
+
+taken_or_whole : (names : List (List ℕ)) (origin : Origin) (s : Tables) (d : Item) (t : Tables) (r : Refusal) → Once names → IsTaken names origin s d t →
+    IsRefusedWhole names origin s d r → ⊥
+taken_or_whole names origin s d t r once g h =
+    ⊎_elim
+    (λ l. small_or_large t l.0.tables (same_given names origin s d t l.0.tables once g.given l.0.given) g.small l.0.large)
+    (λ m. few_or_many t m.0.tables (same_given names origin s d t m.0.tables once g.given m.0.given) g.few m.0.many)
+    h
+
+ended_or_whole : (names : List (List ℕ)) (origin : Origin) (s : Tables) (d : Item) (q r : Refusal) → Once names →
+    FormComes names (top origin) s d (ended (refused_at q.place q.reason)) → IsRefusedWhole names origin s d r → ⊥
+ended_or_whole names origin s d q r once c h =
+    ⊎_elim
+    (λ l. given_or_ended names origin s d l.0.tables q once l.0.given c)
+    (λ m. given_or_ended names origin s d m.0.tables q once m.0.given c)
+    h
+
+large_or_many : (names : List (List ℕ)) (origin : Origin) (s : Tables) (d : Item) → Once names → IsTooLarge names origin s d → HasManyCells names origin s d → ⊥
+large_or_many names origin s d once l m =
+    small_or_large m.tables l.tables (same_given names origin s d m.tables l.tables once m.given l.given) m.small l.large
+
+same_whole : (names : List (List ℕ)) (origin : Origin) (s : Tables) (d : Item) (q r : Refusal) → Once names → IsRefusedWhole names origin s d q →
+    IsRefusedWhole names origin s d r → q ≡ r
+same_whole names origin s d q r once g h =
+    ⊎_elim
+    (λ l. ⊎_elim (λ k. l.1 ∙ sym k.1) (λ m. absurd (large_or_many names origin s d once l.0 m.0)) h)
+    (λ m. ⊎_elim (λ l. absurd (large_or_many names origin s d once l.0 m.0)) (λ k. m.1 ∙ sym k.1) h)
+    g
+
+taken_or_stopped : (names : List (List ℕ)) (origin : Origin) (s : Tables) (d : Item) (t : Tables) (r : Refusal) → Once names → IsTaken names origin s d t →
+    IsStopped names origin s d (Refused r) → ⊥
+taken_or_stopped names origin s d t r once g h =
+    ⊎_elim
+    (λ c. given_or_ended names origin s d t r once g.given c)
+    (λ w. taken_or_whole names origin s d t r once g w)
+    h
+
+same_refusal : (q r : Refusal) → q.place ≡ r.place → q.reason ≡ r.reason → q ≡ r
+same_refusal q r e f =
+    let one : Place → Refusal = λ p. record { place = p; reason = q.reason } in
+    let two : Reason → Refusal = λ x. record { place = r.place; reason = x } in
+    ap one e ∙ ap two f
+
+same_ended : (names : List (List ℕ)) (a : Around) (s : Tables) (d : Item) (q r : Refusal) → Once names → FormComes names a s d (ended (refused_at q.place q.reason)) →
+    FormComes names a s d (ended (refused_at r.place r.reason)) → q ≡ r
+same_ended names a s d q r once b c =
+    let same : ended (refused_at q.place q.reason) ≡ ended (refused_at r.place r.reason) =
+    once.form a s d _ _ (now names a s d _ b) (now names a s d _ c) in
+    same_refusal q r (cc) (cc)
+
+same_stopped : (names : List (List ℕ)) (origin : Origin) (s : Tables) (d : Item) (q r : Refusal) → Once names → IsStopped names origin s d (Refused q) →
+    IsStopped names origin s d (Refused r) → q ≡ r
+same_stopped names origin s d q r once g h =
+    ⊎_elim
+    (λ b. ⊎_elim
+    (λ c. same_ended names (top origin) s d q r once b c)
+    (λ w. absurd (ended_or_whole names origin s d q r once b w))
+    h)
+    (λ w. ⊎_elim
+    (λ c. absurd (ended_or_whole names origin s d r q once c w))
+    (λ v. same_whole names origin s d q r once w v)
+    h)
+    g
+
+-- ---- a datum of a text
+
+pub same_taken : (names : List (List ℕ)) (origin : Origin) (mode : Mode) (s : Tables) (d : Item) (after : List ℕ) (t u : Tables) → Once names →
+    FormTaken names origin mode s d after t → FormTaken names origin mode s d after u → t ≡ u
+same_taken names origin mode s d after t u once f g =
+    let form : f.form ≡ g.form = same_form names mode d after f.form g.form once.table f.is_form g.is_form in
+    let P : Item → Type 0 = λ x. IsTaken names origin s x t in
+    same_given names origin s g.form t u once (subst P form f.taken).given g.taken.given
+
+form_taken_or_refused : (names : List (List ℕ)) (origin : Origin) (mode : Mode) (s : Tables) (d : Item) (after : List ℕ) (t : Tables) (r : Refusal) → Once names →
+    FormTaken names origin mode s d after t → FormRefused names origin mode s d after r → ⊥
+form_taken_or_refused names origin mode s d after t r once f g =
+    let form : f.form ≡ g.form = same_form names mode d after f.form g.form once.table f.is_form g.is_form in
+    let P : Item → Type 0 = λ x. IsTaken names origin s x t in
+    taken_or_stopped names origin s g.form t r once (subst P form f.taken) g.refused
+
+same_form_refusal : (names : List (List ℕ)) (origin : Origin) (mode : Mode) (s : Tables) (d : Item) (after : List ℕ) (q r : Refusal) → Once names →
+    FormRefused names origin mode s d after q → FormRefused names origin mode s d after r → q ≡ r
+same_form_refusal names origin mode s d after q r once f g =
+    let form : f.form ≡ g.form = same_form names mode d after f.form g.form once.table f.is_form g.is_form in
+    let P : Item → Type 0 = λ x. IsStopped names origin s x (Refused q) in
+    same_stopped names origin s g.form q r once (subst P form f.refused) g.refused
+
+-- the same of equal data
+taken_there : (names : List (List ℕ)) (origin : Origin) (mode : Mode) (s : Tables) (d e : Item) (after left : List ℕ) (t : Tables) → d ≡ e → after ≡ left →
+    FormTaken names origin mode s e left t → FormTaken names origin mode s d after t
+taken_there names origin mode s d e after left t p q f =
+    subst (λ x. FormTaken names origin mode s x after t) (sym p) (subst (λ x. FormTaken names origin mode s e x t) (sym q) f)
+
+refused_there : (names : List (List ℕ)) (origin : Origin) (mode : Mode) (s : Tables) (d e : Item) (after left : List ℕ) (r : Refusal) → d ≡ e → after ≡ left →
+    FormRefused names origin mode s e left r → FormRefused names origin mode s d after r
+refused_there names origin mode s d e after left r p q f =
+    subst (λ x. FormRefused names origin mode s x after r) (sym p) (subst (λ x. FormRefused names origin mode s e x r) (sym q) f)
+
+judges_there : (names : List (List ℕ)) (origin : Origin) (mode : Mode) (s t : Tables) (text more : List ℕ) (p q : Place) (j : Judgement) → s ≡ t → text ≡ more → p ≡ q →
+    Judges names origin mode t more q j → Judges names origin mode s text p j
+judges_there names origin mode s t text more p q j a b c h =
+    subst (λ x. Judges names origin mode x text p j) (sym a)
+    (subst (λ x. Judges names origin mode t x p j) (sym b) (subst (λ x. Judges names origin mode t more x j) (sym c) h))
+
+-- ---- a text
+
+same_judgement : (names : List (List ℕ)) (origin : Origin) (mode : Mode) (s : Tables) (text : List ℕ) (p : Place) (j k : Judgement) → Once names →
+    Judges names origin mode s text p j → Judges names origin mode s text p k → j ≡ k
+same_judgement names origin mode s text p j k once (at_end s1 x1 p1 g) (at_end s2 x2 p2 h) = refl
+same_judgement names origin mode s text p j k once (at_end s1 x1 p1 g) (form_taken s2 x2 p2 d after t k2 r f rest) = absurd (once.end_or_next x1 p1 d after g r)
+same_judgement names origin mode s text p j k once (at_end s1 x1 p1 g) (form_refused s2 x2 p2 d after x r f) = absurd (once.end_or_next x1 p1 d after g r)
+same_judgement names origin mode s text p j k once (at_end s1 x1 p1 g) (text_stops s2 x2 p2 x h) = absurd (once.end_or_stop x1 p1 x.place x.reason g h)
+same_judgement names origin mode s text p j k once (form_taken s1 x1 p1 d after t j1 r f rest) (at_end s2 x2 p2 g) = absurd (once.end_or_next x1 p1 d after g r)
+same_judgement names origin mode s text p j k once (form_taken s1 x1 p1 d after t j1 r f rest) (form_taken s2 x2 p2 e left u k2 q g more) =
+    let same = once.next x1 p1 d e after left r q in
+    let tables : t ≡ u = same_taken names origin mode s1 d after t u once f (taken_there names origin mode s1 d e after left u same.0 same.1 g) in
+    same_judgement names origin mode t after (behind_next names x1 p1 d after r) j1 k2 once rest
+    (judges_there names origin mode t u after left (behind_next names x1 p1 d after r) (behind_next names x1 p1 e left q) k2 tables same.1 same.2 more)
+same_judgement names origin mode s text p j k once (form_taken s1 x1 p1 d after t j1 r f rest) (form_refused s2 x2 p2 e left x q g) =
+    let same = once.next x1 p1 d e after left r q in
+    absurd (form_taken_or_refused names origin mode s1 d after t x once f (refused_there names origin mode s1 d e after left x same.0 same.1 g))
+same_judgement names origin mode s text p j k once (form_taken s1 x1 p1 d after t j1 r f rest) (text_stops s2 x2 p2 x h) =
+    absurd (once.next_or_stop x1 p1 d after x.place x.reason r h)
+same_judgement names origin mode s text p j k once (form_refused s1 x1 p1 d after x r f) (at_end s2 x2 p2 g) = absurd (once.end_or_next x1 p1 d after g r)
+same_judgement names origin mode s text p j k once (form_refused s1 x1 p1 d after x r f) (form_taken s2 x2 p2 e left u k2 q g more) =
+    let same = once.next x1 p1 d e after left r q in
+    absurd (form_taken_or_refused names origin mode s1 d after u x once (taken_there names origin mode s1 d e after left u same.0 same.1 g) f)
+same_judgement names origin mode s text p j k once (form_refused s1 x1 p1 d after x r f) (form_refused s2 x2 p2 e left y q g) =
+    let same = once.next x1 p1 d e after left r q in
+    ap one_refused (same_form_refusal names origin mode s1 d after x y once f (refused_there names origin mode s1 d e after left y same.0 same.1 g))
+same_judgement names origin mode s text p j k once (form_refused s1 x1 p1 d after x r f) (text_stops s2 x2 p2 y h) =
+    absurd (once.next_or_stop x1 p1 d after y.place y.reason r h)
+same_judgement names origin mode s text p j k once (text_stops s1 x1 p1 x h) (at_end s2 x2 p2 g) = absurd (once.end_or_stop x1 p1 x.place x.reason g h)
+same_judgement names origin mode s text p j k once (text_stops s1 x1 p1 x h) (form_taken s2 x2 p2 d after t k2 r f rest) =
+    absurd (once.next_or_stop x1 p1 d after x.place x.reason r h)
+same_judgement names origin mode s text p j k once (text_stops s1 x1 p1 x h) (form_refused s2 x2 p2 d after y r f) =
+    absurd (once.next_or_stop x1 p1 d after x.place x.reason r h)
+same_judgement names origin mode s text p j k once (text_stops s1 x1 p1 x h) (text_stops s2 x2 p2 y i) =
+    let same = once.stop p1 x1 x.place y.place x.reason y.reason h.stops i.stops in
+    ap one_refused (same_refusal x y same.0 same.1)
+
+-- ---- a file
+
+same_prelude : (names : List (List ℕ)) (prelude : List ℕ) (j k : Judgement) → Once names → BehindPrelude names prelude j → BehindPrelude names prelude k → j ≡ k
+same_prelude names prelude j k once a b =
+    let first : a.first ≡ b.first = one_first names a.first b.first once.table a.is_first b.is_first in
+    same_judgement names _ _ a.first prelude _ j k once a.judges
+    (judges_there names _ _ a.first b.first prelude prelude _ _ k first refl refl b.judges)
+
+same_tables : (t u : Tables) → all_taken t ≡ all_taken u → t ≡ u
+same_tables t u e = cc
+
+same_one_refused : (q r : Refusal) → one_refused q ≡ one_refused r → q ≡ r
+same_one_refused q r e = cc
+
+pub one_verdict : (names : List (List ℕ)) (prelude text : List ℕ) (mode : Mode) (v w : Outcome) → Once names → Verdict names prelude text mode v →
+    Verdict names prelude text mode w → v ≡ w
+one_verdict names prelude text mode v w once (source_too_long l) (source_too_long m) = refl
+one_verdict names prelude text mode v w once (source_too_long l) (prelude_refused r m b) = absurd (omega arith)
+one_verdict names prelude text mode v w once (source_too_long l) (file_refused t r m b h) = absurd (omega arith)
+one_verdict names prelude text mode v w once (source_too_long l) (file_accepted t u m b h) = absurd (omega arith)
+one_verdict names prelude text mode v w once (prelude_refused q l a) (source_too_long m) = absurd (omega arith)
+one_verdict names prelude text mode v w once (prelude_refused q l a) (prelude_refused r m b) =
+    ap refused (same_one_refused q r (same_prelude names prelude _ _ once a b))
+one_verdict names prelude text mode v w once (prelude_refused q l a) (file_refused t r m b h) = absurd (cc (same_prelude names prelude _ _ once a b))
+one_verdict names prelude text mode v w once (prelude_refused q l a) (file_accepted t u m b h) = absurd (cc (same_prelude names prelude _ _ once a b))
+one_verdict names prelude text mode v w once (file_refused s q l a g) (source_too_long m) = absurd (omega arith)
+one_verdict names prelude text mode v w once (file_refused s q l a g) (prelude_refused r m b) = absurd (cc (same_prelude names prelude _ _ once a b))
+one_verdict names prelude text mode v w once (file_refused s q l a g) (file_refused t r m b h) =
+    let tables : s ≡ t = same_tables s t (same_prelude names prelude _ _ once a b) in
+    ap refused (same_one_refused q r (same_judgement names _ mode s text _ _ _ once g (judges_there names _ mode s t text text _ _ _ tables refl refl h)))
+one_verdict names prelude text mode v w once (file_refused s q l a g) (file_accepted t u m b h) =
+    let tables : s ≡ t = same_tables s t (same_prelude names prelude _ _ once a b) in
+    absurd (cc (same_judgement names _ mode s text _ _ _ once g (judges_there names _ mode s t text text _ _ _ tables refl refl h)))
+one_verdict names prelude text mode v w once (file_accepted s x l a g) (source_too_long m) = absurd (omega arith)
+one_verdict names prelude text mode v w once (file_accepted s x l a g) (prelude_refused r m b) = absurd (cc (same_prelude names prelude _ _ once a b))
+one_verdict names prelude text mode v w once (file_accepted s x l a g) (file_refused t r m b h) =
+    let tables : s ≡ t = same_tables s t (same_prelude names prelude _ _ once a b) in
+    absurd (cc (same_judgement names _ mode s text _ _ _ once g (judges_there names _ mode s t text text _ _ _ tables refl refl h)))
+one_verdict names prelude text mode v w once (file_accepted s x l a g) (file_accepted t y m b h) =
+    let tables : s ≡ t = same_tables s t (same_prelude names prelude _ _ once a b) in
+    ap (λ z. accepted (rows_of z))
+    (same_tables x y (same_judgement names _ mode s text _ _ _ once g (judges_there names _ mode s t text text _ _ _ tables refl refl h)))
+
+-- a prelude that is taken once is taken in front of each file
+pub of_file : (names : List (List ℕ)) (prelude text : List ℕ) (mode : Mode) (v w : Outcome) (program : ProgramRows) (r : Refusal) → Once names →
+    Verdict names prelude [] Run v → v ≡ accepted program → Verdict names prelude text mode w → w ≡ refused r → IsOfFile names text mode r
+of_file names prelude text mode v w program r once (source_too_long l) e b f = absurd (cc)
+of_file names prelude text mode v w program r once (prelude_refused q l a) e b f = absurd (cc)
+of_file names prelude text mode v w program r once (file_refused s q l a g) e b f = absurd (cc)
+of_file names prelude text mode v w program r once (file_accepted s x l a g) e (source_too_long m) f = its_length (cc)
+of_file names prelude text mode v w program r once (file_accepted s x l a g) e (prelude_refused q m b) f = absurd (cc (same_prelude names prelude _ _ once a b))
+of_file names prelude text mode v w program r once (file_accepted s x l a g) e (file_refused t q m b h) f =
+    let same : q ≡ r = cc in
+    in_it t (subst (λ y. JudgesText names File mode t text (one_refused y)) same h)
+of_file names prelude text mode v w program r once (file_accepted s x l a g) e (file_accepted t u m b h) f = absurd (cc)

@@ -1,0 +1,44 @@
+// Laws of the verdict on a file.
+
+ghost use Rattle.std.specs.Prelude.{◌≡◌, ℕ, List, []};
+ghost use Rattle.base.specs.declared.reason.Refusal.{Refusal as refusal};
+ghost use Rattle.base.specs.Names.{IsTable, Extends};
+ghost use Rattle.lang_meaning.specs.declared.program.ProgramRows.{ProgramRows as program_rows};
+ghost use Rattle.front_files.specs.declared.mode.Mode.{Mode as mode_of};
+ghost use Rattle.front_files.specs.declared.mode.Mode.TheVariants.{Run};
+ghost use Rattle.front_files.specs.Verdicts.{Outcome, accepted, refused, Verdict, IsOfFile};
+
+use front_profile::laws::law_one_verdict as law_one_verdict_of_a_form;
+use front_reader::laws::{law_end, law_next_or_stops, law_one_datum, law_one_stop};
+
+/// A prelude and a text have at most one verdict in each mode, where names are numbered by one table.
+pub fn law_one_verdict()
+    ensures { (names : List (List ℕ)) (prelude text : List ℕ) (mode : mode_of) (v w : Outcome) → IsTable names →
+        Verdict names prelude text mode v → Verdict names prelude text mode w → v ≡ w }
+{
+    law_one_verdict_of_a_form();
+    law_one_datum();
+    law_one_stop();
+    law_next_or_stops();
+    law_end();
+}
+
+/// A prelude that is accepted in front of the empty file refuses no file: what refuses a file is its length, or
+/// stands in it.
+pub fn law_prelude()
+    ensures { (names : List (List ℕ)) (prelude text : List ℕ) (mode : mode_of) (program : program_rows) (r : refusal) → IsTable names →
+        Verdict names prelude [] Run (accepted program) → Verdict names prelude text mode (refused r) → IsOfFile names text mode r }
+{
+    law_one_verdict_of_a_form();
+    law_one_datum();
+    law_one_stop();
+    law_next_or_stops();
+    law_end();
+}
+
+/// A verdict stays under every later table of names. So two verdicts whose tables are the beginnings of
+/// one table are one verdict.
+pub fn law_names_apart()
+    ensures { (old new : List (List ℕ)) (prelude text : List ℕ) (mode : mode_of) (v : Outcome) → Extends old new →
+        Verdict old prelude text mode v → Verdict new prelude text mode v }
+{}

@@ -1,0 +1,21 @@
+// The profile as definitions: which form stands for which core form, and which is refused and why; and its laws.
+#![tactic(auto)]
+
+pub mod bound;
+pub mod laws;
+pub mod making;
+pub mod parameters;
+pub mod special;
+pub mod spot;
+pub mod tables;
+pub mod whole_laws;
+
+pub use bound::{Bound, BoundList, Target};
+pub use making::{
+    Accessor, BodyLengths, Found, FoundList, Head, Heads, Leaf, Lengths, Made, Making, NewClass,
+    One, SlotFunction, SlotFunctions, Taker, Two, WithBody,
+};
+pub use parameters::Parameters;
+pub use special::{Special, is_special_name, special_named};
+pub use spot::Spot;
+pub use tables::{DynamicRow, GlobalRow, ReservedWords, Tables};

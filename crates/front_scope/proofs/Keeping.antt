@@ -1,0 +1,229 @@
+-- Tables stay a whole program: in front of all forms, and behind each that is taken.
+use Rattle.std.proofs.Common.{◌≡◌, ℕ, ◌+◌, ◌*◌, ◌<◌, ◌≤◌, ◌==◌, nat_lt, min, Bool, true, false, ◌&&◌, not, List, [], ◌∷◌, ◌++◌, length, Result, Ok, Err, OnOk, OnErr, refl, ap, subst, sym, ◌∙◌, arith}
+use Rattle.std.specs.Str.{bytes_eq}
+use Rattle.std.specs.List.{list_all, sum_by}
+use Rattle.std.proofs.lemmas.Bool.{eqb-true, ltb-true, ltb-false, lt-ltb, le-ltb}
+use Rattle.std.proofs.lemmas.List.Sums.{sum_by-cons}
+use Rattle.base.specs.declared.datum.Name.{Name}
+use Rattle.base.specs.declared.origin.Origin.{Origin}
+use Rattle.base.specs.declared.origin.Origin.TheVariants.{Prelude, File}
+use Rattle.base.specs.Names.{Extends, Extends-same}
+use Rattle.base.specs.Data.{Item}
+use Rattle.base.specs.GoodData.{Good, good_stays}
+use Rattle.lang_meaning.specs.declared.program.ClassRow.{ClassRow}
+use Rattle.lang_meaning.specs.declared.program.SlotRow.{SlotRow}
+use Rattle.lang_meaning.specs.declared.program.GenericRow.{GenericRow}
+use Rattle.lang_meaning.specs.declared.program.ProgramRows.{ProgramRows}
+use Rattle.lang_meaning.specs.BuiltIn.{built_in_precedence, built_in_slots}
+use Rattle.lang_meaning.specs.Facts.{is_one, is_plain_slot, is_row, begins_with_built_in, is_whole}
+use Rattle.lang_meaning.specs.Cells.{generic_cells}
+use Rattle.lang_meaning.specs.Form.{Form}
+use Rattle.lang_meaning.specs.ProgramCounts.{slot_nodes, class_nodes}
+use Rattle.lang_classes.specs.InheritedClasses.{Hierarchy}
+use Rattle.lang_classes.specs.InheritedBuiltIn.{AreBuiltIn}
+use Rattle.lang_dispatch.specs.OfClasses.{with_classes}
+use Rattle.front_profile.specs.declared.tables.Tables.{Tables}
+use Rattle.front_profile.specs.Marks.{Grows}
+use Rattle.front_profile.specs.bridge.Growing.{grows_same, grows_at_end}
+use Rattle.front_profile.specs.Nodes.{Around, Standing, stands}
+use Rattle.front_profile.specs.Judged.{Comes}
+use Rattle.front_profile.specs.Rows.{node}
+use Rattle.front_profile.specs.Between.{WholeBetween, HasNoForm}
+use Rattle.front_profile.specs.Places.{NothingAround}
+use Rattle.front_profile.specs.Right.{with_main as with_form}
+use Rattle.front_scope.specs.declared.mark.Mark.{Mark}
+use Rattle.front_scope.specs.Cells.{FewAt}
+use Rattle.front_scope.specs.Cuts.{mark_of}
+use Rattle.front_scope.specs.Scopes.{rows_of, nodes_of, cells_of, most_cells, top, first_tables, Given, IsFirst, IsWhole}
+use Rattle.front_scope.proofs.CutGenerics.{same_rows, same_generics}
+
+-- what is known of top-level forms
+pub record TopForms : Type 0 where
+  pub first : (texts : List (List ℕ)) (t : Tables) → AreBuiltIn texts t.classes → HasNoForm t → WholeBetween t
+  pub file : (names : List (List ℕ)) (a : Around) (s : Tables) (d : Item) (m : Standing) → Good (length names) d → NothingAround a →
+      WholeBetween s → Comes names (node names a s d) (stands m) → WholeBetween (with_form m.form m.tables)
+  pub prelude : (names : List (List ℕ)) (a : Around) (s : Tables) (d : Item) (m : Standing) → Good (length names) d → NothingAround a →
+      a.spot.sited ≡ false → WholeBetween s → Comes names (node names a s d) (stands m) → WholeBetween m.tables
+
+nothing_around : (origin : Origin) → NothingAround (top origin)
+nothing_around origin = record { bound = refl; method = refl }
+
+pub given_whole : TopForms → (old names : List (List ℕ)) (origin : Origin) (s : Tables) (d : Item) (t : Tables) → Good (length old) d → Extends old names →
+    WholeBetween s → Given names origin s d t → WholeBetween t
+given_whole law old names Prelude s d t good x w g =
+    subst (λ (u : Tables). WholeBetween u) (sym g.now)
+    (law.prelude names (top Prelude) s d (record { form = g.form; tables = g.found }) (good_stays old names d x good) (nothing_around Prelude) refl w
+    (g.comes.under names (Extends-same names)))
+given_whole law old names File s d t good x w g =
+    subst (λ (u : Tables). WholeBetween u) (sym g.now)
+    (law.file names (top File) s d (record { form = g.form; tables = g.found }) (good_stays old names d x good) (nothing_around File) w
+    (g.comes.under names (Extends-same names)))
+
+-- the nodes of the built-in classes
+
+and_first : (a b : Bool) → (a && b) ≡ true → a ≡ true
+and_first true b h = refl
+and_first false b h = h
+
+and_second : (a b : Bool) → (a && b) ≡ true → b ≡ true
+and_second true b h = h
+and_second false b h = absurd (cc h)
+
+same_length : (xs ys : List ℕ) → bytes_eq xs ys ≡ true → length xs ≡ length ys
+same_length [] [] h = refl
+same_length [] (y ∷ ys) h = absurd (cc h)
+same_length (x ∷ xs) [] h = absurd (cc h)
+same_length (x ∷ xs) (y ∷ ys) h = omega (arith, same_length xs ys (and_second (x == y) (bytes_eq xs ys) h))
+
+one_initarg : (n : Name) (ns : List Name) → is_one n ns ≡ true → length ns ≡ 1
+one_initarg n [] h = absurd (cc h)
+one_initarg n (m ∷ []) h = refl
+one_initarg n (m ∷ k ∷ ms) h = absurd (cc h)
+
+plain_nodes : (ss : List SlotRow) → list_all is_plain_slot ss ≡ true → sum_by slot_nodes ss ≡ 2 * length ss
+plain_nodes [] h = refl
+plain_nodes (s ∷ ss) h =
+    let here : is_plain_slot s ≡ true = and_first (is_plain_slot s) (list_all is_plain_slot ss) h in
+    let one : length s.initargs ≡ 1 = one_initarg s.name s.initargs (and_first (is_one s.name s.initargs) _ here) in
+    omega (arith, sum_by-cons slot_nodes s ss, one, plain_nodes ss (and_second (is_plain_slot s) (list_all is_plain_slot ss) h))
+
+-- a built-in class has so many nodes
+row_nodes : (c : ClassRow) (p : List ℕ) (n : ℕ) → is_row c p n ≡ true → class_nodes c ≡ length p + 2 * n
+row_nodes c p n h =
+    let three : (bytes_eq c.precedence p && length c.slots == n && list_all is_plain_slot c.slots) ≡ true =
+    and_first (bytes_eq c.precedence p && length c.slots == n && list_all is_plain_slot c.slots) (not c.abstract_class) h in
+    let two : (bytes_eq c.precedence p && length c.slots == n) ≡ true = and_first (bytes_eq c.precedence p && length c.slots == n) (list_all is_plain_slot c.slots) three in
+    let plain : list_all is_plain_slot c.slots ≡ true = and_second (bytes_eq c.precedence p && length c.slots == n) (list_all is_plain_slot c.slots) three in
+    let slots : length c.slots ≡ n = eqb-true (length c.slots) n (and_second (bytes_eq c.precedence p) (length c.slots == n) two) in
+    omega (arith, same_length c.precedence p (and_first (bytes_eq c.precedence p) (length c.slots == n) two), plain_nodes c.slots plain, slots)
+
+abbrev counted : List (List ℕ) → List ℕ → ℕ
+counted [] ns = 0
+counted (p ∷ ps) [] = 0
+counted (p ∷ ps) (n ∷ ns) = length p + 2 * n + counted ps ns
+
+rows_nodes : (cs : List ClassRow) (ps : List (List ℕ)) (ns : List ℕ) → length cs ≡ length ps → length ns ≡ length ps → begins_with_built_in cs ps ns ≡ true →
+    sum_by class_nodes cs ≡ counted ps ns
+rows_nodes [] [] ns l m h = refl
+rows_nodes [] (p ∷ ps) ns l m h = absurd (cc h)
+rows_nodes (c ∷ cs) [] ns l m h = absurd (omega (arith, l))
+rows_nodes (c ∷ cs) (p ∷ ps) [] l m h = absurd (cc h)
+rows_nodes (c ∷ cs) (p ∷ ps) (n ∷ ns) l m h =
+    omega (
+      arith,
+      sum_by-cons class_nodes c cs,
+      row_nodes c p n (and_first (is_row c p n) (begins_with_built_in cs ps ns) h),
+      rows_nodes cs ps ns (omega (arith, l)) (omega (arith, m)) (and_second (is_row c p n) (begins_with_built_in cs ps ns) h),
+    )
+
+pub built_in_small : (texts : List (List ℕ)) (h : Hierarchy) → AreBuiltIn texts h → begins_with_built_in h.rows built_in_precedence built_in_slots ≡ true →
+    sum_by class_nodes h.rows ≤ 100000
+built_in_small texts h a b =
+    let same : sum_by class_nodes h.rows ≡ counted built_in_precedence built_in_slots = rows_nodes h.rows built_in_precedence built_in_slots a.number refl b in
+    omega (arith, same)
+
+-- the first tables
+
+nothing_left : (texts : List (List ℕ)) (t : Tables) → t ≡ first_tables t.words t.classes → HasNoForm t
+nothing_left texts t e = record {
+  literals = ap (λ (u : Tables). u.literals) e;
+  procedures = ap (λ (u : Tables). u.procedures) e;
+  generics = ap (λ (u : Tables). u.generics) e;
+  functions = ap (λ (u : Tables). u.functions) e;
+  main = ap (λ (u : Tables). u.main) e;
+  sites = ap (λ (u : Tables). u.sites) e;
+}
+
+pub first_whole : TopForms → (texts : List (List ℕ)) (t : Tables) → IsFirst texts t → WholeBetween t
+first_whole law texts t f = law.first texts t f.classes (nothing_left texts t f.nothing_else)
+
+first_nodes : (t : Tables) → t ≡ first_tables t.words t.classes → nodes_of t ≡ sum_by class_nodes t.classes.rows
+first_nodes t e = ap (λ (u : Tables). nodes_of u) e ∙ omega arith
+
+-- there is no generic function
+first_few : (t : Tables) → t ≡ first_tables t.words t.classes → cells_of t ≤ most_cells
+first_few t e = let none : cells_of t ≡ 0 = ap (λ (u : Tables). cells_of u) e in omega (arith, none)
+
+pub first_is_whole : TopForms → (texts : List (List ℕ)) (t : Tables) (n : ℕ) → IsFirst texts t → n ≡ min (sum_by class_nodes t.classes.rows) 18446744073709551615 →
+    (n ≡ nodes_of t) × IsWhole t
+first_is_whole law texts t n f e =
+    let between : WholeBetween t = first_whole law texts t f in
+    let small : sum_by class_nodes t.classes.rows ≤ 100000 = built_in_small texts t.classes f.classes between.classes.begins in
+    let nodes : nodes_of t ≡ sum_by class_nodes t.classes.rows = first_nodes t f.nothing_else in
+    (omega (arith, e, small, nodes), record { between = between; small = omega (arith, small, nodes); few = first_few t f.nothing_else })
+
+-- the rows of a program, as they are put together
+
+abbrev put_together : Tables → List ClassRow → List GenericRow → ProgramRows
+put_together t cs gs = record {
+  literals = t.literals;
+  procedures = t.procedures;
+  classes = cs;
+  generics = gs;
+  functions = t.functions;
+  main = t.main;
+  sites = t.sites;
+}
+
+pub put_together_whole : (t : Tables) (cs : List ClassRow) (gs : List GenericRow) → cs ≡ t.classes.rows → gs ≡ t.generics → is_whole (rows_of t) ≡ true →
+    is_whole (put_together t cs gs) ≡ true
+put_together_whole t cs gs e f h =
+    let classes : is_whole (put_together t cs t.generics) ≡ true = subst (λ ks. is_whole (put_together t ks t.generics) ≡ true) (sym e) h in
+    subst (λ hs. is_whole (put_together t cs hs) ≡ true) (sym f) classes
+
+-- a form that defines nothing leaves the cells as few as they were
+pub few_at : (s t : Tables) (mark : Mark) → Grows s t → mark ≡ mark_of s → cells_of s ≤ most_cells → FewAt mark t
+few_at s t mark g m few = record {
+  few = λ classes methods.
+      let rows : t.classes.rows ≡ s.classes.rows = same_rows s.classes.rows t.classes.rows g.classes (classes ∙ ap (λ (k : Mark). k.classes) m) in
+      let generics : t.generics ≡ s.generics = same_generics s.generics t.generics g.generics (methods ∙ ap (λ (k : Mark). k.methods) m) in
+      let same : cells_of t ≡ cells_of s =
+      ap (λ cs. sum_by (generic_cells (with_classes cs)) t.generics) rows ∙ ap (λ gs. sum_by (generic_cells (with_classes s.classes.rows)) gs) generics in
+      omega (arith, same, few);
+}
+
+-- a main form more
+main_grows : (t : Tables) (f : Form) → Grows t (record t { main = t.main ++ f ∷ [] })
+main_grows t f = let g = grows_same t in record {
+  words = g.words;
+  classes = g.classes;
+  slots = g.slots;
+  generics = g.generics;
+  literals = g.literals;
+  procedures = g.procedures;
+  functions = g.functions;
+  prelude = g.prelude;
+  globals = g.globals;
+  set = g.set;
+  dynamics = g.dynamics;
+  sites = g.sites;
+  fresh = g.fresh;
+  main = grows_at_end t.main t.main (f ∷ []) g.main;
+  variables = g.variables;
+  exits = g.exits;
+}
+
+pub pushed_grows : {T E : Type 0} (r : Result T E) (t : Tables) (fs : List Form) (f : Form) → OnOk r (fs ≡ t.main ++ f ∷ []) → OnErr r (fs ≡ t.main) →
+    Grows t (record t { main = fs })
+pushed_grows (Ok x) t fs f ok err = rw ok (main_grows t f)
+pushed_grows (Err x) t fs f ok err = rw err (grows_same t)
+
+-- what is counted up to the limit tells whether it is past it
+
+capped_as : (n m : ℕ) (b : Bool) → n ≡ min m 262145 → nat_lt 262144 m ≡ b → nat_lt 262144 n ≡ nat_lt 262144 m
+capped_as n m true e h = lt-ltb 262144 n (omega (arith, e, ltb-true 262144 m h)) ∙ sym h
+capped_as n m false e h = le-ltb 262144 n (omega (arith, e, ltb-false 262144 m h)) ∙ sym h
+
+pub counted_cells : (t : Tables) (cs : List ClassRow) (n : ℕ) → cs ≡ t.classes.rows → n ≡ min (sum_by (generic_cells (with_classes cs)) t.generics) 262145 →
+    nat_lt 262144 n ≡ nat_lt most_cells (cells_of t)
+counted_cells t cs n e h =
+    let same : n ≡ min (cells_of t) 262145 = h ∙ ap (λ ks. min (sum_by (generic_cells (with_classes ks)) t.generics) 262145) e in
+    capped_as n (cells_of t) (nat_lt 262144 (cells_of t)) same refl
+
+-- the cells are too many, or they are few, as a test says
+
+pub are_many : (t : Tables) (b : Bool) → b ≡ nat_lt most_cells (cells_of t) → b ≡ true → most_cells < cells_of t
+are_many t b e h = ltb-true most_cells (cells_of t) (sym e ∙ h)
+
+pub are_few : (t : Tables) (b : Bool) → b ≡ nat_lt most_cells (cells_of t) → b ≡ false → cells_of t ≤ most_cells
+are_few t b e h = ltb-false most_cells (cells_of t) (sym e ∙ h)

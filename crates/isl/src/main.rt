@@ -1,0 +1,64 @@
+// The program: the words of the command line, and the files, the input and the outputs of the system.
+#![tactic(auto)]
+
+ghost use Rattle.std.specs.Prelude.{◌≡◌, ◌≢◌, ◌⊎◌, None};
+ghost use Rattle.std.specs.Process.{exit_status};
+ghost use Rattle.top_main.specs.Command.{asked};
+ghost use Rattle.base.specs.Given.{WasGiven};
+ghost use Rattle.top_main.specs.Lines.{line_of, number_of, status_of as status_of_answer};
+ghost use Rattle.top_main.specs.declared.status.Answer.{Answer as AnswerValue};
+ghost use Rattle.top_main.specs.declared.status.Status.TheVariants.{Usage, WriteFault, NoMemory as WantsMemory};
+
+mod command_words;
+mod fault_count;
+mod file_shelf;
+mod std_sink;
+mod std_source;
+
+use base::{Sink, Words};
+use command_words::command_words;
+use file_shelf::FileShelf;
+use std::process::ExitCode;
+use std_sink::StdSink;
+use std_source::StdSource;
+use top_main::lines::end_with;
+use top_main::{Kept, Status, isl_main};
+
+fn main(rt: HostRuntime) -> ExitCode {
+    let mut err = StdSink::new(rt.stderr());
+    let status = match command_words(&rt) {
+        Ok(words) => status_of(&rt, &words, &mut err),
+        Err(answer) => end_with(&mut err, answer),
+    };
+    exit_code(status)
+}
+
+// The status of a call with these words.
+fn status_of<E: Sink>(rt: &HostRuntime, words: &Words, err: &mut E) -> Status
+    ensures usage { result ≡ Usage → asked words.now ≡ None }
+    ensures words_first { asked words.now ≡ None →
+        (result ≡ Usage) ⊎ ((result ≡ WriteFault) ⊎ (result ≡ WantsMemory)) }
+    ensures line { result ≢ WriteFault → (answer : AnswerValue) × ((result ≡ status_of_answer answer)
+        × WasGiven (E.given err.old) (line_of answer) (E.given err.new)) }
+{
+    let mut shelf = FileShelf::new(rt);
+    let mut input = StdSource::new(rt.stdin());
+    let mut out = StdSink::new(rt.stdout());
+    let mut kept = Kept::new();
+    isl_main(
+        rt.alloc(),
+        words,
+        &mut shelf,
+        &mut input,
+        &mut out,
+        err,
+        &mut kept,
+    )
+}
+
+// The status as the process ends with it.
+fn exit_code(status: Status) -> ExitCode
+    ensures { exit_status result ≡ number_of status }
+{
+    ExitCode::from(status.number())
+}

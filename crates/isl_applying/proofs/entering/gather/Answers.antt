@@ -1,9 +1,0 @@
--- Without a rest variable nothing is gathered.
-use Rattle.std.proofs.Common.{sym, ◌∙◌}
-use Rattle.isl_machine.proofs.Doing.{over_ok}
-use Rattle.isl_applying.proofs.Gathered.{none_gathered}
-use Rattle.isl_applying.proofs.entering.gather.Goals as goal
-
-pub returns-else-is_some : goal.returns-else-is_some
-returns-else-is_some c =
-    over_ok c.keep_record.result (none_gathered c.args.machine.now c.keep_record.new.machine c.args.procedure c.args.count c.args.level c.args.around (sym c.is_some.ensures ∙ c.if-is_some.false)) c.keep_record.ensures

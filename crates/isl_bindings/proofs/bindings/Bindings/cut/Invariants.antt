@@ -1,6 +1,0 @@
--- The first things are still bound.
-use Rattle.std.proofs.Common.{◌≡◌, ◌-◌, ◌+◌, length, take}
-use Rattle.isl_bindings.proofs.bindings.Bindings.cut.Given as goal
-
-abbrev pub invariant-loop : goal.invariant-loop
-invariant-loop l = l.self ≡ take (length l.initial.self - (l.counter - l.initial.counter)) l.initial.self

@@ -1,6 +1,0 @@
--- The rest is shorter.
-use Rattle.std.proofs.Common.{length}
-use Rattle.isl_class_definitions.proofs.classes.+names_differ.Given as goal
-
-abbrev pub decreases-names_differ : goal.decreases-names_differ
-decreases-names_differ l = length l.uses.now

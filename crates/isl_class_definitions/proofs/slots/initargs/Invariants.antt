@@ -1,9 +1,0 @@
--- What was found stands in front of what the rest gives.
-use Rattle.std.proofs.Common.{◌≡◌, ◌++◌, drop}
-use Rattle.std.specs.List.{filter_map}
-use Rattle.isl_profile.specs.ClassRows.{initarg_in}
-use Rattle.isl_written.specs.ClassDefinitions.{view_slot_options}
-use Rattle.isl_class_definitions.proofs.slots.initargs.Given as goal
-
-abbrev pub invariant-loop-option : goal.invariant-loop-option
-invariant-loop-option l = l.names ++ filter_map initarg_in (view_slot_options (drop l.option-index l.options)) ≡ filter_map initarg_in (view_slot_options l.options)

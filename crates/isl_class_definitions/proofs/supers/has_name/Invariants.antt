@@ -1,8 +1,0 @@
--- It is left to see what the rest says.
-use Rattle.std.proofs.Common.{◌≡◌, drop}
-use Rattle.std.specs.List.{list_any}
-use Rattle.isl_classes.specs.InheritedSlots.{same_name}
-use Rattle.isl_class_definitions.proofs.supers.has_name.Given as goal
-
-abbrev pub invariant-loop-other : goal.invariant-loop-other
-invariant-loop-other l = list_any (same_name l.name) (drop l.other-index l.names) ≡ list_any (same_name l.name) l.names

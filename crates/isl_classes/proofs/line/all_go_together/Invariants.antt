@@ -1,8 +1,0 @@
--- None of the classes so far clashes with a later one.
-use Rattle.std.proofs.Common.{◌≡◌, drop}
-use Rattle.isl_meaning.specs.Lookup.{all_differ}
-use Rattle.isl_classes.specs.InheritedPrecedence.{clash}
-use Rattle.isl_classes.proofs.line.all_go_together.Given as goal
-
-abbrev pub invariant-loop-at : goal.invariant-loop-at
-invariant-loop-at l = all_differ (clash l.rows) (drop l.at l.supers) ≡ all_differ (clash l.rows) l.supers

@@ -1,6 +1,0 @@
--- The names so far.
-use Rattle.std.proofs.Common.{◌≡◌, take}
-use Rattle.isl_classes.proofs.slots.copy_names.Given as goal
-
-abbrev pub invariant-loop-name : goal.invariant-loop-name
-invariant-loop-name l = l.copied ≡ take l.name-index l.names

@@ -1,6 +1,0 @@
--- The law of flat programs holds since names are bound.
-use Rattle.isl_closure.proofs.Law.{law_of_flat_programs}
-use Rattle.isl_closure.proofs.laws.law_flat_programs.Goals as goal
-
-pub returns : goal.returns
-returns c = law_of_flat_programs c.law_names.ensures

@@ -1,9 +1,0 @@
--- What was found stands in front of what the rest gives.
-use Rattle.std.proofs.Common.{◌≡◌, ◌++◌, drop}
-use Rattle.isl_profile.specs.GenericRows.{each_method}
-use Rattle.isl_written.specs.Definitions.{view_methods}
-use Rattle.isl_drafts.specs.Views.{view_parts}
-use Rattle.isl_definitions.proofs.generics.each_method.Given as goal
-
-abbrev pub invariant-loop-method : goal.invariant-loop-method
-invariant-loop-method l = view_parts l.parts ++ each_method l.here.tables.now l.name (view_methods (drop l.method-index l.methods)) ≡ each_method l.here.tables.now l.name (view_methods l.methods)

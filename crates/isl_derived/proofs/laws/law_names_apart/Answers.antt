@@ -1,5 +1,0 @@
-use Rattle.isl_derived.proofs.Kept.{derivation_later}
-use Rattle.isl_derived.proofs.laws.law_names_apart.Goals as goal
-
-pub returns : goal.returns
-returns c = derivation_later

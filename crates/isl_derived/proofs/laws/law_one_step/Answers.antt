@@ -1,5 +1,0 @@
-use Rattle.isl_derived.proofs.OneStep.{one_step}
-use Rattle.isl_derived.proofs.laws.law_one_step.Goals as goal
-
-pub returns : goal.returns
-returns c = one_step

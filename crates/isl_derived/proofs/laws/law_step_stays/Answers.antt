@@ -1,5 +1,0 @@
-use Rattle.isl_derived.proofs.OneStep.{step_stays}
-use Rattle.isl_derived.proofs.laws.law_step_stays.Goals as goal
-
-pub returns : goal.returns
-returns c = step_stays

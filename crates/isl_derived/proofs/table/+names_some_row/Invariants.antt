@@ -1,5 +1,0 @@
-use Rattle.std.proofs.Common.{length}
-use Rattle.isl_derived.proofs.table.+names_some_row.Given as goal
-
-abbrev pub decreases-names_some_row : goal.decreases-names_some_row
-decreases-names_some_row l = length l.groups.now

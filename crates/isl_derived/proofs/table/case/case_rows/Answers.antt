@@ -1,7 +1,0 @@
-use Rattle.isl_derived.specs.Table.{case_rows}
-use Rattle.isl_derived.proofs.Views.{pattern_views, template_views}
-use Rattle.isl_derived.proofs.table.case.case_rows.Goals as goal
-
-pub returns : goal.returns
-unfolding case_rows
-returns c = simp (pattern_views, template_views)

@@ -1,7 +1,0 @@
-use Rattle.isl_derived.specs.Table.{function_rows}
-use Rattle.isl_derived.proofs.Views.{pattern_views, template_views}
-use Rattle.isl_derived.proofs.table.repeated.function_rows.Goals as goal
-
-pub returns : goal.returns
-unfolding function_rows
-returns c = simp (pattern_views, template_views)

@@ -1,8 +1,0 @@
--- The forms that were seen are appended.
-use Rattle.std.proofs.Common.{◌≡◌, ◌++◌, take}
-use Rattle.isl_drafts.specs.Views.{view_parts}
-use Rattle.isl_profile.specs.RowWords.{each_form}
-use Rattle.isl_drafts.proofs.plan.push_forms.Given as goal
-
-abbrev pub invariant-loop-item : goal.invariant-loop-item
-invariant-loop-item l = view_parts l.parts ≡ view_parts l.fn.parts ++ each_form (take l.item-index l.items)

@@ -1,6 +1,0 @@
--- Where no site is, the tables are as they were.
-use Rattle.isl_profile.specs.bridge.Growing.{grows_same}
-use Rattle.isl_drafts.proofs.take.symbol_form.Goals as goal
-
-pub returns-then-not-here-clause-grows : goal.returns-then-not-here-clause-grows
-returns-then-not-here-clause-grows c = grows_same _

@@ -1,9 +1,0 @@
--- Where there is no memory for the layout, the run breaks off before it begins.
-use Rattle.std.proofs.lemmas.Result.{err_from_is_err_and}
-use Rattle.isl_evaluation.proofs.Before.{stopped_before}
-use Rattle.isl_evaluation.proofs.setting_up.run_flat.Goals as goal
-
-pub returns-in_err-layout-clause-stops : goal.returns-in_err-layout-clause-stops
-returns-in_err-layout-clause-stops g c =
-    let p = err_from_is_err_and c.from_residual.result c.from_residual.ensures.1 in
-    rw (p.1, p.2) (λ rows made. stopped_before _ _ _)

@@ -1,7 +1,0 @@
--- The frame waits for a value, or takes any outcome.
-use Rattle.std.proofs.Common.{refl}
-use Rattle.isl_evaluator.proofs.Lifting.{lifted_ok}
-use Rattle.isl_evaluator.proofs.evaluator.Evaluator.come_out.Goals as goal
-
-pub returns-in-None : goal.returns-in-None
-returns-in-None c = lifted_ok c.take.result c.args.self.now (record c.args.self.now { machine = c.take.new.machine }) _ refl c.take.ensures

@@ -1,7 +1,0 @@
--- A byte more.
-use Rattle.std.proofs.Common.{refl}
-use Rattle.isl_evaluator.proofs.Streaming.{printed_more}
-use Rattle.isl_evaluator.proofs.evaluator.Evaluator.print.Goals as goal
-
-pub returns : goal.returns
-returns c = printed_more c.args.self.now _ c.args.byte c.in_ok-push.ensures.items refl

@@ -1,6 +1,0 @@
--- The law is the lemma.
-use Rattle.isl_files.specs.bridge.LaterVerdicts.{verdict_later}
-use Rattle.isl_files.proofs.laws.law_names_apart.Goals as goal
-
-pub returns : goal.returns
-returns c = verdict_later

@@ -1,8 +1,0 @@
--- With those of the rest all are there.
-use Rattle.std.proofs.Common.{◌≡◌, List, ◌++◌, drop}
-use Rattle.isl_flatten.specs.declared.variables.Binder.{Binder}
-use Rattle.isl_flatten.specs.Binders.{binders_of_mains}
-use Rattle.isl_flatten.proofs.binders.list_mains.Given as goal
-
-abbrev pub invariant-loop-at : goal.invariant-loop-at
-invariant-loop-at l = (rest : List Binder) → l.made ++ binders_of_mains (drop l.at l.list) rest ≡ l.initial.made ++ binders_of_mains l.list rest

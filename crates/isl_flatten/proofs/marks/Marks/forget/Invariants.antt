@@ -1,7 +1,0 @@
--- Those that are passed are forgotten.
-use Rattle.std.proofs.Common.{take}
-use Rattle.isl_flatten.specs.Marks.{Forgets}
-use Rattle.isl_flatten.proofs.marks.Marks.forget.Given as goal
-
-abbrev pub invariant-loop-at : goal.invariant-loop-at
-invariant-loop-at l = Forgets (take l.at l.variables) l.initial.self l.self

@@ -1,7 +1,0 @@
--- The method is not among those that are passed.
-use Rattle.std.proofs.Common.{◌≡◌, drop}
-use Rattle.isl_closure.specs.Scope.{captured_method}
-use Rattle.isl_flatten.proofs.places.captured_method.Given as goal
-
-abbrev pub invariant-loop-at : goal.invariant-loop-at
-invariant-loop-at l = captured_method (drop l.at l.parts) l.at ≡ captured_method l.parts 0

@@ -1,8 +1,0 @@
--- What is passed is made.
-use Rattle.std.proofs.Common.{◌≡◌, take}
-use Rattle.isl_meaning.specs.Meaning.{bound_variables}
-use Rattle.isl_meaning.specs.model.View.{bindings_of}
-use Rattle.isl_flatten.proofs.variables.bound.Given as goal
-
-abbrev pub invariant-loop-at : goal.invariant-loop-at
-invariant-loop-at l = l.variables ≡ bound_variables (bindings_of (take l.at l.list))

@@ -1,7 +1,0 @@
--- What is passed is made.
-use Rattle.std.proofs.Common.{◌≡◌, take}
-use Rattle.isl_flatten.specs.NewVariables.{homes_of_new}
-use Rattle.isl_flatten.proofs.variables.first_homes.Given as goal
-
-abbrev pub invariant-loop-at : goal.invariant-loop-at
-invariant-loop-at l = l.homes ≡ homes_of_new (take l.at l.news)

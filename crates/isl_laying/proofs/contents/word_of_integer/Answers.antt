@@ -1,9 +1,0 @@
--- The remainder that is not negative is the one that the lowest 32 bits are.
-use Rattle.std.proofs.Common.{arith}
-use Rattle.std.proofs.lemmas.Int.{ints, to_z-of_z}
-use Rattle.isl_mid.specs.Words.{low_word}
-use Rattle.isl_laying.proofs.contents.word_of_integer.Goals as goal
-
-pub returns : goal.returns
-unfolding low_word
-returns c = grind (arith, ints, to_z-of_z)

@@ -1,8 +1,0 @@
--- A symbol that is there has its word.
-use Rattle.std.proofs.Common.{sym, ◌∙◌}
-use Rattle.isl_laying.proofs.MadeSymbols.{symbol_found}
-use Rattle.isl_laying.proofs.laying.lay_symbol.Goals as goal
-
-pub returns-in-Some-clause-lays : goal.returns-in-Some-clause-lays
-returns-in-Some-clause-lays c =
-    symbol_found c.args.names.now c.args.symbol c.args.words.now c.in-Some.word c.len.ensures.table c.requires.named (sym c.find.ensures ∙ c.in-Some.is)

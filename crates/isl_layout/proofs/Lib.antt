@@ -1,9 +1,0 @@
-pub mod Turns
-pub mod Made
-pub mod Data
-pub mod Named
-pub mod SlotParts
-pub mod ClassRange
-pub mod Found
-pub mod SlotPlaces
-pub mod Standing

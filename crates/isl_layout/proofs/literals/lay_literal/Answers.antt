@@ -1,5 +1,0 @@
--- A datum makes its objects.
-use Rattle.isl_layout.proofs.literals.lay_literal.Goals as goal
-
-pub returns-in-Datum : goal.returns-in-Datum
-returns-in-Datum c = rw c.in-Datum.is c.lay_datum.ensures

@@ -1,4 +1,0 @@
-pub mod Recipes
-pub mod Parts
-pub mod Tables
-pub mod Layout

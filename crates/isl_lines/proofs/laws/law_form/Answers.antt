@@ -1,5 +1,0 @@
-use Rattle.isl_lines.proofs.Checking.{law_of_form}
-use Rattle.isl_lines.proofs.laws.law_form.Goals as goal
-
-pub returns : goal.returns
-returns c = law_of_form

@@ -1,5 +1,0 @@
-use Rattle.isl_lines.proofs.LineLaws.{law_of_line_printing}
-use Rattle.isl_lines.proofs.laws.law_line_printing.Goals as goal
-
-pub returns : goal.returns
-returns c = law_of_line_printing

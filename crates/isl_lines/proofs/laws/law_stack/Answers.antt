@@ -1,5 +1,0 @@
-use Rattle.isl_lines.proofs.Stacking.{law_of_stack}
-use Rattle.isl_lines.proofs.laws.law_stack.Goals as goal
-
-pub returns : goal.returns
-returns c = law_of_stack

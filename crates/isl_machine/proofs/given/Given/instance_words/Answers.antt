@@ -1,6 +1,0 @@
--- The primitives see the program's classes.
-use Rattle.isl_machine.proofs.Givens.{fitted}
-use Rattle.isl_machine.proofs.given.Given.instance_words.Goals as goal
-
-pub returns : goal.returns
-returns c names g = c.instance_words.ensures names _ (fitted names c.args.self.now g)

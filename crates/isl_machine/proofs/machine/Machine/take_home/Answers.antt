@@ -1,6 +1,0 @@
--- A cell has a word.
-use Rattle.isl_machine.proofs.Cells.{one_cell_taken}
-use Rattle.isl_machine.proofs.machine.Machine.take_home.Goals as goal
-
-pub returns-in-Cell : goal.returns-in-Cell
-returns-in-Cell c = one_cell_taken c.args.self.now c.take_word.new.self c.args.home c.take_word.result c.in-Cell.is c.take_word.ensures

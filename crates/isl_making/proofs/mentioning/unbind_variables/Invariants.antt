@@ -1,9 +1,0 @@
--- Those that are passed are none of the parts.
-use Rattle.std.proofs.Common.{take, not, ◌&&◌}
-use Rattle.isl_meaning.specs.model.View.{bindings_of}
-use Rattle.isl_meaning.specs.Mentions.{owns, variables_bound}
-use Rattle.isl_making.specs.Mentioned.{has, AreParts}
-use Rattle.isl_making.proofs.mentioning.unbind_variables.Given as goal
-
-abbrev pub invariant-loop-binding : goal.invariant-loop-binding
-invariant-loop-binding l = AreParts l.inner (λ p. not (owns (variables_bound (bindings_of (take l.binding-index l.list))) p) && has l.initial.inner p)

@@ -1,5 +1,0 @@
-use Rattle.isl_meaning.proofs.Levels.{law_of_exits}
-use Rattle.isl_meaning.proofs.laws.law_exits.Goals as goal
-
-pub returns : goal.returns
-returns c = law_of_exits

@@ -1,8 +1,0 @@
--- It is left to see whether the rest binds the part.
-use Rattle.std.proofs.Common.{◌≡◌, drop}
-use Rattle.isl_meaning.specs.model.View.{bindings_of}
-use Rattle.isl_meaning.specs.Mentions.{owns, variables_bound}
-use Rattle.isl_meaning.proofs.mentioned.is_bound.Given as goal
-
-abbrev pub invariant-loop-binding : goal.invariant-loop-binding
-invariant-loop-binding l = owns (variables_bound (bindings_of (drop l.binding-index l.list))) l.part ≡ owns (variables_bound (bindings_of l.list)) l.part

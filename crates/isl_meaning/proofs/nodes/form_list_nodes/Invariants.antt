@@ -1,7 +1,0 @@
--- The loop counts the list.
-use Rattle.isl_meaning.specs.Counts.{all_nodes}
-use Rattle.isl_base.specs.bridge.Counted.{IsCounted}
-use Rattle.isl_meaning.proofs.nodes.form_list_nodes.Given as goal
-
-abbrev pub invariant-loop-at : goal.invariant-loop-at
-invariant-loop-at l = IsCounted all_nodes l.list l.from l.at l.total

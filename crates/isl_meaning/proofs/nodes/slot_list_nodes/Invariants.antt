@@ -1,7 +1,0 @@
--- The loop counts the list.
-use Rattle.isl_meaning.specs.ProgramCounts.{slot_nodes}
-use Rattle.isl_base.specs.bridge.Counted.{IsCounted}
-use Rattle.isl_meaning.proofs.nodes.slot_list_nodes.Given as goal
-
-abbrev pub invariant-loop-at : goal.invariant-loop-at
-invariant-loop-at l = IsCounted slot_nodes l.list 0 l.at l.total

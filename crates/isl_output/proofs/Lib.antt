@@ -1,2 +1,0 @@
--- Proofs of the output.
-mod Written

@@ -1,2 +1,0 @@
--- What an output was given.
-pub mod Given

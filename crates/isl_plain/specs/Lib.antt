@@ -1,5 +1,0 @@
-pub mod Moment
-pub mod Applications
-pub mod Step
-pub mod Run
-pub mod Law

@@ -1,6 +1,0 @@
--- The element stands at its place.
-use Rattle.isl_primitives.proofs.Telling.{vector_ref_there}
-use Rattle.isl_primitives.proofs.elements.vector_ref.Goals as goal
-
-pub returns-in-Ok : goal.returns-in-Ok
-returns-in-Ok c = vector_ref_there c.args.store.now c.args.word c.args.place c.in-Some.elements.now c.len.result c.in-Ok.at c.item_at.result c.in-Some.ensures c.len.ensures c.in-Ok.ensures c.item_at.ensures

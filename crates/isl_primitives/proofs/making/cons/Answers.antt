@@ -1,6 +1,0 @@
--- A cons is made.
-use Rattle.isl_primitives.proofs.Placing.{cons_made}
-use Rattle.isl_primitives.proofs.making.cons.Goals as goal
-
-pub returns : goal.returns
-returns c = rw c.answered.ensures (cons_made c.args.limit c.args.car c.args.cdr c.args.store.now c.make.new.self c.make.result c.make.ensures.answer)

@@ -1,6 +1,0 @@
--- The slots so far have other names.
-use Rattle.isl_primitives.specs.Computed.{IsSlotPast}
-use Rattle.isl_primitives.proofs.primitives.Primitives.find_slot.Given as goal
-
-abbrev pub invariant-loop-at : goal.invariant-loop-at
-invariant-loop-at l = IsSlotPast l.self l.spelt l.slots l.at

@@ -1,6 +1,0 @@
--- The law is the lemma.
-use Rattle.isl_profile.specs.bridge.Later.{plain_later}
-use Rattle.isl_profile.proofs.laws.law_names_apart.Goals as goal
-
-pub returns : goal.returns
-returns c = plain_later

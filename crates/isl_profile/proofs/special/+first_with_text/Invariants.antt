@@ -1,6 +1,0 @@
--- The rest is shorter.
-use Rattle.std.proofs.Common.{length}
-use Rattle.isl_profile.proofs.special.+first_with_text.Given as goal
-
-abbrev pub decreases-first_with_text : goal.decreases-first_with_text
-decreases-first_with_text l = length l.specials.now

@@ -1,5 +1,0 @@
-use Rattle.isl_reader.proofs.TextLaws.{one_reading}
-use Rattle.isl_reader.proofs.laws.law_one_reading.Goals as goal
-
-pub returns : goal.returns
-returns c = one_reading

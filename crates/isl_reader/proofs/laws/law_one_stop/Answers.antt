@@ -1,5 +1,0 @@
-use Rattle.isl_reader.proofs.TextLaws.{one_stop}
-use Rattle.isl_reader.proofs.laws.law_one_stop.Goals as goal
-
-pub returns : goal.returns
-returns c = one_stop

@@ -1,5 +1,0 @@
-use Rattle.isl_reader.proofs.TextLaws.{reads_or_stops}
-use Rattle.isl_reader.proofs.laws.law_reads_or_stops.Goals as goal
-
-pub returns : goal.returns
-returns c = reads_or_stops

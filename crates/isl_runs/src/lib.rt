@@ -1,4 +1,0 @@
-// What is true along every run of the plain evaluator's machine.
-#![tactic(auto)]
-
-pub mod laws;

@@ -1,7 +1,0 @@
--- The counts of those that were seen.
-use Rattle.std.proofs.Common.{◌≡◌, take}
-use Rattle.isl_scope.specs.Cuts.{method_counts}
-use Rattle.isl_scope.proofs.mark.method_counts.Given as goal
-
-abbrev pub invariant-loop-generic : goal.invariant-loop-generic
-invariant-loop-generic l = l.counts ≡ method_counts (take l.generic-index l.generic-items)

@@ -1,5 +1,0 @@
--- A form's parts stand inside fewer forms.
-use Rattle.isl_scope_tables.proofs.forms.+forms.Given as goal
-
-abbrev pub decreases-put_form : goal.decreases-put_form
-decreases-put_form l = l.depth

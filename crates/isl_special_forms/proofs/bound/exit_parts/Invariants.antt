@@ -1,8 +1,0 @@
--- The parts that were seen stand in front of the rest.
-use Rattle.std.proofs.Common.{◌≡◌, ◌++◌, drop}
-use Rattle.std.specs.List.{filter_map}
-use Rattle.isl_profile.specs.Names.{exit_part}
-use Rattle.isl_special_forms.proofs.bound.exit_parts.Given as goal
-
-abbrev pub invariant-loop-one : goal.invariant-loop-one
-invariant-loop-one l = l.parts ++ filter_map exit_part (drop l.one-index l.bound) ≡ filter_map exit_part l.bound

@@ -1,8 +1,0 @@
--- One word is pushed.
-use Rattle.std.proofs.Common.{◌+◌, refl, ap}
-use Rattle.isl_start.proofs.ClassObjects.{output_settles}
-use Rattle.isl_start.proofs.classes.lay_output.Goals as goal
-
-pub returns-clause-settles : goal.returns-clause-settles
-returns-clause-settles c names program =
-    output_settles names program c.args.words.now _ _ (record { first = refl; symbols = refl; words = c.in_ok-push.ensures.ok }) (ap (λ n. n + 2) c.end_address-word.ensures)

@@ -1,6 +1,0 @@
--- The words so far.
-use Rattle.std.proofs.Common.{◌≡◌, ◌++◌, take}
-use Rattle.isl_start.proofs.fixed.push_all.Given as goal
-
-abbrev pub invariant-loop-word : goal.invariant-loop-word
-invariant-loop-word l = l.words ≡ l.fn.words ++ take l.word-index l.more

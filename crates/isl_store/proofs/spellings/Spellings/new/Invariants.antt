@@ -1,6 +1,0 @@
--- The table was searched so far.
-use Rattle.isl_store.specs.Spelling.{IsBlankBelow}
-use Rattle.isl_store.proofs.spellings.Spellings.new.Given as goal
-
-abbrev pub invariant-loop-number : goal.invariant-loop-number
-invariant-loop-number l = IsBlankBelow l.names l.number l.blank

@@ -1,9 +1,0 @@
--- The law is two lemmas.
-use Rattle.isl_whole.proofs.Below.{form_defines_nothing, function_leaves_one}
-use Rattle.isl_whole.proofs.laws.law_below_top_level.Goals as goal
-
-pub returns-clause-forms : goal.returns-clause-forms
-returns-clause-forms c = form_defines_nothing
-
-pub returns-clause-functions : goal.returns-clause-functions
-returns-clause-functions c = function_leaves_one

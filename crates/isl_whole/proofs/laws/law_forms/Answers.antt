@@ -1,6 +1,0 @@
--- The law is the lemma.
-use Rattle.isl_whole.proofs.Programs.{form_came}
-use Rattle.isl_whole.proofs.laws.law_forms.Goals as goal
-
-pub returns : goal.returns
-returns c = form_came c.law_good_steps.ensures (record { hierarchies = c.law_definitions.ensures.hierarchies; names = c.law_definitions.ensures.names })

@@ -1,6 +1,0 @@
-pub mod ByHand
-pub mod Exits
-pub mod Conditions
-pub mod Calls
-pub mod Data
-pub mod Programs

@@ -1,8 +1,0 @@
--- It is left to see what the rest says.
-use Rattle.std.proofs.Common.{◌≡◌, drop}
-use Rattle.isl_profile.specs.GivenNames.{number_of}
-use Rattle.isl_written.specs.Behind.{from}
-use Rattle.isl_written.proofs.naming.name_of_text.Given as goal
-
-abbrev pub invariant-loop-number : goal.invariant-loop-number
-invariant-loop-number l = from l.number (number_of (drop l.number l.names) l.text) ≡ number_of l.names l.text

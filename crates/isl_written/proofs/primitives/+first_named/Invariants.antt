@@ -1,6 +1,0 @@
--- The rest is shorter.
-use Rattle.std.proofs.Common.{length}
-use Rattle.isl_written.proofs.primitives.+first_named.Given as goal
-
-abbrev pub decreases-first_named : goal.decreases-first_named
-decreases-first_named l = length l.primitives.now

@@ -1,6 +1,0 @@
--- The rest is shorter.
-use Rattle.std.proofs.Common.{length}
-use Rattle.isl_written.proofs.primitives.+some_direct_name.Given as goal
-
-abbrev pub decreases-some_direct_name : goal.decreases-some_direct_name
-decreases-some_direct_name l = length l.primitives.now

@@ -1,8 +1,0 @@
--- The names of the bindings that were seen.
-use Rattle.std.proofs.Common.{◌≡◌, take}
-use Rattle.isl_profile.specs.Shapes.{names_of_pairs}
-use Rattle.isl_written.specs.Views.{view_pairs}
-use Rattle.isl_written.proofs.shapes.names_of_pairs.Given as goal
-
-abbrev pub invariant-loop-pair : goal.invariant-loop-pair
-invariant-loop-pair l = l.names ≡ names_of_pairs (view_pairs (take l.pair-index l.pairs))

@@ -1,9 +1,0 @@
--- What was found stands in front of what the rest gives.
-use Rattle.std.proofs.Common.{◌≡◌, drop}
-use Rattle.isl_profile.specs.ClassShapes.{each_super}
-use Rattle.isl_written.specs.Behind.{all_behind}
-use Rattle.isl_written.specs.ClassDefinitions.{view_supers}
-use Rattle.isl_written.proofs.slots.each_super.Given as goal
-
-abbrev pub invariant-loop-item : goal.invariant-loop-item
-invariant-loop-item l = all_behind (view_supers l.supers) (each_super (drop l.item-index l.items)) ≡ each_super l.items

@@ -1,9 +1,0 @@
--- It is left to see what the rest says.
-use Rattle.std.proofs.Common.{◌≡◌, drop}
-use Rattle.std.specs.List.{list_any}
-use Rattle.isl_profile.specs.ClassShapes.{is_no_option}
-use Rattle.isl_written.specs.ClassDefinitions.{view_class_options}
-use Rattle.isl_written.proofs.slots.some_no_option.Given as goal
-
-abbrev pub invariant-loop-option : goal.invariant-loop-option
-invariant-loop-option l = list_any is_no_option (view_class_options (drop l.option-index l.options)) ≡ list_any is_no_option (view_class_options l.options)

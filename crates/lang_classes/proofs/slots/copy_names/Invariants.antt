@@ -1,0 +1,6 @@
+-- The names so far.
+use Rattle.std.proofs.Common.{◌≡◌, take}
+use Rattle.lang_classes.proofs.slots.copy_names.Given as goal
+
+abbrev pub invariant-loop-name : goal.invariant-loop-name
+invariant-loop-name l = l.copied ≡ take l.name-index l.names

@@ -1,0 +1,76 @@
+// What a row asks of a datum: whether it is a symbol, its name, and the items of a list.
+
+ghost use Rattle.std.specs.Prelude.{◌≡◌, Some, None, MatchOption};
+ghost use Rattle.base.specs.DataNames.{symbol_text, text_of};
+ghost use Rattle.lang_derived.specs.Asked.{is_word, is_symbol, list_items};
+
+use base::{Datum, Kind, Names, Symbol};
+
+/// The name of a symbol; none of a fresh one, and of what is no symbol.
+pub fn text_of<'n>(names: &'n Names, datum: &Datum) -> Option<&'n [u8]>
+    ensures { MatchOption result (text_of names.now datum.now ≡ None) (λ text. text_of names.now datum.now ≡ Some text.now) }
+{
+    match &datum.kind {
+        Kind::Sym(symbol) => symbol_text(names, *symbol),
+        Kind::Int(_) => None,
+        Kind::Char(_) => None,
+        Kind::Str(_) => None,
+        Kind::Vector(_) => None,
+        Kind::Nil => None,
+        Kind::List { .. } => None,
+    }
+}
+
+/// The name of a symbol, where a text names it.
+pub fn symbol_text<'n>(names: &'n Names, symbol: Symbol) -> Option<&'n [u8]>
+    ensures { MatchOption result (symbol_text names.now symbol ≡ None) (λ text. symbol_text names.now symbol ≡ Some text.now) }
+{
+    match symbol {
+        Symbol::Named(name) => names.text(name),
+        Symbol::Fresh { .. } => None,
+    }
+}
+
+/// Whether it is the symbol of that name.
+pub fn is_word(names: &Names, text: &[u8], datum: &Datum) -> bool
+    ensures { result ≡ is_word names.now text.now datum.now }
+{
+    match text_of(names, datum) {
+        Some(name) => name == text,
+        None => false,
+    }
+}
+
+/// Whether it is a symbol, named or fresh; nil is none.
+pub(crate) fn is_symbol(datum: &Datum) -> bool
+    ensures { result ≡ is_symbol datum.now }
+{
+    match &datum.kind {
+        Kind::Sym(_) => true,
+        Kind::Int(_) => false,
+        Kind::Char(_) => false,
+        Kind::Str(_) => false,
+        Kind::Vector(_) => false,
+        Kind::Nil => false,
+        Kind::List { .. } => false,
+    }
+}
+
+/// The items of a list without a dot; nil is the list without items.
+#[tactic(auto, using(crate::proofs::Lists::shown_items))]
+pub fn list_items<'a>(datum: &'a Datum) -> Option<&'a [Datum]>
+    ensures { MatchOption result (list_items datum.now ≡ None) (λ items. list_items datum.now ≡ Some items.now) }
+{
+    match &datum.kind {
+        Kind::Nil => Some(&[]),
+        Kind::List { items, tail } => match tail {
+            None => Some(items.as_slice()),
+            Some(_) => None,
+        },
+        Kind::Int(_) => None,
+        Kind::Char(_) => None,
+        Kind::Sym(_) => None,
+        Kind::Str(_) => None,
+        Kind::Vector(_) => None,
+    }
+}

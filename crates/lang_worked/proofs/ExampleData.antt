@@ -1,0 +1,85 @@
+-- The worked programs on data compute.
+use Rattle.std.proofs.Common.{refl}
+use Rattle.lang_meaning.specs.Meaning.{meaning, mean, meaning_at}
+use Rattle.lang_worked.specs.ByHand.{Does}
+use Rattle.lang_worked.specs.Data.{DottedList, StringInAVector, ChangedLiteral, RestList, Applied, AppliedToADottedList, TooManyArguments, Floors, Overflow, NoFunction, NoValue, Counting, CountingWords, SetBinding, SlotPlaces, SlotInitarg, SlotForm, UnboundSlot, SetSlot, TwoBytes}
+
+pub dotted_list : DottedList Does
+unfolding meaning mean meaning_at
+dotted_list = record { ends = refl; prints = refl }
+
+pub string_in_a_vector : StringInAVector Does
+unfolding meaning mean meaning_at
+string_in_a_vector = record { ends = refl; prints = refl }
+
+pub changed_literal : ChangedLiteral Does
+unfolding meaning mean meaning_at
+changed_literal = record { ends = refl; prints = refl }
+
+pub rest_list : RestList Does
+unfolding meaning mean meaning_at
+rest_list = record { ends = refl; prints = refl }
+
+pub applied : Applied Does
+unfolding meaning mean meaning_at
+applied = record { ends = refl; prints = refl }
+
+pub applied_to_a_dotted_list : AppliedToADottedList Does
+unfolding meaning mean meaning_at
+applied_to_a_dotted_list = record { ends = refl; prints = refl }
+
+pub too_many_arguments : TooManyArguments Does
+unfolding meaning mean meaning_at
+too_many_arguments = record { ends = refl; prints = refl }
+
+pub floors : Floors Does
+unfolding meaning mean meaning_at
+floors = record { ends = refl; prints = refl }
+
+pub overflow : Overflow Does
+unfolding meaning mean meaning_at
+overflow = record { ends = refl; prints = refl }
+
+pub no_function : NoFunction Does
+unfolding meaning mean meaning_at
+no_function = record { ends = refl; prints = refl }
+
+pub no_value : NoValue Does
+unfolding meaning mean meaning_at
+no_value = record { ends = refl; prints = refl }
+
+pub counting : Counting Does
+unfolding meaning mean meaning_at
+counting = record { ends = refl; prints = refl }
+
+pub set_binding : SetBinding Does
+unfolding meaning mean meaning_at
+set_binding = record { ends = refl; prints = refl }
+
+pub slot_places : SlotPlaces Does
+unfolding meaning mean meaning_at
+slot_places = record { ends = refl; prints = refl }
+
+pub slot_initarg : SlotInitarg Does
+unfolding meaning mean meaning_at
+slot_initarg = record { ends = refl; prints = refl }
+
+pub slot_form : SlotForm Does
+unfolding meaning mean meaning_at
+slot_form = record { ends = refl; prints = refl }
+
+pub unbound_slot : UnboundSlot Does
+unfolding meaning mean meaning_at
+unbound_slot = record { ends = refl; prints = refl }
+
+pub set_slot : SetSlot Does
+unfolding meaning mean meaning_at
+set_slot = record { ends = refl; prints = refl }
+
+pub two_bytes : TwoBytes
+unfolding meaning mean meaning_at
+two_bytes = refl
+
+pub counting_words : CountingWords
+unfolding meaning mean meaning_at
+counting_words = refl

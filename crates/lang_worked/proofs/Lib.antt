@@ -1,0 +1,4 @@
+pub mod Examples
+pub mod ExampleData
+pub mod ExampleFacts
+pub mod FlatExamples

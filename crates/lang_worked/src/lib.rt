@@ -1,0 +1,8 @@
+// Worked programs: what some programs that are written out by hand do, by the definitions of the meaning, and the same made flat.
+#![tactic(auto)]
+
+pub mod flat_programs;
+pub mod worked;
+
+pub use flat_programs::{flat_calls, flat_conditions, flat_data, flat_exits, worked_flat};
+pub use worked::{worked_calls, worked_conditions, worked_data, worked_exits, worked_programs};

@@ -1,0 +1,92 @@
+// Whether code calls procedures that are there, with as many arguments as they take.
+
+ghost use Rattle.std.specs.Prelude.{◌≡◌, length, slice_get};
+ghost use Rattle.mid_code.specs.MidCode.{code_of};
+ghost use Rattle.mid_code.specs.Checked.{takes, call_fits, operation_calls, step_calls, code_calls};
+
+use crate::code::{Code, Step, StepKind};
+use crate::operation::{Callee, Operation};
+use crate::program::ProcedureList;
+
+/// Whether each call by number in the code is of a procedure that is there and takes as many arguments.
+#[cycle(calls)]
+#[tactic(auto, using(crate::specs::model::Sizes::step_turn))]
+pub fn code_calls(procedures: &ProcedureList, code: &Code) -> bool
+    ensures { result ≡ code_calls procedures.now (code_of code.now) }
+{
+    for step in code.as_slice() {
+        if !step_calls(procedures, step) {
+            return false;
+        }
+    }
+    true
+}
+
+#[cycle(calls)]
+fn step_calls(procedures: &ProcedureList, step: &Step) -> bool
+    ensures { result ≡ step_calls procedures.now step.now }
+{
+    match &step.kind {
+        StepKind::Do(operation) => operation_calls(procedures, operation),
+        StepKind::Choose(_, first, second) => {
+            code_calls(procedures, first) && code_calls(procedures, second)
+        }
+        StepKind::Repeat {
+            counted: _,
+            head,
+            test: _,
+            body,
+        } => code_calls(procedures, head) && code_calls(procedures, body),
+        StepKind::WithBlock {
+            block: _,
+            words: _,
+            word: _,
+            inside,
+            landing,
+        } => code_calls(procedures, inside) && code_calls(procedures, landing),
+        StepKind::Return(_)
+        | StepKind::Cut { .. }
+        | StepKind::Halt(_)
+        | StepKind::Unhandled { .. } => true,
+    }
+}
+
+fn operation_calls(procedures: &ProcedureList, operation: &Operation) -> bool
+    ensures { result ≡ operation_calls procedures.now operation.now }
+{
+    match operation {
+        Operation::Move { .. }
+        | Operation::Constant { .. }
+        | Operation::Compute { .. }
+        | Operation::Load { .. }
+        | Operation::Store { .. }
+        | Operation::Request { .. }
+        | Operation::Draw { .. }
+        | Operation::Put { .. }
+        | Operation::Get { .. } => true,
+        Operation::Call {
+            to: _,
+            callee,
+            arguments,
+        } => call_fits(procedures, *callee, arguments.len()),
+    }
+}
+
+fn call_fits(procedures: &ProcedureList, callee: Callee, count: usize) -> bool
+    ensures { result ≡ call_fits procedures.now callee count }
+{
+    match callee {
+        Callee::Procedure(number) => takes(procedures, number, count),
+        Callee::Word(_) => true,
+    }
+}
+
+// Whether the procedure of that number is there and takes so many arguments.
+fn takes(procedures: &ProcedureList, number: usize, count: usize) -> bool
+    ensures { result ≡ takes (slice_get procedures.now number) count }
+{
+    match procedures.get(number) {
+        None => false,
+        Some(procedure) => procedure.parameters == count,
+    }
+}

@@ -1,0 +1,87 @@
+// Middle code: a tree of steps.
+
+ghost use Rattle.std.specs.Prelude.{◌≡◌};
+ghost use Rattle.mid_code.specs.model.View.{view_step};
+
+use crate::operation::{Counted, Operation, Register, Test};
+use base::ItemList;
+use std::marker::Model;
+
+/// A step of code. Contracts see it as the `MidStep` of specs/MidCode.antt.
+#[derive(Drop)]
+#[cycle(code)]
+pub struct Step {
+    pub kind: StepKind,
+}
+
+/// The kinds of steps.
+#[derive(Drop)]
+#[cycle(code)]
+pub enum StepKind {
+    Do(Operation),
+    /// The first code where the test holds, else the second.
+    Choose(Test, Code, Code),
+    /// The head, and then the test; while it holds, the body and all of it again.
+    Repeat {
+        counted: Counted,
+        head: Code,
+        test: Test,
+        body: Code,
+    },
+    /// A control record: a block of so many words on the stack, whose address is in the register `block`, for the code
+    /// inside. A cut to it closes it: the word of the cut is in the register `word`, and the landing runs. Where either falls
+    /// out, the block is given back.
+    WithBlock {
+        block: Register,
+        words: u32,
+        word: Register,
+        inside: Code,
+        landing: Code,
+    },
+    /// The activation ends with the word.
+    Return(Register),
+    /// The activations and blocks above that block end, and its landing runs with the word.
+    Cut {
+        block: Register,
+        word: Register,
+    },
+    /// The program ends with the word.
+    Halt(Register),
+    /// The program ends with a condition that is not handled: the words for its class and its site.
+    Unhandled {
+        class: Register,
+        site: Register,
+    },
+}
+
+/// Steps in order.
+pub type Code = ItemList<Step>;
+
+impl Model for Step {
+    ghost use Rattle.mid_code.specs.MidCode.{MidStep, step_size};
+
+    ghost Value = { MidStep };
+
+    ghost use Rattle.mid_code.specs.model.StepCode.{step_code};
+
+    ghost coded = { step_code };
+
+    ghost use Rattle.mid_code.specs.model.View.{view_step};
+
+    ghost view = { λ s. view_step s.kind };
+
+    ghost size = { step_size };
+
+    ghost use Rattle.mid_code.specs.model.Falls.{step_falls};
+
+    ghost size_decreases = { λ s h. step_falls s.kind };
+}
+
+impl Step {
+    /// A step of that kind.
+    pub fn new(kind: StepKind) -> Step
+        ensures { result ≡ view_step kind }
+    {
+        Step { kind }
+    }
+}

@@ -1,0 +1,77 @@
+// Copies of operations.
+
+ghost use Rattle.std.specs.Prelude.{◌≡◌, IfOk};
+
+use base::NoMemory;
+use mid_code::{Operation, RegisterList};
+use std::alloc::Global;
+
+/// The same operation once more.
+pub fn copy_of_operation(alloc: Global, operation: &Operation) -> Result<Operation, NoMemory>
+    ensures { IfOk result (λ copied. copied ≡ operation.now) }
+{
+    match operation {
+        Operation::Move { to, from } => Ok(Operation::Move {
+            to: *to,
+            from: *from,
+        }),
+        Operation::Constant { to, word } => Ok(Operation::Constant {
+            to: *to,
+            word: *word,
+        }),
+        Operation::Compute {
+            to,
+            which,
+            first,
+            second,
+        } => Ok(Operation::Compute {
+            to: *to,
+            which: *which,
+            first: *first,
+            second: *second,
+        }),
+        Operation::Load { to, base, offset } => Ok(Operation::Load {
+            to: *to,
+            base: *base,
+            offset: *offset,
+        }),
+        Operation::Store { from, base, offset } => Ok(Operation::Store {
+            from: *from,
+            base: *base,
+            offset: *offset,
+        }),
+        Operation::Request { to, words } => Ok(Operation::Request {
+            to: *to,
+            words: *words,
+        }),
+        Operation::Draw { to, base, offset } => Ok(Operation::Draw {
+            to: *to,
+            base: *base,
+            offset: *offset,
+        }),
+        Operation::Put { from } => Ok(Operation::Put { from: *from }),
+        Operation::Get { to } => Ok(Operation::Get { to: *to }),
+        Operation::Call {
+            to,
+            callee,
+            arguments,
+        } => {
+            let arguments = copy_of_registers(alloc, arguments)?;
+            Ok(Operation::Call {
+                to: *to,
+                callee: *callee,
+                arguments,
+            })
+        }
+    }
+}
+
+fn copy_of_registers(alloc: Global, registers: &RegisterList) -> Result<RegisterList, NoMemory>
+    ensures { IfOk result (λ copied. copied ≡ registers.now) }
+{
+    let mut copied = RegisterList::new(alloc);
+    for register in registers.as_slice() {
+        copied.push(*register)?;
+    }
+    Ok(copied)
+}

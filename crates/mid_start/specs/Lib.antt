@@ -1,0 +1,12 @@
+pub mod Lists
+pub mod Symbols
+pub mod LaidArena
+pub mod LaidWell
+pub mod Contents
+pub mod Laying
+pub mod Recipes
+pub mod Making
+pub mod Rows
+pub mod Settling
+pub mod Start
+pub mod Law

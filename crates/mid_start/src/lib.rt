@@ -1,0 +1,21 @@
+// The words that stand beside the code before the first form of a program, its literals among them.
+#![tactic(auto)]
+
+pub mod classes;
+mod contents;
+pub mod fixed;
+pub mod functions;
+pub mod laws;
+pub mod laying;
+pub mod literals;
+pub mod names;
+pub mod slots;
+pub mod start;
+pub mod symbol_words;
+pub mod words;
+
+pub use laws::{law_start, law_whole_rows};
+pub use laying::lay_datum;
+pub use start::{StartFault, StartWords, lay_rows, lay_start};
+pub use symbol_words::{SymbolWord, SymbolWords};
+pub use words::ArenaWords;

@@ -1,0 +1,48 @@
+// What stands round the body of a form that makes a function: its rest variable and the captured parts.
+
+use crate::inputs::{command, id, ids, items};
+use base::{Datum, Kind, Names};
+use lang_meaning::{Part, PartList, Var, VarList};
+use test_rows::Answer;
+
+/// The number of a rest variable, or nil.
+pub fn rest_or_nil(datum: &Datum) -> Option<Option<Var>> {
+    match &datum.kind {
+        Kind::Nil => Some(None),
+        _ => Some(Some(id(datum)?)),
+    }
+}
+
+/// The required variables of a function, and the parts that it captures.
+pub fn around(
+    got: &mut Answer,
+    names: &Names,
+    variables: &Datum,
+    parts: &[Datum],
+) -> Option<(VarList, PartList)> {
+    let required = ids(got, items(variables)?)?;
+    let Some(captured) = captured(got, names, parts) else {
+        drop(required);
+        return None;
+    };
+    Some((required, captured))
+}
+
+fn captured(got: &mut Answer, names: &Names, data: &[Datum]) -> Option<PartList> {
+    let mut list = PartList::new(got.alloc);
+    for datum in data {
+        got.add(&mut list, part(names, datum)?);
+    }
+    Some(list)
+}
+
+// `(v 3)` is the variable 3, `(x 7)` the exit 7, and `(m)` what is around of the method.
+fn part(names: &Names, datum: &Datum) -> Option<Part> {
+    let (word, numbers) = command(names, datum)?;
+    match numbers {
+        [] if word == "m" => Some(Part::Method),
+        [number] if word == "v" => Some(Part::Variable(id(number)?)),
+        [number] if word == "x" => Some(Part::Exit(id(number)?)),
+        _ => None,
+    }
+}

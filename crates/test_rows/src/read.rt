@@ -1,0 +1,37 @@
+// The data of an input, read by the reader.
+
+ghost use Rattle.std.specs.Prelude.{◌≤◌, length};
+
+use crate::answer::Answer;
+use base::{DatumList, Names, Origin};
+use front_reader::Reader;
+
+/// The bytes that a file may have.
+pub const LONGEST: usize = 1_048_576;
+
+/// All data of a text of a file; none where the text is refused.
+pub fn read_data(got: &mut Answer, names: &mut Names, text: &[u8]) -> Option<DatumList> {
+    if text.len() > LONGEST {
+        return None;
+    }
+    let mut data = DatumList::new(got.alloc);
+    if add_data(got, names, &mut data, text).is_none() {
+        drop(data);
+        return None;
+    }
+    Some(data)
+}
+
+// Appends the data of a text.
+fn add_data(got: &mut Answer, names: &mut Names, data: &mut DatumList, text: &[u8]) -> Option<()>
+    requires { length text.now ≤ 1048576 }
+{
+    let mut reader = Reader::new(text, Origin::File);
+    for _ in 0..text.len() {
+        match reader.next(got.alloc, names).ok()? {
+            Some(datum) => got.add(data, datum),
+            None => break,
+        }
+    }
+    Some(())
+}

@@ -1,0 +1,123 @@
+// What a call is given.
+
+use base::{Bytes, CallList, MemShelf, MemSink, MemSource, NoMemory, Words};
+use std::alloc::Global;
+use top_main::{Kept, isl_main};
+
+// The name of the one file of the shelf.
+const NAME: &str = "f";
+
+// The bytes that an output keeps.
+const ROOM: usize = 4096;
+
+/// The words, the text of the file `f`, the input, and which calls of the shelf, the input, the output and the
+/// error output fail, counted from 0.
+#[derive(Drop)]
+pub struct Given {
+    pub words: Words,
+    pub text: Bytes,
+    pub input: Bytes,
+    pub shelf_fails: CallList,
+    pub input_fails: CallList,
+    pub out_fails: CallList,
+    pub err_fails: CallList,
+}
+
+impl Given {
+    /// No word, an empty file, no input, and no call that fails.
+    pub fn nothing(alloc: Global) -> Given {
+        Given {
+            words: Words::new(alloc),
+            text: Bytes::new(alloc),
+            input: Bytes::new(alloc),
+            shelf_fails: CallList::new(alloc),
+            input_fails: CallList::new(alloc),
+            out_fails: CallList::new(alloc),
+            err_fails: CallList::new(alloc),
+        }
+    }
+
+    /// The call that is given this.
+    pub fn call(self, alloc: Global) -> Result<Call, NoMemory> {
+        let Given {
+            words,
+            text,
+            input,
+            shelf_fails,
+            input_fails,
+            out_fails,
+            err_fails,
+        } = self;
+        let Ok(outputs) = outputs(alloc, out_fails, err_fails) else {
+            drop((words, input));
+            drop((text, shelf_fails));
+            drop(input_fails);
+            return Err(NoMemory);
+        };
+        let Ok(shelf) = shelf_of(alloc, text, shelf_fails) else {
+            drop((words, input));
+            drop((outputs, input_fails));
+            return Err(NoMemory);
+        };
+        let (out, err) = outputs;
+        Ok(Call {
+            words,
+            shelf,
+            input: MemSource::new(input, input_fails),
+            out,
+            err,
+        })
+    }
+}
+
+// The output and the error output.
+fn outputs(
+    alloc: Global,
+    out_fails: CallList,
+    err_fails: CallList,
+) -> Result<(MemSink, MemSink), NoMemory> {
+    let Ok(out) = MemSink::new(alloc, ROOM, out_fails) else {
+        drop(err_fails);
+        return Err(NoMemory);
+    };
+    let Ok(err) = MemSink::new(alloc, ROOM, err_fails) else {
+        drop(out);
+        return Err(NoMemory);
+    };
+    Ok((out, err))
+}
+
+// The shelf with the file of that text.
+fn shelf_of(alloc: Global, text: Bytes, fails: CallList) -> Result<MemShelf, NoMemory> {
+    let Ok(name) = Bytes::from_slice(alloc, NAME.as_bytes()) else {
+        drop((text, fails));
+        return Err(NoMemory);
+    };
+    Ok(MemShelf::new(name, text, fails))
+}
+
+/// The words of a call, and its outside.
+#[derive(Drop)]
+pub struct Call {
+    words: Words,
+    shelf: MemShelf,
+    input: MemSource,
+    pub out: MemSink,
+    pub err: MemSink,
+}
+
+impl Call {
+    /// The exit status of the main call, whose image is not kept.
+    pub fn make(&mut self, alloc: Global) -> u8 {
+        let status = isl_main(
+            alloc,
+            &self.words,
+            &mut self.shelf,
+            &mut self.input,
+            &mut self.out,
+            &mut self.err,
+            &mut Kept::new(),
+        );
+        status.number()
+    }
+}

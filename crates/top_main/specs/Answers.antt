@@ -1,0 +1,157 @@
+-- What a run or an evaluation of a program answers, what a run, a check or an evaluation of a file does, what the words do, and what stands
+-- then.
+use Rattle.std.specs.Prelude.{◌≡◌, ◌⊎◌, ℕ, List, Option, Some, None}
+use Rattle.base.specs.declared.place.Place.{Place}
+use Rattle.base.specs.declared.reason.Refusal.{Refusal}
+use Rattle.base.specs.declared.reason.Stop.{Stop}
+use Rattle.base.specs.declared.reason.Stop.TheVariants as stop
+use Rattle.rv_machine.specs.declared.image.Image.{Image}
+use Rattle.lang_meaning.specs.declared.program.ProgramRows.{ProgramRows}
+use Rattle.eval_run.specs.declared.end.PlainEnd.{PlainEnd}
+use Rattle.eval_run.specs.declared.end.PlainEnd.TheVariants as plain
+use Rattle.eval_run.specs.Evaluation.{Evaluation}
+use Rattle.eval_run.specs.Evaluates.{Evaluates, BreaksOff}
+use Rattle.top_main.specs.Command.{Asked, asked}
+use Rattle.base.specs.Given.{WasGiven, WasGivenFront}
+use Rattle.top_main.specs.Lines.{ok_line}
+use Rattle.top_main.specs.declared.command.Action.TheVariants.{Run, Check, Plain}
+use Rattle.top_main.specs.declared.status.Answer.{Answer}
+use Rattle.top_main.specs.declared.status.Answer.TheVariants as answer
+use Rattle.top_main.specs.Theorem.{Sent, Built, Halts, Spends, GivenAll, GivenPrefix, Accepted, Declined, Passes, Offends, PlainRuns, PlainBreaks, class_text}
+
+-- the answer of a text that is no program
+abbrev pub answer_of_stop : Stop → Answer
+answer_of_stop (stop.Refused r) = answer.Refused r
+answer_of_stop stop.NoMemory = answer.NoMemory
+
+-- the image that is kept is the program's, its run halts, and all that it prints was given
+pub record RunHalts (program : ProgramRows) (kept : Option Image) (arena steps : ℕ) (sent : Sent) : Type 0 where
+  pub built : Built program kept arena
+  pub halts : Halts built steps
+  pub printed : GivenAll built steps sent
+
+-- the same with a run that does not end within so many instructions
+pub record RunSpends (program : ProgramRows) (kept : Option Image) (arena steps : ℕ) (sent : Sent) : Type 0 where
+  pub built : Built program kept arena
+  pub spends : Spends built steps
+  pub printed : GivenAll built steps sent
+
+-- the same with a run whose output was cut off
+pub record RunIsCutOff (program : ProgramRows) (kept : Option Image) (arena steps : ℕ) (sent : Sent) : Type 0 where
+  pub built : Built program kept arena
+  pub printed : GivenPrefix built steps sent
+
+-- the answer of a program's run: where the output rose in faults, and where it is the same
+abbrev pub RunAnswers : Answer → ProgramRows → Option Image → (arena steps : ℕ) → Sent → (Rises Same : Type 0) → Type 0
+RunAnswers answer.Done program kept arena steps sent Rises Same = RunHalts program kept arena steps sent
+RunAnswers (answer.Budget n) program kept arena steps sent Rises Same = (n ≡ steps) × RunSpends program kept arena steps sent
+RunAnswers answer.WriteFault program kept arena steps sent Rises Same = Rises × RunIsCutOff program kept arena steps sent
+RunAnswers answer.NoMemory program kept arena steps sent Rises Same = Same × (kept ≡ None)
+RunAnswers answer.Usage program kept arena steps sent Rises Same = ⊥
+RunAnswers (answer.Refused r) program kept arena steps sent Rises Same = ⊥
+RunAnswers answer.FileFault program kept arena steps sent Rises Same = ⊥
+RunAnswers (answer.Unhandled class site) program kept arena steps sent Rises Same = ⊥
+RunAnswers (answer.ArenaFull wanted room) program kept arena steps sent Rises Same = ⊥
+RunAnswers answer.Spent program kept arena steps sent Rises Same = ⊥
+RunAnswers answer.ReadFault program kept arena steps sent Rises Same = ⊥
+
+-- the file's text is a program, and that stands of its run
+abbrev pub RunOf : Option (List ℕ) → (ProgramRows → Type 0) → Type 0
+RunOf held Stands = (program : ProgramRows) × (Accepted held program × Stands program)
+
+-- the answer for a file to run: where the shelf or the output rose in faults, and where the output is the same
+abbrev pub RunFileAnswers : Answer → Option (List ℕ) → Option Image → (arena steps : ℕ) → Sent → (ShelfRises Rises Same : Type 0) → Type 0
+RunFileAnswers answer.Done held kept arena steps sent ShelfRises Rises Same = RunOf held (λ program. RunHalts program kept arena steps sent)
+RunFileAnswers (answer.Budget n) held kept arena steps sent ShelfRises Rises Same =
+    (n ≡ steps) × RunOf held (λ program. RunSpends program kept arena steps sent)
+RunFileAnswers (answer.Refused r) held kept arena steps sent ShelfRises Rises Same = Declined held r × Same × (kept ≡ None)
+RunFileAnswers answer.FileFault held kept arena steps sent ShelfRises Rises Same = ShelfRises × Same × (kept ≡ None)
+RunFileAnswers answer.WriteFault held kept arena steps sent ShelfRises Rises Same =
+    Rises × RunOf held (λ program. RunIsCutOff program kept arena steps sent)
+RunFileAnswers answer.NoMemory held kept arena steps sent ShelfRises Rises Same = Same
+RunFileAnswers answer.Usage held kept arena steps sent ShelfRises Rises Same = ⊥
+RunFileAnswers (answer.Unhandled class site) held kept arena steps sent ShelfRises Rises Same = ⊥
+RunFileAnswers (answer.ArenaFull wanted room) held kept arena steps sent ShelfRises Rises Same = ⊥
+RunFileAnswers answer.Spent held kept arena steps sent ShelfRises Rises Same = ⊥
+RunFileAnswers answer.ReadFault held kept arena steps sent ShelfRises Rises Same = ⊥
+
+-- the answer for what is checked: where it passes, which refusals it has, what an output was given before and after, where the shelf
+-- or the output rose in faults, and where the output is the same
+abbrev pub CheckAnswers : Answer → (Good : Type 0) → (Bad : Refusal → Type 0) → (given given' : Option (List ℕ)) → (ShelfRises Rises Same : Type 0) → Type 0
+CheckAnswers answer.Done Good Bad given given' ShelfRises Rises Same = Good × WasGiven given ok_line given'
+CheckAnswers (answer.Refused r) Good Bad given given' ShelfRises Rises Same = Bad r × Same
+CheckAnswers answer.FileFault Good Bad given given' ShelfRises Rises Same = ShelfRises × Same
+CheckAnswers answer.WriteFault Good Bad given given' ShelfRises Rises Same = Rises × (Good × WasGivenFront given ok_line given')
+CheckAnswers answer.NoMemory Good Bad given given' ShelfRises Rises Same = Same
+CheckAnswers (answer.Budget n) Good Bad given given' ShelfRises Rises Same = ⊥
+CheckAnswers answer.Usage Good Bad given given' ShelfRises Rises Same = ⊥
+CheckAnswers (answer.Unhandled class site) Good Bad given given' ShelfRises Rises Same = ⊥
+CheckAnswers (answer.ArenaFull wanted room) Good Bad given given' ShelfRises Rises Same = ⊥
+CheckAnswers answer.Spent Good Bad given given' ShelfRises Rises Same = ⊥
+CheckAnswers answer.ReadFault Good Bad given given' ShelfRises Rises Same = ⊥
+
+-- the answer of an evaluation that came to this end: of a program with these names, within so many levels; to name a class takes memory
+abbrev pub EndAnswers : Answer → PlainEnd → List (List ℕ) → ProgramRows → (levels : ℕ) → Type 0
+EndAnswers a plain.Value names program levels = a ≡ answer.Done
+EndAnswers a (plain.Unhandled class site) names program levels =
+    (a ≡ answer.Unhandled (class_text names program class) site) ⊎ (a ≡ answer.NoMemory)
+EndAnswers a (plain.Full wanted room) names program levels = a ≡ answer.ArenaFull wanted room
+EndAnswers a plain.More names program levels = a ≡ answer.Budget levels
+EndAnswers a plain.Spent names program levels = a ≡ answer.Spent
+EndAnswers a plain.ReadFault names program levels = a ≡ answer.ReadFault
+EndAnswers a plain.WriteFault names program levels = a ≡ answer.WriteFault
+
+-- the answer for what is evaluated within so many levels: where it comes to an end, or to a condition whose class has a name, at a site; where it
+-- breaks off, which refusals it has, where the shelf, the source or the output rose in faults, and where the outside is the same
+abbrev pub PlainAnswers : Answer → (levels : ℕ) → (Ends : PlainEnd → Type 0) → (Signals : List ℕ → Place → Type 0) → (Breaks : Type 0) → (Bad : Refusal → Type 0) → (ShelfRises SourceRises Rises Same : Type 0) → Type 0
+PlainAnswers answer.Done levels Ends Signals Breaks Bad ShelfRises SourceRises Rises Same = Ends plain.Value
+PlainAnswers (answer.Unhandled class site) levels Ends Signals Breaks Bad ShelfRises SourceRises Rises Same = Signals class site
+PlainAnswers (answer.ArenaFull wanted room) levels Ends Signals Breaks Bad ShelfRises SourceRises Rises Same = Ends (plain.Full wanted room)
+PlainAnswers (answer.Budget n) levels Ends Signals Breaks Bad ShelfRises SourceRises Rises Same = (n ≡ levels) × Ends plain.More
+PlainAnswers answer.Spent levels Ends Signals Breaks Bad ShelfRises SourceRises Rises Same = Ends plain.Spent
+PlainAnswers answer.ReadFault levels Ends Signals Breaks Bad ShelfRises SourceRises Rises Same = SourceRises × Ends plain.ReadFault
+PlainAnswers answer.WriteFault levels Ends Signals Breaks Bad ShelfRises SourceRises Rises Same = Rises × Ends plain.WriteFault
+PlainAnswers (answer.Refused r) levels Ends Signals Breaks Bad ShelfRises SourceRises Rises Same = Bad r × Same
+PlainAnswers answer.FileFault levels Ends Signals Breaks Bad ShelfRises SourceRises Rises Same = ShelfRises × Same
+PlainAnswers answer.NoMemory levels Ends Signals Breaks Bad ShelfRises SourceRises Rises Same = Same ⊎ Breaks
+PlainAnswers answer.Usage levels Ends Signals Breaks Bad ShelfRises SourceRises Rises Same = ⊥
+
+-- a program's evaluation ends by a condition of a class of that name
+pub record ProgramSignals (e : Evaluation) (left left' : Option (List ℕ)) (sent : Sent) (name : List ℕ) (site : Place) : Type 0 where
+  pub class : ℕ
+  pub evaluates : Evaluates e left left' sent.before sent.after (plain.Unhandled class site)
+  pub named : name ≡ class_text e.names e.program class
+
+-- the answer of a program's evaluation
+abbrev pub ProgramAnswers : Answer → Evaluation → (left left' : Option (List ℕ)) → Sent → (SourceRises Rises : Type 0) → Type 0
+ProgramAnswers a e left left' sent SourceRises Rises =
+    PlainAnswers a e.levels (Evaluates e left left' sent.before sent.after) (ProgramSignals e left left' sent) (BreaksOff e left left' sent.before sent.after) (λ _. ⊥) ⊥ SourceRises Rises ⊥
+
+-- the file's text is a whole program, and its evaluation ends by a condition of a class of that name
+pub record PlainSignals (held : Option (List ℕ)) (levels words : ℕ) (left left' : Option (List ℕ)) (sent : Sent) (name : List ℕ) (site : Place) : Type 0 where
+  pub class : ℕ
+  pub runs : PlainRuns held levels words left left' sent (plain.Unhandled class site)
+  pub named : name ≡ class_text runs.whole.names runs.whole.program class
+
+-- the answer for a file to evaluate
+abbrev pub PlainFileAnswers : Answer → Option (List ℕ) → (levels words : ℕ) → (left left' : Option (List ℕ)) → Sent → (ShelfRises SourceRises Rises Same : Type 0) → Type 0
+PlainFileAnswers a held levels words left left' sent ShelfRises SourceRises Rises Same =
+    PlainAnswers a levels (PlainRuns held levels words left left' sent) (PlainSignals held levels words left left' sent) (PlainBreaks held levels words left left' sent) (Offends held) ShelfRises SourceRises Rises Same
+
+-- the answer to a command, which is run, checked or evaluated: only to evaluate a file, the input is read
+pub data Obeys (a : Answer) (c : Asked) (held : Option (List ℕ)) (kept : Option Image) (left left' : Option (List ℕ)) (sent : Sent) (ShelfRises SourceRises Rises Same InputSame : Type 0) : Type 0 where
+  was_run : c.action ≡ Run → InputSame → RunFileAnswers a held kept c.arena c.steps sent ShelfRises Rises Same
+      → Obeys a c held kept left left' sent ShelfRises SourceRises Rises Same InputSame
+  was_check : c.action ≡ Check → InputSame → kept ≡ None → CheckAnswers a (Passes held) (Offends held) sent.before sent.after ShelfRises Rises Same
+      → Obeys a c held kept left left' sent ShelfRises SourceRises Rises Same InputSame
+  was_plain : c.action ≡ Plain → kept ≡ None → PlainFileAnswers a held c.steps c.arena left left' sent ShelfRises SourceRises Rises (Same × InputSame)
+      → Obeys a c held kept left left' sent ShelfRises SourceRises Rises Same InputSame
+
+-- the answer to words: they are no command, or memory was wanting to tell, or a command was obeyed
+pub data WordsAnswers (a : Answer) (words : List (List ℕ)) (holds : List ℕ → Option (List ℕ)) (kept : Option Image) (left left' : Option (List ℕ)) (sent : Sent) (ShelfRises SourceRises Rises Same InputSame ShelfSame : Type 0) : Type 0 where
+  was_usage : a ≡ answer.Usage → asked words ≡ None → ShelfSame → Same → InputSame → kept ≡ None
+      → WordsAnswers a words holds kept left left' sent ShelfRises SourceRises Rises Same InputSame ShelfSame
+  was_untold : a ≡ answer.NoMemory → ShelfSame → Same → InputSame → kept ≡ None
+      → WordsAnswers a words holds kept left left' sent ShelfRises SourceRises Rises Same InputSame ShelfSame
+  was_asked : (c : Asked) → asked words ≡ Some c → Obeys a c (holds c.file) kept left left' sent ShelfRises SourceRises Rises Same InputSame
+      → WordsAnswers a words holds kept left left' sent ShelfRises SourceRises Rises Same InputSame ShelfSame

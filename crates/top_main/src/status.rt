@@ -1,0 +1,102 @@
+// The statuses that the program ends with, and what it has to tell of them.
+
+ghost use Rattle.std.specs.Prelude.{◌≡◌};
+ghost use Rattle.top_main.specs.Answers.{answer_of_stop};
+ghost use Rattle.top_main.specs.Lines.{number_of, status_of};
+
+use base::{Bytes, Place, Refusal, Stop};
+
+/// How a call of the program ended.
+#[derive(Clone, Copy)]
+pub enum Status {
+    /// The program halted, or was evaluated, and all that it printed was written; or the file that was
+    /// checked is one.
+    Done,
+    /// A condition that no handler took ended the program's evaluation.
+    Unhandled,
+    /// The words are no command.
+    Usage,
+    /// The file is outside the profile.
+    Refused,
+    /// The evaluation asked for more words than its arena had left.
+    ArenaFull,
+    /// The run's instructions, or the evaluation's levels or forms, were spent before it ended.
+    Budget,
+    /// The shelf failed.
+    FileFault,
+    /// The source failed.
+    ReadFault,
+    /// A sink failed.
+    WriteFault,
+    /// Memory was wanting. Only an evaluation may have written to the standard output before.
+    NoMemory,
+}
+
+impl Status {
+    /// The exit status, 0 to 9.
+    pub fn number(self) -> u8
+        ensures { result ≡ number_of self }
+    {
+        match self {
+            Status::Done => 0,
+            Status::Unhandled => 1,
+            Status::Usage => 2,
+            Status::Refused => 3,
+            Status::ArenaFull => 4,
+            Status::Budget => 5,
+            Status::FileFault => 6,
+            Status::ReadFault => 7,
+            Status::WriteFault => 8,
+            Status::NoMemory => 9,
+        }
+    }
+}
+
+/// A status with what its line tells: the name of the class of a condition, and the place of the form that
+/// signalled it, or 0:0; why and where the file is refused; how many words were asked for, and how many were
+/// left; how many instructions were executed, or how many levels there were. `Spent` is the status `Budget`
+/// of an evaluation in which as many forms began as may begin.
+#[derive(Drop)]
+pub enum Answer {
+    Done,
+    Unhandled { class: Bytes, site: Place },
+    Usage,
+    Refused(Refusal),
+    ArenaFull { asked: u64, left: u64 },
+    Budget(u32),
+    Spent,
+    FileFault,
+    ReadFault,
+    WriteFault,
+    NoMemory,
+}
+
+impl Answer {
+    // The answer of a text that is no program.
+    pub(crate) fn of_stop(stop: Stop) -> Answer
+        ensures { result ≡ answer_of_stop stop }
+    {
+        match stop {
+            Stop::Refused(refusal) => Answer::Refused(refusal),
+            Stop::NoMemory => Answer::NoMemory,
+        }
+    }
+
+    /// The status alone.
+    pub fn status(&self) -> Status
+        ensures { result ≡ status_of self.now }
+    {
+        match self {
+            Answer::Done => Status::Done,
+            Answer::Unhandled { .. } => Status::Unhandled,
+            Answer::Usage => Status::Usage,
+            Answer::Refused(_) => Status::Refused,
+            Answer::ArenaFull { .. } => Status::ArenaFull,
+            Answer::Budget(_) | Answer::Spent => Status::Budget,
+            Answer::FileFault => Status::FileFault,
+            Answer::ReadFault => Status::ReadFault,
+            Answer::WriteFault => Status::WriteFault,
+            Answer::NoMemory => Status::NoMemory,
+        }
+    }
+}
