@@ -1,25 +1,79 @@
--- What every step keeps: what was printed stays in front, and a Full that is come to, or that a frame keeps, asked for more words
--- than were left. One lemma for each combinator of the machine.
-use Rattle.std.proofs.Common.{◌<◌, ℕ, zero, suc, Bool, true, false, List, [], ◌∷◌, ◌++◌, Option, Some, None, sym, ap, ◌∙◌, append_assoc, append-nil}
+-- What every step keeps: what was printed stays in front, of what is left of the input the last ones are left, and units are only
+-- added; and a Full that is come to, or that a frame keeps, asked for more words than were left. One lemma for each combinator of
+-- the machine.
+use Rattle.std.proofs.Common.{◌<◌, ◌≤◌, ◌+◌, ℕ, zero, suc, Bool, true, false, List, [], ◌∷◌, ◌++◌, Option, Some, None, refl, sym, ap, ◌∙◌, append_assoc, append-nil, arith}
 use Rattle.std.specs.Prelude.{⊤, if◌then◌else◌}
-use Rattle.lang_meaning.specs.Laws.{IsPrefix}
+use Rattle.lang_meaning.specs.Prefixes.{IsPrefix, IsLastOf}
 use Rattle.lang_meaning.specs.Values.{Value}
-use Rattle.lang_meaning.specs.State.{Outcome, value, exit, full, more}
+use Rattle.lang_meaning.specs.State.{State, Outcome, value, exit, full, more}
+use Rattle.lang_meaning.specs.State as base
 use Rattle.lang_meaning.specs.Lookup.{passed}
 use Rattle.flat_language.specs.FlatState.{FlatState, FlatEvaluated, charged, go_on, go_on_from}
 use Rattle.eval_machine.specs.Moment.{Wait, Frame, Control, evaluate, signals, come_to, kept, awaits, Moment, Step, moment, ended, then_on, then_on_from, some_or, descend, first_that}
 use Rattle.eval_machine.specs.Applications.{searched}
-use Rattle.eval_machine.specs.RunLaws.{printed_at}
 
--- prefixes
-pub same : (xs : List ℕ) → IsPrefix xs xs
-same xs = record { rest = []; is = append-nil xs }
+-- how far a run is: what was printed, what is left of the input, and the units
+pub record Progress : Type 0 where
+  pub printed : List ℕ
+  pub left : List ℕ
+  pub units : ℕ
 
-pub longer : {xs ys zs : List ℕ} → IsPrefix xs ys → IsPrefix ys zs → IsPrefix xs zs
+abbrev pub progress : State → Progress
+progress z = record { printed = z.printed; left = z.input; units = z.units }
+
+-- with so many units more
+abbrev pub counted : ℕ → Progress → Progress
+counted n p = record p { units = p.units + n }
+
+-- further on
+pub record IsLater (before after : Progress) : Type 0 where
+  pub printed : IsPrefix before.printed after.printed
+  pub left : IsLastOf after.left before.left
+  pub units : before.units ≤ after.units
+
+same_prefix : (xs : List ℕ) → IsPrefix xs xs
+same_prefix xs = record { rest = []; is = append-nil xs }
+
+longer : {xs ys zs : List ℕ} → IsPrefix xs ys → IsPrefix ys zs → IsPrefix xs zs
 longer {xs} {ys} {zs} b c = record {
   rest = b.rest ++ c.rest;
   is = sym (append_assoc xs b.rest c.rest) ∙ ap (λ us. us ++ c.rest) b.is ∙ c.is;
 }
+
+shorter : {xs ys zs : List ℕ} → IsLastOf xs ys → IsLastOf ys zs → IsLastOf xs zs
+shorter {xs} {ys} {zs} b c = record {
+  front = c.front ++ b.front;
+  is = append_assoc c.front b.front xs ∙ ap (λ us. c.front ++ us) b.is ∙ c.is;
+}
+
+not_less : (n : ℕ) → n ≤ n
+not_less n = omega arith
+
+at_most : (a b c : ℕ) → a ≤ b → b ≤ c → a ≤ c
+at_most a b c p q = omega arith
+
+pub same : (x : Progress) → IsLater x x
+same x = record { printed = same_prefix x.printed; left = record { front = []; is = refl }; units = not_less x.units }
+
+pub further : {x y z : Progress} → IsLater x y → IsLater y z → IsLater x z
+further {x} {y} {z} p q = record {
+  printed = longer p.printed q.printed;
+  left = shorter q.left p.left;
+  units = at_most x.units y.units z.units p.units q.units;
+}
+
+-- units counted: more than before, and as many
+pub with_units : (few many : ℕ) (x : Progress) → few ≤ many → IsLater (counted few x) (counted many x)
+with_units few many x h = record { printed = same_prefix x.printed; left = record { front = []; is = refl }; units = sum x.units few many h }
+  where
+    sum : (u a b : ℕ) → a ≤ b → u + a ≤ u + b
+    sum u a b h = omega arith
+
+pub counts : (n : ℕ) (z : State) → IsLater (progress z) (progress (base.charged n z))
+counts n z = record { printed = same_prefix z.printed; left = record { front = []; is = refl }; units = sum z.units n }
+  where
+    sum : (u a : ℕ) → u ≤ u + a
+    sum u a = omega arith
 
 -- a Full asked for more than was left: as an outcome, as what is done next, and kept by frames
 abbrev pub FineOutcome : Outcome → Type 0
@@ -49,83 +103,86 @@ pub record IsFine (m : Moment) : Type 0 where
   pub control : FineControl m.control
   pub frames : FineFrames m.frames
 
--- what a step comes to, from these frames and what was printed before
-pub record Leads (frames : List Frame) (before : List ℕ) (m : Moment) : Type 0 where
-  pub prefix : IsPrefix before (printed_at m)
+-- what a step comes to, from these frames and how far the run was before
+pub record Leads (frames : List Frame) (before : Progress) (m : Moment) : Type 0 where
+  pub later : IsLater before (progress m.state.state)
   pub fine : FineFrames frames → IsFine m
 
 -- what is evaluated at once
-pub record Gives (before : List ℕ) (r : FlatEvaluated) : Type 0 where
-  pub prefix : IsPrefix before r.state.state.printed
+pub record Gives (before : Progress) (r : FlatEvaluated) : Type 0 where
+  pub later : IsLater before (progress r.state.state)
   pub fine : FineOutcome r.outcome
 
 -- a moment with the same frames, and with one more
-pub there : {before : List ℕ} {c : Control} {frames : List Frame} {z : FlatState}
-    → IsPrefix before z.state.printed → FineControl c → Leads frames before (moment c frames z)
-there p f = record { prefix = p; fine = λ h. record { control = f; frames = h } }
+pub there : {before : Progress} {c : Control} {frames : List Frame} {z : FlatState}
+    → IsLater before (progress z.state) → FineControl c → Leads frames before (moment c frames z)
+there p f = record { later = p; fine = λ h. record { control = f; frames = h } }
 
-pub framed : {before : List ℕ} {c : Control} {f : Frame} {frames : List Frame} {z : FlatState}
-    → IsPrefix before z.state.printed → FineControl c → FineFrame f → Leads frames before (moment c (f ∷ frames) z)
-framed p f g = record { prefix = p; fine = λ h. record { control = f; frames = (g, h) } }
+pub framed : {before : Progress} {c : Control} {f : Frame} {frames : List Frame} {z : FlatState}
+    → IsLater before (progress z.state) → FineControl c → FineFrame f → Leads frames before (moment c (f ∷ frames) z)
+framed p f g = record { later = p; fine = λ h. record { control = f; frames = (g, h) } }
 
--- from what was printed earlier, and from beneath a frame that was added
-pub earlier : {frames : List Frame} {few many : List ℕ} {m : Moment} → IsPrefix few many → Leads frames many m → Leads frames few m
-earlier p x = record { prefix = longer p x.prefix; fine = x.fine }
+-- from earlier on, and from beneath a frame that was added
+pub earlier : {frames : List Frame} {few many : Progress} {m : Moment} → IsLater few many → Leads frames many m → Leads frames few m
+earlier p x = record { later = further p x.later; fine = x.fine }
 
-pub beneath : {frames : List Frame} {before : List ℕ} {m : Moment} (f : Frame) → FineFrame f → Leads (f ∷ frames) before m → Leads frames before m
-beneath f g x = record { prefix = x.prefix; fine = λ h. x.fine (g, h) }
+pub beneath : {frames : List Frame} {before : Progress} {m : Moment} (f : Frame) → FineFrame f → Leads (f ∷ frames) before m → Leads frames before m
+beneath f g x = record { later = x.later; fine = λ h. x.fine (g, h) }
+
+pub gives_earlier : {few many : Progress} {r : FlatEvaluated} → IsLater few many → Gives many r → Gives few r
+gives_earlier p x = record { later = further p x.later; fine = x.fine }
 
 -- what was evaluated, into the frames
-pub given : {before : List ℕ} {o : Outcome} {z : FlatState} → IsPrefix before z.state.printed → FineOutcome o → Gives before (record { outcome = o; state = z })
-given p f = record { prefix = p; fine = f }
+pub given : {before : Progress} {o : Outcome} {z : FlatState} → IsLater before (progress z.state) → FineOutcome o → Gives before (record { outcome = o; state = z })
+given p f = record { later = p; fine = f }
 
-pub ends : {frames : List Frame} {before : List ℕ} {r : FlatEvaluated} → Gives before r → Leads frames before (ended r frames)
-ends g = record { prefix = g.prefix; fine = λ h. record { control = g.fine; frames = h } }
+pub ends : {frames : List Frame} {before : Progress} {r : FlatEvaluated} → Gives before r → Leads frames before (ended r frames)
+ends g = record { later = g.later; fine = λ h. record { control = g.fine; frames = h } }
 
 -- what goes on with a value
-on_from : {before : List ℕ} (o : Outcome) (z : FlatState) (frames : List Frame) (next : Value → FlatState → Moment)
-    → IsPrefix before z.state.printed → FineOutcome o → ((v : Value) (y : FlatState) → Leads frames y.state.printed (next v y))
+on_from : {before : Progress} (o : Outcome) (z : FlatState) (frames : List Frame) (next : Value → FlatState → Moment)
+    → IsLater before (progress z.state) → FineOutcome o → ((v : Value) (y : FlatState) → Leads frames (progress y.state) (next v y))
     → Leads frames before (then_on_from o z frames next)
 on_from (value v) z frames next p f h = earlier p (h v z)
 on_from (exit e v landing) z frames next p f h = there p f
 on_from (full asked left) z frames next p f h = there p f
 on_from more z frames next p f h = there p f
 
-pub on : {before : List ℕ} {r : FlatEvaluated} {frames : List Frame} {next : Value → FlatState → Moment}
-    → Gives before r → ((v : Value) (y : FlatState) → Leads frames y.state.printed (next v y)) → Leads frames before (then_on r frames next)
-on {before} {r} {frames} {next} g h = on_from r.outcome r.state frames next g.prefix g.fine h
+pub on : {before : Progress} {r : FlatEvaluated} {frames : List Frame} {next : Value → FlatState → Moment}
+    → Gives before r → ((v : Value) (y : FlatState) → Leads frames (progress y.state) (next v y)) → Leads frames before (then_on r frames next)
+on {before} {r} {frames} {next} g h = on_from r.outcome r.state frames next g.later g.fine h
 
 -- either of two, and what stands there, if something does
-pub either : (b : Bool) {frames : List Frame} {before : List ℕ} {m m' : Moment}
+pub either : (b : Bool) {frames : List Frame} {before : Progress} {m m' : Moment}
     → Leads frames before m → Leads frames before m' → Leads frames before (if b then m else m')
 either true x y = x
 either false x y = y
 
-pub some : {X : Type 0} (o : Option X) (otherwise : Step) (next : X → Step) {frames inner : List Frame} {before : List ℕ} {z : FlatState}
+pub some : {X : Type 0} (o : Option X) (otherwise : Step) (next : X → Step) {frames inner : List Frame} {before : Progress} {z : FlatState}
     → Leads frames before (otherwise inner z) → ((x : X) → Leads frames before (next x inner z)) → Leads frames before (some_or o otherwise next inner z)
 some None otherwise next n s = n
 some (Some x) otherwise next n s = s x
 
 -- a search
 pub searches : {X : Type 0} (p : X → Bool) (found : X → Step) (otherwise : Step) (xs : List X) (frames : List Frame) (z : FlatState)
-    → ((x : X) (y : FlatState) → Leads frames y.state.printed (found x frames y)) → ((y : FlatState) → Leads frames y.state.printed (otherwise frames y))
-    → Leads frames z.state.printed (searched p found otherwise xs frames z)
+    → ((x : X) (y : FlatState) → Leads frames (progress y.state) (found x frames y)) → ((y : FlatState) → Leads frames (progress y.state) (otherwise frames y))
+    → Leads frames (progress z.state) (searched p found otherwise xs frames z)
 searches p found otherwise xs frames z f n =
-    some (first_that p xs) otherwise found (n (charged (passed p xs) z)) (λ x. f x (charged (passed p xs) z))
+    earlier (counts (passed p xs) z.state) (some (first_that p xs) otherwise found (n (charged (passed p xs) z)) (λ x. f x (charged (passed p xs) z)))
 
 -- what needs a level
 pub descends : (level : ℕ) (next : ℕ → Step) (frames : List Frame) (z : FlatState)
-    → ((k : ℕ) → Leads frames z.state.printed (next k frames z)) → Leads frames z.state.printed (descend level next frames z)
-descends zero next frames z h = there (same z.state.printed) tt
+    → ((k : ℕ) → Leads frames (progress z.state) (next k frames z)) → Leads frames (progress z.state) (descend level next frames z)
+descends zero next frames z h = there (same _) tt
 descends (suc k) next frames z h = h k
 
 -- what is evaluated after a part
-pub then_given : {before : List ℕ} {r : FlatEvaluated} {next : Value → FlatState → FlatEvaluated}
-    → Gives before r → ((v : Value) (y : FlatState) → Gives y.state.printed (next v y)) → Gives before (go_on r next)
-then_given {before} {r} {next} g h = at r.outcome r.state g.prefix g.fine
+pub then_given : {before : Progress} {r : FlatEvaluated} {next : Value → FlatState → FlatEvaluated}
+    → Gives before r → ((v : Value) (y : FlatState) → Gives (progress y.state) (next v y)) → Gives before (go_on r next)
+then_given {before} {r} {next} g h = at r.outcome r.state g.later g.fine
   where
-    at : (o : Outcome) (z : FlatState) → IsPrefix before z.state.printed → FineOutcome o → Gives before (go_on_from o z next)
-    at (value v) z p f = record { prefix = longer p (h v z).prefix; fine = (h v z).fine }
+    at : (o : Outcome) (z : FlatState) → IsLater before (progress z.state) → FineOutcome o → Gives before (go_on_from o z next)
+    at (value v) z p f = record { later = further p (h v z).later; fine = (h v z).fine }
     at (exit e v landing) z p f = given p f
     at (full asked left) z p f = given p f
     at more z p f = given p f

@@ -6,9 +6,9 @@ use Rattle.base.specs.Given.{WasGiven}
 use Rattle.eval_machine.specs.RunLaws.{printed_at}
 use Rattle.eval_run.specs.declared.stop.Stop.{Stop}
 use Rattle.eval_run.specs.declared.stop.Stop.TheVariants as stop
-use Rattle.eval_run.specs.Evaluation.{Evaluation, meaning_with, moment_after}
-use Rattle.eval_run.specs.Taken.{Taken, Begins, WasTaken}
-use Rattle.eval_run.specs.Evaluates.{BreaksOff}
+use Rattle.lang_meaning.specs.Evaluation.{Evaluation, meaning_with, Taken, Begins, WasTaken}
+use Rattle.lang_meaning.specs.Evaluates.{BreaksOff}
+use Rattle.eval_run.specs.Moments.{moment_after}
 use Rattle.eval_run.specs.UnderWay.{HasBroken, StopsSo, StopTells}
 
 -- nothing was read, and nothing written

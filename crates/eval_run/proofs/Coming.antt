@@ -12,7 +12,8 @@ use Rattle.eval_step.specs.declared.evaluator.Evaluator.{Evaluator}
 use Rattle.eval_step.specs.Runs.{IsAt}
 use Rattle.eval_step.specs.Stepped.{HasStepped, IsStepped}
 use Rattle.eval_step.specs.Advanced.{HasReached}
-use Rattle.eval_run.specs.Evaluation.{Evaluation, setting_of, moment_after}
+use Rattle.lang_meaning.specs.Evaluation.{Evaluation}
+use Rattle.eval_run.specs.Moments.{setting_of, moment_after}
 use Rattle.eval_run.specs.UnderWay.{RunsFor, HasCome, UnderWay}
 use Rattle.eval_run.proofs.Counting.{steps_sum, forms_sum}
 
@@ -21,7 +22,7 @@ steps_more : (s : Setting) (n : ℕ) (m : Moment) → steps s (suc n) m ≡ next
 steps_more s zero m = refl
 steps_more s (suc n) m = steps_more s n (next s m)
 
-forms_more : (s : Setting) (n : ℕ) (m : Moment) → forms_begun s (suc n) m ≡ forms_begun s n m + (if begins (steps s n m).control then 1 else 0)
+pub forms_more : (s : Setting) (n : ℕ) (m : Moment) → forms_begun s (suc n) m ≡ forms_begun s n m + (if begins (steps s n m).control then 1 else 0)
 forms_more s zero m = let e : (if begins m.control then 1 else 0) + 0 ≡ 0 + (if begins m.control then 1 else 0) = omega arith in e
 forms_more s (suc n) m =
     let first : ℕ = if begins m.control then 1 else 0 in

@@ -15,9 +15,9 @@ use Rattle.eval_store.specs.Words.{value_of_word}
 use Rattle.eval_primitives.specs.Classing.{HasClassOf}
 use Rattle.eval_state.specs.declared.frame.Landing.{Landing}
 use Rattle.eval_state.specs.Frames.{landing_of}
-use Rattle.eval_run.specs.declared.end.PlainEnd.{PlainEnd}
-use Rattle.eval_run.specs.declared.end.PlainEnd.TheVariants as plain
-use Rattle.eval_run.specs.Evaluation.{end_for}
+use Rattle.lang_meaning.specs.declared.evaluation.EvaluationEnd.{EvaluationEnd}
+use Rattle.lang_meaning.specs.declared.evaluation.EvaluationEnd.TheVariants as endings
+use Rattle.lang_meaning.specs.Evaluation.{end_for}
 
 pub of_object : (s : Store) (w : Word) (n c : ℕ) → w ≡ word.Object n → HasClassOf s (word.Object n) c → (names : List (List ℕ)) (b : Beside)
     → class_in (state_of names s b).store (value_of_word names w) ≡ c
@@ -30,11 +30,11 @@ of_other s (word.Object n) h names b = absurd (h n refl)
 of_other s w h names b = refl
 
 -- how an outcome ends a program, with the objects that are there
-abbrev pub ends_by : List Object → Outcome → PlainEnd
+abbrev pub ends_by : List Object → Outcome → EvaluationEnd
 ends_by store o = end_for (ending_of (meaning.end_of o) store)
 
 pub ends_unhandled : (store : List Object) (e class : ℕ) (v : Value) (l : Landing) (site : Place)
     → ((e : ℕ) (v : Value) → meaning.end_of (exit e v (landing_of l)) ≡ ended_unhandled v site) → class_in store v ≡ class
-    → ends_by store (exit e v (landing_of l)) ≡ plain.Unhandled class site
+    → ends_by store (exit e v (landing_of l)) ≡ endings.Unhandled class site
 ends_unhandled store e class v l site h k =
-    ap (λ x. end_for (ending_of x store)) (h e v) ∙ ap (λ c. plain.Unhandled c site) k
+    ap (λ x. end_for (ending_of x store)) (h e v) ∙ ap (λ c. endings.Unhandled c site) k

@@ -1,9 +1,9 @@
 -- What a run of the machine comes to is what the program means.
-use Rattle.std.proofs.Common.{◌≡◌, ◌≤◌, ◌<◌, ℕ, List, ◌++◌, Option, None, refl, ap, sym, ◌∙◌, subst, append_assoc, arith}
+use Rattle.std.proofs.Common.{◌≡◌, ◌≤◌, ◌<◌, ◌+◌, ℕ, suc, true, Bool, if◌then◌else◌, List, ◌++◌, Option, None, refl, ap, sym, ◌∙◌, subst, append_assoc, arith}
 use Rattle.lang_meaning.specs.Objects.{Object}
 use Rattle.lang_meaning.specs.Values.{Value}
 use Rattle.lang_meaning.specs.State.{Outcome, value, exit, full, more, at_segment, at_site, words}
-use Rattle.lang_meaning.specs.Laws.{IsPrefix}
+use Rattle.lang_meaning.specs.Prefixes.{IsPrefix, IsLastOf}
 use Rattle.lang_meaning.specs.Meaning.{Meant, End, ended_value, ended_unhandled, ended_full, ended_more, by_class, class_in, ending_of}
 use Rattle.lang_meaning.specs.Meaning as meaning
 use Rattle.flat_language.specs.FlatState.{FlatState}
@@ -13,16 +13,17 @@ use Rattle.flat_language.specs.Law.{SameRun}
 use Rattle.base.specs.Given.{WasGiven}
 use Rattle.eval_machine.specs.Moment.{Setting, Control, evaluate, signals, come_to, Frame, Moment}
 use Rattle.eval_machine.specs.Step.{control_step}
-use Rattle.eval_machine.specs.Run.{IsEnd, outcome_of, done}
+use Rattle.eval_machine.specs.Run.{begins, IsEnd, outcome_of, done}
 use Rattle.eval_machine.specs.Law.{LawOfMachine, Ends}
-use Rattle.eval_machine.specs.RunLaws.{printed_at, LawOfPrinting, LawOfWords}
-use Rattle.eval_run.specs.declared.end.PlainEnd.{PlainEnd}
-use Rattle.eval_run.specs.declared.end.PlainEnd.TheVariants as plain
-use Rattle.eval_run.specs.Evaluation.{Evaluation, meaning_with, end_for, end_of, setting_of, moment_after, forms_after, most_forms}
-use Rattle.eval_run.specs.Taken.{Taken, Begins}
-use Rattle.eval_run.specs.Evaluates.{HasEnded, IsCutOff, EndsSo, Evaluates, BreaksOff}
-use Rattle.eval_run.specs.UnderWay.{StopsAt, CutOffAt, ComesTo, HasRun, HasBroken}
-use Rattle.eval_run.proofs.Counting.{forms_up_to_end, printed_up_to_end}
+use Rattle.eval_machine.specs.RunLaws.{printed_at, left_at, LawOfPrinting, LawOfReading, LawOfUnits, LawOfWords}
+use Rattle.lang_meaning.specs.declared.evaluation.EvaluationEnd.{EvaluationEnd}
+use Rattle.lang_meaning.specs.declared.evaluation.EvaluationEnd.TheVariants as endings
+use Rattle.lang_meaning.specs.Evaluation.{Evaluation, meaning_with, end_for, end_of, Taken, Begins}
+use Rattle.lang_meaning.specs.Evaluates.{most_forms, HasEnded, IsCutOff, IsSpent, ReadsOn, EndsSo, Evaluates, BreaksOff}
+use Rattle.eval_run.specs.Moments.{setting_of, moment_after, forms_after}
+use Rattle.eval_run.specs.UnderWay.{StopsAt, SpentAt, WantsAt, CutOffAt, ComesTo, HasRun, HasBroken}
+use Rattle.eval_run.proofs.Coming.{forms_more}
+use Rattle.eval_run.proofs.Counting.{printed_up_to_end, left_up_to_end, units_up_to_end}
 
 -- what the flat program means
 abbrev flat_with : Evaluation → List ℕ → Meant
@@ -32,6 +33,8 @@ flat_with e input = flat_meaning e.names (flat_program e.program) input e.levels
 pub record Known (e : Evaluation) : Type 0 where
   pub machine : LawOfMachine
   pub printing : LawOfPrinting
+  pub reading : LawOfReading
+  pub units : LawOfUnits
   pub full : LawOfWords
   pub same : (input : List ℕ) → SameRun (meaning_with e input) (flat_meaning e.names (flat_program e.program) input e.levels (words e.words))
 
@@ -55,7 +58,7 @@ ends_alike : (one other : Meant) → SameRun one other → end_of other ≡ end_
 ends_alike one other h =
     ap (λ x. end_for (ending_of x other.store)) h.end ∙ ap end_for (ending_alike one.end one.store other.store h.class)
 
-ends_so : (e : Evaluation) → Known e → (input : List ℕ) (n : ℕ) (end : PlainEnd) → IsEnd (setting_of e) (moment_after e input n)
+ends_so : (e : Evaluation) → Known e → (input : List ℕ) (n : ℕ) (end : EvaluationEnd) → IsEnd (setting_of e) (moment_after e input n)
     → end_of (done (moment_after e input n)) ≡ end → end_of (meaning_with e input) ≡ end
 ends_so e known input n end h q =
     sym (ends_alike (meaning_with e input) (flat_with e input) (known.same input)) ∙ sym (ap end_of (done_so e known input n h)) ∙ q
@@ -74,7 +77,7 @@ prefix_then a b c h q = record {
 }
 
 -- the words are full only where more of them were asked for than were left
-full_outcome : (o : Outcome) (store : List Object) (asked left : ℕ) → end_for (ending_of (meaning.end_of o) store) ≡ plain.Full asked left → o ≡ full asked left
+full_outcome : (o : Outcome) (store : List Object) (asked left : ℕ) → end_for (ending_of (meaning.end_of o) store) ≡ endings.Full asked left → o ≡ full asked left
 full_outcome (value v) store asked left h = absurd (cc h)
 full_outcome (exit n v (at_site place)) store asked left h = absurd (cc h)
 full_outcome (exit n v (at_segment segment)) store asked left h = absurd (cc h)
@@ -82,30 +85,44 @@ full_outcome (full a l) store asked left h = cc h
 full_outcome more store asked left h = absurd (cc h)
 
 full_control : (s : Setting) (c : Control) (frames : List Frame) (z : FlatState) (store : List Object) (asked left : ℕ) → control_step s c frames z ≡ None
-    → end_for (ending_of (meaning.end_of (outcome_of c)) store) ≡ plain.Full asked left → c ≡ come_to (full asked left)
+    → end_for (ending_of (meaning.end_of (outcome_of c)) store) ≡ endings.Full asked left → c ≡ come_to (full asked left)
 full_control s (evaluate f at) frames z store asked left h q = absurd (cc h)
 full_control s (signals c mark level around) frames z store asked left h q = absurd (cc q)
 full_control s (come_to o) frames z store asked left h q = ap come_to (full_outcome o store asked left q)
 
 full_so : (e : Evaluation) → Known e → (input : List ℕ) (n asked left : ℕ) → IsEnd (setting_of e) (moment_after e input n)
-    → end_of (done (moment_after e input n)) ≡ plain.Full asked left → left < asked
+    → end_of (done (moment_after e input n)) ≡ endings.Full asked left → left < asked
 full_so e known input n asked left h q =
     let m : Moment = moment_after e input n in
     known.full (setting_of e) input e.levels n asked left
     (full_control (setting_of e) m.control m.frames m.state m.state.state.store asked left h q)
 
--- the ends
-within : (a b c : ℕ) → a ≤ b → b ≤ c → a ≤ c
-within a b c h q = omega arith
+-- of what was left of the input at any moment the program leaves the last ones
+left_so : (e : Evaluation) → Known e → (input : List ℕ) (n : ℕ) → IsLastOf (meaning_with e input).left (left_at (moment_after e input n))
+left_so e known input n =
+    let ends : Ends (setting_of e) (moment_after e input 0) = (known.machine e.names (flat_program e.program) input e.levels (words e.words)).ends in
+    let same : left_at (moment_after e input ends.count) ≡ (meaning_with e input).left =
+    ap (λ (m : Meant). m.left) (done_so e known input ends.count ends.is_end) ∙ (known.same input).left in
+    subst (λ xs. IsLastOf xs (left_at (moment_after e input n))) same
+    (left_up_to_end known.reading (setting_of e) (moment_after e input 0) n ends.count ends.is_end)
 
-ended : (e : Evaluation) → Known e → (input : List ℕ) (given given' : Option (List ℕ)) (end : PlainEnd) → StopsAt e input given given' end
+-- the program counts as many units as forms begin up to any moment, or more
+units_so : (e : Evaluation) → Known e → (input : List ℕ) (n : ℕ) → forms_after e input n ≤ (meaning_with e input).units
+units_so e known input n =
+    let ends : Ends (setting_of e) (moment_after e input 0) = (known.machine e.names (flat_program e.program) input e.levels (words e.words)).ends in
+    subst (λ k. forms_after e input n ≤ k) (ap (λ (m : Meant). m.units) (done_so e known input ends.count ends.is_end) ∙ (known.same input).units)
+    (units_up_to_end known.units (setting_of e) (moment_after e input 0) n ends.count ends.is_end)
+
+one_over : (c : Bool) (all some most units : ℕ) → all ≡ some + (if c then 1 else 0) → c ≡ true → some ≡ most → all ≤ units → most < units
+one_over true all some most units p q r h = omega arith
+one_over false all some most units p q r h = absurd (cc q)
+
+-- the ends
+ended : (e : Evaluation) → Known e → (input : List ℕ) (given given' : Option (List ℕ)) (end : EvaluationEnd) → StopsAt e input given given' end
     → HasEnded e input given given' end
 ended e known input given given' end h = record {
   ends = ends_so e known input h.count end h.stops h.ends;
   printed = subst (λ bytes. WasGiven given bytes given') (printed_so e known input h.count h.stops) h.printed;
-  few = λ n.
-      let less : forms_after e input n ≤ forms_after e input h.count = forms_up_to_end (setting_of e) (moment_after e input 0) n h.count h.stops in
-      within (forms_after e input n) (forms_after e input h.count) most_forms less h.few;
 }
 
 cut_off : (e : Evaluation) → Known e → (input : List ℕ) (given given' : Option (List ℕ)) → CutOffAt e input given given' → IsCutOff e input given given'
@@ -115,31 +132,38 @@ cut_off e known input given given' h = record {
   printed = h.printed;
 }
 
-ends_there : (e : Evaluation) → Known e → (end : PlainEnd) (t : Taken) (input : List ℕ) (b : Begins t input) (given given' : Option (List ℕ))
+printed_by : (e : Evaluation) → Known e → (input : List ℕ) (given given' : Option (List ℕ)) (n : ℕ) → WasGiven given (printed_at (moment_after e input n)) given'
+    → IsCutOff e input given given'
+printed_by e known input given given' n h = record { front = printed_at (moment_after e input n); prefix = prefix_so e known input n; printed = h }
+
+spent : (e : Evaluation) → Known e → (input : List ℕ) (given given' : Option (List ℕ)) → SpentAt e input given given' → IsSpent e input given given'
+spent e known input given given' h = record {
+  many = one_over (begins (moment_after e input h.count).control) (forms_after e input (suc h.count)) (forms_after e input h.count) most_forms (meaning_with e input).units
+      (forms_more (setting_of e) h.count (moment_after e input 0)) h.goes_on h.forms (units_so e known input (suc h.count));
+  cut_off = printed_by e known input given given' h.count h.printed;
+}
+
+reads_on : (e : Evaluation) → Known e → (t : Taken) (input : List ℕ) (b : Begins t input) (given given' : Option (List ℕ)) → WantsAt e t input b given given'
+    → ReadsOn e t input b given given'
+reads_on e known t input b given given' h = record {
+  not_all = h.not_all;
+  takes = subst (IsLastOf (meaning_with e input).left) h.left (left_so e known input h.count);
+  cut_off = printed_by e known input given given' h.count h.printed;
+}
+
+ends_there : (e : Evaluation) → Known e → (end : EvaluationEnd) (t : Taken) (input : List ℕ) (b : Begins t input) (given given' : Option (List ℕ))
     → ComesTo end e t input b given given' → EndsSo end e t input b given given'
-ends_there e known plain.Value t input b given given' h = ended e known input given given' plain.Value h
-ends_there e known (plain.Unhandled class site) t input b given given' h = ended e known input given given' (plain.Unhandled class site) h
-ends_there e known (plain.Full asked left) t input b given given' h =
-    (full_so e known input h.count asked left h.stops h.ends, ended e known input given given' (plain.Full asked left) h)
-ends_there e known plain.More t input b given given' h = ended e known input given given' plain.More h
-ends_there e known plain.Spent t input b given given' h = record {
-  count = h.count;
-  forms = h.forms;
-  goes_on = h.goes_on;
-  printed = h.printed;
-  prefix = prefix_so e known input h.count;
-}
-ends_there e known plain.ReadFault t input b given given' h = record {
-  count = h.count;
-  wants = h.wants;
-  left = h.left;
-  printed = h.printed;
-  prefix = prefix_so e known input h.count;
-}
-ends_there e known plain.WriteFault t input b given given' h = cut_off e known input given given' h
+ends_there e known endings.Value t input b given given' h = ended e known input given given' endings.Value h
+ends_there e known (endings.Unhandled class site) t input b given given' h = ended e known input given given' (endings.Unhandled class site) h
+ends_there e known (endings.Full asked left) t input b given given' h =
+    (full_so e known input h.count asked left h.stops h.ends, ended e known input given given' (endings.Full asked left) h)
+ends_there e known endings.More t input b given given' h = ended e known input given given' endings.More h
+ends_there e known endings.Spent t input b given given' h = spent e known input given given' h
+ends_there e known endings.ReadFault t input b given given' h = reads_on e known t input b given given' h
+ends_there e known endings.WriteFault t input b given given' h = cut_off e known input given given' h
 
 -- a run that has ended, and one that broke off
-pub evaluated : (e : Evaluation) → Known e → (left left' given given' : Option (List ℕ)) (end : PlainEnd) → HasRun e left left' given given' end
+pub evaluated : (e : Evaluation) → Known e → (left left' given given' : Option (List ℕ)) (end : EvaluationEnd) → HasRun e left left' given given' end
     → Evaluates e left left' given given' end
 evaluated e known left left' given given' end h = record {
   taken = h.taken;

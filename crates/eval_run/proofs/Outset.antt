@@ -21,8 +21,9 @@ use Rattle.eval_state.specs.View as machine
 use Rattle.eval_step.specs.declared.evaluator.Evaluator.{Evaluator}
 use Rattle.eval_step.specs.Runs.{IsAt}
 use Rattle.eval_step.specs.Started.{IsStarted}
-use Rattle.eval_run.specs.Evaluation.{Evaluation, setting_of}
-use Rattle.eval_run.specs.declared.end.PlainEnd.{PlainEnd}
+use Rattle.lang_meaning.specs.Evaluation.{Evaluation}
+use Rattle.eval_run.specs.Moments.{setting_of}
+use Rattle.lang_meaning.specs.declared.evaluation.EvaluationEnd.{EvaluationEnd}
 use Rattle.eval_run.specs.declared.stop.Stop.{Stop}
 use Rattle.eval_run.specs.UnderWay.{UnderWay, HasRun, StopsSo}
 use Rattle.eval_run.specs.FlatRun.{IsReady, FlatRuns, FlatStops}
@@ -78,7 +79,7 @@ outset_of names rows levels w left given g store v made limit ready sizes dispat
 module _ (g : Given) (store : Store) (levels w : ℕ) (v : Evaluator) (limit : g.limit ≡ Some w) (sizes : AreSizes g.program.now g.sizes.now)
     (dispatch : AreTablesOf (with_classes g.program.now.classes) g.program.now.generics g.tables.now) (h : IsStarted g store levels v)
     (left left' given given' : Option (List ℕ)) where
-  pub run_ends : (r : Result PlainEnd Stop)
+  pub run_ends : (r : Result EvaluationEnd Stop)
       → IfOk r (λ end. (e : Evaluation) → UnderWay e left left given given 0 v → HasRun e left left' given given' end)
       → IfOk r (λ end. (names : List (List ℕ)) → IsReady names g.program.now g.spellings g.layout.now g.primitives.now store
       → FlatRuns names g.program.now levels w left left' given given' end)
@@ -86,7 +87,7 @@ module _ (g : Given) (store : Store) (levels w : ℕ) (v : Evaluator) (limit : g
       (outset_of names rows levels w left given g store v made limit ready sizes dispatch h)
   run_ends (Err s) run = tt
 
-  pub run_stops : (r : Result PlainEnd Stop)
+  pub run_stops : (r : Result EvaluationEnd Stop)
       → IfErr r (λ s. (e : Evaluation) → UnderWay e left left given given 0 v → StopsSo s e left left' given given')
       → IfErr r (λ s. (names : List (List ℕ)) → IsReady names g.program.now g.spellings g.layout.now g.primitives.now store
       → FlatStops names g.program.now levels w left left' given given' s)
@@ -97,13 +98,13 @@ module _ (g : Given) (store : Store) (levels w : ℕ) (v : Evaluator) (limit : g
 -- and so with the names that it has
 module _ (names : List (List ℕ)) (program : FlatProgram) (spellings : Spellings) (layout : Layout) (primitives : Primitives) (store : Store)
     (ready : IsReady names program spellings layout primitives store) (levels w : ℕ) (left left' given given' : Option (List ℕ)) where
-  pub ends_with : (r : Result PlainEnd Stop)
+  pub ends_with : (r : Result EvaluationEnd Stop)
       → IfOk r (λ end. (ns : List (List ℕ)) → IsReady ns program spellings layout primitives store → FlatRuns ns program levels w left left' given given' end)
       → IfOk r (FlatRuns names program levels w left left' given given')
   ends_with (Ok end) run = run names ready
   ends_with (Err s) run = tt
 
-  pub stops_with : (r : Result PlainEnd Stop)
+  pub stops_with : (r : Result EvaluationEnd Stop)
       → IfErr r (λ s. (ns : List (List ℕ)) → IsReady ns program spellings layout primitives store → FlatStops ns program levels w left left' given given' s)
       → IfErr r (FlatStops names program levels w left left' given given')
   stops_with (Ok end) run = tt

@@ -15,8 +15,8 @@ use Rattle.eval_step.specs.Runs.{IsAt}
 use Rattle.eval_step.specs.Ports.{IsGivenBytes, IsAllRead}
 use Rattle.eval_step.specs.Streams.{is_fed}
 use Rattle.eval_run.specs.declared.stop.Stop.{Stop}
-use Rattle.eval_run.specs.Evaluation.{Evaluation, moment_after}
-use Rattle.eval_run.specs.Taken.{Taken, Begins, WasTaken}
+use Rattle.lang_meaning.specs.Evaluation.{Evaluation, Taken, Begins, WasTaken}
+use Rattle.eval_run.specs.Moments.{moment_after}
 use Rattle.eval_run.specs.UnderWay.{HasCome, UnderWay, IsPutBehind, HasBroken, StopsSo}
 use Rattle.eval_run.proofs.Coming.{runs_as}
 use Rattle.eval_run.proofs.Stopping.{broken_at}

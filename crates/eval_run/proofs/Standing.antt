@@ -7,7 +7,7 @@ use Rattle.eval_state.specs.declared.machine.Machine.{Machine}
 use Rattle.eval_state.specs.View.{moment_of}
 use Rattle.eval_step.specs.Advanced.{IsStopped}
 use Rattle.eval_run.specs.declared.stop.Stop.{Stop}
-use Rattle.eval_run.specs.Evaluation.{Evaluation}
+use Rattle.lang_meaning.specs.Evaluation.{Evaluation}
 use Rattle.eval_run.specs.UnderWay.{UnderWay, StopsSo}
 use Rattle.eval_step.specs.declared.evaluator.Evaluator.{Evaluator}
 

@@ -16,11 +16,11 @@ use Rattle.eval_step.specs.Runs.{IsAt}
 use Rattle.eval_step.specs.Advanced.{IsStopped}
 use Rattle.eval_step.specs.Ports.{IsWritten}
 use Rattle.eval_step.specs.Streams.{control_reads}
-use Rattle.eval_run.specs.declared.end.PlainEnd.{PlainEnd}
-use Rattle.eval_run.specs.declared.end.PlainEnd.TheVariants as plain
-use Rattle.eval_run.specs.Evaluation.{Evaluation, end_for, end_of, setting_of, moment_after, forms_after, most_forms}
-use Rattle.eval_run.specs.Evaluates.{wants_byte}
-use Rattle.eval_run.specs.Taken.{Taken, Begins, WasTaken}
+use Rattle.lang_meaning.specs.declared.evaluation.EvaluationEnd.{EvaluationEnd}
+use Rattle.lang_meaning.specs.declared.evaluation.EvaluationEnd.TheVariants as endings
+use Rattle.lang_meaning.specs.Evaluation.{Evaluation, end_for, end_of, Taken, Begins, WasTaken}
+use Rattle.lang_meaning.specs.Evaluates.{most_forms}
+use Rattle.eval_run.specs.Moments.{setting_of, moment_after, forms_after, wants_byte}
 use Rattle.eval_run.specs.UnderWay.{HasCome, UnderWay, StopsAt, CutOffAt, ComesTo, HasRun, HasBroken, IsOwnEnd}
 use Rattle.eval_run.proofs.Coming.{runs_as, nowhere}
 
@@ -64,7 +64,7 @@ wrote e left left' given given' given'' forms old new g w u = record {
 
 -- a front of it was
 pub cut : (e : Evaluation) (left left' given given' given'' : Option (List ℕ)) (forms : ℕ) (v : Evaluator) → WasGivenFront given' v.printed.items given''
-    → UnderWay e left left' given given' forms v → HasRun e left left' given given'' plain.WriteFault
+    → UnderWay e left left' given given' forms v → HasRun e left left' given given'' endings.WriteFault
 cut e left left' given given' given'' forms v g u = record {
   taken = u.taken;
   was_taken = u.was_taken;
@@ -99,10 +99,10 @@ broken e left left' given given' forms v u = record {
 }
 
 -- the ends that the meaning tells
-abbrev pub IsTold : PlainEnd → Type 0
-IsTold plain.Spent = ⊥
-IsTold plain.ReadFault = ⊥
-IsTold plain.WriteFault = ⊥
+abbrev pub IsTold : EvaluationEnd → Type 0
+IsTold endings.Spent = ⊥
+IsTold endings.ReadFault = ⊥
+IsTold endings.WriteFault = ⊥
 IsTold end = ⊤
 
 told : (x : Ending) → IsTold (end_for x)
@@ -111,31 +111,31 @@ told (by_class class site) = tt
 told (for_words asked left) = tt
 told for_levels = tt
 
-told_so : (end : PlainEnd) (m : Meant) → end_of m ≡ end → IsTold end
+told_so : (end : EvaluationEnd) (m : Meant) → end_of m ≡ end → IsTold end
 told_so end m is = subst IsTold is (told (ending_of m.end m.store))
 
-is_own : (end : PlainEnd) → IsTold end → IsOwnEnd end
-is_own plain.Spent h = absurd h
-is_own plain.ReadFault h = absurd h
-is_own plain.WriteFault h = absurd h
+is_own : (end : EvaluationEnd) → IsTold end → IsOwnEnd end
+is_own endings.Spent h = absurd h
+is_own endings.ReadFault h = absurd h
+is_own endings.WriteFault h = absurd h
 is_own w h = tt
 
 -- an evaluator tells ends that are no faults
-pub own_end : (v : Evaluator) (end : PlainEnd) → ((names : List (List ℕ)) (b : Beside) → end_of (done (moment_of names v.machine b)) ≡ end) → IsOwnEnd end
+pub own_end : (v : Evaluator) (end : EvaluationEnd) → ((names : List (List ℕ)) (b : Beside) → end_of (done (moment_of names v.machine b)) ≡ end) → IsOwnEnd end
 own_end v end is = is_own end (told_so end (done (moment_of [] v.machine nowhere)) (is [] nowhere))
 
-comes_to : (end : PlainEnd) (e : Evaluation) (t : Taken) (input : List ℕ) (b : Begins t input) (given given' : Option (List ℕ)) → IsTold end
+comes_to : (end : EvaluationEnd) (e : Evaluation) (t : Taken) (input : List ℕ) (b : Begins t input) (given given' : Option (List ℕ)) → IsTold end
     → StopsAt e input given given' end → ComesTo end e t input b given given'
-comes_to plain.Spent e t input b given given' h s = absurd h
-comes_to plain.ReadFault e t input b given given' h s = absurd h
-comes_to plain.WriteFault e t input b given given' h s = absurd h
+comes_to endings.Spent e t input b given given' h s = absurd h
+comes_to endings.ReadFault e t input b given given' h s = absurd h
+comes_to endings.WriteFault e t input b given given' h s = absurd h
 comes_to w e t input b given given' h s = s
 
 few : (a b c : ℕ) → a ≡ b → b ≤ c → a ≤ c
 few a b c e h = omega arith
 
 -- the machine has ended
-pub ended : (e : Evaluation) (left left' given given' : Option (List ℕ)) (forms : ℕ) (v : Evaluator) (end : PlainEnd) → forms ≤ most_forms
+pub ended : (e : Evaluation) (left left' given given' : Option (List ℕ)) (forms : ℕ) (v : Evaluator) (end : EvaluationEnd) → forms ≤ most_forms
     → v.printed.items ≡ [] → IsStopped v false → ((names : List (List ℕ)) (b : Beside) → end_of (done (moment_of names v.machine b)) ≡ end)
     → UnderWay e left left' given given' forms v → HasRun e left left' given given' end
 ended e left left' given given' forms v end h none stopped is u = record {
@@ -157,7 +157,7 @@ ended e left left' given given' forms v end h none stopped is u = record {
 
 -- another form is to begin, after so many
 pub spent : (e : Evaluation) (left left' given given' : Option (List ℕ)) (forms : ℕ) (v : Evaluator) → forms ≡ most_forms
-    → v.printed.items ≡ [] → IsStopped v true → UnderWay e left left' given given' forms v → HasRun e left left' given given' plain.Spent
+    → v.printed.items ≡ [] → IsStopped v true → UnderWay e left left' given given' forms v → HasRun e left left' given given' endings.Spent
 spent e left left' given given' forms v h none stopped u = record {
   taken = u.taken;
   was_taken = u.was_taken;
@@ -187,15 +187,16 @@ taken_still (Some input) left' left'' t same w = (w.0, subst (λ l. IfSome l (λ
 
 -- a byte is wanted, and all that was read was taken
 pub wants : (e : Evaluation) (left left' left'' given given' : Option (List ℕ)) (forms : ℕ) (v : Evaluator) → IfSome left' (λ xs. left'' ≡ Some xs)
-    → v.printed.items ≡ [] → control_reads v.machine.control ≡ true → drop v.taken v.ahead.items ≡ []
-    → UnderWay e left left' given given' forms v → HasRun e left left'' given given' plain.ReadFault
-wants e left left' left'' given given' forms v same none reads all_taken u = record {
+    → v.printed.items ≡ [] → control_reads v.machine.control ≡ true → drop v.taken v.ahead.items ≡ [] → v.ended ≡ false
+    → UnderWay e left left' given given' forms v → HasRun e left left'' given given' endings.ReadFault
+wants e left left' left'' given given' forms v same none reads all_taken open u = record {
   taken = u.taken;
   was_taken = taken_still left left' left'' u.taken same u.was_taken;
   comes = λ input b.
       let m : Moment = moment_after e input u.count in
       let a : IsAt e.names v u.written b.rest m = (u.comes input b).is_at in
       record {
+        not_all = u.all_is ∙ open;
         count = u.count;
         wants = ap (λ (x : Moment). wants_byte x.control) (sym a.is) ∙ wants_so e.names v.machine v.machine.control reads;
         left = ap (λ (x : Moment). x.state.state.input) (sym a.is) ∙ a.stands.input ∙ ap (λ xs. xs ++ b.rest) all_taken;

@@ -1,9 +1,10 @@
 -- A run after so many forms: as many began, and no count of faults fell.
 use Rattle.std.specs.Prelude.{◌≤◌, ℕ, List, Option, Result, Ok, Err, IfOk, IfErr}
 use Rattle.eval_step.specs.declared.evaluator.Evaluator.{Evaluator}
-use Rattle.eval_run.specs.declared.end.PlainEnd.{PlainEnd}
+use Rattle.lang_meaning.specs.declared.evaluation.EvaluationEnd.{EvaluationEnd}
 use Rattle.eval_run.specs.declared.stop.Stop.{Stop}
-use Rattle.eval_run.specs.Evaluation.{Evaluation, most_forms}
+use Rattle.lang_meaning.specs.Evaluation.{Evaluation}
+use Rattle.lang_meaning.specs.Evaluates.{most_forms}
 use Rattle.eval_run.specs.UnderWay.{UnderWay, HasRun, StopsSo}
 
 pub record HasTurned (left left' given given' : Option (List ℕ)) (faults faults' failed failed' : ℕ) (first now : Evaluator) (forms : ℕ) : Type 0 where
@@ -12,7 +13,7 @@ pub record HasTurned (left left' given given' : Option (List ℕ)) (faults fault
   pub sink_count : failed ≤ failed'
 
 -- what the end of it tells of the whole run
-pub run_ends : (r : Result PlainEnd Stop) (from to given given' given'' : Option (List ℕ)) (forms : ℕ) (first v : Evaluator) → forms ≤ most_forms
+pub run_ends : (r : Result EvaluationEnd Stop) (from to given given' given'' : Option (List ℕ)) (forms : ℕ) (first v : Evaluator) → forms ≤ most_forms
     → ((e : Evaluation) → UnderWay e from from given given 0 first → UnderWay e from to given given' forms v)
     → IfOk r (λ end. (e : Evaluation) (left left' given : Option (List ℕ)) (forms : ℕ) → forms ≤ most_forms
     → UnderWay e left left' given given' forms v → HasRun e left left' given given'' end)
@@ -20,7 +21,7 @@ pub run_ends : (r : Result PlainEnd Stop) (from to given given' given'' : Option
 run_ends (Ok end) from to given given' given'' forms first v few way h = λ e u. h e from to given forms few (way e u)
 run_ends (Err s) from to given given' given'' forms first v few way h = tt
 
-pub run_stops : (r : Result PlainEnd Stop) (from to given given' given'' : Option (List ℕ)) (forms : ℕ) (first v : Evaluator)
+pub run_stops : (r : Result EvaluationEnd Stop) (from to given given' given'' : Option (List ℕ)) (forms : ℕ) (first v : Evaluator)
     → ((e : Evaluation) → UnderWay e from from given given 0 first → UnderWay e from to given given' forms v)
     → IfErr r (λ stop. (e : Evaluation) (left left' given : Option (List ℕ)) (forms : ℕ)
     → UnderWay e left left' given given' forms v → StopsSo stop e left left' given given'')

@@ -11,7 +11,7 @@ use Rattle.eval_store.specs.declared.layout.Layout.{Layout}
 use Rattle.eval_store.specs.Layout.{IsLaidOut}
 use Rattle.eval_primitives.specs.declared.primitives.Primitives.{Primitives}
 use Rattle.eval_primitives.specs.Computed.{IsFitted}
-use Rattle.eval_run.specs.declared.end.PlainEnd.{PlainEnd}
+use Rattle.lang_meaning.specs.declared.evaluation.EvaluationEnd.{EvaluationEnd}
 use Rattle.eval_run.specs.declared.stop.Stop.{Stop}
 use Rattle.eval_run.specs.UnderWay.{HasRun, StopsSo}
 
@@ -22,7 +22,7 @@ pub record IsReady (names : List (List ℕ)) (program : FlatProgram) (spellings 
   pub fitted : IsFitted names (tables program) primitives
 
 -- it has ended so
-abbrev pub FlatRuns : (names : List (List ℕ)) (program : FlatProgram) (levels words : ℕ) (left left' given given' : Option (List ℕ)) → PlainEnd → Type 0
+abbrev pub FlatRuns : (names : List (List ℕ)) (program : FlatProgram) (levels words : ℕ) (left left' given given' : Option (List ℕ)) → EvaluationEnd → Type 0
 FlatRuns names program levels words left left' given given' end = (rows : ProgramRows) → program ≡ flat_program rows
     → HasRun (record { names = names; program = rows; levels = levels; words = words }) left left' given given' end
 

@@ -1,6 +1,4 @@
 -- How a program is evaluated.
-pub mod Evaluation
-pub mod Taken
-pub mod Evaluates
+pub mod Moments
 pub mod UnderWay
 pub mod FlatRun

@@ -1,20 +1,20 @@
 -- An evaluation that is under way: how far the source was read and the sink written, and at which moment the evaluator is; and how a run
 -- comes to its end. What the program means is not spoken of here.
-use Rattle.std.specs.Prelude.{◌≡◌, ◌≤◌, ⊤, ℕ, true, List, [], ◌++◌, Option, Some, None, Result, Ok, Err, IfSome}
-use Rattle.lang_meaning.specs.Laws.{IsPrefix}
+use Rattle.std.specs.Prelude.{◌≡◌, ◌≤◌, ⊤, ℕ, true, false, List, [], ◌++◌, Option, Some, None, Result, Ok, Err, IfSome}
+use Rattle.lang_meaning.specs.Prefixes.{IsPrefix}
 use Rattle.base.specs.Given.{WasGiven}
 use Rattle.eval_machine.specs.Run.{begins, IsEnd, done}
 use Rattle.eval_machine.specs.RunLaws.{printed_at}
 use Rattle.eval_state.specs.View as machine
 use Rattle.eval_step.specs.declared.evaluator.Evaluator.{Evaluator}
 use Rattle.eval_step.specs.Runs.{IsAt}
-use Rattle.eval_run.specs.declared.end.PlainEnd.{PlainEnd}
-use Rattle.eval_run.specs.declared.end.PlainEnd.TheVariants as plain
+use Rattle.lang_meaning.specs.declared.evaluation.EvaluationEnd.{EvaluationEnd}
+use Rattle.lang_meaning.specs.declared.evaluation.EvaluationEnd.TheVariants as endings
 use Rattle.eval_run.specs.declared.stop.Stop.{Stop}
 use Rattle.eval_run.specs.declared.stop.Stop.TheVariants as stop
-use Rattle.eval_run.specs.Evaluation.{Evaluation, end_of, setting_of, moment_after, forms_after, most_forms}
-use Rattle.eval_run.specs.Evaluates.{wants_byte}
-use Rattle.eval_run.specs.Taken.{Taken, Begins, WasTaken}
+use Rattle.lang_meaning.specs.Evaluation.{Evaluation, end_of, Taken, Begins, WasTaken}
+use Rattle.lang_meaning.specs.Evaluates.{most_forms}
+use Rattle.eval_run.specs.Moments.{setting_of, moment_after, forms_after, wants_byte}
 
 -- the evaluator runs that program
 pub record RunsFor (e : Evaluation) (v : Evaluator) : Type 0 where
@@ -43,7 +43,7 @@ IsPutBehind left bytes left' = IfSome left (λ all. (rest : List ℕ) × ((all �
 
 -- the ends, at a moment of the machine
 
-pub record StopsAt (e : Evaluation) (input : List ℕ) (given given' : Option (List ℕ)) (end : PlainEnd) : Type 0 where
+pub record StopsAt (e : Evaluation) (input : List ℕ) (given given' : Option (List ℕ)) (end : EvaluationEnd) : Type 0 where
   pub count : ℕ
   pub stops : IsEnd (setting_of e) (moment_after e input count)
   pub ends : end_of (done (moment_after e input count)) ≡ end
@@ -57,6 +57,7 @@ pub record SpentAt (e : Evaluation) (input : List ℕ) (given given' : Option (L
   pub printed : WasGiven given (printed_at (moment_after e input count)) given'
 
 pub record WantsAt (e : Evaluation) (t : Taken) (input : List ℕ) (b : Begins t input) (given given' : Option (List ℕ)) : Type 0 where
+  pub not_all : t.all ≡ false
   pub count : ℕ
   pub wants : wants_byte (moment_after e input count).control ≡ true
   pub left : (moment_after e input count).state.state.input ≡ b.rest
@@ -68,16 +69,16 @@ pub record CutOffAt (e : Evaluation) (input : List ℕ) (given given' : Option (
   pub prefix : IsPrefix front (printed_at (moment_after e input count))
   pub printed : WasGiven given front given'
 
-abbrev pub ComesTo : (end : PlainEnd) (e : Evaluation) (t : Taken) (input : List ℕ) → Begins t input → (given given' : Option (List ℕ)) → Type 0
-ComesTo plain.Value e t input b given given' = StopsAt e input given given' plain.Value
-ComesTo (plain.Unhandled class site) e t input b given given' = StopsAt e input given given' (plain.Unhandled class site)
-ComesTo (plain.Full asked left) e t input b given given' = StopsAt e input given given' (plain.Full asked left)
-ComesTo plain.More e t input b given given' = StopsAt e input given given' plain.More
-ComesTo plain.Spent e t input b given given' = SpentAt e input given given'
-ComesTo plain.ReadFault e t input b given given' = WantsAt e t input b given given'
-ComesTo plain.WriteFault e t input b given given' = CutOffAt e input given given'
+abbrev pub ComesTo : (end : EvaluationEnd) (e : Evaluation) (t : Taken) (input : List ℕ) → Begins t input → (given given' : Option (List ℕ)) → Type 0
+ComesTo endings.Value e t input b given given' = StopsAt e input given given' endings.Value
+ComesTo (endings.Unhandled class site) e t input b given given' = StopsAt e input given given' (endings.Unhandled class site)
+ComesTo (endings.Full asked left) e t input b given given' = StopsAt e input given given' (endings.Full asked left)
+ComesTo endings.More e t input b given given' = StopsAt e input given given' endings.More
+ComesTo endings.Spent e t input b given given' = SpentAt e input given given'
+ComesTo endings.ReadFault e t input b given given' = WantsAt e t input b given given'
+ComesTo endings.WriteFault e t input b given given' = CutOffAt e input given given'
 
-pub record HasRun (e : Evaluation) (left left' given given' : Option (List ℕ)) (end : PlainEnd) : Type 0 where
+pub record HasRun (e : Evaluation) (left left' given given' : Option (List ℕ)) (end : EvaluationEnd) : Type 0 where
   pub taken : Taken
   pub was_taken : WasTaken left taken left'
   pub comes : (input : List ℕ) (b : Begins taken input) → ComesTo end e taken input b given given'
@@ -90,8 +91,8 @@ pub record HasBroken (e : Evaluation) (left left' given given' : Option (List �
 -- why a run stops on its way, and what stands then
 abbrev pub StopsSo : Stop → (e : Evaluation) → (left left' given given' : Option (List ℕ)) → Type 0
 StopsSo stop.NoMemory e left left' given given' = HasBroken e left left' given given'
-StopsSo stop.ReadFault e left left' given given' = HasRun e left left' given given' plain.ReadFault
-StopsSo stop.WriteFault e left left' given given' = HasRun e left left' given given' plain.WriteFault
+StopsSo stop.ReadFault e left left' given given' = HasRun e left left' given given' endings.ReadFault
+StopsSo stop.WriteFault e left left' given given' = HasRun e left left' given given' endings.WriteFault
 
 abbrev pub StopTells : Stop → (SourceRises SinkRises : Type 0) → Type 0
 StopTells stop.NoMemory SourceRises SinkRises = ⊤
@@ -99,14 +100,14 @@ StopTells stop.ReadFault SourceRises SinkRises = SourceRises
 StopTells stop.WriteFault SourceRises SinkRises = SinkRises
 
 -- an end that is no fault
-abbrev pub IsOwnEnd : PlainEnd → Type 0
-IsOwnEnd plain.ReadFault = ⊥
-IsOwnEnd plain.WriteFault = ⊥
+abbrev pub IsOwnEnd : EvaluationEnd → Type 0
+IsOwnEnd endings.ReadFault = ⊥
+IsOwnEnd endings.WriteFault = ⊥
 IsOwnEnd end = ⊤
 
 -- a stop by a fault is an end; want of memory is none
-abbrev pub end_told : Result PlainEnd Stop → Option PlainEnd
+abbrev pub end_told : Result EvaluationEnd Stop → Option EvaluationEnd
 end_told (Ok end) = Some end
-end_told (Err stop.ReadFault) = Some plain.ReadFault
-end_told (Err stop.WriteFault) = Some plain.WriteFault
+end_told (Err stop.ReadFault) = Some endings.ReadFault
+end_told (Err stop.WriteFault) = Some endings.WriteFault
 end_told (Err stop.NoMemory) = None

@@ -1,4 +1,4 @@
-// How the evaluation of a program ends.
+// How the evaluation of a program has ended.
 
 ghost use Rattle.std.specs.Prelude.{◌≡◌, List, ℕ};
 ghost use Rattle.lang_meaning.specs.State.{exit};
@@ -9,41 +9,27 @@ ghost use Rattle.eval_store.specs.View.{Beside, state_of};
 ghost use Rattle.eval_store.specs.Words.{value_of_word};
 ghost use Rattle.eval_state.specs.Frames.{landing_of};
 ghost use Rattle.eval_state.specs.View.{moment_of};
-ghost use Rattle.eval_run.specs.Evaluation.{end_of};
+ghost use Rattle.lang_meaning.specs.Evaluation.{end_of};
 
 use base::Place;
 use eval_primitives::class_of;
 use eval_state::frame::{Landing, Outcome};
 use eval_step::evaluator::Evaluator;
 use eval_store::{Store, Word};
-use lang_meaning::ClassId;
-
-/// How the evaluation of a program ended: with a value; with a condition of a class that no handler took, at the place of the form
-/// that signalled it, or 0:0; for want of words, where more were asked for than were left; for want of levels; after 2^63 forms; or
-/// because the source failed, or the sink.
-#[derive(Clone, Copy)]
-pub enum PlainEnd {
-    Value,
-    Unhandled { class: ClassId, site: Place },
-    Full { asked: u64, left: u64 },
-    More,
-    Spent,
-    ReadFault,
-    WriteFault,
-}
+use lang_meaning::{ClassId, EvaluationEnd};
 
 /// The end that an evaluator has come to.
-pub(crate) fn end_at(evaluator: &Evaluator<'_>) -> PlainEnd
+pub(crate) fn end_at(evaluator: &Evaluator<'_>) -> EvaluationEnd
     ensures { (names : List (List ℕ)) (b : Beside) → end_of (done (moment_of names evaluator.now.machine b)) ≡ result }
 {
     match evaluator.outcome() {
-        Outcome::Value(_word) => PlainEnd::Value,
-        Outcome::Exit(_number, word, landing) => PlainEnd::Unhandled {
+        Outcome::Value(_word) => EvaluationEnd::Value,
+        Outcome::Exit(_number, word, landing) => EvaluationEnd::Unhandled {
             class: class_in(&evaluator.machine.store, word),
             site: site_of(landing),
         },
-        Outcome::Full { asked, left } => PlainEnd::Full { asked, left },
-        Outcome::More => PlainEnd::More,
+        Outcome::Full { asked, left } => EvaluationEnd::Full { asked, left },
+        Outcome::More => EvaluationEnd::More,
     }
 }
 

@@ -2,24 +2,23 @@
 
 ghost use Rattle.std.specs.Prelude.{◌≡◌, Some, None, IfOk, OnErr, MatchResult};
 ghost use Rattle.base.specs.Outside.{Rose};
-ghost use Rattle.eval_run.specs.Evaluates.{Evaluates, BreaksOff, Tells};
-ghost use Rattle.eval_run.specs.UnderWay.{end_told};
+ghost use Rattle.lang_meaning.specs.Evaluates.{Evaluates, BreaksOff, Tells};
+ghost use Rattle.eval_run.specs.UnderWay.{HasRun, end_told};
 
-use crate::end::PlainEnd;
 use crate::setting_up::run_flat;
 use crate::stop::Stop;
 use base::{Names, NoMemory, Sink, Source};
 use eval_machine::laws::law_machine;
-use eval_machine::run_laws::{law_printing, law_words};
+use eval_machine::run_laws::{law_printing, law_reading, law_units, law_words};
 use flat_conversion::flatten;
-use lang_meaning::Program;
+use lang_meaning::{EvaluationEnd, Program};
 use std::alloc::Global;
 
 /// Evaluates a program with these names by its meaning (ISO/IEC 13816:2007, 12 to 29), within so many levels and words: reads of
 /// the source what the program reads, in pieces of at most 4,096 bytes, and gives the sink what it prints, before each read
 /// and at the end. The end and the bytes are those of the meaning. After 2^63 forms, when another one is to begin, it is `Spent`. A fault
 /// comes only where the count of the source's faults, or of the sink's, rose. After a fault, `Spent` or `NoMemory` the sink was given a
-/// beginning of what the program prints.
+/// beginning of what the program prints. At which moment of the machine the run stopped is a clause of its own (`runs`).
 pub fn evaluate<S: Source, K: Sink>(
     alloc: Global,
     program: &Program,
@@ -28,8 +27,10 @@ pub fn evaluate<S: Source, K: Sink>(
     words: u64,
     source: &mut S,
     sink: &mut K,
-) -> Result<PlainEnd, NoMemory>
+) -> Result<EvaluationEnd, NoMemory>
     ensures ends { IfOk result (Evaluates (record { names = names.now; program = program.now; levels = levels; words = words })
+        (S.left source.old) (S.left source.new) (K.given sink.old) (K.given sink.new)) }
+    ensures runs { IfOk result (HasRun (record { names = names.now; program = program.now; levels = levels; words = words })
         (S.left source.old) (S.left source.new) (K.given sink.old) (K.given sink.new)) }
     ensures fault { IfOk result (λ end. Tells end (Rose (S.faults source.old) (S.faults source.new)) (Rose (K.faults sink.old) (K.faults sink.new))) }
     ensures breaks_off { OnErr result (BreaksOff (record { names = names.now; program = program.now; levels = levels; words = words })
@@ -37,6 +38,8 @@ pub fn evaluate<S: Source, K: Sink>(
 {
     law_machine();
     law_printing();
+    law_reading();
+    law_units();
     law_words();
     let _rows = program.rows();
     let flat = flatten(alloc, program)?;
@@ -46,13 +49,13 @@ pub fn evaluate<S: Source, K: Sink>(
 }
 
 // A stop by a fault is an end.
-fn end_of(ended: Result<PlainEnd, Stop>) -> Result<PlainEnd, NoMemory>
+fn end_of(ended: Result<EvaluationEnd, Stop>) -> Result<EvaluationEnd, NoMemory>
     ensures { MatchResult result (λ end. end_told ended ≡ Some end) (λ _. end_told ended ≡ None) }
 {
     match ended {
         Ok(end) => Ok(end),
-        Err(Stop::ReadFault) => Ok(PlainEnd::ReadFault),
-        Err(Stop::WriteFault) => Ok(PlainEnd::WriteFault),
+        Err(Stop::ReadFault) => Ok(EvaluationEnd::ReadFault),
+        Err(Stop::WriteFault) => Ok(EvaluationEnd::WriteFault),
         Err(Stop::NoMemory) => Err(NoMemory),
     }
 }

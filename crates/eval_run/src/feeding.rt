@@ -3,7 +3,7 @@
 ghost use Rattle.std.specs.Prelude.{◌≡◌, ◌≤◌, [], true, false, List, ℕ, Option, OnOk, IfErr};
 ghost use Rattle.base.specs.Outside.{Rose};
 ghost use Rattle.eval_step.specs.Streams.{control_reads, is_fed};
-ghost use Rattle.eval_run.specs.Evaluation.{Evaluation};
+ghost use Rattle.lang_meaning.specs.Evaluation.{Evaluation};
 ghost use Rattle.eval_run.specs.UnderWay.{UnderWay, StopsSo, StopTells, IsPutBehind};
 
 use crate::stop::Stop;

@@ -1,7 +1,7 @@
 // Programs are evaluated: what they want is read, what they print is written, and how they end is told.
 #![tactic(auto)]
 
-pub mod end;
+mod end;
 pub mod evaluating;
 mod feeding;
 mod running;
@@ -9,5 +9,4 @@ mod setting_up;
 pub mod stop;
 mod writing;
 
-pub use end::PlainEnd;
 pub use evaluating::evaluate;

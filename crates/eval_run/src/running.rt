@@ -7,15 +7,17 @@ ghost use Rattle.eval_store.specs.View.{Beside};
 ghost use Rattle.eval_state.specs.View.{moment_of};
 ghost use Rattle.eval_step.specs.Advanced.{IsStopped};
 ghost use Rattle.eval_step.specs.Streams.{control_reads, is_fed};
-ghost use Rattle.eval_run.specs.Evaluation.{Evaluation, most_forms};
+ghost use Rattle.lang_meaning.specs.Evaluation.{Evaluation};
+ghost use Rattle.lang_meaning.specs.Evaluates.{most_forms};
 ghost use Rattle.eval_run.specs.UnderWay.{UnderWay, HasRun, IsOwnEnd, StopsSo, StopTells};
 
-use crate::end::{PlainEnd, end_at};
+use crate::end::end_at;
 use crate::feeding::feed;
 use crate::stop::Stop;
 use crate::writing::{write_much, write_printed};
 use base::{Sink, Source};
 use eval_step::evaluator::Evaluator;
+use lang_meaning::EvaluationEnd;
 
 // So many forms may begin.
 const MOST_FORMS: u64 = 9_223_372_036_854_775_808;
@@ -25,7 +27,7 @@ pub(crate) fn run<S: Source, K: Sink>(
     evaluator: &mut Evaluator<'_>,
     source: &mut S,
     sink: &mut K,
-) -> Result<PlainEnd, Stop>
+) -> Result<EvaluationEnd, Stop>
     ensures ends { IfOk result (λ end. (e : Evaluation)
         → UnderWay e (S.left source.old) (S.left source.old) (K.given sink.old) (K.given sink.old) 0 evaluator.old
         → HasRun e (S.left source.old) (S.left source.new) (K.given sink.old) (K.given sink.new) end) }
@@ -51,7 +53,7 @@ pub(crate) fn run<S: Source, K: Sink>(
         return finish(evaluator, sink);
     }
     write_printed(evaluator, sink)?;
-    Ok(PlainEnd::Spent)
+    Ok(EvaluationEnd::Spent)
 }
 
 // Steps up to the next form, or to the end; whether there is a form.
@@ -86,7 +88,7 @@ fn begin(evaluator: &mut Evaluator<'_>) -> Result<(), Stop>
 }
 
 // All that was printed is written at the end; the end.
-fn finish<K: Sink>(evaluator: &mut Evaluator<'_>, sink: &mut K) -> Result<PlainEnd, Stop>
+fn finish<K: Sink>(evaluator: &mut Evaluator<'_>, sink: &mut K) -> Result<EvaluationEnd, Stop>
     requires ended { IsStopped evaluator.old false }
     ensures ends { IfOk result (λ end. (e : Evaluation) (left left' given : Option (List ℕ)) (forms : ℕ) → forms ≤ most_forms
         → UnderWay e left left' given (K.given sink.old) forms evaluator.old

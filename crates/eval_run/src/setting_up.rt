@@ -13,7 +13,6 @@ ghost use Rattle.eval_state.specs.Sizes.{AreSizes};
 ghost use Rattle.eval_run.specs.UnderWay.{IsOwnEnd, StopTells};
 ghost use Rattle.eval_run.specs.FlatRun.{IsReady, FlatRuns, FlatStops};
 
-use crate::end::PlainEnd;
 use crate::running::run;
 use crate::stop::Stop;
 use base::{Names, NoMemory, Sink, Source};
@@ -24,6 +23,7 @@ use eval_step::evaluator::Evaluator;
 use eval_store::{Layout, Spellings, Store, lay_out};
 use flat_language::FlatProgram;
 use lang_dispatch::{Tables, tables};
+use lang_meaning::EvaluationEnd;
 use std::alloc::Global;
 
 /// Runs a flat program with these levels and words. A fault only where the count of the source's faults, or of the sink's, rose.
@@ -35,7 +35,7 @@ pub(crate) fn run_flat<S: Source, K: Sink>(
     words: u64,
     source: &mut S,
     sink: &mut K,
-) -> Result<PlainEnd, Stop>
+) -> Result<EvaluationEnd, Stop>
     requires cells { sum_by (generic_cells (with_classes program.now.classes)) program.now.generics ≤ 262144 }
     ensures ends { IfOk result (FlatRuns names.now program.now levels words (S.left source.old) (S.left source.new) (K.given sink.old) (K.given sink.new)) }
     ensures own { IfOk result IsOwnEnd }
@@ -75,7 +75,7 @@ fn run_laid_out<'p, S: Source, K: Sink>(
     words: u64,
     source: &mut S,
     sink: &mut K,
-) -> Result<PlainEnd, Stop>
+) -> Result<EvaluationEnd, Stop>
     requires cells { sum_by (generic_cells (with_classes program.now.classes)) program.now.generics ≤ 262144 }
     requires spelling { IsSpelling names.now spellings }
     requires layout { IsLayout names.now (flat.tables program.now) layout.now }
@@ -119,7 +119,7 @@ fn run_fitted<'p, S: Source, K: Sink>(
     words: u64,
     source: &mut S,
     sink: &mut K,
-) -> Result<PlainEnd, Stop>
+) -> Result<EvaluationEnd, Stop>
     requires sizes { AreSizes program.now sizes.now }
     requires dispatch { AreTablesOf (with_classes program.now.classes) program.now.generics tables.now }
     ensures ends { IfOk result (λ end. (names : List (List ℕ)) → IsReady names program.now spellings layout.now primitives.now store.entry

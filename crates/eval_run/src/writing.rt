@@ -2,7 +2,7 @@
 
 ghost use Rattle.std.specs.Prelude.{◌≡◌, ◌≤◌, [], List, ℕ, Option, Bool, OnOk, IfErr};
 ghost use Rattle.base.specs.Outside.{Rose};
-ghost use Rattle.eval_run.specs.Evaluation.{Evaluation};
+ghost use Rattle.lang_meaning.specs.Evaluation.{Evaluation};
 ghost use Rattle.eval_run.specs.UnderWay.{UnderWay, StopsSo, StopTells};
 
 use crate::stop::Stop;

@@ -66,6 +66,7 @@ same_run : {lambdas : List FlatProcedure} {w : World} {r : Evaluated} {q : FlatE
 same_run x = record {
   end = ap end_of x.same;
   printed = ap (λ (y : FlatState). y.state.printed) x.beside.is;
+  left = ap (λ (y : FlatState). y.state.input) x.beside.is;
   units = ap (λ (y : FlatState). y.state.units) x.beside.is;
   peak = ap (λ (y : FlatState). y.state.peak) x.beside.is;
   class = value_class x.beside;

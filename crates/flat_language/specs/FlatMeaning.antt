@@ -281,6 +281,7 @@ abbrev pub meant : FlatEvaluated → Meant
 meant r = record {
   end = end_of r.outcome;
   printed = r.state.state.printed;
+  left = r.state.state.input;
   units = r.state.state.units;
   peak = r.state.state.peak;
   store = r.state.state.store;

@@ -15,10 +15,11 @@ use Rattle.flat_language.specs.FlatStanding.{ProgramStands}
 use Rattle.flat_language.specs.Flatten.{flat, flat_program}
 use Rattle.flat_language.specs.Scope.{Scope}
 
--- two runs with the same end, bytes, units and peak, in whose stores each value is of the same class
+-- two runs with the same end, bytes, input left, units and peak, in whose stores each value is of the same class
 pub record SameRun (one other : Meant) : Type 0 where
   pub end : other.end ≡ one.end
   pub printed : other.printed ≡ one.printed
+  pub left : other.left ≡ one.left
   pub units : other.units ≡ one.units
   pub peak : other.peak ≡ one.peak
   pub class : (v : Value) → class_in other.store v ≡ class_in one.store v

@@ -2,7 +2,8 @@
 use Rattle.std.proofs.Common.{◌≡◌, ℕ, ◌+◌, Bool, true, false, T, List, [], ◌∷◌, refl, sym, ap, subst, ◌∙◌, ◌⊎◌, inl, inr, ⊎_elim, Option, Some, None}
 use Rattle.std.proofs.Math.Dec.{eqb_refl}
 use Rattle.std.specs.Prelude.{◌==◌, if◌then◌else◌, length}
-use Rattle.lang_meaning.specs.Laws.{IsPrefix, IsExitOf, LandsIn}
+use Rattle.lang_meaning.specs.Laws.{IsExitOf, LandsIn}
+use Rattle.lang_meaning.specs.Prefixes.{IsPrefix}
 use Rattle.lang_meaning.specs.Values.{Value, object}
 use Rattle.lang_meaning.specs.Objects.{Environment, Object}
 use Rattle.lang_meaning.specs.State.{State, Surroundings, Exit, ExitKind, Landing, Outcome, value, exit, full, more, Evaluated, gives, leaves, Act, go_on, go_on_from, landed, landed_from, caught, cleaned, cleaned_from, exits_from, Limit, has_room, room_left, request, with_words, charged, make, stored, with_stack, in_frame}

@@ -1,7 +1,8 @@
 -- Facts between two states that each step of a run keeps.
 use Rattle.std.proofs.Common.{◌≡◌, ◌≤◌, ℕ, ◌+◌, List, [], ◌∷◌, ◌++◌, refl, sym, ap, subst, ◌∙◌, arith, append_assoc, append-nil, le_refl, le_trans}
 use Rattle.std.specs.Prelude.{slice_set}
-use Rattle.lang_meaning.specs.Laws.{IsPrefix, IsLater, Falling, MakesNewExits}
+use Rattle.lang_meaning.specs.Laws.{IsLater, Falling, MakesNewExits}
+use Rattle.lang_meaning.specs.Prefixes.{IsPrefix}
 use Rattle.lang_meaning.specs.Values.{Value}
 use Rattle.lang_meaning.specs.Objects.{Object}
 use Rattle.lang_meaning.specs.State.{State, charged, with_words, stored, changed, exit_made}

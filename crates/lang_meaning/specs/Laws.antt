@@ -7,11 +7,7 @@ use Rattle.lang_meaning.specs.State.{State, first_state, Surroundings, Exit, Out
 use Rattle.lang_meaning.specs.Objects.{Environment}
 use Rattle.lang_meaning.specs.Signals.{Task}
 use Rattle.lang_meaning.specs.Meaning.{Meant, ended_more, meaning, meaning_at}
-
--- some bytes are a prefix of others
-pub record IsPrefix (few many : List ℕ) : Type 0 where
-  pub rest : List ℕ
-  pub is : few ++ rest ≡ many
+use Rattle.lang_meaning.specs.Prefixes.{IsPrefix}
 
 -- what is known at some levels of what comes at more of them: an end is the same, with the same bytes, units
 -- and peak, and what is printed is a prefix

@@ -16,7 +16,10 @@ pub mod Layout
 pub mod Primitives
 pub mod Signals
 pub mod Meaning
+pub mod Prefixes
 pub mod Laws
+pub mod Evaluation
+pub mod Evaluates
 pub mod BuiltIn
 pub mod BuiltInRows
 pub mod ProgramCounts

@@ -321,11 +321,12 @@ end_of (exit e v (at_segment segment)) = ended_unhandled v no_place
 end_of (full asked left) = ended_full asked left
 end_of more = ended_more
 
--- what a program does: the end, the bytes printed, the units, the peak of words, and the store, which says
--- what the objects are
+-- what a program does: the end, the bytes printed, the input left, the units, the peak of words, and the store,
+-- which says what the objects are
 pub record Meant : Type 0 where
   pub end : End
   pub printed : List ℕ
+  pub left : List ℕ
   pub units : ℕ
   pub peak : ℕ
   pub store : List Object
@@ -334,6 +335,7 @@ abbrev pub meant : Evaluated → Meant
 meant r = record {
   end = end_of r.outcome;
   printed = r.state.printed;
+  left = r.state.input;
   units = r.state.units;
   peak = r.state.peak;
   store = r.state.store;

@@ -10,8 +10,8 @@ use Rattle.top_main.specs.declared.status.Answer.TheVariants as answer
 use Rattle.top_main.specs.declared.command.Action.TheVariants.{Plain}
 use Rattle.rv_machine.specs.declared.image.Image.{Image}
 use Rattle.lang_meaning.specs.declared.program.ProgramRows.{ProgramRows}
-use Rattle.eval_run.specs.declared.end.PlainEnd.{PlainEnd}
-use Rattle.eval_run.specs.declared.end.PlainEnd.TheVariants as plain
+use Rattle.lang_meaning.specs.declared.evaluation.EvaluationEnd.{EvaluationEnd}
+use Rattle.lang_meaning.specs.declared.evaluation.EvaluationEnd.TheVariants as endings
 use Rattle.top_main.specs.Command.{Asked, asked}
 use Rattle.top_main.specs.Answers.{RunAnswers, RunFileAnswers, was_run, was_check, was_plain, WordsAnswers, was_usage, was_untold, was_asked}
 use Rattle.top_main.specs.Lines.{line_of, status_of, unhandled_line, budget_line, refused_line, arena_full_line, spent_line, file_fault_line, read_fault_line, no_memory_line}
@@ -91,7 +91,7 @@ module _ (v : View) (said said' : Option (List ℕ)) where
   Says WriteFault = ⊤
   Says NoMemory = ((v.Same × v.InputSame) ⊎ IsPlainBroken v.words v.holds v.kept v.left v.left' v.sent) × Line no_memory_line
 
-  abbrev plainly : (c : Asked) (end : PlainEnd) → asked v.words ≡ Some c → c.action ≡ Plain → v.kept ≡ None → PlainRuns (v.holds c.file) c.steps c.arena v.left v.left' v.sent end → IsPlain v.words v.holds v.kept v.left v.left' v.sent end
+  abbrev plainly : (c : Asked) (end : EvaluationEnd) → asked v.words ≡ Some c → c.action ≡ Plain → v.kept ≡ None → PlainRuns (v.holds c.file) c.steps c.arena v.left v.left' v.sent end → IsPlain v.words v.holds v.kept v.left v.left' v.sent end
   plainly c end is p k h = record { command = c; asked_for = is; is_plain = p; runs = h; unbuilt = k }
 
   done : Told v answer.Done → Line [] → Says Done
@@ -110,7 +110,7 @@ module _ (v : View) (said said' : Option (List ℕ)) where
   })
   done (was_asked c is (was_check r i k h)) line =
       inr (inl (record { command = c; asked_for = is; is_check = r; passes = h.0; unbuilt = k; printed = h.1; line = line }))
-  done (was_asked c is (was_plain p k h)) line = inr (inr (record { ended = plainly c plain.Value is p k h; line = line }))
+  done (was_asked c is (was_plain p k h)) line = inr (inr (record { ended = plainly c endings.Value is p k h; line = line }))
 
   unhandled : (class : List ℕ) (site : Place) → Told v (answer.Unhandled class site) → Line (unhandled_line class site) → Says Unhandled
   unhandled class site (was_usage e none shelf same i k) line = absurd (cc)
@@ -119,7 +119,7 @@ module _ (v : View) (said said' : Option (List ℕ)) where
   unhandled class site (was_asked c is (was_check r i k h)) line = absurd h
   unhandled class site (was_asked c is (was_plain p k h)) line =
       let P : List ℕ → Type 0 = λ n. WasGiven said (unhandled_line n site) said' in
-      record { class = h.class; site = site; ended = plainly c (plain.Unhandled h.class site) is p k h.runs; line = subst P h.named line }
+      record { class = h.class; site = site; ended = plainly c (endings.Unhandled h.class site) is p k h.runs; line = subst P h.named line }
 
   usage : Told v answer.Usage → Line (line_of answer.Usage) → Says Usage
   usage (was_usage e none shelf same i k) line = (record { asked_for = none; line = line }, i)
@@ -144,7 +144,7 @@ module _ (v : View) (said said' : Option (List ℕ)) where
   arena_full wanted room (was_asked c is (was_run r i h)) line = absurd h
   arena_full wanted room (was_asked c is (was_check r i k h)) line = absurd h
   arena_full wanted room (was_asked c is (was_plain p k h)) line =
-      record { wanted = wanted; room = room; ended = plainly c (plain.Full wanted room) is p k h; line = line }
+      record { wanted = wanted; room = room; ended = plainly c (endings.Full wanted room) is p k h; line = line }
 
   budget : (n : ℕ) → Told v (answer.Budget n) → Line (budget_line n) → Says Budget
   budget n (was_usage e none shelf same i k) line = absurd (cc)
@@ -167,14 +167,14 @@ module _ (v : View) (said said' : Option (List ℕ)) where
   budget n (was_asked c is (was_check r i k h)) line = absurd h
   budget n (was_asked c is (was_plain p k h)) line =
       let P : ℕ → Type 0 = λ m. WasGiven said (budget_line m) said' in
-      inr (inl (record { ended = plainly c plain.More is p k h.1; line = subst P h.0 line }))
+      inr (inl (record { ended = plainly c endings.More is p k h.1; line = subst P h.0 line }))
 
   spent : Told v answer.Spent → Line spent_line → Says Budget
   spent (was_usage e none shelf same i k) line = absurd (cc)
   spent (was_untold e shelf same i k) line = absurd (cc)
   spent (was_asked c is (was_run r i h)) line = absurd h
   spent (was_asked c is (was_check r i k h)) line = absurd h
-  spent (was_asked c is (was_plain p k h)) line = inr (inr (record { ended = plainly c plain.Spent is p k h; line = line }))
+  spent (was_asked c is (was_plain p k h)) line = inr (inr (record { ended = plainly c endings.Spent is p k h; line = line }))
 
   file_fault : Told v answer.FileFault → Line file_fault_line → Says FileFault
   file_fault (was_usage e none shelf same i k) line = absurd (cc)
@@ -188,7 +188,7 @@ module _ (v : View) (said said' : Option (List ℕ)) where
   read_fault (was_untold e shelf same i k) line = absurd (cc)
   read_fault (was_asked c is (was_run r i h)) line = absurd h
   read_fault (was_asked c is (was_check r i k h)) line = absurd h
-  read_fault (was_asked c is (was_plain p k h)) line = (h.0, record { ended = plainly c plain.ReadFault is p k h.1; line = line })
+  read_fault (was_asked c is (was_plain p k h)) line = (h.0, record { ended = plainly c endings.ReadFault is p k h.1; line = line })
 
   says : (a : Answer) → Told v a → Line (line_of a) → Says (status_of a)
   says answer.Done w line = done w line
@@ -212,7 +212,7 @@ module _ (v : View) where
   abbrev Untold : Type 0
   Untold = IsSpent v.words v.holds v.kept v.sent ⊎ (IsPlainUntold v.words v.holds v.kept v.left v.left' v.sent ⊎ IsPlainBroken v.words v.holds v.kept v.left v.left' v.sent)
 
-  plain_untold : (c : Asked) (end : PlainEnd) → HasLine end → asked v.words ≡ Some c → c.action ≡ Plain → v.kept ≡ None → PlainRuns (v.holds c.file) c.steps c.arena v.left v.left' v.sent end → Untold
+  plain_untold : (c : Asked) (end : EvaluationEnd) → HasLine end → asked v.words ≡ Some c → c.action ≡ Plain → v.kept ≡ None → PlainRuns (v.holds c.file) c.steps c.arena v.left v.left' v.sent end → Untold
   plain_untold c end l is p k h = inr (inl (record { end = end; has_line = l; ended = record { command = c; asked_for = is; is_plain = p; runs = h; unbuilt = k } }))
 
   cut : Told v answer.WriteFault → v.Rises × Cut
@@ -253,14 +253,14 @@ module _ (v : View) where
   unhandled_untold class site (was_untold e shelf same i k) = absurd (cc)
   unhandled_untold class site (was_asked c is (was_run r i h)) = absurd h
   unhandled_untold class site (was_asked c is (was_check r i k h)) = absurd h
-  unhandled_untold class site (was_asked c is (was_plain p k h)) = plain_untold c (plain.Unhandled h.class site) tt is p k h.runs
+  unhandled_untold class site (was_asked c is (was_plain p k h)) = plain_untold c (endings.Unhandled h.class site) tt is p k h.runs
 
   full_untold : (wanted room : ℕ) → Told v (answer.ArenaFull wanted room) → Untold
   full_untold wanted room (was_usage e none shelf same i k) = absurd (cc)
   full_untold wanted room (was_untold e shelf same i k) = absurd (cc)
   full_untold wanted room (was_asked c is (was_run r i h)) = absurd h
   full_untold wanted room (was_asked c is (was_check r i k h)) = absurd h
-  full_untold wanted room (was_asked c is (was_plain p k h)) = plain_untold c (plain.Full wanted room) tt is p k h
+  full_untold wanted room (was_asked c is (was_plain p k h)) = plain_untold c (endings.Full wanted room) tt is p k h
 
   budget_untold : (n : ℕ) → Told v (answer.Budget n) → Untold
   budget_untold n (was_usage e none shelf same i k) = absurd (cc)
@@ -276,21 +276,21 @@ module _ (v : View) where
     printed = h.1.1.1.printed;
   })
   budget_untold n (was_asked c is (was_check r i k h)) = absurd h
-  budget_untold n (was_asked c is (was_plain p k h)) = plain_untold c plain.More tt is p k h.1
+  budget_untold n (was_asked c is (was_plain p k h)) = plain_untold c endings.More tt is p k h.1
 
   spent_untold : Told v answer.Spent → Untold
   spent_untold (was_usage e none shelf same i k) = absurd (cc)
   spent_untold (was_untold e shelf same i k) = absurd (cc)
   spent_untold (was_asked c is (was_run r i h)) = absurd h
   spent_untold (was_asked c is (was_check r i k h)) = absurd h
-  spent_untold (was_asked c is (was_plain p k h)) = plain_untold c plain.Spent tt is p k h
+  spent_untold (was_asked c is (was_plain p k h)) = plain_untold c endings.Spent tt is p k h
 
   read_fault_untold : Told v answer.ReadFault → Untold
   read_fault_untold (was_usage e none shelf same i k) = absurd (cc)
   read_fault_untold (was_untold e shelf same i k) = absurd (cc)
   read_fault_untold (was_asked c is (was_run r i h)) = absurd h
   read_fault_untold (was_asked c is (was_check r i k h)) = absurd h
-  read_fault_untold (was_asked c is (was_plain p k h)) = plain_untold c plain.ReadFault tt is p k h.1
+  read_fault_untold (was_asked c is (was_plain p k h)) = plain_untold c endings.ReadFault tt is p k h.1
 
   -- a write fault is one of a line with nothing touched before it, one of the run, of the evaluation or of the line `ok`, or one
   -- of the line of a run that was spent or of an evaluation

@@ -3,10 +3,10 @@ use Rattle.std.proofs.Common.{◌≡◌, ℕ, List, [], refl, sym, subst, append
 use Rattle.std.specs.Prelude.{Option}
 use Rattle.base.specs.declared.place.Place.{Place}
 use Rattle.lang_meaning.specs.declared.program.ProgramRows.{ProgramRows}
-use Rattle.eval_run.specs.declared.end.PlainEnd.{PlainEnd}
-use Rattle.eval_run.specs.declared.end.PlainEnd.TheVariants as plain
-use Rattle.eval_run.specs.Evaluation.{Evaluation, meaning_with}
-use Rattle.eval_run.specs.Evaluates.{Evaluates, BreaksOff, Tells}
+use Rattle.lang_meaning.specs.declared.evaluation.EvaluationEnd.{EvaluationEnd}
+use Rattle.lang_meaning.specs.declared.evaluation.EvaluationEnd.TheVariants as endings
+use Rattle.lang_meaning.specs.Evaluation.{Evaluation, meaning_with}
+use Rattle.lang_meaning.specs.Evaluates.{Evaluates, BreaksOff, Tells}
 use Rattle.top_main.specs.declared.status.Answer.{Answer}
 use Rattle.top_main.specs.declared.status.Answer.TheVariants as answer
 use Rattle.top_main.specs.Answers.{EndAnswers, ProgramAnswers, PlainFileAnswers}
@@ -14,7 +14,7 @@ use Rattle.top_main.specs.Loads.{IsTaken}
 use Rattle.top_main.specs.Theorem.{Sent, IsWhole, evaluation}
 
 -- an evaluation that came to a condition gave all that the program prints, which is a beginning of it
-broken : (e : Evaluation) (left left' : Option (List ℕ)) (given given' : Option (List ℕ)) (class : ℕ) (site : Place) → Evaluates e left left' given given' (plain.Unhandled class site) → BreaksOff e left left' given given'
+broken : (e : Evaluation) (left left' : Option (List ℕ)) (given given' : Option (List ℕ)) (class : ℕ) (site : Place) → Evaluates e left left' given given' (endings.Unhandled class site) → BreaksOff e left left' given given'
 broken e left left' given given' class site h = record {
   taken = h.taken;
   was_taken = h.was_taken;
@@ -26,28 +26,28 @@ broken e left left' given given' class site h = record {
 }
 
 -- the answer of an end is that of the program's evaluation
-pub of_end : (a : Answer) (end : PlainEnd) (e : Evaluation) (left left' : Option (List ℕ)) (sent : Sent) (SourceRises Rises : Type 0)
+pub of_end : (a : Answer) (end : EvaluationEnd) (e : Evaluation) (left left' : Option (List ℕ)) (sent : Sent) (SourceRises Rises : Type 0)
     → Evaluates e left left' sent.before sent.after end → Tells end SourceRises Rises → EndAnswers a end e.names e.program e.levels
     → ProgramAnswers a e left left' sent SourceRises Rises
-of_end a plain.Value e left left' sent SourceRises Rises h t is =
+of_end a endings.Value e left left' sent SourceRises Rises h t is =
     subst (λ x. ProgramAnswers x e left left' sent SourceRises Rises) (sym is) h
-of_end a (plain.Unhandled class site) e left left' sent SourceRises Rises h t (inl is) =
+of_end a (endings.Unhandled class site) e left left' sent SourceRises Rises h t (inl is) =
     subst (λ x. ProgramAnswers x e left left' sent SourceRises Rises) (sym is) (record { class = class; evaluates = h; named = refl })
-of_end a (plain.Unhandled class site) e left left' sent SourceRises Rises h t (inr is) =
+of_end a (endings.Unhandled class site) e left left' sent SourceRises Rises h t (inr is) =
     subst (λ x. ProgramAnswers x e left left' sent SourceRises Rises) (sym is) (inr (broken e left left' sent.before sent.after class site h))
-of_end a (plain.Full wanted room) e left left' sent SourceRises Rises h t is =
+of_end a (endings.Full wanted room) e left left' sent SourceRises Rises h t is =
     subst (λ x. ProgramAnswers x e left left' sent SourceRises Rises) (sym is) h
-of_end a plain.More e left left' sent SourceRises Rises h t is =
+of_end a endings.More e left left' sent SourceRises Rises h t is =
     subst (λ x. ProgramAnswers x e left left' sent SourceRises Rises) (sym is) (refl, h)
-of_end a plain.Spent e left left' sent SourceRises Rises h t is =
+of_end a endings.Spent e left left' sent SourceRises Rises h t is =
     subst (λ x. ProgramAnswers x e left left' sent SourceRises Rises) (sym is) h
-of_end a plain.ReadFault e left left' sent SourceRises Rises h t is =
+of_end a endings.ReadFault e left left' sent SourceRises Rises h t is =
     subst (λ x. ProgramAnswers x e left left' sent SourceRises Rises) (sym is) (t, h)
-of_end a plain.WriteFault e left left' sent SourceRises Rises h t is =
+of_end a endings.WriteFault e left left' sent SourceRises Rises h t is =
     subst (λ x. ProgramAnswers x e left left' sent SourceRises Rises) (sym is) (t, h)
 
 -- the same where levels and words are numbers of another type
-pub of_end_within : (a : Answer) (end : PlainEnd) (names : List (List ℕ)) (program : ProgramRows) (levels levels' words words' : ℕ) (left left' : Option (List ℕ)) (sent : Sent) (SourceRises Rises : Type 0)
+pub of_end_within : (a : Answer) (end : EvaluationEnd) (names : List (List ℕ)) (program : ProgramRows) (levels levels' words words' : ℕ) (left left' : Option (List ℕ)) (sent : Sent) (SourceRises Rises : Type 0)
     → levels' ≡ levels → words' ≡ words
     → Evaluates (record { names = names; program = program; levels = levels'; words = words' }) left left' sent.before sent.after end
     → Tells end SourceRises Rises → EndAnswers a end names program levels

@@ -7,10 +7,10 @@ use Rattle.base.specs.declared.reason.Stop.{Stop}
 use Rattle.base.specs.declared.reason.Stop.TheVariants as stop
 use Rattle.rv_machine.specs.declared.image.Image.{Image}
 use Rattle.lang_meaning.specs.declared.program.ProgramRows.{ProgramRows}
-use Rattle.eval_run.specs.declared.end.PlainEnd.{PlainEnd}
-use Rattle.eval_run.specs.declared.end.PlainEnd.TheVariants as plain
-use Rattle.eval_run.specs.Evaluation.{Evaluation}
-use Rattle.eval_run.specs.Evaluates.{Evaluates, BreaksOff}
+use Rattle.lang_meaning.specs.declared.evaluation.EvaluationEnd.{EvaluationEnd}
+use Rattle.lang_meaning.specs.declared.evaluation.EvaluationEnd.TheVariants as endings
+use Rattle.lang_meaning.specs.Evaluation.{Evaluation}
+use Rattle.lang_meaning.specs.Evaluates.{Evaluates, BreaksOff}
 use Rattle.top_main.specs.Command.{Asked, asked}
 use Rattle.base.specs.Given.{WasGiven, WasGivenFront}
 use Rattle.top_main.specs.Lines.{ok_line}
@@ -91,26 +91,26 @@ CheckAnswers answer.Spent Good Bad given given' ShelfRises Rises Same = ⊥
 CheckAnswers answer.ReadFault Good Bad given given' ShelfRises Rises Same = ⊥
 
 -- the answer of an evaluation that came to this end: of a program with these names, within so many levels; to name a class takes memory
-abbrev pub EndAnswers : Answer → PlainEnd → List (List ℕ) → ProgramRows → (levels : ℕ) → Type 0
-EndAnswers a plain.Value names program levels = a ≡ answer.Done
-EndAnswers a (plain.Unhandled class site) names program levels =
+abbrev pub EndAnswers : Answer → EvaluationEnd → List (List ℕ) → ProgramRows → (levels : ℕ) → Type 0
+EndAnswers a endings.Value names program levels = a ≡ answer.Done
+EndAnswers a (endings.Unhandled class site) names program levels =
     (a ≡ answer.Unhandled (class_text names program class) site) ⊎ (a ≡ answer.NoMemory)
-EndAnswers a (plain.Full wanted room) names program levels = a ≡ answer.ArenaFull wanted room
-EndAnswers a plain.More names program levels = a ≡ answer.Budget levels
-EndAnswers a plain.Spent names program levels = a ≡ answer.Spent
-EndAnswers a plain.ReadFault names program levels = a ≡ answer.ReadFault
-EndAnswers a plain.WriteFault names program levels = a ≡ answer.WriteFault
+EndAnswers a (endings.Full wanted room) names program levels = a ≡ answer.ArenaFull wanted room
+EndAnswers a endings.More names program levels = a ≡ answer.Budget levels
+EndAnswers a endings.Spent names program levels = a ≡ answer.Spent
+EndAnswers a endings.ReadFault names program levels = a ≡ answer.ReadFault
+EndAnswers a endings.WriteFault names program levels = a ≡ answer.WriteFault
 
 -- the answer for what is evaluated within so many levels: where it comes to an end, or to a condition whose class has a name, at a site; where it
 -- breaks off, which refusals it has, where the shelf, the source or the output rose in faults, and where the outside is the same
-abbrev pub PlainAnswers : Answer → (levels : ℕ) → (Ends : PlainEnd → Type 0) → (Signals : List ℕ → Place → Type 0) → (Breaks : Type 0) → (Bad : Refusal → Type 0) → (ShelfRises SourceRises Rises Same : Type 0) → Type 0
-PlainAnswers answer.Done levels Ends Signals Breaks Bad ShelfRises SourceRises Rises Same = Ends plain.Value
+abbrev pub PlainAnswers : Answer → (levels : ℕ) → (Ends : EvaluationEnd → Type 0) → (Signals : List ℕ → Place → Type 0) → (Breaks : Type 0) → (Bad : Refusal → Type 0) → (ShelfRises SourceRises Rises Same : Type 0) → Type 0
+PlainAnswers answer.Done levels Ends Signals Breaks Bad ShelfRises SourceRises Rises Same = Ends endings.Value
 PlainAnswers (answer.Unhandled class site) levels Ends Signals Breaks Bad ShelfRises SourceRises Rises Same = Signals class site
-PlainAnswers (answer.ArenaFull wanted room) levels Ends Signals Breaks Bad ShelfRises SourceRises Rises Same = Ends (plain.Full wanted room)
-PlainAnswers (answer.Budget n) levels Ends Signals Breaks Bad ShelfRises SourceRises Rises Same = (n ≡ levels) × Ends plain.More
-PlainAnswers answer.Spent levels Ends Signals Breaks Bad ShelfRises SourceRises Rises Same = Ends plain.Spent
-PlainAnswers answer.ReadFault levels Ends Signals Breaks Bad ShelfRises SourceRises Rises Same = SourceRises × Ends plain.ReadFault
-PlainAnswers answer.WriteFault levels Ends Signals Breaks Bad ShelfRises SourceRises Rises Same = Rises × Ends plain.WriteFault
+PlainAnswers (answer.ArenaFull wanted room) levels Ends Signals Breaks Bad ShelfRises SourceRises Rises Same = Ends (endings.Full wanted room)
+PlainAnswers (answer.Budget n) levels Ends Signals Breaks Bad ShelfRises SourceRises Rises Same = (n ≡ levels) × Ends endings.More
+PlainAnswers answer.Spent levels Ends Signals Breaks Bad ShelfRises SourceRises Rises Same = Ends endings.Spent
+PlainAnswers answer.ReadFault levels Ends Signals Breaks Bad ShelfRises SourceRises Rises Same = SourceRises × Ends endings.ReadFault
+PlainAnswers answer.WriteFault levels Ends Signals Breaks Bad ShelfRises SourceRises Rises Same = Rises × Ends endings.WriteFault
 PlainAnswers (answer.Refused r) levels Ends Signals Breaks Bad ShelfRises SourceRises Rises Same = Bad r × Same
 PlainAnswers answer.FileFault levels Ends Signals Breaks Bad ShelfRises SourceRises Rises Same = ShelfRises × Same
 PlainAnswers answer.NoMemory levels Ends Signals Breaks Bad ShelfRises SourceRises Rises Same = Same ⊎ Breaks
@@ -119,7 +119,7 @@ PlainAnswers answer.Usage levels Ends Signals Breaks Bad ShelfRises SourceRises 
 -- a program's evaluation ends by a condition of a class of that name
 pub record ProgramSignals (e : Evaluation) (left left' : Option (List ℕ)) (sent : Sent) (name : List ℕ) (site : Place) : Type 0 where
   pub class : ℕ
-  pub evaluates : Evaluates e left left' sent.before sent.after (plain.Unhandled class site)
+  pub evaluates : Evaluates e left left' sent.before sent.after (endings.Unhandled class site)
   pub named : name ≡ class_text e.names e.program class
 
 -- the answer of a program's evaluation
@@ -130,7 +130,7 @@ ProgramAnswers a e left left' sent SourceRises Rises =
 -- the file's text is a whole program, and its evaluation ends by a condition of a class of that name
 pub record PlainSignals (held : Option (List ℕ)) (levels words : ℕ) (left left' : Option (List ℕ)) (sent : Sent) (name : List ℕ) (site : Place) : Type 0 where
   pub class : ℕ
-  pub runs : PlainRuns held levels words left left' sent (plain.Unhandled class site)
+  pub runs : PlainRuns held levels words left left' sent (endings.Unhandled class site)
   pub named : name ≡ class_text runs.whole.names runs.whole.program class
 
 -- the answer for a file to evaluate

@@ -16,10 +16,10 @@ use Rattle.lang_meaning.specs.declared.program.ProgramRows.{ProgramRows}
 use Rattle.lang_meaning.specs.State.{unlimited}
 use Rattle.lang_meaning.specs.Meaning.{meaning}
 use Rattle.lang_meaning.specs.Primitives.{class_name}
-use Rattle.eval_run.specs.declared.end.PlainEnd.{PlainEnd}
-use Rattle.eval_run.specs.declared.end.PlainEnd.TheVariants as plain
-use Rattle.eval_run.specs.Evaluation.{Evaluation}
-use Rattle.eval_run.specs.Evaluates.{Evaluates, BreaksOff}
+use Rattle.lang_meaning.specs.declared.evaluation.EvaluationEnd.{EvaluationEnd}
+use Rattle.lang_meaning.specs.declared.evaluation.EvaluationEnd.TheVariants as endings
+use Rattle.lang_meaning.specs.Evaluation.{Evaluation}
+use Rattle.lang_meaning.specs.Evaluates.{Evaluates, BreaksOff}
 use Rattle.top_main.specs.Command.{Asked, asked}
 use Rattle.top_main.specs.declared.command.Action.TheVariants.{Run, Check, Plain}
 use Rattle.base.specs.Given.{WasGiven, WasGivenFront}
@@ -201,7 +201,7 @@ evaluation whole levels arena = record { names = whole.names; program = whole.pr
 
 -- a text that was taken of the file is a whole program, and it was evaluated so: what was read of the input, and what the output was given, is that of
 -- the program's meaning, and so is the end
-pub record PlainRuns (held : Option (List ℕ)) (levels words : ℕ) (left left' : Option (List ℕ)) (sent : Sent) (end : PlainEnd) : Type 0 where
+pub record PlainRuns (held : Option (List ℕ)) (levels words : ℕ) (left left' : Option (List ℕ)) (sent : Sent) (end : EvaluationEnd) : Type 0 where
   pub text : List ℕ
   pub taken : IsTaken held text
   pub whole : IsWhole text
@@ -219,7 +219,7 @@ abbrev pub class_text : List (List ℕ) → ProgramRows → ℕ → List ℕ
 class_text names program class = class_name names (slice_get program.classes class)
 
 -- the command names a file to evaluate that is a whole program, and its evaluation comes to this end
-pub record IsPlain (words : List (List ℕ)) (holds : List ℕ → Option (List ℕ)) (kept : Option Image) (left left' : Option (List ℕ)) (sent : Sent) (end : PlainEnd) : Type 0 where
+pub record IsPlain (words : List (List ℕ)) (holds : List ℕ → Option (List ℕ)) (kept : Option Image) (left left' : Option (List ℕ)) (sent : Sent) (end : EvaluationEnd) : Type 0 where
   pub command : Asked
   pub asked_for : asked words ≡ Some command
   pub is_plain : command.action ≡ Plain
@@ -228,41 +228,41 @@ pub record IsPlain (words : List (List ℕ)) (holds : List ℕ → Option (List 
 
 -- Done: it ends with a value, and all that the program prints was given
 pub record IsPlainDone (words : List (List ℕ)) (holds : List ℕ → Option (List ℕ)) (kept : Option Image) (left left' : Option (List ℕ)) (sent : Sent) (said said' : Option (List ℕ)) : Type 0 where
-  pub ended : IsPlain words holds kept left left' sent plain.Value
+  pub ended : IsPlain words holds kept left left' sent endings.Value
   pub line : WasGiven said [] said'
 
 -- Unhandled: it ends by a condition that no handler took; the line says of which class, and where it was signalled
 pub record IsUnhandled (words : List (List ℕ)) (holds : List ℕ → Option (List ℕ)) (kept : Option Image) (left left' : Option (List ℕ)) (sent : Sent) (said said' : Option (List ℕ)) : Type 0 where
   pub class : ℕ
   pub site : Place
-  pub ended : IsPlain words holds kept left left' sent (plain.Unhandled class site)
+  pub ended : IsPlain words holds kept left left' sent (endings.Unhandled class site)
   pub line : WasGiven said (unhandled_line (class_text ended.runs.whole.names ended.runs.whole.program class) site) said'
 
 -- Arena full: it ends for want of words; the line says how many were asked for, and how many were left
 pub record IsArenaFull (words : List (List ℕ)) (holds : List ℕ → Option (List ℕ)) (kept : Option Image) (left left' : Option (List ℕ)) (sent : Sent) (said said' : Option (List ℕ)) : Type 0 where
   pub wanted : ℕ
   pub room : ℕ
-  pub ended : IsPlain words holds kept left left' sent (plain.Full wanted room)
+  pub ended : IsPlain words holds kept left left' sent (endings.Full wanted room)
   pub line : WasGiven said (arena_full_line wanted room) said'
 
 -- Budget: it ends for want of levels, and the line says how many there were
 pub record IsPlainBudget (words : List (List ℕ)) (holds : List ℕ → Option (List ℕ)) (kept : Option Image) (left left' : Option (List ℕ)) (sent : Sent) (said said' : Option (List ℕ)) : Type 0 where
-  pub ended : IsPlain words holds kept left left' sent plain.More
+  pub ended : IsPlain words holds kept left left' sent endings.More
   pub line : WasGiven said (budget_line ended.command.steps) said'
 
 -- or as many forms began as may begin, and another one is to begin
 pub record IsPlainSpent (words : List (List ℕ)) (holds : List ℕ → Option (List ℕ)) (kept : Option Image) (left left' : Option (List ℕ)) (sent : Sent) (said said' : Option (List ℕ)) : Type 0 where
-  pub ended : IsPlain words holds kept left left' sent plain.Spent
+  pub ended : IsPlain words holds kept left left' sent endings.Spent
   pub line : WasGiven said spent_line said'
 
 -- Read fault: the input failed where the program wants a byte
 pub record IsReadFault (words : List (List ℕ)) (holds : List ℕ → Option (List ℕ)) (kept : Option Image) (left left' : Option (List ℕ)) (sent : Sent) (said said' : Option (List ℕ)) : Type 0 where
-  pub ended : IsPlain words holds kept left left' sent plain.ReadFault
+  pub ended : IsPlain words holds kept left left' sent endings.ReadFault
   pub line : WasGiven said read_fault_line said'
 
 -- Write fault within an evaluation: the output was cut off behind a beginning of what the program prints
 pub record IsPlainCutOff (words : List (List ℕ)) (holds : List ℕ → Option (List ℕ)) (kept : Option Image) (left left' : Option (List ℕ)) (sent : Sent) : Type 0 where
-  pub ended : IsPlain words holds kept left left' sent plain.WriteFault
+  pub ended : IsPlain words holds kept left left' sent endings.WriteFault
 
 -- No memory: an evaluation broke off, or the class could not be named; the output was given a beginning of what the program prints
 pub record IsPlainBroken (words : List (List ℕ)) (holds : List ℕ → Option (List ℕ)) (kept : Option Image) (left left' : Option (List ℕ)) (sent : Sent) : Type 0 where
@@ -273,18 +273,18 @@ pub record IsPlainBroken (words : List (List ℕ)) (holds : List ℕ → Option 
   pub unbuilt : kept ≡ None
 
 -- an end that a line tells
-abbrev pub HasLine : PlainEnd → Type 0
-HasLine plain.Value = ⊥
-HasLine (plain.Unhandled class site) = ⊤
-HasLine (plain.Full wanted room) = ⊤
-HasLine plain.More = ⊤
-HasLine plain.Spent = ⊤
-HasLine plain.ReadFault = ⊤
-HasLine plain.WriteFault = ⊥
+abbrev pub HasLine : EvaluationEnd → Type 0
+HasLine endings.Value = ⊥
+HasLine (endings.Unhandled class site) = ⊤
+HasLine (endings.Full wanted room) = ⊤
+HasLine endings.More = ⊤
+HasLine endings.Spent = ⊤
+HasLine endings.ReadFault = ⊤
+HasLine endings.WriteFault = ⊥
 
 -- an evaluation came to such an end, of which the line is still to be written
 pub record IsPlainUntold (words : List (List ℕ)) (holds : List ℕ → Option (List ℕ)) (kept : Option Image) (left left' : Option (List ℕ)) (sent : Sent) : Type 0 where
-  pub end : PlainEnd
+  pub end : EvaluationEnd
   pub has_line : HasLine end
   pub ended : IsPlain words holds kept left left' sent end
 

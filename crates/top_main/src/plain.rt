@@ -11,10 +11,10 @@ use crate::load::{LoadStop, load};
 use crate::run::Bounds;
 use crate::status::Answer;
 use base::{Bytes, Name, Names, NoMemory, Place, Shelf, Sink, Source};
-use eval_run::{PlainEnd, evaluate};
+use eval_run::evaluate;
 use front_files::{Mode, Whole, read_program};
 use front_library::PRELUDE;
-use lang_meaning::ClassId;
+use lang_meaning::{ClassId, EvaluationEnd};
 use std::alloc::Global;
 
 /// Judges the file's text as a whole program, and evaluates it within so many levels and words. `ReadFault` and
@@ -79,17 +79,17 @@ fn plain<S: Source, O: Sink>(
 }
 
 // The answer of an evaluation that came to this end; to name the class of a condition takes memory.
-fn answer_of(alloc: Global, whole: &Whole, levels: u32, end: PlainEnd) -> Answer
+fn answer_of(alloc: Global, whole: &Whole, levels: u32, end: EvaluationEnd) -> Answer
     ensures { EndAnswers result end whole.now.names whole.now.program levels }
 {
     match end {
-        PlainEnd::Value => Answer::Done,
-        PlainEnd::Unhandled { class, site } => unhandled(alloc, whole, class, site),
-        PlainEnd::Full { asked, left } => Answer::ArenaFull { asked, left },
-        PlainEnd::More => Answer::Budget(levels),
-        PlainEnd::Spent => Answer::Spent,
-        PlainEnd::ReadFault => Answer::ReadFault,
-        PlainEnd::WriteFault => Answer::WriteFault,
+        EvaluationEnd::Value => Answer::Done,
+        EvaluationEnd::Unhandled { class, site } => unhandled(alloc, whole, class, site),
+        EvaluationEnd::Full { asked, left } => Answer::ArenaFull { asked, left },
+        EvaluationEnd::More => Answer::Budget(levels),
+        EvaluationEnd::Spent => Answer::Spent,
+        EvaluationEnd::ReadFault => Answer::ReadFault,
+        EvaluationEnd::WriteFault => Answer::WriteFault,
     }
 }
 

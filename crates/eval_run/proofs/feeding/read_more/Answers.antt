@@ -1,6 +1,6 @@
 -- A piece is read.
 use Rattle.std.proofs.Common.{arith}
-use Rattle.eval_run.proofs.Putting.{none_ahead, read_behind, more_read, read_stops}
+use Rattle.eval_run.proofs.Putting.{none_ahead, not_ended, read_behind, more_read, read_stops}
 use Rattle.eval_run.proofs.Stopping.{wants}
 use Rattle.eval_run.proofs.feeding.read_more.Goals as goal
 
@@ -17,4 +17,4 @@ returns-in-Ok-clause-stops g c =
 pub returns-in-Err-clause-stops : goal.returns-in-Err-clause-stops
 returns-in-Err-clause-stops g c = λ e left given given' forms u.
     wants e left (g.S.Source.left c.args.source.now) (g.S.Source.left c.read.new.self) given given' forms c.args.evaluator.now
-    c.in-Err.ensures.told c.requires.written c.requires.wants (none_ahead c.args.evaluator.now c.requires.hungry) u
+    c.in-Err.ensures.told c.requires.written c.requires.wants (none_ahead c.args.evaluator.now c.requires.hungry) (not_ended c.args.evaluator.now c.requires.hungry) u
