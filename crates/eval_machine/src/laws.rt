@@ -9,7 +9,7 @@ pub fn law_steps()
 {}
 
 /// The law of the machine: for every flat program, input, number of levels and words the machine ends, and whenever it has
-/// ended it has the end, the bytes, the units, the peak and the store that the program means.
+/// ended it has the end, the bytes, the input left, the units, the peak and the store that the program means.
 pub fn law_machine()
     ensures { LawOfMachine }
 {}

@@ -1,8 +1,9 @@
 -- The theorem of the top call: what stands after `isl_main` has answered, status by status.
 --
 -- It names the words of the command (`Command`), the verdict on a text to run (`Verdicts`) and on a text to check or to evaluate
--- (`front_files`) behind the library (`front_library`), the meaning of a program (`lang_meaning`), the machine and its runs (`rv_machine`), what an evaluation reads and prints and
--- how it ends (`eval_run`), and the lines of statuses (`Lines`), and nothing of how code is made.
+-- (`front_files`) behind the library (`front_library`), the meaning of a program and what an evaluation reads and prints and how it
+-- ends by it (`lang_meaning`), the machine and its runs (`rv_machine`), and the lines of statuses (`Lines`), and nothing of how code
+-- is made or a program is evaluated.
 use Rattle.std.specs.Prelude.{◌≡◌, ◌≢◌, ⊤, ℕ, ◌≤◌, List, [], length, slice_get, Option, Some, None, IfSome}
 use Rattle.base.specs.declared.place.Place.{Place}
 use Rattle.base.specs.declared.reason.Refusal.{Refusal}
@@ -250,12 +251,12 @@ pub record IsPlainBudget (words : List (List ℕ)) (holds : List ℕ → Option 
   pub ended : IsPlain words holds kept left left' sent endings.More
   pub line : WasGiven said (budget_line ended.command.steps) said'
 
--- or as many forms began as may begin, and another one is to begin
+-- or it counts more units than there are forms that may begin
 pub record IsPlainSpent (words : List (List ℕ)) (holds : List ℕ → Option (List ℕ)) (kept : Option Image) (left left' : Option (List ℕ)) (sent : Sent) (said said' : Option (List ℕ)) : Type 0 where
   pub ended : IsPlain words holds kept left left' sent endings.Spent
   pub line : WasGiven said spent_line said'
 
--- Read fault: the input failed where the program wants a byte
+-- Read fault: the input failed before its end, and the program takes all that was read, whatever follows
 pub record IsReadFault (words : List (List ℕ)) (holds : List ℕ → Option (List ℕ)) (kept : Option Image) (left left' : Option (List ℕ)) (sent : Sent) (said said' : Option (List ℕ)) : Type 0 where
   pub ended : IsPlain words holds kept left left' sent endings.ReadFault
   pub line : WasGiven said read_fault_line said'

@@ -74,7 +74,7 @@ pub fn isl_main<F: Shelf, S: Source, O: Sink, E: Sink>(
         (E.given err.old) (E.given err.new) }
 
     // A run that does not end within its instructions, or an evaluation that ends for want of levels; the line
-    // says how many. Or one in which as many forms began as may begin.
+    // says how many. Or one that counts more units than there are forms that may begin.
     ensures budget { result ≡ Budget → IsBudget words.now (F.holds shelf.old) kept.new.image
         (sent_to (O.given out.old) (O.writes out.old) (O.given out.new) (O.writes out.new))
         (E.given err.old) (E.given err.new)
@@ -95,7 +95,7 @@ pub fn isl_main<F: Shelf, S: Source, O: Sink, E: Sink>(
         × (out.new ≡ out.old) × (input.new ≡ input.old) × (kept.new.image ≡ None)
         × WasGiven (E.given err.old) file_fault_line (E.given err.new) }
 
-    // The input failed where a program that is evaluated wants a byte.
+    // The input failed before its end, and the program that is evaluated takes all that was read, whatever follows.
     ensures read_fault { result ≡ ReadFault → Rose (S.faults input.old) (S.faults input.new)
         × IsReadFault words.now (F.holds shelf.old) kept.new.image (S.left input.old) (S.left input.new)
         (sent_to (O.given out.old) (O.writes out.old) (O.given out.new) (O.writes out.new))
