@@ -62,12 +62,18 @@ further {x} {y} {z} p q = record {
   units = at_most x.units y.units z.units p.units q.units;
 }
 
--- units counted: more than before, and as many
+-- units counted: more than before, none, and some
 pub with_units : (few many : ℕ) (x : Progress) → few ≤ many → IsLater (counted few x) (counted many x)
 with_units few many x h = record { printed = same_prefix x.printed; left = record { front = []; is = refl }; units = sum x.units few many h }
   where
     sum : (u a b : ℕ) → a ≤ b → u + a ≤ u + b
     sum u a b h = omega arith
+
+pub none_counted : (z : State) → IsLater (counted 0 (progress z)) (progress z)
+none_counted z = record { printed = same_prefix z.printed; left = record { front = []; is = refl }; units = sum z.units }
+  where
+    sum : (u : ℕ) → u + 0 ≤ u
+    sum u = omega arith
 
 pub counts : (n : ℕ) (z : State) → IsLater (progress z) (progress (base.charged n z))
 counts n z = record { printed = same_prefix z.printed; left = record { front = []; is = refl }; units = sum z.units n }

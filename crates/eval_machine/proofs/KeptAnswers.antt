@@ -1,5 +1,5 @@
 -- What the primitives answer: one of them prints, one takes a byte, and no other changes what was printed or what is left of the
--- input; they count no units; and what is made has words.
+-- input; none takes units back; and what is made has words.
 use Rattle.std.proofs.Common.{ℕ, ◌+◌, ◌<◌, Bool, true, false, List, [], ◌∷◌, ◌++◌, Option, Some, None, length, refl, arith}
 use Rattle.std.specs.List.{position_or_len}
 use Rattle.std.specs.Prelude.{⊤, ℤ, pos, ◌+ℤ◌, ◌-ℤ◌, ◌*ℤ◌, slice_get, slice_set, if◌then◌else◌}
@@ -13,7 +13,7 @@ use Rattle.lang_meaning.specs.State.{State}
 use Rattle.lang_meaning.specs.Prefixes.{IsLastOf}
 use Rattle.lang_meaning.specs.Classes.{fetch, slots, is_below, is_condition}
 use Rattle.lang_meaning.specs.Primitives.{Answer, result, makes, makes_symbol, fails, domain_error, needs, as_integer, as_character, as_cons, as_string, as_vector, as_class, as_instance, as_stream, as_symbol, integer_result, floor_quotient, floor_remainder, division, index_of, length_of, byte_of, change, can_be_made, is_slot, slot_place, slot_value, a_slot, of_none, of_one, of_two, of_three, of_integers, instance_words, other_bytes, primitive}
-use Rattle.eval_machine.proofs.Kept.{Progress, progress, IsLater, same}
+use Rattle.eval_machine.proofs.Kept.{Progress, progress, IsLater, same, counts}
 
 -- the state of an answer; and an object is made of more words than none
 abbrev pub state_of : Answer → State
@@ -97,7 +97,7 @@ change_kept other o z = same _
 
 place_kept : (rows : List SlotRow) (p : SlotRow → Bool) (z : State) → Answers (progress z) (slot_place rows p z)
 place_kept rows p z =
-    needed (index_of (pos (position_or_len p rows)) (length rows)) z (at (same _) tt) (λ i. at (same _) tt)
+    needed (index_of (pos (position_or_len p rows)) (length rows)) z (at (counts (length rows) z) tt) (λ i. at (counts (i + 1) z) tt)
 
 value_kept : (o : Option (Option Value)) (z : State) → Answers (progress z) (slot_value o z)
 value_kept (Some (Some v)) z = at (same _) tt
@@ -171,10 +171,10 @@ answers names program Gensym = none_kept (λ z. at (same _) tt)
 answers names program ClassName = one_kept (λ v z. needed (as_class (fetch z v)) z (at (same _) tt) (λ c. at (same _) tt))
 answers names program IsSubclass = two_kept (λ v w z.
     needed (as_class (fetch z v)) z (at (same _) tt) (λ c. needed (as_class (fetch z w)) z (at (same _) tt) (λ d.
-    at (same _) tt)))
+    at (counts _ z) tt)))
 answers names program IsInstance = two_kept (λ v w z.
     needed (as_class (fetch z w)) z (at (same _) tt) (λ d.
-    at (same _) tt))
+    at (counts _ z) tt))
 answers names program Allocate = one_kept (λ v z.
     needed (as_class (fetch z v)) z (at (same _) tt) (λ c. either (can_be_made program c) z (at (same _) (instance_has_words program c (length (slots program c)))) (at (same _) tt)))
 answers names program SlotCount = one_kept (λ v z. needed (as_instance (fetch z v)) z (at (same _) tt) (λ i. at (same _) tt))

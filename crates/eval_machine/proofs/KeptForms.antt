@@ -23,7 +23,7 @@ use Rattle.eval_machine.specs.Moment.{Setting, Situation, Operation, call_name, 
 use Rattle.eval_machine.specs.Run.{form_begins}
 use Rattle.eval_machine.specs.Applications.{signal_unbound}
 use Rattle.eval_machine.specs.Step.{literal_step, global_step, set_global_step, dynamic_step, set_dynamic_step, apply_step, call_value_step, operation_step, signal_step, handler_step, next_method_step, sequence_step, clauses_step, clause_body_step, arguments_step, let_step, bindings_step, dynamics_step, segments_step, form_step}
-use Rattle.eval_machine.proofs.Kept.{Progress, progress, counted, IsLater, same, with_units, counts, Leads, there, framed, earlier, beneath, given, ends, on, either, some, searches}
+use Rattle.eval_machine.proofs.Kept.{Progress, progress, counted, IsLater, same, with_units, none_counted, counts, Leads, there, framed, earlier, beneath, given, ends, on, either, some, searches}
 use Rattle.eval_machine.proofs.KeptAnswers.{answers}
 use Rattle.eval_machine.proofs.KeptWords.{makes_function, cells, cell_set}
 use Rattle.eval_machine.proofs.KeptApplied.{value_here, signals_class, signals_domain, runs_chain, applies_value, applies_row, comes_answer, transfers}
@@ -196,5 +196,5 @@ module _ (s : Setting) where
       earlier (begins_so (next_method m) z.state) (methods_next (method_of m at.environment) at frames (charged_for (next_method m) z))
   forms_lead (has_next m) at frames z =
       earlier (begins_so (has_next m) z.state) (value_here _ frames (charged_for (has_next m) z))
-  forms_lead (sited site f) at frames z = there (begins_so (sited site f) z.state) tt
+  forms_lead (sited site f) at frames z = there (none_counted z.state) tt
   forms_lead other at frames z = framed (begins_so other z.state) tt tt

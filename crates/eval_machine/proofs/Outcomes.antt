@@ -1,11 +1,11 @@
 -- An outcome leads on from the frame to which it comes: a value goes on where a form waits for it, and any other outcome passes or
 -- is kept; and so a step keeps what it is to keep.
-use Rattle.std.proofs.Common.{ℕ, ◌+◌, ◌≤◌, ◌==◌, Bool, true, false, List, [], ◌∷◌, ◌++◌, arith}
+use Rattle.std.proofs.Common.{ℕ, ◌==◌, Bool, true, false, List, [], ◌∷◌, ◌++◌, arith}
 use Rattle.std.specs.Prelude.{if◌then◌else◌}
 use Rattle.lang_meaning.specs.Counts.{application_words}
 use Rattle.lang_meaning.specs.Values.{Value, nil, is_true}
 use Rattle.lang_meaning.specs.Objects.{control_error_class}
-use Rattle.lang_meaning.specs.State.{State, at_segment, Outcome, value, exit, full, more}
+use Rattle.lang_meaning.specs.State.{at_segment, Outcome, value, exit, full, more}
 use Rattle.lang_meaning.specs.Lookup.{text}
 use Rattle.lang_meaning.specs.Meaning.{segment_of}
 use Rattle.flat_language.specs.FlatForm.{FlatForm, FlatForms}
@@ -17,7 +17,7 @@ use Rattle.eval_machine.specs.Moment.{set_local_value, set_global_value, def_glo
 use Rattle.eval_machine.specs.Moment.{kept, method_value, before_methods, primary_method, handler_return, main_form, main_forms, awaits, catches, turns, cleans}
 use Rattle.eval_machine.specs.Step.{value_step, turn_step, cleanup_step, outcome_step, control_step}
 use Rattle.eval_machine.specs.Run.{next_or, begins}
-use Rattle.eval_machine.proofs.Kept.{Progress, progress, counted, IsLater, same, further, FineOutcome, FineFrames, IsFine, Leads, there, framed, earlier, beneath, given, ends, on, either, descends}
+use Rattle.eval_machine.proofs.Kept.{Progress, progress, counted, IsLater, same, further, none_counted, FineOutcome, FineFrames, IsFine, Leads, there, framed, earlier, beneath, given, ends, on, either, descends}
 use Rattle.eval_machine.proofs.KeptWords.{requests_words, variable_set}
 use Rattle.eval_machine.proofs.KeptApplied.{value_here, signals_class, applies_each, applies_method, throws, transfers, continues, signals_under}
 use Rattle.eval_machine.proofs.KeptForms.{globals_set, dynamics_set, lists_apply, signals_one, handles, sequences, clauses_lead, bodies_lead, arguments_lead, bindings_lead, dynamics_lead, segments_lead, forms_lead}
@@ -45,15 +45,8 @@ pub record Keeps (forms : ℕ) (a b : Moment) : Type 0 where
   pub later : IsLater (counted forms (progress a.state.state)) (progress b.state.state)
   pub fine : IsFine a → IsFine b
 
--- no form
-none_begun : (z : State) → IsLater (counted 0 (progress z)) (progress z)
-none_begun z = record { printed = (same (progress z)).printed; left = (same (progress z)).left; units = sum z.units }
-  where
-    sum : (u : ℕ) → u + 0 ≤ u
-    sum u = omega arith
-
 pub unchanged : (m : Moment) → Keeps 0 m m
-unchanged m = record { later = none_begun m.state.state; fine = λ h. h }
+unchanged m = record { later = none_counted m.state.state; fine = λ h. h }
 
 from : {c : Control} {frames : List Frame} {z : FlatState} {m : Moment} {forms : ℕ} → Leads frames (counted forms (progress z.state)) m → Keeps forms (moment c frames z) m
 from x = record { later = x.later; fine = λ h. x.fine h.frames }
@@ -146,7 +139,7 @@ module _ (s : Setting) where
   pub next_keeps : (c : Control) (frames : List Frame) (z : FlatState)
       → Keeps (if begins c then 1 else 0) (moment c frames z) (next_or (moment c frames z) (control_step s c frames z))
   next_keeps (evaluate f at) frames z = from (forms_lead s f at frames z)
-  next_keeps (signals c mark level around) frames z = from (earlier (none_begun z.state) (signals_under s around.handlers c mark level around frames z))
+  next_keeps (signals c mark level around) frames z = from (earlier (none_counted z.state) (signals_under s around.handlers c mark level around frames z))
   next_keeps (come_to o) [] z = unchanged _
   next_keeps (come_to o) (f ∷ frames) z =
-      let x = outcomes f o frames z in record { later = further (none_begun z.state) x.later; fine = λ h. x.fine h.control h.frames }
+      let x = outcomes f o frames z in record { later = further (none_counted z.state) x.later; fine = λ h. x.fine h.control h.frames }
