@@ -15,3 +15,4 @@ pub mod GoodData
 pub mod Names
 pub mod NameNumbers
 pub mod Given
+pub mod Limits

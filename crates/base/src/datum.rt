@@ -7,6 +7,7 @@ ghost use Rattle.base.specs.model.DataView.{view_content};
 mod copies;
 mod formed;
 mod measures;
+pub mod naming;
 
 use crate::lists::{Bytes, ItemList};
 use crate::place::Place;

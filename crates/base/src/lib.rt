@@ -6,6 +6,7 @@ pub mod datum;
 pub mod faults;
 mod fixed_buffer;
 mod fronts;
+pub mod limits;
 pub mod lists;
 pub mod memory_shelf;
 pub mod memory_sink;
@@ -21,7 +22,9 @@ mod writing;
 
 pub use calls::Calls;
 pub use datum::{Datum, DatumList, FreshList, Kind, Name, NameList, Symbol};
+pub use datum::naming::{symbol_text, text_of};
 pub use faults::{Failed, NoMemory};
+pub use limits::LONGEST_TEXT;
 pub use lists::{Bytes, CallList, ItemList, PlaceList, WordList};
 pub use memory_shelf::MemShelf;
 pub use memory_sink::MemSink;

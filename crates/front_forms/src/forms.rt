@@ -17,7 +17,7 @@ ghost use Rattle.front_drafts.specs.Drafts.{around, drawn, Draws};
 ghost use Rattle.front_drafts.specs.Views.{at, shown};
 ghost use Rattle.front_profile.specs.Marks.{Grows};
 
-use base::{Datum, Kind, Name, Names, NoMemory, Reason, Symbol};
+use base::{Datum, Kind, Name, Names, NoMemory, Reason, Symbol, symbol_text, text_of};
 use front_class_definitions::classes::defclass_draft;
 use front_definitions::defining::{defdynamic_draft, defun_draft, global_draft};
 use front_definitions::generics::defgeneric_draft;
@@ -39,7 +39,7 @@ use front_special_forms::values::{
 use front_syntax::setters::add_setters;
 use front_syntax::shapes::symbol_of;
 use front_syntax::words::{is_kept, is_left_out, is_reserved_name};
-use lang_derived::{list_items, symbol_text, text_of};
+use lang_derived::list_items;
 use lang_meaning::LiteralRow;
 
 // Whether no definition of a file may have the name of the first of these.
