@@ -14,5 +14,6 @@ pub mod DataNames
 pub mod GoodData
 pub mod Names
 pub mod NameNumbers
+pub mod NameMap
 pub mod Given
 pub mod Limits
