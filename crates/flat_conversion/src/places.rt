@@ -40,6 +40,7 @@ impl Places {
         }
     }
 
+    #[tactic(auto, using(crate::proofs::Names::found_under))]
     // What is known of a variable; slot 0 where it is not bound.
     fn known(&self, var: Var) -> Known
         ensures { result ≡ known_of (scope_of self.now) var }
@@ -60,6 +61,7 @@ impl Places {
         self.known(var).place
     }
 
+    #[tactic(auto, using(crate::proofs::Names::found_under))]
     // The place of an exit; the first own one where it is not bound.
     pub(crate) fn exit(&self, exit: ExitVar) -> ExitPlace
         ensures { result ≡ exit_place_of (scope_of self.now) exit }
