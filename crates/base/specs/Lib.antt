@@ -17,3 +17,4 @@ pub mod NameNumbers
 pub mod NameMap
 pub mod Given
 pub mod Limits
+pub mod Arithmetic
