@@ -9,6 +9,7 @@ pub mod model
 pub mod bridge
 pub mod DataMeasures
 pub mod DataFormed
+pub mod AllOf
 pub mod DataParts
 pub mod DataNames
 pub mod GoodData

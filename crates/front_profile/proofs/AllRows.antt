@@ -8,7 +8,7 @@ use Rattle.base.specs.declared.reason.Refusal.{Refusal}
 use Rattle.base.specs.Data.{Item, item, integer, character, symbol, string, vector, nil, list, items_list, Tail, no_tail, dotted}
 use Rattle.base.specs.DataFormed.{formed_tells}
 use Rattle.base.specs.DataNames.{symbol_text}
-use Rattle.base.specs.DataParts.{AllOf}
+use Rattle.base.specs.AllOf.{AllOf}
 use Rattle.base.specs.GoodData.{Good}
 use Rattle.lang_meaning.specs.declared.program.LiteralRow.TheVariants as row
 use Rattle.lang_derived.specs.Asked.{list_items}

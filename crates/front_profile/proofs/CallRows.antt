@@ -7,12 +7,11 @@ use Rattle.std.proofs.lemmas.Bool.{and_parts}
 use Rattle.base.specs.declared.place.Place.{Place}
 use Rattle.base.specs.declared.datum.Name.{Name}
 use Rattle.base.specs.Data.{Item}
-use Rattle.base.specs.DataParts.{AllOf}
+use Rattle.base.specs.AllOf.{AllOf}
 use Rattle.base.specs.GoodData.{Good}
 use Rattle.lang_meaning.specs.declared.primitive.Primitive.{Primitive}
 use Rattle.lang_meaning.specs.Arity.{arity}
 use Rattle.lang_meaning.specs.Form.{Form}
-use Rattle.lang_meaning.specs.Subforms.{Each}
 use Rattle.lang_meaning.specs.Standing.{is_variable}
 use Rattle.lang_meaning.specs.Counts.{all_nodes}
 use Rattle.front_profile.specs.declared.tables.Tables.{Tables}
@@ -44,7 +43,7 @@ pub data IsCall : Making → ℕ → Type 0 where
   of_two : (k : Two) (count : ℕ) → count ≡ 2 → IsCall (OfTwo k) count
   of_primitive : (p : Primitive) (count : ℕ) → count ≡ arity p → IsCall (CallOfPrimitive p) count
 
-made_of_two : (g : Definitions) (a : Around) (k : Two) (fs : List Form) → a.spot.depth + 1 ≤ 1000 → length fs ≡ 2 → Each (RightIn g (scope_of a) (a.spot.depth + 1)) fs
+made_of_two : (g : Definitions) (a : Around) (k : Two) (fs : List Form) → a.spot.depth + 1 ≤ 1000 → length fs ≡ 2 → AllOf (RightIn g (scope_of a) (a.spot.depth + 1)) fs
     → RightAt g a (make_two k fs)
 made_of_two g a k [] l e r = absurd (omega (arith, e))
 made_of_two g a k (f ∷ []) l e r = absurd (omega (arith, e))
@@ -53,11 +52,11 @@ made_of_two g a k (f ∷ h ∷ fs) l e r = made_two g (scope_of a) a.spot.depth 
 found_call : (g : Definitions) (a i : Around) (m : Making) (ds : List Item) (rs : List Found) → IsCall m (length ds) → a.spot.depth + 1 ≤ 1000
     → AllMatch (spots g (deeper 1 a) i rs) (each_form ds) rs → RightAt g a (make m rs)
 found_call g a i m ds rs c l x =
-    let right : Each (RightIn g (scope_of a) (a.spot.depth + 1)) (forms_found rs) = forms_match (spots g (deeper 1 a) i rs) ds rs x in
+    let right : AllOf (RightIn g (scope_of a) (a.spot.depth + 1)) (forms_found rs) = forms_match (spots g (deeper 1 a) i rs) ds rs x in
     let many : length (forms_found rs) ≡ length ds = forms_as_many (spots g (deeper 1 a) i rs) ds rs x in
     by_call m (length ds) c right many
   where
-    by_call : (m : Making) (count : ℕ) → IsCall m count → Each (RightIn g (scope_of a) (a.spot.depth + 1)) (forms_found rs) → length (forms_found rs) ≡ count
+    by_call : (m : Making) (count : ℕ) → IsCall m count → AllOf (RightIn g (scope_of a) (a.spot.depth + 1)) (forms_found rs) → length (forms_found rs) ≡ count
         → RightAt g a (make m rs)
     by_call m count (of_name n k) r e = made_call g (scope_of a) a.spot.depth n.0 (forms_found rs) l r
     by_call m count (of_value k h) r e = made_call_value g (scope_of a) a.spot.depth (forms_found rs) l (omega (arith, e, h)) r

@@ -2,8 +2,9 @@
 use Rattle.std.proofs.Common.{◌≡◌, ◌+◌, ◌≤◌, ℕ, List, [], ◌∷◌, ◌++◌, map, suc, take, drop, length, Option, Some, None, refl, sym, ap, subst, ◌∙◌, arith}
 use Rattle.base.specs.declared.datum.Symbol.{Symbol}
 use Rattle.base.specs.Data.{Item}
+use Rattle.base.specs.AllOf.{AllOf, all_both}
 use Rattle.lang_meaning.specs.Form.{Form}
-use Rattle.lang_meaning.specs.Subforms.{Each, clause_list}
+use Rattle.lang_meaning.specs.Subforms.{clause_list}
 use Rattle.lang_meaning.specs.Counts.{all_nodes}
 use Rattle.front_profile.specs.declared.making.Found.{Found}
 use Rattle.front_profile.specs.declared.making.Found.TheVariants.{Value, Binding, Parameter}
@@ -16,7 +17,6 @@ use Rattle.front_profile.specs.Shapes.{Pair, ClauseParts, symbol_of, forms_in, f
 use Rattle.front_profile.specs.RowWords.{each_form, each_below, each_inner, each_parameter}
 use Rattle.front_profile.specs.ValueRows.{length_if, clause_lengths, clause_parts}
 use Rattle.front_profile.specs.BindingRows.{values_of}
-use Rattle.front_profile.proofs.Places.{each_append}
 use Rattle.front_profile.proofs.Matches.{Spots, AllMatch, BodyThen, body_then, dropped_front}
 use Rattle.front_profile.proofs.Nodes.{nodes_in, added, found_nodes, body_nodes, one_nodes, two_nodes, with_body_nodes, split_nodes}
 
@@ -29,10 +29,10 @@ IsPlain (function w) = ⊥
 IsPlain other = Unit {0}
 
 abbrev pub AllPlain : List Part → Type 0
-AllPlain xs = Each IsPlain xs
+AllPlain xs = AllOf IsPlain xs
 
 pub both_plain : (xs ys : List Part) → AllPlain xs → AllPlain ys → AllPlain (xs ++ ys)
-both_plain xs ys a b = each_append IsPlain xs ys a b
+both_plain xs ys a b = all_both IsPlain xs ys a b
 
 made_plain : {X : Type 0} (f : X → Part) → ((x : X) → IsPlain (f x)) → (xs : List X) → AllPlain (map f xs)
 made_plain f h [] = tt

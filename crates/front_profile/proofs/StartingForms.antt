@@ -6,6 +6,7 @@ use Rattle.base.specs.declared.datum.Symbol.{Symbol}
 use Rattle.base.specs.declared.datum.Symbol.TheVariants.{Named, Fresh}
 use Rattle.base.specs.declared.reason.Reason.{Reason}
 use Rattle.base.specs.Data.{Item, item, symbol, place_of}
+use Rattle.base.specs.AllOf.{all_both}
 use Rattle.lang_classes.specs.InheritedClasses.{class_named}
 use Rattle.front_profile.specs.declared.bound.Bound.{Bound}
 use Rattle.front_profile.specs.declared.bound.Bound.TheVariants.{Block, Tags}
@@ -32,7 +33,6 @@ use Rattle.front_profile.specs.BindingRows.{values_of, let_as, let_row, names_of
 use Rattle.front_profile.specs.Marks.{Grows}
 use Rattle.front_profile.specs.bridge.Growing.{grows_same}
 use Rattle.front_profile.specs.Below.{NothingDefined}
-use Rattle.front_profile.proofs.Places.{each_append}
 use Rattle.front_profile.proofs.FoundNodes.{both_plain, forms_plain, below_plain, inner_plain, parameters_plain, values_plain, clauses_plain}
 use Rattle.front_profile.proofs.Procedures.{IsOrdinary, inner_ordinary}
 use Rattle.front_profile.proofs.Starting.{grows_set, grows_numbers, none_defined, none_set, none_numbers, MakesNothing, IsSimple, Starts, starts_if, starts_within, starts_made, starts_plain, starts_at_once, starts_unsited, starts_literal, Sets, sets_nothing, plain_ordinary, bound_ordinary}
@@ -253,7 +253,7 @@ starts_let_as : (s : Tables) (a : Around) (p : Place) (bs : Item) (fs : List Ite
 starts_let_as s a p bs fs None = tt
 starts_let_as s a p bs fs (Some qs) =
     starts_made s a (deeper 2 a) p s (each_bound qs ++ each_inner fs) OfVariables tt (grows_same s) (none_defined s) (λ e. refl)
-    (each_append IsOrdinary (each_bound qs) (each_inner fs) (bound_ordinary qs) (inner_ordinary fs)) (λ e rs u. none_defined u)
+    (all_both IsOrdinary (each_bound qs) (each_inner fs) (bound_ordinary qs) (inner_ordinary fs)) (λ e rs u. none_defined u)
 
 pub starts_let : (s : Tables) (a : Around) (p : Place) (ds : List Item) → Starts s a.spot.top (let_row a s p ds)
 starts_let s a p [] = tt

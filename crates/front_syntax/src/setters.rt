@@ -1,7 +1,7 @@
 // The names `(setf s)` that a definition asks for, which the table of names has before the definition is judged.
 
 ghost use Rattle.std.specs.Prelude.{◌≡◌, length, OnOk};
-ghost use Rattle.base.specs.DataParts.{AllOf};
+ghost use Rattle.base.specs.AllOf.{AllOf};
 ghost use Rattle.base.specs.GoodData.{Good};
 ghost use Rattle.base.specs.Names.{Extends};
 ghost use Rattle.lang_derived.specs.Asked.{list_items};

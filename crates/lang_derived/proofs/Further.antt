@@ -4,7 +4,8 @@ use Rattle.std.proofs.Common.{arith, ap, subst, sym}
 use Rattle.std.proofs.Math.Seq.{take-length, drop-length}
 use Rattle.base.specs.Data.{Item, item, integer, character, symbol, string, vector, nil, list, Items, no_item, item_and, items_list, no_tail, dotted}
 use Rattle.base.specs.DataMeasures.{size_of, sizes_of}
-use Rattle.base.specs.DataParts.{AllOf, of_list}
+use Rattle.base.specs.AllOf.{AllOf}
+use Rattle.base.specs.DataParts.{of_list}
 use Rattle.lang_derived.specs.Pieces.{Piece, taken, parens, Pieces, no_piece, piece_and, pieces_of, listed, form, all_taken}
 use Rattle.lang_derived.specs.Asked.{list_items}
 use Rattle.lang_derived.specs.Patterns.{a_datum, inside, others, Patterns, patterns, Parts, joined, opened, fit, fit_all}

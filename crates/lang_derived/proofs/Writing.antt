@@ -1,7 +1,7 @@
 -- What holds of each part that a right side writes.
 use Rattle.std.specs.Prelude.{ℕ, ◌+◌, List, [], ◌∷◌, ◌++◌, Option, Some, None}
 use Rattle.base.specs.Data.{Item}
-use Rattle.base.specs.DataParts.{AllOf}
+use Rattle.base.specs.AllOf.{AllOf}
 use Rattle.lang_derived.specs.Pieces.{Piece}
 use Rattle.lang_derived.specs.Patterns.{Patterns, Parts, fit_all}
 use Rattle.lang_derived.specs.RightSides.{before_others, repeated}

@@ -7,7 +7,7 @@ use Rattle.base.specs.declared.datum.Symbol.{Symbol}
 use Rattle.base.specs.declared.datum.Symbol.TheVariants.{Named, Fresh}
 use Rattle.base.specs.declared.reason.Reason.{Reason}
 use Rattle.base.specs.Data.{Item, item, integer, character, symbol, string, vector, nil, list, place_of}
-use Rattle.base.specs.DataParts.{AllOf}
+use Rattle.base.specs.AllOf.{AllOf}
 use Rattle.base.specs.GoodData.{Good}
 use Rattle.lang_classes.specs.InheritedClasses.{class_named}
 use Rattle.front_profile.specs.declared.tables.Tables.{Tables}

@@ -5,7 +5,7 @@ use Rattle.base.specs.declared.datum.Symbol.{Symbol}
 use Rattle.base.specs.declared.datum.Symbol.TheVariants.{Named, Fresh}
 use Rattle.base.specs.Data.{Item, item, integer, character, symbol, string, vector, nil, list, items_list, Tail, no_tail, dotted}
 use Rattle.base.specs.DataNames.{symbol_text}
-use Rattle.base.specs.DataParts.{AllOf}
+use Rattle.base.specs.AllOf.{AllOf}
 use Rattle.base.specs.GoodData.{Good}
 use Rattle.front_profile.specs.declared.making.Leaf.TheVariants.{NextMethod, HasNext}
 use Rattle.front_profile.specs.declared.making.Two.TheVariants.{Applying, Throwing}
