@@ -16,8 +16,8 @@ use Rattle.lang_meaning.specs.Standing.{is_variable}
 use Rattle.lang_meaning.specs.Counts.{all_nodes}
 use Rattle.front_profile.specs.declared.tables.Tables.{Tables}
 use Rattle.front_profile.specs.declared.making.Found.{Found}
-use Rattle.front_profile.specs.declared.making.Two.{Two}
-use Rattle.front_profile.specs.declared.making.Two.TheVariants.{Signalling, Continuing}
+use Rattle.lang_meaning.specs.declared.kinds.OverTwo.{OverTwo}
+use Rattle.lang_meaning.specs.declared.kinds.OverTwo.TheVariants as over
 use Rattle.front_profile.specs.declared.making.Making.{Making}
 use Rattle.front_profile.specs.declared.making.Making.TheVariants.{OfTwo, CallOf, CallOfValue, CallOfLocal, CallOfPrimitive}
 use Rattle.front_profile.specs.Primitives.{primitive_named, taking, primitive_called}
@@ -40,10 +40,10 @@ use Rattle.front_profile.proofs.Apt.{apt_within, apt_made, plain_parts, forms_ap
 pub data IsCall : Making → ℕ → Type 0 where
   of_name : (n : Name) (count : ℕ) → IsCall (CallOf n) count
   of_value : (count : ℕ) → 1 ≤ count → IsCall CallOfValue count
-  of_two : (k : Two) (count : ℕ) → count ≡ 2 → IsCall (OfTwo k) count
+  of_two : (k : OverTwo) (count : ℕ) → count ≡ 2 → IsCall (OfTwo k) count
   of_primitive : (p : Primitive) (count : ℕ) → count ≡ arity p → IsCall (CallOfPrimitive p) count
 
-made_of_two : (g : Definitions) (a : Around) (k : Two) (fs : List Form) → a.spot.depth + 1 ≤ 1000 → length fs ≡ 2 → AllOf (RightIn g (scope_of a) (a.spot.depth + 1)) fs
+made_of_two : (g : Definitions) (a : Around) (k : OverTwo) (fs : List Form) → a.spot.depth + 1 ≤ 1000 → length fs ≡ 2 → AllOf (RightIn g (scope_of a) (a.spot.depth + 1)) fs
     → RightAt g a (make_two k fs)
 made_of_two g a k [] l e r = absurd (omega (arith, e))
 made_of_two g a k (f ∷ []) l e r = absurd (omega (arith, e))
@@ -69,7 +69,7 @@ call_ends m count (of_value k h) u rs = refl
 call_ends m count (of_two t k h) u rs = refl
 call_ends m count (of_primitive p k h) u rs = refl
 
-two_counted : (k : Two) (fs : List Form) → length fs ≡ 2 → nodes_in fs + 1 ≤ all_nodes (make_two k fs)
+two_counted : (k : OverTwo) (fs : List Form) → length fs ≡ 2 → nodes_in fs + 1 ≤ all_nodes (make_two k fs)
 two_counted k [] e = absurd (omega (arith, e))
 two_counted k (f ∷ []) e = absurd (omega (arith, e))
 two_counted k (f ∷ h ∷ []) e = two_more (all_nodes f) (all_nodes h) _ (two_nodes k f h)
@@ -124,9 +124,9 @@ call_is : (n : Name) (text : List ℕ) (count : ℕ) → IsCall (call_making n t
 call_is n text count =
     one_of_two (is_value_call text count) count _ _ (λ e. of_value count (leb-true 1 count (and_parts (bytes_eq text (codes "funcall")) (nat_le 1 count) e).1))
     (one_of_two (is_pair_call text (codes "signal-condition") count) count _ _
-    (λ e. of_two Signalling count (eqb-true count 2 (and_parts (bytes_eq text (codes "signal-condition")) (nat_eq count 2) e).1))
+    (λ e. of_two over.Signal count (eqb-true count 2 (and_parts (bytes_eq text (codes "signal-condition")) (nat_eq count 2) e).1))
     (one_of_two (is_pair_call text (codes "continue-condition") count) count _ _
-    (λ e. of_two Continuing count (eqb-true count 2 (and_parts (bytes_eq text (codes "continue-condition")) (nat_eq count 2) e).1))
+    (λ e. of_two over.Continue count (eqb-true count 2 (and_parts (bytes_eq text (codes "continue-condition")) (nat_eq count 2) e).1))
     (named_is_call n count (primitive_called text count) (primitive_taken (primitive_named text) count))))
 
 pub apt_named_call : (n : ℕ) (name : Name) (text : List ℕ) (a : Around) (s : Tables) (p : Place) (ds : List Item) → Stage a s → AllOf (Good n) ds

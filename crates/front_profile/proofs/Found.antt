@@ -12,8 +12,7 @@ use Rattle.front_profile.specs.declared.making.Found.{Found}
 use Rattle.front_profile.specs.declared.making.Found.TheVariants.{Value, Binding, Parameter}
 use Rattle.front_profile.specs.declared.making.One.{One}
 use Rattle.front_profile.specs.declared.making.One.TheVariants.{SetVariable}
-use Rattle.front_profile.specs.declared.making.Two.{Two}
-use Rattle.front_profile.specs.declared.making.WithBody.{WithBody}
+use Rattle.lang_meaning.specs.declared.kinds.OverTwo.{OverTwo}
 use Rattle.front_profile.specs.Nodes.{Around, form}
 use Rattle.front_profile.specs.Makings.{forms_found, make_one, make_two, make_with_body, make_clauses, rest_found, finish_one}
 use Rattle.front_profile.specs.Shapes.{ClauseParts, all_symbols, symbols_of_rest}
@@ -40,7 +39,7 @@ pub one_ends : (k : One) (t : Tables) → defined (finish_one k t) ≡ defined t
 one_ends (SetVariable v) t = refl
 one_ends other t = refl
 
-pub found_two : (h : Definitions) (a i : Around) (k : Two) (d e : Item) (rs : List Found) → a.spot.depth + 1 ≤ 1000
+pub found_two : (h : Definitions) (a i : Around) (k : OverTwo) (d e : Item) (rs : List Found) → a.spot.depth + 1 ≤ 1000
     → AllMatch (spots h (deeper 1 a) i rs) (form d ∷ form e ∷ []) rs → RightAt h a (make_two k (forms_found rs))
 found_two h a i k d e [] l m = absurd m
 found_two h a i k d e (Value f ∷ []) l m = absurd m.1
@@ -50,7 +49,7 @@ found_two h a i k d e (Value f ∷ Parameter v ∷ rs) l m = absurd m.1.0
 found_two h a i k d e (Binding v f ∷ rs) l m = absurd m.0
 found_two h a i k d e (Parameter v ∷ rs) l m = absurd m.0
 
-pub found_with_body : (h : Definitions) (a i : Around) (k : WithBody) (d : Item) (ds : List Item) (rs : List Found) → a.spot.depth + 2 ≤ 1000
+pub found_with_body : (h : Definitions) (a i : Around) (k : OverTwo) (d : Item) (ds : List Item) (rs : List Found) → a.spot.depth + 2 ≤ 1000
     → AllMatch (spots h (deeper 1 a) i rs) (form d ∷ each_below ds) rs → RightAt h a (make_with_body k (forms_found rs))
 found_with_body h a i k d ds [] l m = absurd m
 found_with_body h a i k d ds (Value f ∷ rs) l m =

@@ -18,11 +18,9 @@ use Rattle.lang_meaning.specs.bridge.Lengths.{forms_counted}
 use Rattle.lang_meaning.specs.bridge.Judged.{fits_folded, stands_folded}
 use Rattle.front_profile.specs.declared.making.One.{One}
 use Rattle.front_profile.specs.declared.making.One.TheVariants.{SetVariable, ReturnTo}
-use Rattle.front_profile.specs.declared.making.Two.{Two}
-use Rattle.front_profile.specs.declared.making.Two.TheVariants.{Applying, Throwing, Signalling, Continuing}
-use Rattle.front_profile.specs.declared.making.WithBody.{WithBody}
-use Rattle.front_profile.specs.declared.making.WithBody.TheVariants.{Repeating, Catching, Unwinding, Handling}
-use Rattle.front_profile.specs.Makings.{body_of, one_of, two_of, with_body_of, make_segments}
+use Rattle.lang_meaning.specs.declared.kinds.OverTwo.{OverTwo}
+use Rattle.lang_meaning.specs.declared.kinds.OverTwo.TheVariants as over
+use Rattle.front_profile.specs.Makings.{body_of, one_of, two_of, make_segments}
 use Rattle.front_profile.specs.Definitions.{Definitions, rows_of}
 use Rattle.front_profile.specs.Right.{RightIn}
 use Rattle.front_profile.proofs.Forms.{right_whole, depth_folded}
@@ -45,21 +43,22 @@ made_one g s n (SetVariable v) f l h r = right_whole g s n _ refl refl l h refl 
 made_one g s n (ReturnTo x) f l h r = right_whole g s n _ refl refl l (ap is_block h) refl (r, tt) tt
 made_one g s n other f l h r = right_whole g s n _ refl refl l refl refl (r, tt) tt
 
-pub made_two : (g : Definitions) (s : LexicalScope) (n : ℕ) (k : Two) (f h : Form) → n + 1 ≤ 1000 → RightIn g s (n + 1) f → RightIn g s (n + 1) h → RightIn g s n (two_of k f h)
-made_two g s n Applying f h l r q = right_whole g s n _ refl refl l refl refl (r, (q, tt)) tt
-made_two g s n Throwing f h l r q = right_whole g s n _ refl refl l refl refl (r, (q, tt)) tt
-made_two g s n Signalling f h l r q = right_whole g s n _ refl refl l refl refl (r, (q, tt)) tt
-made_two g s n Continuing f h l r q = right_whole g s n _ refl refl l refl refl (r, (q, tt)) tt
+pub made_two : (g : Definitions) (s : LexicalScope) (n : ℕ) (k : OverTwo) (f h : Form) → n + 1 ≤ 1000 → RightIn g s (n + 1) f → RightIn g s (n + 1) h → RightIn g s n (two_of k f h)
+made_two g s n over.Apply f h l r q = right_whole g s n _ refl refl l refl refl (r, (q, tt)) tt
+made_two g s n over.While f h l r q = right_whole g s n _ refl refl l refl refl (r, (q, tt)) tt
+made_two g s n over.Catch f h l r q = right_whole g s n _ refl refl l refl refl (r, (q, tt)) tt
+made_two g s n over.Throw f h l r q = right_whole g s n _ refl refl l refl refl (r, (q, tt)) tt
+made_two g s n over.Unwind f h l r q = right_whole g s n _ refl refl l refl refl (r, (q, tt)) tt
+made_two g s n over.WithHandler f h l r q = right_whole g s n _ refl refl l refl refl (r, (q, tt)) tt
+made_two g s n over.Signal f h l r q = right_whole g s n _ refl refl l refl refl (r, (q, tt)) tt
+made_two g s n over.Continue f h l r q = right_whole g s n _ refl refl l refl refl (r, (q, tt)) tt
 
 pub made_body : (g : Definitions) (s : LexicalScope) (n : ℕ) (fs : List Form) → n + 1 ≤ 1000 → AllOf (RightIn g s (n + 1)) fs → RightIn g s n (body_of fs)
 made_body g s n fs l e = right_whole g s n _ refl refl l refl refl (listed _ fs e) tt
 
-pub made_with_body : (g : Definitions) (s : LexicalScope) (n : ℕ) (k : WithBody) (f : Form) (fs : List Form) → n + 1 + 1 ≤ 1000 → RightIn g s (n + 1) f
-    → AllOf (RightIn g s (n + 1 + 1)) fs → RightIn g s n (with_body_of k f (body_of fs))
-made_with_body g s n Repeating f fs l r e = right_whole g s n _ refl refl (omega (arith, l)) refl refl (r, (made_body g s (n + 1) fs l e, tt)) tt
-made_with_body g s n Catching f fs l r e = right_whole g s n _ refl refl (omega (arith, l)) refl refl (r, (made_body g s (n + 1) fs l e, tt)) tt
-made_with_body g s n Unwinding f fs l r e = right_whole g s n _ refl refl (omega (arith, l)) refl refl (r, (made_body g s (n + 1) fs l e, tt)) tt
-made_with_body g s n Handling f fs l r e = right_whole g s n _ refl refl (omega (arith, l)) refl refl (r, (made_body g s (n + 1) fs l e, tt)) tt
+pub made_with_body : (g : Definitions) (s : LexicalScope) (n : ℕ) (k : OverTwo) (f : Form) (fs : List Form) → n + 1 + 1 ≤ 1000 → RightIn g s (n + 1) f
+    → AllOf (RightIn g s (n + 1 + 1)) fs → RightIn g s n (two_of k f (body_of fs))
+made_with_body g s n k f fs l r e = made_two g s n k f (body_of fs) (omega (arith, l)) r (made_body g s (n + 1) fs l e)
 
 -- calls
 

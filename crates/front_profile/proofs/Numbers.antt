@@ -12,10 +12,8 @@ use Rattle.lang_meaning.specs.bridge.Judged.{all_inside}
 use Rattle.front_profile.specs.declared.making.Found.{Found}
 use Rattle.front_profile.specs.declared.making.One.{One}
 use Rattle.front_profile.specs.declared.making.One.TheVariants.{SetVariable, SetGlobal, DefineGlobal, SetDynamic, DefineDynamic, ReturnTo}
-use Rattle.front_profile.specs.declared.making.Two.{Two}
-use Rattle.front_profile.specs.declared.making.Two.TheVariants.{Applying, Throwing, Signalling, Continuing}
-use Rattle.front_profile.specs.declared.making.WithBody.{WithBody}
-use Rattle.front_profile.specs.declared.making.WithBody.TheVariants.{Repeating, Catching, Unwinding, Handling}
+use Rattle.lang_meaning.specs.declared.kinds.OverTwo.{OverTwo}
+use Rattle.lang_meaning.specs.declared.kinds.OverTwo.TheVariants as over
 use Rattle.front_profile.specs.declared.making.Making.{Making}
 use Rattle.front_profile.specs.declared.making.Making.TheVariants.{Ready, OfOne, OfTwo, OfBody, InSequence, CallOf, CallOfValue, CallOfLocal, CallOfPrimitive, OfClauses, OfVariables, OfDynamics, OfFunction, OfBlock, OfSegments, OfFunctionNamed, OfProcedure, OfAccessor, OfMethods, OfClass}
 use Rattle.front_profile.specs.Makings.{leaf_form, forms_found, variables_found, bindings_found, body_of, make_one, make_two, make_with_body, make_clauses, make_segments, make_dynamics, behind_dynamics, rest_found, make, at_site}
@@ -90,20 +88,21 @@ one_numbered g h (SetDynamic n) (f ∷ fs) e = numbered_whole g h _ refl (e.0, t
 one_numbered g h (DefineDynamic row) (f ∷ fs) e = numbered_whole g h _ refl (e.0, tt) tt
 one_numbered g h (ReturnTo x) (f ∷ fs) e = numbered_whole g h _ refl (e.0, tt) tt
 
-two_numbered : (g h : Definitions) (k : Two) (fs : List Form) → AllOf (Numbered g h) fs → Numbered g h (make_two k fs)
+two_numbered : (g h : Definitions) (k : OverTwo) (fs : List Form) → AllOf (Numbered g h) fs → Numbered g h (make_two k fs)
 two_numbered g h k [] e = record { numbers = refl }
 two_numbered g h k (f ∷ []) e = record { numbers = refl }
-two_numbered g h Applying (f ∷ i ∷ fs) e = numbered_whole g h _ refl (e.0, (e.1.0, tt)) tt
-two_numbered g h Throwing (f ∷ i ∷ fs) e = numbered_whole g h _ refl (e.0, (e.1.0, tt)) tt
-two_numbered g h Signalling (f ∷ i ∷ fs) e = numbered_whole g h _ refl (e.0, (e.1.0, tt)) tt
-two_numbered g h Continuing (f ∷ i ∷ fs) e = numbered_whole g h _ refl (e.0, (e.1.0, tt)) tt
+two_numbered g h over.Apply (f ∷ i ∷ fs) e = numbered_whole g h _ refl (e.0, (e.1.0, tt)) tt
+two_numbered g h over.While (f ∷ i ∷ fs) e = numbered_whole g h _ refl (e.0, (e.1.0, tt)) tt
+two_numbered g h over.Catch (f ∷ i ∷ fs) e = numbered_whole g h _ refl (e.0, (e.1.0, tt)) tt
+two_numbered g h over.Throw (f ∷ i ∷ fs) e = numbered_whole g h _ refl (e.0, (e.1.0, tt)) tt
+two_numbered g h over.Unwind (f ∷ i ∷ fs) e = numbered_whole g h _ refl (e.0, (e.1.0, tt)) tt
+two_numbered g h over.WithHandler (f ∷ i ∷ fs) e = numbered_whole g h _ refl (e.0, (e.1.0, tt)) tt
+two_numbered g h over.Signal (f ∷ i ∷ fs) e = numbered_whole g h _ refl (e.0, (e.1.0, tt)) tt
+two_numbered g h over.Continue (f ∷ i ∷ fs) e = numbered_whole g h _ refl (e.0, (e.1.0, tt)) tt
 
-with_body_numbered : (g h : Definitions) (k : WithBody) (fs : List Form) → AllOf (Numbered g h) fs → Numbered g h (make_with_body k fs)
+with_body_numbered : (g h : Definitions) (k : OverTwo) (fs : List Form) → AllOf (Numbered g h) fs → Numbered g h (make_with_body k fs)
 with_body_numbered g h k [] e = record { numbers = refl }
-with_body_numbered g h Repeating (f ∷ fs) e = numbered_whole g h _ refl (e.0, (body_numbered g h fs e.1, tt)) tt
-with_body_numbered g h Catching (f ∷ fs) e = numbered_whole g h _ refl (e.0, (body_numbered g h fs e.1, tt)) tt
-with_body_numbered g h Unwinding (f ∷ fs) e = numbered_whole g h _ refl (e.0, (body_numbered g h fs e.1, tt)) tt
-with_body_numbered g h Handling (f ∷ fs) e = numbered_whole g h _ refl (e.0, (body_numbered g h fs e.1, tt)) tt
+with_body_numbered g h k (f ∷ fs) e = two_numbered g h k (f ∷ body_of fs ∷ []) (e.0, (body_numbered g h fs e.1, tt))
 
 clauses_numbered : (g h : Definitions) (ns : List (Option ℕ)) (fs : List Form) → AllOf (Numbered g h) fs → AllOf (Numbered g h) (clause_list (make_clauses ns fs))
 clauses_numbered g h [] fs e = tt

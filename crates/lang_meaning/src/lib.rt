@@ -3,6 +3,7 @@
 
 pub mod classes;
 pub mod core_form;
+pub mod kinds;
 pub mod laws;
 pub mod mentioned;
 pub mod nodes;
@@ -17,6 +18,7 @@ pub use core_form::{
     Binding, BindingList, Clause, ClauseList, Core, CoreForm, CoreList, DynBinding, DynBindings,
     SegmentList, Subforms,
 };
+pub use kinds::OverTwo;
 pub use mentioned::{mentions, owns};
 pub use nodes::{
     class_list_nodes, form_list_nodes, form_nodes, frame_words, literal_list_nodes,
