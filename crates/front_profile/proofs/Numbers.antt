@@ -20,7 +20,7 @@ use Rattle.front_profile.specs.Makings.{leaf_form, forms_found, variables_found,
 use Rattle.front_profile.specs.Definitions.{Definitions, Later}
 use Rattle.front_profile.specs.Numbers.{is_from, numbers_fit, Numbered}
 use Rattle.front_profile.proofs.Tests.{all_more}
-use Rattle.front_profile.proofs.Made.{listed}
+use Rattle.front_profile.proofs.MadeForms.{listed}
 use Rattle.front_profile.proofs.Matches.{new_variables}
 
 -- wider bounds
