@@ -21,7 +21,7 @@ use Rattle.front_profile.specs.declared.making.Leaf.TheVariants.{Literal, Local,
 use Rattle.front_profile.specs.declared.making.One.{One}
 use Rattle.front_profile.specs.declared.making.One.TheVariants.{SetVariable, SetGlobal, DefineGlobal, SetDynamic, DefineDynamic, ReturnTo}
 use Rattle.lang_meaning.specs.declared.kinds.OverTwo.{OverTwo}
-use Rattle.lang_meaning.specs.declared.kinds.OverTwo.TheVariants as over
+use Rattle.lang_meaning.specs.declared.kinds.OverTwo.TheVariants.{Apply, While, Catch, Throw, Unwind, WithHandler, Signal, Continue}
 use Rattle.front_profile.specs.declared.making.Making.{Making}
 use Rattle.front_profile.specs.declared.making.Making.TheVariants.{Ready, OfOne, OfTwo, OfBody, InSequence, CallOf, CallOfValue, CallOfLocal, CallOfPrimitive, OfClauses, OfVariables, OfDynamics, OfFunction, OfBlock, OfSegments, OfFunctionNamed, OfProcedure, OfAccessor, OfMethods, OfClass}
 use Rattle.front_profile.specs.Makings.{nothing, leaf_form, body_of, one_of, two_of, make_one, make_two, make_with_body, make_clauses, make_segments, make_dynamics, behind_dynamics, forms_found, bindings_found, make}
@@ -128,14 +128,14 @@ one_gathers p k (f ∷ []) b d e = one_of_gathers p k f b d
 one_gathers p k (f ∷ g ∷ fs) b d e = absurd (omega (arith, eqb-true (length (f ∷ g ∷ fs)) 1 e))
 
 two_of_gathers : (p : Part) (k : OverTwo) (f g : Form) (b v : Bool) → b ≡ false → list_any (mentions p) (f ∷ g ∷ []) ≡ v → Gathers p (two_of k f g) b v
-two_of_gathers p over.Apply f g b v d e = outside p (two_of over.Apply f g) b v d refl e refl
-two_of_gathers p over.While f g b v d e = outside p (two_of over.While f g) b v d refl e refl
-two_of_gathers p over.Catch f g b v d e = outside p (two_of over.Catch f g) b v d refl e refl
-two_of_gathers p over.Throw f g b v d e = outside p (two_of over.Throw f g) b v d refl e refl
-two_of_gathers p over.Unwind f g b v d e = outside p (two_of over.Unwind f g) b v d refl e refl
-two_of_gathers p over.WithHandler f g b v d e = outside p (two_of over.WithHandler f g) b v d refl e refl
-two_of_gathers p over.Signal f g b v d e = outside p (two_of over.Signal f g) b v d refl e refl
-two_of_gathers p over.Continue f g b v d e = outside p (two_of over.Continue f g) b v d refl e refl
+two_of_gathers p Apply f g b v d e = outside p (two_of Apply f g) b v d refl e refl
+two_of_gathers p While f g b v d e = outside p (two_of While f g) b v d refl e refl
+two_of_gathers p Catch f g b v d e = outside p (two_of Catch f g) b v d refl e refl
+two_of_gathers p Throw f g b v d e = outside p (two_of Throw f g) b v d refl e refl
+two_of_gathers p Unwind f g b v d e = outside p (two_of Unwind f g) b v d refl e refl
+two_of_gathers p WithHandler f g b v d e = outside p (two_of WithHandler f g) b v d refl e refl
+two_of_gathers p Signal f g b v d e = outside p (two_of Signal f g) b v d refl e refl
+two_of_gathers p Continue f g b v d e = outside p (two_of Continue f g) b v d refl e refl
 
 two_gathers : (p : Part) (k : OverTwo) (fs : List Form) (b : Bool) → b ≡ false → (length fs == 2) ≡ true → Gathers p (make_two k fs) b (list_any (mentions p) fs)
 two_gathers p k [] b d e = absurd (omega (arith, eqb-true (length {A = Form} []) 2 e))

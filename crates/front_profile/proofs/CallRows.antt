@@ -17,7 +17,7 @@ use Rattle.lang_meaning.specs.Counts.{all_nodes}
 use Rattle.front_profile.specs.declared.tables.Tables.{Tables}
 use Rattle.front_profile.specs.declared.making.Found.{Found}
 use Rattle.lang_meaning.specs.declared.kinds.OverTwo.{OverTwo}
-use Rattle.lang_meaning.specs.declared.kinds.OverTwo.TheVariants as over
+use Rattle.lang_meaning.specs.declared.kinds.OverTwo.TheVariants.{Signal, Continue}
 use Rattle.front_profile.specs.declared.making.Making.{Making}
 use Rattle.front_profile.specs.declared.making.Making.TheVariants.{OfTwo, CallOf, CallOfValue, CallOfLocal, CallOfPrimitive}
 use Rattle.front_profile.specs.Primitives.{primitive_named, taking, primitive_called}
@@ -124,9 +124,9 @@ call_is : (n : Name) (text : List ℕ) (count : ℕ) → IsCall (call_making n t
 call_is n text count =
     one_of_two (is_value_call text count) count _ _ (λ e. of_value count (leb-true 1 count (and_parts (bytes_eq text (codes "funcall")) (nat_le 1 count) e).1))
     (one_of_two (is_pair_call text (codes "signal-condition") count) count _ _
-    (λ e. of_two over.Signal count (eqb-true count 2 (and_parts (bytes_eq text (codes "signal-condition")) (nat_eq count 2) e).1))
+    (λ e. of_two Signal count (eqb-true count 2 (and_parts (bytes_eq text (codes "signal-condition")) (nat_eq count 2) e).1))
     (one_of_two (is_pair_call text (codes "continue-condition") count) count _ _
-    (λ e. of_two over.Continue count (eqb-true count 2 (and_parts (bytes_eq text (codes "continue-condition")) (nat_eq count 2) e).1))
+    (λ e. of_two Continue count (eqb-true count 2 (and_parts (bytes_eq text (codes "continue-condition")) (nat_eq count 2) e).1))
     (named_is_call n count (primitive_called text count) (primitive_taken (primitive_named text) count))))
 
 pub apt_named_call : (n : ℕ) (name : Name) (text : List ℕ) (a : Around) (s : Tables) (p : Place) (ds : List Item) → Stage a s → AllOf (Good n) ds

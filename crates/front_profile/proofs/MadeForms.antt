@@ -19,7 +19,7 @@ use Rattle.lang_meaning.specs.bridge.Judged.{fits_folded, stands_folded}
 use Rattle.front_profile.specs.declared.making.One.{One}
 use Rattle.front_profile.specs.declared.making.One.TheVariants.{SetVariable, ReturnTo}
 use Rattle.lang_meaning.specs.declared.kinds.OverTwo.{OverTwo}
-use Rattle.lang_meaning.specs.declared.kinds.OverTwo.TheVariants as over
+use Rattle.lang_meaning.specs.declared.kinds.OverTwo.TheVariants.{Apply, While, Catch, Throw, Unwind, WithHandler, Signal, Continue}
 use Rattle.front_profile.specs.Makings.{body_of, one_of, two_of, make_segments}
 use Rattle.front_profile.specs.Definitions.{Definitions, rows_of}
 use Rattle.front_profile.specs.Right.{RightIn}
@@ -44,14 +44,14 @@ made_one g s n (ReturnTo x) f l h r = right_whole g s n _ refl refl l (ap is_blo
 made_one g s n other f l h r = right_whole g s n _ refl refl l refl refl (r, tt) tt
 
 pub made_two : (g : Definitions) (s : LexicalScope) (n : ℕ) (k : OverTwo) (f h : Form) → n + 1 ≤ 1000 → RightIn g s (n + 1) f → RightIn g s (n + 1) h → RightIn g s n (two_of k f h)
-made_two g s n over.Apply f h l r q = right_whole g s n _ refl refl l refl refl (r, (q, tt)) tt
-made_two g s n over.While f h l r q = right_whole g s n _ refl refl l refl refl (r, (q, tt)) tt
-made_two g s n over.Catch f h l r q = right_whole g s n _ refl refl l refl refl (r, (q, tt)) tt
-made_two g s n over.Throw f h l r q = right_whole g s n _ refl refl l refl refl (r, (q, tt)) tt
-made_two g s n over.Unwind f h l r q = right_whole g s n _ refl refl l refl refl (r, (q, tt)) tt
-made_two g s n over.WithHandler f h l r q = right_whole g s n _ refl refl l refl refl (r, (q, tt)) tt
-made_two g s n over.Signal f h l r q = right_whole g s n _ refl refl l refl refl (r, (q, tt)) tt
-made_two g s n over.Continue f h l r q = right_whole g s n _ refl refl l refl refl (r, (q, tt)) tt
+made_two g s n Apply f h l r q = right_whole g s n _ refl refl l refl refl (r, (q, tt)) tt
+made_two g s n While f h l r q = right_whole g s n _ refl refl l refl refl (r, (q, tt)) tt
+made_two g s n Catch f h l r q = right_whole g s n _ refl refl l refl refl (r, (q, tt)) tt
+made_two g s n Throw f h l r q = right_whole g s n _ refl refl l refl refl (r, (q, tt)) tt
+made_two g s n Unwind f h l r q = right_whole g s n _ refl refl l refl refl (r, (q, tt)) tt
+made_two g s n WithHandler f h l r q = right_whole g s n _ refl refl l refl refl (r, (q, tt)) tt
+made_two g s n Signal f h l r q = right_whole g s n _ refl refl l refl refl (r, (q, tt)) tt
+made_two g s n Continue f h l r q = right_whole g s n _ refl refl l refl refl (r, (q, tt)) tt
 
 pub made_body : (g : Definitions) (s : LexicalScope) (n : ℕ) (fs : List Form) → n + 1 ≤ 1000 → AllOf (RightIn g s (n + 1)) fs → RightIn g s n (body_of fs)
 made_body g s n fs l e = right_whole g s n _ refl refl l refl refl (listed _ fs e) tt

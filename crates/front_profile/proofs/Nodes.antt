@@ -14,7 +14,7 @@ use Rattle.front_profile.specs.declared.making.Found.TheVariants.{Value, Binding
 use Rattle.front_profile.specs.declared.making.One.{One}
 use Rattle.front_profile.specs.declared.making.One.TheVariants.{SetVariable}
 use Rattle.lang_meaning.specs.declared.kinds.OverTwo.{OverTwo}
-use Rattle.lang_meaning.specs.declared.kinds.OverTwo.TheVariants as over
+use Rattle.lang_meaning.specs.declared.kinds.OverTwo.TheVariants.{Apply, While, Catch, Throw, Unwind, WithHandler, Signal, Continue}
 use Rattle.front_profile.specs.Makings.{forms_found, bindings_found, body_of, one_of, two_of, make_segments, make_dynamics, behind_dynamics}
 
 abbrev pub nodes_in : List Form → ℕ
@@ -87,14 +87,14 @@ one_nodes (SetVariable v) f = omega arith
 one_nodes other f = omega arith
 
 pub two_nodes : (k : OverTwo) (f g : Form) → all_nodes f + all_nodes g + 1 ≤ all_nodes (two_of k f g)
-two_nodes over.Apply f g = omega arith
-two_nodes over.While f g = omega arith
-two_nodes over.Catch f g = omega arith
-two_nodes over.Throw f g = omega arith
-two_nodes over.Unwind f g = omega arith
-two_nodes over.WithHandler f g = omega arith
-two_nodes over.Signal f g = omega arith
-two_nodes over.Continue f g = omega arith
+two_nodes Apply f g = omega arith
+two_nodes While f g = omega arith
+two_nodes Catch f g = omega arith
+two_nodes Throw f g = omega arith
+two_nodes Unwind f g = omega arith
+two_nodes WithHandler f g = omega arith
+two_nodes Signal f g = omega arith
+two_nodes Continue f g = omega arith
 
 pub with_body_nodes : (k : OverTwo) (f : Form) (fs : List Form) → all_nodes f + nodes_in fs + 1 ≤ all_nodes (two_of k f (body_of fs))
 with_body_nodes k f fs = omega (arith, two_nodes k f (body_of fs), body_nodes fs)

@@ -13,7 +13,7 @@ use Rattle.front_profile.specs.declared.making.Found.{Found}
 use Rattle.front_profile.specs.declared.making.One.{One}
 use Rattle.front_profile.specs.declared.making.One.TheVariants.{SetVariable, SetGlobal, DefineGlobal, SetDynamic, DefineDynamic, ReturnTo}
 use Rattle.lang_meaning.specs.declared.kinds.OverTwo.{OverTwo}
-use Rattle.lang_meaning.specs.declared.kinds.OverTwo.TheVariants as over
+use Rattle.lang_meaning.specs.declared.kinds.OverTwo.TheVariants.{Apply, While, Catch, Throw, Unwind, WithHandler, Signal, Continue}
 use Rattle.front_profile.specs.declared.making.Making.{Making}
 use Rattle.front_profile.specs.declared.making.Making.TheVariants.{Ready, OfOne, OfTwo, OfBody, InSequence, CallOf, CallOfValue, CallOfLocal, CallOfPrimitive, OfClauses, OfVariables, OfDynamics, OfFunction, OfBlock, OfSegments, OfFunctionNamed, OfProcedure, OfAccessor, OfMethods, OfClass}
 use Rattle.front_profile.specs.Makings.{leaf_form, forms_found, variables_found, bindings_found, body_of, make_one, make_two, make_with_body, make_clauses, make_segments, make_dynamics, behind_dynamics, rest_found, make, at_site}
@@ -91,14 +91,14 @@ one_numbered g h (ReturnTo x) (f ∷ fs) e = numbered_whole g h _ refl (e.0, tt)
 two_numbered : (g h : Definitions) (k : OverTwo) (fs : List Form) → AllOf (Numbered g h) fs → Numbered g h (make_two k fs)
 two_numbered g h k [] e = record { numbers = refl }
 two_numbered g h k (f ∷ []) e = record { numbers = refl }
-two_numbered g h over.Apply (f ∷ i ∷ fs) e = numbered_whole g h _ refl (e.0, (e.1.0, tt)) tt
-two_numbered g h over.While (f ∷ i ∷ fs) e = numbered_whole g h _ refl (e.0, (e.1.0, tt)) tt
-two_numbered g h over.Catch (f ∷ i ∷ fs) e = numbered_whole g h _ refl (e.0, (e.1.0, tt)) tt
-two_numbered g h over.Throw (f ∷ i ∷ fs) e = numbered_whole g h _ refl (e.0, (e.1.0, tt)) tt
-two_numbered g h over.Unwind (f ∷ i ∷ fs) e = numbered_whole g h _ refl (e.0, (e.1.0, tt)) tt
-two_numbered g h over.WithHandler (f ∷ i ∷ fs) e = numbered_whole g h _ refl (e.0, (e.1.0, tt)) tt
-two_numbered g h over.Signal (f ∷ i ∷ fs) e = numbered_whole g h _ refl (e.0, (e.1.0, tt)) tt
-two_numbered g h over.Continue (f ∷ i ∷ fs) e = numbered_whole g h _ refl (e.0, (e.1.0, tt)) tt
+two_numbered g h Apply (f ∷ i ∷ fs) e = numbered_whole g h _ refl (e.0, (e.1.0, tt)) tt
+two_numbered g h While (f ∷ i ∷ fs) e = numbered_whole g h _ refl (e.0, (e.1.0, tt)) tt
+two_numbered g h Catch (f ∷ i ∷ fs) e = numbered_whole g h _ refl (e.0, (e.1.0, tt)) tt
+two_numbered g h Throw (f ∷ i ∷ fs) e = numbered_whole g h _ refl (e.0, (e.1.0, tt)) tt
+two_numbered g h Unwind (f ∷ i ∷ fs) e = numbered_whole g h _ refl (e.0, (e.1.0, tt)) tt
+two_numbered g h WithHandler (f ∷ i ∷ fs) e = numbered_whole g h _ refl (e.0, (e.1.0, tt)) tt
+two_numbered g h Signal (f ∷ i ∷ fs) e = numbered_whole g h _ refl (e.0, (e.1.0, tt)) tt
+two_numbered g h Continue (f ∷ i ∷ fs) e = numbered_whole g h _ refl (e.0, (e.1.0, tt)) tt
 
 with_body_numbered : (g h : Definitions) (k : OverTwo) (fs : List Form) → AllOf (Numbered g h) fs → Numbered g h (make_with_body k fs)
 with_body_numbered g h k [] e = record { numbers = refl }

@@ -16,7 +16,7 @@ use Rattle.front_profile.specs.declared.tables.Tables.{Tables}
 use Rattle.front_profile.specs.declared.making.Leaf.{Leaf}
 use Rattle.front_profile.specs.declared.making.One.{One}
 use Rattle.lang_meaning.specs.declared.kinds.OverTwo.{OverTwo}
-use Rattle.lang_meaning.specs.declared.kinds.OverTwo.TheVariants as over
+use Rattle.lang_meaning.specs.declared.kinds.OverTwo.TheVariants.{Signal, Continue}
 use Rattle.front_profile.specs.declared.making.Making.{Making}
 use Rattle.front_profile.specs.declared.making.Making.TheVariants.{OfOne, OfTwo, OfBody, InSequence, CallOfValue, CallOfLocal, OfVariables, OfDynamics, OfBlock, OfSegments}
 use Rattle.front_profile.specs.Names.{variable_of, function_of, block_of, tag_of}
@@ -225,8 +225,8 @@ named_nothing n (Some p) = λ rs u. none_defined u
 pub call_nothing : (n : Name) (text : List ℕ) (count : ℕ) → MakesNothing (call_making n text count)
 call_nothing n text count =
     chosen_nothing (is_value_call text count) CallOfValue _ (λ rs u. none_defined u)
-    (chosen_nothing (is_pair_call text (codes "signal-condition") count) (OfTwo over.Signal) _ (λ rs u. none_defined u)
-    (chosen_nothing (is_pair_call text (codes "continue-condition") count) (OfTwo over.Continue) _ (λ rs u. none_defined u) (named_nothing n (primitive_called text count))))
+    (chosen_nothing (is_pair_call text (codes "signal-condition") count) (OfTwo Signal) _ (λ rs u. none_defined u)
+    (chosen_nothing (is_pair_call text (codes "continue-condition") count) (OfTwo Continue) _ (λ rs u. none_defined u) (named_nothing n (primitive_called text count))))
 
 chosen_simple : (b : Bool) (k l : Making) → IsSimple k → IsSimple l → IsSimple (if b then k else l)
 chosen_simple true k l h g = h
@@ -239,8 +239,8 @@ named_simple n (Some p) = tt
 pub call_simple : (n : Name) (text : List ℕ) (count : ℕ) → IsSimple (call_making n text count)
 call_simple n text count =
     chosen_simple (is_value_call text count) CallOfValue _ tt
-    (chosen_simple (is_pair_call text (codes "signal-condition") count) (OfTwo over.Signal) _ tt
-    (chosen_simple (is_pair_call text (codes "continue-condition") count) (OfTwo over.Continue) _ tt (named_simple n (primitive_called text count))))
+    (chosen_simple (is_pair_call text (codes "signal-condition") count) (OfTwo Signal) _ tt
+    (chosen_simple (is_pair_call text (codes "continue-condition") count) (OfTwo Continue) _ tt (named_simple n (primitive_called text count))))
 
 pub starts_local_call : (s : Tables) (v : ℕ) (a : Around) (p : Place) (ds : List Item) → Starts s a.spot.top (local_call v a s p ds)
 starts_local_call s v a p ds =

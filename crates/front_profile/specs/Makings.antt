@@ -39,7 +39,7 @@ use Rattle.front_profile.specs.declared.making.NewClass.{NewClass}
 use Rattle.front_profile.specs.declared.making.Found.TheVariants.{Value, Binding, Parameter}
 use Rattle.front_profile.specs.declared.making.Leaf.TheVariants.{Literal, Local, Global, Dynamic, Go, NextMethod, HasNext, Nothing}
 use Rattle.front_profile.specs.declared.making.One.TheVariants.{SetVariable, SetGlobal, DefineGlobal, SetDynamic, DefineDynamic, ReturnTo}
-use Rattle.lang_meaning.specs.declared.kinds.OverTwo.TheVariants as over
+use Rattle.lang_meaning.specs.declared.kinds.OverTwo.TheVariants.{Apply, While, Catch, Throw, Unwind, WithHandler, Signal, Continue}
 use Rattle.front_profile.specs.declared.making.Making.TheVariants.{Ready, OfOne, OfTwo, OfBody, InSequence, CallOf, CallOfValue, CallOfLocal, CallOfPrimitive, OfClauses, OfVariables, OfDynamics, OfFunction, OfBlock, OfSegments, OfFunctionNamed, OfProcedure, OfAccessor, OfMethods, OfClass}
 
 -- forms without a body, where none was found
@@ -95,14 +95,14 @@ one_of (DefineDynamic v) f = def_dynamic v.name.0 f
 one_of (ReturnTo x) f = return_from x f
 
 abbrev pub two_of : OverTwo → Form → Form → Form
-two_of over.Apply f g = apply f g
-two_of over.While f g = while_form f g
-two_of over.Catch f g = catch_form f g
-two_of over.Throw f g = throw f g
-two_of over.Unwind f g = unwind f g
-two_of over.WithHandler f g = with_handler f g
-two_of over.Signal f g = signal_form f g
-two_of over.Continue f g = continue_form f g
+two_of Apply f g = apply f g
+two_of While f g = while_form f g
+two_of Catch f g = catch_form f g
+two_of Throw f g = throw f g
+two_of Unwind f g = unwind f g
+two_of WithHandler f g = with_handler f g
+two_of Signal f g = signal_form f g
+two_of Continue f g = continue_form f g
 
 abbrev pub make_one : One → List Form → Form
 make_one k [] = nothing

@@ -8,7 +8,7 @@ use Rattle.base.specs.DataNames.{symbol_text}
 use Rattle.base.specs.AllOf.{AllOf}
 use Rattle.base.specs.GoodData.{Good}
 use Rattle.front_profile.specs.declared.making.Leaf.TheVariants.{NextMethod, HasNext}
-use Rattle.lang_meaning.specs.declared.kinds.OverTwo.TheVariants as over
+use Rattle.lang_meaning.specs.declared.kinds.OverTwo.TheVariants.{Apply, While, Catch, Throw, Unwind, WithHandler}
 use Rattle.front_profile.specs.declared.making.Making.TheVariants.{CallOfValue}
 use Rattle.front_profile.specs.declared.special.Special.{Special}
 use Rattle.front_profile.specs.declared.special.Special.TheVariants as name
@@ -36,19 +36,19 @@ sound_special names n name.Cond a s p ds g = sound_cond n a s p ds g
 sound_special names n name.Progn a s p ds g = sound_progn n a s p ds g
 sound_special names n name.Let a s p ds g = sound_let n a s p ds g
 sound_special names n name.Lambda a s p ds g = sound_lambda n a s p ds g
-sound_special names n name.Apply a s p ds g = sound_two n over.Apply a s p ds g
-sound_special names n name.While a s p ds g = sound_body n over.While a s p ds g
+sound_special names n name.Apply a s p ds g = sound_two n Apply a s p ds g
+sound_special names n name.While a s p ds g = sound_body n While a s p ds g
 sound_special names n name.Block a s p ds g = sound_block n a s p ds g
 sound_special names n name.ReturnFrom a s p ds g = sound_return_from n a s p ds g
 sound_special names n name.Tagbody a s p ds g = sound_tagbody n a s p ds g
 sound_special names n name.Go a s p ds g = sound_go n (weight a.spot) a s p ds
-sound_special names n name.Catch a s p ds g = sound_body n over.Catch a s p ds g
-sound_special names n name.Throw a s p ds g = sound_two n over.Throw a s p ds g
-sound_special names n name.UnwindProtect a s p ds g = sound_body n over.Unwind a s p ds g
+sound_special names n name.Catch a s p ds g = sound_body n Catch a s p ds g
+sound_special names n name.Throw a s p ds g = sound_two n Throw a s p ds g
+sound_special names n name.UnwindProtect a s p ds g = sound_body n Unwind a s p ds g
 sound_special names n name.DynamicLet a s p ds g = sound_dynamic_let n a s p ds g
 sound_special names n name.Dynamic a s p ds g = sound_dynamic n (weight a.spot) a s p ds
 sound_special names n name.SetDynamic a s p ds g = sound_set_dynamic n a s p ds g
-sound_special names n name.WithHandler a s p ds g = sound_body n over.WithHandler a s p ds g
+sound_special names n name.WithHandler a s p ds g = sound_body n WithHandler a s p ds g
 sound_special names n name.Function a s p ds g = sound_function n (weight a.spot) a s p ds
 sound_special names n name.Class a s p ds g = sound_class n (weight a.spot) a s p ds
 sound_special names n name.CallNextMethod a s p ds g = sound_method n (weight a.spot) NextMethod a s p ds
