@@ -6,7 +6,7 @@ use Rattle.std.specs.Prelude.{int_lt, nat_le}
 use Rattle.std.specs.Int.{cast_signed, w32}
 use lib.IntN.{sub_ℕ}
 use Rattle.lang_meaning.specs.Values.{in_range, int_equal}
-use Rattle.rv_machine.specs.Arithmetic.{sum32, difference32, less_signed}
+use Rattle.base.specs.Arithmetic.{sum32, difference32, less_signed}
 use Rattle.back_first_path.specs.Code.{integer_word}
 use Rattle.back_first_path.specs.Shapes.{is_small}
 

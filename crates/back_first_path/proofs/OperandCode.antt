@@ -1,7 +1,7 @@
 -- What the code of operands and of comparisons yields.
 use Rattle.std.proofs.Common.{◌≡◌, ℕ, suc, ◌+◌, ◌*◌, ◌%◌, ◌^◌, ◌<◌, Bool, true, false, List, [], ◌∷◌, ◌++◌, length, refl, sym, ap, subst, ◌∙◌, arith, Some, append-nil, length-append}
 use Rattle.std.specs.Prelude.{slice_index, slice_set, if◌then◌else◌, ◌==◌}
-use Rattle.rv_machine.specs.Arithmetic.{sum32, difference32, less_signed}
+use Rattle.base.specs.Arithmetic.{sum32, difference32, less_signed}
 use Rattle.rv_encode.specs.declared.instruction.Instr.TheVariants.{Addi, Add, Sub, Beq, Blt, Jal}
 use Rattle.back_first_path.specs.Code.{constant, nil_word, t_word, between, truth_code, move_12_from_10, move_13_from_10, add_12_and_10, subtract_10_from_12, over_four_if_same, over_four_if_less, over_three}
 use Rattle.back_first_path.proofs.Instructions.{instructions}

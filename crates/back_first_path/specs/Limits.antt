@@ -1,10 +1,6 @@
 -- The limits of this profile that a file to run is judged by, and the size of machines.
 use Rattle.std.specs.Prelude.{ℕ}
 
--- bytes of a source file
-abbrev pub longest_source : ℕ
-longest_source = 1048576
-
 -- bytes of a program of the first path, and lists of it inside one another
 abbrev pub longest_program : ℕ
 longest_program = 4096

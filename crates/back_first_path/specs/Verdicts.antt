@@ -9,6 +9,7 @@ use Rattle.base.specs.declared.reason.Stop.{Stop}
 use Rattle.base.specs.declared.reason.Stop.TheVariants.{Refused, NoMemory}
 use Rattle.base.specs.Data.{Item, items_of, place_of}
 use Rattle.base.specs.DataMeasures.{depth_of}
+use Rattle.base.specs.Limits.{longest_text}
 use Rattle.lang_meaning.specs.declared.program.ProgramRows.{ProgramRows}
 use Rattle.lang_meaning.specs.Form.{Form}
 use Rattle.lang_meaning.specs.model.View.{forms}
@@ -17,7 +18,7 @@ use Rattle.front_reader.specs.Gaps.{Gap}
 use Rattle.front_reader.specs.Reads.{ReadsNext}
 use Rattle.front_reader.specs.Readers.{first_place}
 use Rattle.front_reader.specs.Stops.{StopsFirst}
-use Rattle.back_first_path.specs.Limits.{longest_source, longest_program, deepest_program}
+use Rattle.back_first_path.specs.Limits.{longest_program, deepest_program}
 use Rattle.back_first_path.specs.Shapes.{Tables, program_of, program_with}
 
 -- `DataOf names text ds rest p`: the text begins with the data ds; what is left of it stands at place p.
@@ -70,8 +71,8 @@ pub record StopsNext (text : List ℕ) (at : Place) (r : Reason) : Type 0 where
 
 -- `Refuses text at r`: the text's first offence is at that place, and has that reason
 pub data Refuses (text : List ℕ) (at : Place) : Reason → Type 0 where
-  source_too_long : longest_source < length text → at ≡ first_place File → Refuses text at SourceTooLong
-  program_too_long : length text ≤ longest_source → longest_program < length text → at ≡ first_place File → Refuses text at NotBuilt
+  source_too_long : longest_text < length text → at ≡ first_place File → Refuses text at SourceTooLong
+  program_too_long : length text ≤ longest_text → longest_program < length text → at ≡ first_place File → Refuses text at NotBuilt
   text_fault : (r : Reason) → StopsNext text at r → Refuses text at r
   not_built : OffendsNext text at → Refuses text at NotBuilt
 

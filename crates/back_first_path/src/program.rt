@@ -9,14 +9,12 @@ ghost use Rattle.back_first_path.specs.Shapes.{no_tables};
 
 use crate::shape::form_of;
 use crate::tables::Tables;
-use base::{Datum, Names, Origin, Place, Reason, Refusal, Stop};
+use base::{Datum, LONGEST_TEXT, Names, Origin, Place, Reason, Refusal, Stop};
 use front_reader::Reader;
 use lang_meaning::{CoreList, ProgramRows};
 use std::alloc::Global;
 
-// The bytes that a file may have, and those that one of this part of the language may have.
-const LONGEST_FILE: usize = 1_048_576;
-
+// The bytes that a file of this part of the language may have.
 const LONGEST_PROGRAM: usize = 4_096;
 
 // How many lists may stand inside one another.
@@ -33,7 +31,7 @@ pub fn read_program(alloc: Global, text: &[u8]) -> Result<ProgramRows, Stop>
     ensures small { IfOk result (λ program. length (program_code program.literals (forms program.main)) ≤ 65536) }
     ensures stopped { IfErr result (IsStopped text.now) }
 {
-    if text.len() > LONGEST_FILE {
+    if text.len() > LONGEST_TEXT {
         return Err(refused(START, Reason::SourceTooLong));
     }
     if text.len() > LONGEST_PROGRAM {

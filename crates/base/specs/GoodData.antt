@@ -5,7 +5,8 @@ use Rattle.base.specs.Names.{Extends, no_shorter}
 use Rattle.base.specs.Data.{Item, item, integer, character, symbol, string, vector, nil, list}
 use Rattle.base.specs.Data.{Items, no_item, item_and, items_of, Tail, no_tail, dotted}
 use Rattle.base.specs.DataMeasures.{Formed, AllFormed, FormedTail, NamesBelow, AllNamesBelow, NamesBelowTail}
-use Rattle.base.specs.DataParts.{AllItems, OfDotted, AllParts, AllOf, of_items, all_at, all_map}
+use Rattle.base.specs.AllOf.{AllOf, all_at, all_map}
+use Rattle.base.specs.DataParts.{AllItems, OfDotted, AllParts, of_items}
 use Rattle.base.specs.DataNames.{below_later}
 
 -- in form, with all names below that number

@@ -9,9 +9,13 @@ pub mod model
 pub mod bridge
 pub mod DataMeasures
 pub mod DataFormed
+pub mod AllOf
 pub mod DataParts
 pub mod DataNames
 pub mod GoodData
 pub mod Names
 pub mod NameNumbers
+pub mod NameMap
 pub mod Given
+pub mod Limits
+pub mod Arithmetic

@@ -7,18 +7,19 @@ ghost use Rattle.base.specs.model.DataView.{view_content};
 mod copies;
 mod formed;
 mod measures;
+pub mod naming;
 
 use crate::lists::{Bytes, ItemList};
 use crate::place::Place;
 use std::marker::Model;
 
 /// A name, as its number in the table of names (ISO/IEC 13816:2007, 18).
-#[derive(Clone, Copy, Debug, PartialEq, Eq)]
+#[derive(Clone, Copy, Debug, PartialEq, Eq, PartialOrd, Ord)]
 pub struct Name(pub usize);
 
 /// A symbol: one that a text names, or one that an expansion made and no text names. The new
 /// symbols of derived forms have expansion 0; the expansions of a file are numbered from 1.
-#[derive(Clone, Copy, Debug, PartialEq, Eq)]
+#[derive(Clone, Copy, Debug, PartialEq, Eq, PartialOrd, Ord)]
 pub enum Symbol {
     Named(Name),
     Fresh { expansion: u32, serial: u64 },

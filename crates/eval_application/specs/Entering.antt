@@ -15,7 +15,7 @@ use Rattle.eval_state.specs.declared.frame.Frame.TheVariants.{RestoresStack}
 use Rattle.eval_state.specs.declared.situation.Activation.{Activation}
 use Rattle.eval_state.specs.declared.machine.Machine.{Machine}
 use Rattle.eval_application.specs.declared.entering.Entering.{Entering}
-use Rattle.eval_state.specs.View.{state}
+use Rattle.eval_state.specs.View.{Steps, top, frames, state, surroundings}
 use Rattle.eval_state.specs.Doing.{Fills}
 
 -- what is entered: a procedure, the words of the stack of its body, what its function captured and what its method was called with
@@ -25,11 +25,14 @@ pub record Entered : Type 0 where
   pub captured : List Captured
   pub called : Option Called
 
+-- its body
+abbrev pub in_body : Setting → Entered → List Value → (level : ℕ) → Surroundings → Step
+in_body s e ws k around frames z = begin_body s e.procedure e.captured e.called ws k around frames z
+
 -- the cells of its variables; and then its body
 abbrev pub in_cells : Setting → Entered → List Value → (level : ℕ) → Surroundings → Step
 in_cells s e ws k around frames z =
-    then_on (celled s.limit (homes e.procedure) z) frames (λ none ready.
-    begin_body s e.procedure e.captured e.called ws k around frames ready)
+    then_on (celled s.limit (homes e.procedure) z) frames (λ none ready. in_body s e ws k around frames ready)
 
 -- the words of a method's record, where it is kept; and then the cells
 abbrev pub in_record : Setting → Entered → List Value → (level : ℕ) → Surroundings → Step
@@ -66,6 +69,11 @@ entered_of names e = record {
   captured = captured_in names e.activation;
   called = called_or_none names e.activation.method;
 }
+
+-- the machine has done what a stage does with the last operands, so many as that
+abbrev pub Enters : Machine → Machine → Entering → ℕ → (Setting → Entered → List Value → (level : ℕ) → Surroundings → Step) → Type 0
+Enters old new e count stage = Steps old new (λ names s b.
+    stage s (entered_of names e) (top names old count) e.level (surroundings names old e.around) (frames names old count) (state names old b))
 
 -- an application has words of the stack, which are given back when it is left, and units were counted
 pub record HasStack (old new : Machine) (words units : ℕ) : Type 0 where

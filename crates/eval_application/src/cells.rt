@@ -7,7 +7,6 @@ ghost use Rattle.eval_store.specs.Words.{called_or_none};
 ghost use Rattle.eval_store.specs.View.{limit_of};
 ghost use Rattle.eval_state.specs.Doing.{IsDone};
 
-use crate::making::take_heap;
 use base::NoMemory;
 use eval_state::machine::Machine;
 use eval_store::Called;
@@ -57,7 +56,7 @@ pub fn take_record<'p>(
             let Some(words) = (called.arguments.len() as u64).checked_add(2) else {
                 return Err(NoMemory);
             };
-            take_heap(machine, words)
+            machine.take_heap(words)
         }
         _ => Ok(true),
     }

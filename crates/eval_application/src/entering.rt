@@ -2,9 +2,7 @@
 
 ghost use Rattle.std.specs.Prelude.{◌≡◌, ◌≤◌, ◌<◌, ◌+◌, ◌^◌, true, length, is_some, OnOk, IfOk};
 ghost use Rattle.lang_meaning.specs.Signals.{takes};
-ghost use Rattle.eval_machine.specs.Applications.{begin_body};
-ghost use Rattle.eval_state.specs.View.{Steps, top, frames, state, surroundings};
-ghost use Rattle.eval_application.specs.Entering.{entered_of, entering, in_words, in_rest, in_record, in_cells, IsGivenStack};
+ghost use Rattle.eval_application.specs.Entering.{entering, in_words, in_rest, in_record, in_cells, in_body, Enters, IsGivenStack};
 
 use crate::arguments::make_list;
 use crate::cells::{take_procedure_cells, take_record};
@@ -17,12 +15,15 @@ use eval_state::situation::{Activation, Around, Situation};
 use flat_language::FlatProcedure;
 use std::mem;
 
-/// What is entered: a procedure, the words of the stack that its body takes, and its activation, which has no slots yet.
+/// What is entered: a procedure, the words of the stack that its body takes, and its activation, which has no slots yet;
+/// and where: at a level, with what is around.
 #[derive(Drop)]
 pub struct Entering<'p> {
     pub procedure: &'p FlatProcedure,
     pub words: u64,
     pub activation: Activation<'p>,
+    pub level: u64,
+    pub around: Around,
 }
 
 /// A procedure is entered with the last operands, so many as that: their number is judged first.
@@ -30,16 +31,15 @@ pub fn enter_procedure<'p>(
     machine: &mut Machine<'p>,
     procedure: Entering<'p>,
     operands: usize,
-    level: u64,
-    around: Around,
 ) -> Result<(), NoMemory>
-    requires { level + 1 < 2 ^ 64 }
-    ensures { OnOk result (Steps machine.old machine.new (λ names s b. entering s (entered_of names procedure.entry) (top names machine.old operands) level (surroundings names machine.old around) (frames names machine.old operands) (state names machine.old b))) }
+    requires { procedure.level + 1 < 2 ^ 64 }
+    ensures { OnOk result (Enters machine.old machine.new procedure.entry operands entering) }
 {
     let count = machine.held_operands(operands);
     if takes(procedure.procedure, count) {
-        take_words(machine, procedure, count, level, around)
+        take_words(machine, procedure, count)
     } else {
+        let (level, around) = (procedure.level, procedure.around);
         drop(procedure);
         machine.drop_operands(operands);
         machine.signal_class(PROGRAM_ERROR, level + 1, around)
@@ -51,19 +51,17 @@ fn take_words<'p>(
     machine: &mut Machine<'p>,
     procedure: Entering<'p>,
     count: usize,
-    level: u64,
-    around: Around,
 ) -> Result<(), NoMemory>
     requires held { count ≤ length machine.old.operands.items }
     requires taken { takes (length procedure.procedure.now.required) (is_some procedure.procedure.now.rest) count ≡ true }
-    ensures { OnOk result (Steps machine.old machine.new (λ names s b. in_words s (entered_of names procedure.entry) (top names machine.old count) level (surroundings names machine.old around) (frames names machine.old count) (state names machine.old b))) }
+    ensures { OnOk result (Enters machine.old machine.new procedure.entry count in_words) }
 {
     let Ok(granted) = take_stack(machine, procedure.words, count) else {
         drop(procedure);
         return Err(NoMemory);
     };
     if granted {
-        gather(machine, procedure, count, level, around)
+        gather(machine, procedure, count)
     } else {
         drop(procedure);
         machine.drop_operands(count);
@@ -94,17 +92,15 @@ fn gather<'p>(
     machine: &mut Machine<'p>,
     procedure: Entering<'p>,
     count: usize,
-    level: u64,
-    around: Around,
 ) -> Result<(), NoMemory>
     requires held { count ≤ length machine.old.operands.items }
     requires taken { takes (length procedure.procedure.now.required) (is_some procedure.procedure.now.rest) count ≡ true }
-    ensures { OnOk result (Steps machine.old machine.new (λ names s b. in_rest s (entered_of names procedure.entry) (top names machine.old count) level (surroundings names machine.old around) (frames names machine.old count) (state names machine.old b))) }
+    ensures { OnOk result (Enters machine.old machine.new procedure.entry count in_rest) }
 {
     if procedure.procedure.rest.is_some() {
-        gather_rest(machine, procedure, count, level, around)
+        gather_rest(machine, procedure, count)
     } else {
-        keep_record(machine, procedure, count, level, around)
+        keep_record(machine, procedure, count)
     }
 }
 
@@ -113,13 +109,11 @@ fn gather_rest<'p>(
     machine: &mut Machine<'p>,
     procedure: Entering<'p>,
     count: usize,
-    level: u64,
-    around: Around,
 ) -> Result<(), NoMemory>
     requires held { count ≤ length machine.old.operands.items }
     requires taken { length procedure.procedure.now.required ≤ count }
     requires rest { is_some procedure.procedure.now.rest ≡ true }
-    ensures { OnOk result (Steps machine.old machine.new (λ names s b. in_rest s (entered_of names procedure.entry) (top names machine.old count) level (surroundings names machine.old around) (frames names machine.old count) (state names machine.old b))) }
+    ensures { OnOk result (Enters machine.old machine.new procedure.entry count in_rest) }
 {
     let required = procedure.procedure.required.len();
     let more = count - required;
@@ -130,7 +124,7 @@ fn gather_rest<'p>(
     };
     machine.drop_operands(more);
     machine.push_operand(tail)?;
-    keep_record(machine, procedure, required + 1, level, around)
+    keep_record(machine, procedure, required + 1)
 }
 
 // The words of what a method was called with are asked for, where it is kept.
@@ -138,11 +132,9 @@ fn keep_record<'p>(
     machine: &mut Machine<'p>,
     procedure: Entering<'p>,
     count: usize,
-    level: u64,
-    around: Around,
 ) -> Result<(), NoMemory>
     requires { count ≤ length machine.old.operands.items }
-    ensures { OnOk result (Steps machine.old machine.new (λ names s b. in_record s (entered_of names procedure.entry) (top names machine.old count) level (surroundings names machine.old around) (frames names machine.old count) (state names machine.old b))) }
+    ensures { OnOk result (Enters machine.old machine.new procedure.entry count in_record) }
 {
     let keeps = procedure.procedure.keeps_method;
     let Ok(granted) = take_record(machine, &procedure.activation.method, keeps) else {
@@ -150,7 +142,7 @@ fn keep_record<'p>(
         return Err(NoMemory);
     };
     if granted {
-        make_cells(machine, procedure, count, level, around)
+        make_cells(machine, procedure, count)
     } else {
         drop(procedure);
         machine.drop_operands(count);
@@ -163,18 +155,16 @@ fn make_cells<'p>(
     machine: &mut Machine<'p>,
     procedure: Entering<'p>,
     count: usize,
-    level: u64,
-    around: Around,
 ) -> Result<(), NoMemory>
     requires { count ≤ length machine.old.operands.items }
-    ensures { OnOk result (Steps machine.old machine.new (λ names s b. in_cells s (entered_of names procedure.entry) (top names machine.old count) level (surroundings names machine.old around) (frames names machine.old count) (state names machine.old b))) }
+    ensures { OnOk result (Enters machine.old machine.new procedure.entry count in_cells) }
 {
     let Ok(granted) = take_procedure_cells(machine, procedure.procedure) else {
         drop(procedure);
         return Err(NoMemory);
     };
     if granted {
-        begin_body(machine, procedure, count, level, around)
+        begin_body(machine, procedure, count)
     } else {
         drop(procedure);
         machine.drop_operands(count);
@@ -187,13 +177,12 @@ fn begin_body<'p>(
     machine: &mut Machine<'p>,
     procedure: Entering<'p>,
     count: usize,
-    level: u64,
-    around: Around,
 ) -> Result<(), NoMemory>
     requires { count ≤ length machine.old.operands.items }
-    ensures { OnOk result (Steps machine.old machine.new (λ names s b. begin_body s (entered_of names procedure.entry).procedure (entered_of names procedure.entry).captured (entered_of names procedure.entry).called (top names machine.old count) level (surroundings names machine.old around) (frames names machine.old count) (state names machine.old b))) }
+    ensures { OnOk result (Enters machine.old machine.new procedure.entry count in_body) }
 {
     let code = procedure.procedure;
+    let (level, around) = (procedure.level, procedure.around);
     let mut activation = procedure.activation;
     activation.slots = 0;
     let caller = mem::replace(&mut machine.current, activation);

@@ -84,8 +84,10 @@ fn apply_code<'p>(
         procedure: code.procedure,
         words: code.words,
         activation,
+        level: below,
+        around,
     };
-    enter_procedure(machine, procedure, operands, below, around)
+    enter_procedure(machine, procedure, operands)
 }
 
 /// The levels have come to an end, and so many operands go.

@@ -17,6 +17,5 @@ pub mod Staying
 pub mod Mains
 pub mod Framed
 pub mod Others
-pub mod FormKinds
 pub mod LiteralValues
 pub mod NextMethods

@@ -22,27 +22,6 @@ FormWantsMore (prim which fs) = true
 FormWantsMore (next_method m) = true
 FormWantsMore f = false
 
--- the form inside a form whose value it waits for first, as it begins
-abbrev pub first_inside : FlatForm → Option FlatForm
-first_inside (set_local p f) = Some f
-first_inside (set_global n f) = Some f
-first_inside (def_global n f) = Some f
-first_inside (apply f list) = Some f
-first_inside (return_from x f) = Some f
-first_inside (catch_form tag body) = Some tag
-first_inside (throw tag f) = Some tag
-first_inside (unwind f cleanup) = Some f
-first_inside (set_dynamic n f) = Some f
-first_inside (def_dynamic n f) = Some f
-first_inside (with_handler handler body) = Some handler
-first_inside (signal_form condition continuable) = Some condition
-first_inside (continue_form condition f) = Some condition
-first_inside f = None
-
--- whether it waits for one
-abbrev pub WaitsFirst : FlatForm → Bool
-WaitsFirst f = is_some (first_inside f)
-
 module _ (s : Setting) where
   -- a block, and a tagbody, with a new exit
   abbrev pub block_begins : FlatForm → Situation → Step
@@ -86,11 +65,3 @@ module _ (s : Setting) where
   begins (next_method m) at frames z = next_method_step s (method_of m at.environment) at frames z
   begins (has_next m) at frames z = ended (gives (truth (is_next (method_of m at.environment))) z) frames
   begins (sited site f) at frames z = moment (evaluate f (record at { around = record at.around { site = place_of_site s.program.sites site } })) frames z
-
--- as it begins, a form waits in a frame for the value of the form inside it, where there is one
-abbrev pub BeginsBy : Option FlatForm → FlatForm → Situation → Frame → Type 0
-BeginsBy (Some inside) f at w = (s : Setting) (frames : List Frame) (z : FlatState) → begins s f at frames z ≡ moment (evaluate inside at) (w ∷ frames) z
-BeginsBy None f at w = Unit {0}
-
-abbrev pub BeginsWith : FlatForm → Situation → Frame → Type 0
-BeginsWith f at w = BeginsBy (first_inside f) f at w

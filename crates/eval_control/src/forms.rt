@@ -1,11 +1,10 @@
 // A form begins that wants the machine alone.
 
-ghost use Rattle.std.specs.Prelude.{◌≡◌, true, false, List, ℕ, OnOk, Some};
+ghost use Rattle.std.specs.Prelude.{◌≡◌, false, OnOk};
 ghost use Rattle.flat_language.specs.FlatForm.{while_form};
 ghost use Rattle.flat_language.specs.model.View.{view_form};
-ghost use Rattle.eval_state.specs.declared.machine.Machine.{Machine as Running};
-ghost use Rattle.eval_state.specs.View.{Steps, IsPlain, at, frames, state, waiting};
-ghost use Rattle.eval_control.specs.Begins.{begins, first_inside, FormWantsMore, WaitsFirst, BeginsWith};
+ghost use Rattle.eval_state.specs.View.{Steps, at, frames, state};
+ghost use Rattle.eval_control.specs.Begins.{begins, FormWantsMore};
 
 use crate::blocks::{block, tagbody};
 use crate::functions::make_function;
@@ -59,66 +58,76 @@ pub fn begin_kind<'p>(
         FlatCoreForm::DynamicLet(list, body) => dynamics(machine, list, 0, body, situation),
         FlatCoreForm::HasNext(place) => has_next(machine, *place, situation),
         FlatCoreForm::Sited(site, form) => sited(machine, *site, form, situation),
-        _ => begin_waiting(machine, form, situation),
-    }
-}
-
-// A form waits for the value of a form inside it.
-fn begin_waiting<'p>(
-    machine: &mut Machine<'p>,
-    form: &'p FlatCoreForm,
-    situation: Situation,
-) -> Result<(), NoMemory>
-    requires { WaitsFirst (view_form form.now) ≡ true }
-    ensures { OnOk result (Steps machine.old machine.new (λ names s b. begins s (view_form form.now) (at names machine.old situation) (frames names machine.old 0) (state names machine.old b))) }
-{
-    let inside = first_inside(form);
-    machine.wait(waiting_frame(form, situation), inside, situation)
-}
-
-// The form inside a form whose value it waits for first.
-fn first_inside(form: &FlatCoreForm) -> &FlatCore
-    requires { WaitsFirst (view_form form.now) ≡ true }
-    ensures { first_inside (view_form form.now) ≡ Some result.now }
-{
-    match form {
-        FlatCoreForm::SetLocal(_, inside)
-        | FlatCoreForm::SetGlobal(_, inside)
-        | FlatCoreForm::DefGlobal(_, inside)
-        | FlatCoreForm::Return(_, inside)
-        | FlatCoreForm::SetDynamic(_, inside)
-        | FlatCoreForm::DefDynamic(_, inside) => inside,
-        FlatCoreForm::Apply(first, _)
-        | FlatCoreForm::Catch(first, _)
-        | FlatCoreForm::Throw(first, _)
-        | FlatCoreForm::Unwind(first, _)
-        | FlatCoreForm::WithHandler(first, _)
-        | FlatCoreForm::Signal(first, _)
-        | FlatCoreForm::Continue(first, _) => first,
-        _ => unreachable!(),
-    }
-}
-
-// The frame that waits for that value.
-fn waiting_frame(form: &FlatCoreForm, situation: Situation) -> Frame<'_>
-    requires { WaitsFirst (view_form form.now) ≡ true }
-    ensures plain { IsPlain result ≡ true }
-    ensures begins { (names : List (List ℕ)) (m : Running) → BeginsWith (view_form form.now) (at names m situation) (waiting names m result) }
-{
-    match form {
-        FlatCoreForm::SetLocal(place, _) => Frame::SetLocal(*place, situation),
-        FlatCoreForm::SetGlobal(name, _) => Frame::SetGlobal(*name, situation),
-        FlatCoreForm::DefGlobal(name, _) => Frame::DefGlobal(*name),
-        FlatCoreForm::Apply(_, list) => Frame::AppliedFunction(list, situation),
-        FlatCoreForm::Return(exit, _) => Frame::ReturnValue(*exit, situation),
-        FlatCoreForm::Catch(_, body) => Frame::CatchTag(body, situation),
-        FlatCoreForm::Throw(_, value) => Frame::ThrowTag(value, situation),
-        FlatCoreForm::Unwind(_, cleanup) => Frame::Cleans(cleanup, situation),
-        FlatCoreForm::SetDynamic(name, _) => Frame::SetDynamic(*name, situation),
-        FlatCoreForm::DefDynamic(name, _) => Frame::DefDynamic(*name),
-        FlatCoreForm::WithHandler(_, body) => Frame::HandlerValue(body, situation),
-        FlatCoreForm::Signal(_, mark) => Frame::SignalCondition(mark, situation),
-        FlatCoreForm::Continue(_, value) => Frame::ContinueCondition(value, situation),
-        _ => unreachable!(),
+        FlatCoreForm::SetLocal(place, inside) => machine.wait(
+            Frame::SetLocal(*place, situation),
+            inside,
+            situation,
+        ),
+        FlatCoreForm::SetGlobal(name, inside) => machine.wait(
+            Frame::SetGlobal(*name, situation),
+            inside,
+            situation,
+        ),
+        FlatCoreForm::DefGlobal(name, inside) => machine.wait(
+            Frame::DefGlobal(*name),
+            inside,
+            situation,
+        ),
+        FlatCoreForm::Apply(function, list) => machine.wait(
+            Frame::AppliedFunction(list, situation),
+            function,
+            situation,
+        ),
+        FlatCoreForm::Return(exit, inside) => machine.wait(
+            Frame::ReturnValue(*exit, situation),
+            inside,
+            situation,
+        ),
+        FlatCoreForm::Catch(tag, body) => machine.wait(
+            Frame::CatchTag(body, situation),
+            tag,
+            situation,
+        ),
+        FlatCoreForm::Throw(tag, value) => machine.wait(
+            Frame::ThrowTag(value, situation),
+            tag,
+            situation,
+        ),
+        FlatCoreForm::Unwind(inside, cleanup) => machine.wait(
+            Frame::Cleans(cleanup, situation),
+            inside,
+            situation,
+        ),
+        FlatCoreForm::SetDynamic(name, inside) => machine.wait(
+            Frame::SetDynamic(*name, situation),
+            inside,
+            situation,
+        ),
+        FlatCoreForm::DefDynamic(name, inside) => machine.wait(
+            Frame::DefDynamic(*name),
+            inside,
+            situation,
+        ),
+        FlatCoreForm::WithHandler(handler, body) => machine.wait(
+            Frame::HandlerValue(body, situation),
+            handler,
+            situation,
+        ),
+        FlatCoreForm::Signal(condition, mark) => machine.wait(
+            Frame::SignalCondition(mark, situation),
+            condition,
+            situation,
+        ),
+        FlatCoreForm::Continue(condition, value) => machine.wait(
+            Frame::ContinueCondition(value, situation),
+            condition,
+            situation,
+        ),
+        FlatCoreForm::Global(_)
+        | FlatCoreForm::Dynamic(_)
+        | FlatCoreForm::Call(_, _)
+        | FlatCoreForm::CallValue(_)
+        | FlatCoreForm::Prim(_, _)
+        | FlatCoreForm::NextMethod(_) => unreachable!(),
     }
 }

@@ -39,18 +39,18 @@ impl<'p> Machine<'p> {
     {
         match home {
             Home::Slot => Ok(true),
-            Home::Cell => self.take_word(),
+            Home::Cell => self.take_heap(1),
         }
     }
 
-    // A word of the heap is asked for, and one unit counted; whether it is granted.
-    fn take_word(&mut self) -> Result<bool, NoMemory>
-        ensures { IfOk result (IsDone self.old self.new (λ names z. request (limit_of self.old.given.limit) 1 0 z (λ entered. gives nil (charged 1 entered)))) }
+    /// So many words of the heap are asked for, and as many units counted; whether they are granted.
+    pub fn take_heap(&mut self, words: u64) -> Result<bool, NoMemory>
+        ensures { IfOk result (IsDone self.old self.new (λ names z. request (limit_of self.old.given.limit) words 0 z (λ entered. gives nil (charged words entered)))) }
     {
-        if !self.ask(1, 0)? {
+        if !self.ask(words, 0)? {
             return Ok(false);
         }
-        self.charge(1)?;
+        self.charge(words)?;
         Ok(true)
     }
 

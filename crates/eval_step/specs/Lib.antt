@@ -1,6 +1,6 @@
 -- How the evaluator is seen.
 pub mod Runs
-pub mod Outermost
+pub mod Named
 pub mod Streams
 pub mod Stepped
 pub mod Started

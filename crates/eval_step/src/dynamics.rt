@@ -2,14 +2,13 @@
 
 ghost use Rattle.std.specs.Prelude.{OnOk};
 ghost use Rattle.lang_meaning.specs.Lookup.{text};
-ghost use Rattle.eval_machine.specs.Moment.{def_dynamic_value};
-ghost use Rattle.eval_machine.specs.Step.{dynamic_step, set_dynamic_step, value_step};
+ghost use Rattle.eval_machine.specs.Step.{dynamic_step, set_dynamic_step};
 ghost use Rattle.eval_store.specs.Words.{value_of_word};
 ghost use Rattle.eval_state.specs.View.{at, frames, state};
-ghost use Rattle.eval_step.specs.Outermost.{outermost_step, set_outermost_step};
 ghost use Rattle.eval_step.specs.Runs.{Runs};
 
 use crate::evaluator::Evaluator;
+use crate::named::Table;
 use base::{Name, NoMemory};
 use eval_control::bound::find_binding;
 use eval_state::situation::Situation;
@@ -26,22 +25,7 @@ impl<'p> Evaluator<'p> {
                 self.machine.gives(word);
                 Ok(())
             }
-            None => self.outermost(name, situation),
-        }
-    }
-
-    // The outermost value.
-    fn outermost(&mut self, name: Name, situation: Situation) -> Result<(), NoMemory>
-        ensures { OnOk result (Runs self.old self.new (λ names s b. outermost_step s (text s.names name.0) (at names self.old.machine situation) (frames names self.old.machine 0) (state names self.old.machine b))) }
-    {
-        match self.dynamics.get(name) {
-            Some(word) => {
-                self.machine.gives(word);
-                Ok(())
-            }
-            None => self
-                .machine
-                .signal_unbound(name, situation.level, situation.around),
+            None => self.named(Table::Dynamics, name, situation),
         }
     }
 
@@ -60,37 +44,7 @@ impl<'p> Evaluator<'p> {
                 self.machine.gives(word);
                 Ok(())
             }
-            None => self.set_outermost(name, word, situation),
+            None => self.set_named(Table::Dynamics, name, word, situation),
         }
-    }
-
-    // The outermost value is set.
-    fn set_outermost(
-        &mut self,
-        name: Name,
-        word: Word,
-        situation: Situation,
-    ) -> Result<(), NoMemory>
-        ensures { OnOk result (Runs self.old self.new (λ names s b. set_outermost_step s (text s.names name.0) (value_of_word names word) (at names self.old.machine situation) (frames names self.old.machine 0) (state names self.old.machine b))) }
-    {
-        match self.dynamics.get(name) {
-            Some(_) => {
-                self.dynamics.set(name, word)?;
-                self.machine.gives(word);
-                Ok(())
-            }
-            None => self
-                .machine
-                .signal_unbound(name, situation.level, situation.around),
-        }
-    }
-
-    /// A dynamic variable gets an outermost value.
-    pub fn define_dynamic(&mut self, name: Name, word: Word) -> Result<(), NoMemory>
-        ensures { OnOk result (Runs self.old self.new (λ names s b. value_step s (def_dynamic_value name.0) (value_of_word names word) (frames names self.old.machine 0) (state names self.old.machine b))) }
-    {
-        self.dynamics.set(name, word)?;
-        self.machine.gives(Word::Symbol(name));
-        Ok(())
     }
 }

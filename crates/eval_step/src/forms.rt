@@ -11,6 +11,7 @@ ghost use Rattle.eval_step.specs.Runs.{Runs};
 ghost use Rattle.eval_step.specs.Streams.{operation_reads, form_reads, is_fed};
 
 use crate::evaluator::Evaluator;
+use crate::named::Table;
 use base::NoMemory;
 use eval_application::calls::next_method_at;
 use eval_control::forms::{begin_kind, turn};
@@ -49,7 +50,7 @@ impl<'p> Evaluator<'p> {
         ensures { OnOk result (Runs self.old self.new (λ names s b. begins s (view_form form.now) (at names self.old.machine situation) (frames names self.old.machine 0) (state names self.old.machine b))) }
     {
         match form {
-            FlatCoreForm::Global(name) => self.global(*name, situation),
+            FlatCoreForm::Global(name) => self.named(Table::Globals, *name, situation),
             FlatCoreForm::Dynamic(name) => self.dynamic(*name, situation),
             FlatCoreForm::Call(name, list) => self.arguments(
                 Operation::CallName(*name),

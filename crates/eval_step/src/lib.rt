@@ -6,7 +6,7 @@ pub mod computing;
 pub mod dynamics;
 pub mod evaluator;
 pub mod forms;
-pub mod globals;
+pub mod named;
 pub mod next_step;
 pub mod operations;
 pub mod ports;

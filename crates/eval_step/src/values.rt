@@ -11,6 +11,7 @@ ghost use Rattle.eval_control.specs.Passing.{waiting_operands};
 ghost use Rattle.eval_step.specs.Runs.{Runs};
 
 use crate::evaluator::Evaluator;
+use crate::named::Table;
 use base::NoMemory;
 use eval_application::lists::apply_list;
 use eval_application::methods::{after_before, after_primary, apply_each};
@@ -45,8 +46,10 @@ impl<'p> Evaluator<'p> {
         ensures { OnOk result (Runs self.old self.new (λ names s b. outcome_step s (taken names self.old.machine frame.entry) (value (value_of_word names word)) (below names self.old.machine frame.entry) (state names self.old.machine b))) }
     {
         match frame {
-            Frame::SetGlobal(name, situation) => self.set_global(name, word, situation),
-            Frame::DefGlobal(name) => self.define_global(name, word),
+            Frame::SetGlobal(name, situation) => {
+                self.set_named(Table::Globals, name, word, situation)
+            }
+            Frame::DefGlobal(name) => self.define_named(Table::Globals, name, word),
             Frame::Argument(operation, list, count, situation) => self.argument_value(
                 operation, list, count, word, situation,
             ),
@@ -57,7 +60,7 @@ impl<'p> Evaluator<'p> {
                 situation,
             ),
             Frame::SetDynamic(name, situation) => self.set_dynamic(name, word, situation),
-            Frame::DefDynamic(name) => self.define_dynamic(name, word),
+            Frame::DefDynamic(name) => self.define_named(Table::Dynamics, name, word),
             Frame::HandlerValue(body, situation) => with_handler(
                 &mut self.machine,
                 word,

@@ -9,7 +9,7 @@ use Rattle.flat_language.specs.FlatForm.{FlatForm}
 use Rattle.flat_language.specs.declared.program.FlatProcedure.{FlatProcedure}
 use Rattle.flat_conversion.specs.Binders.{binders, binders_of_forms}
 use Rattle.flat_conversion.specs.declared.shapes.OverForm.{OverForm}
-use Rattle.flat_conversion.specs.declared.shapes.OverTwo.{OverTwo}
+use Rattle.lang_meaning.specs.declared.kinds.OverTwo.{OverTwo}
 use Rattle.flat_conversion.specs.declared.shapes.OverForms.{OverForms}
 use Rattle.flat_conversion.specs.declared.variables.Binder.{Binder}
 use Rattle.flat_conversion.specs.Shapes.{IsMade, over_form, over_two, over_forms}

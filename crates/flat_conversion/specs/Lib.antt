@@ -1,5 +1,4 @@
 pub mod NewVariables
-pub mod Bindings
 pub mod Places
 pub mod Found
 pub mod Binders

@@ -14,8 +14,8 @@ use Rattle.flat_conversion.specs.declared.shapes.OverForm.{OverForm}
 use Rattle.flat_conversion.specs.declared.shapes.OverForm.TheVariants as one
 use Rattle.flat_conversion.specs.declared.shapes.OverForms.{OverForms}
 use Rattle.flat_conversion.specs.declared.shapes.OverForms.TheVariants as many
-use Rattle.flat_conversion.specs.declared.shapes.OverTwo.{OverTwo}
-use Rattle.flat_conversion.specs.declared.shapes.OverTwo.TheVariants as two
+use Rattle.lang_meaning.specs.declared.kinds.OverTwo.{OverTwo}
+use Rattle.lang_meaning.specs.declared.kinds.OverTwo.TheVariants as two
 use Rattle.flat_conversion.specs.declared.shapes.Shape.{Shape}
 use Rattle.flat_conversion.specs.declared.shapes.Shape.TheVariants as shape
 use Rattle.flat_conversion.specs.declared.variables.Binder.{Binder}

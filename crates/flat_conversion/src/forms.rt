@@ -9,7 +9,7 @@ ghost use Rattle.flat_conversion.specs.Makes.{MakesForm, MakesTwo, MakesForms, M
 
 use crate::places::Places;
 use crate::progress::Progress;
-use crate::shapes::{Shape, shape_of};
+use crate::shapes::{Shape, over_two, shape_of};
 use crate::variables::{BinderList, NewVariables, first_homes, home_at, home_of_binding};
 use base::NoMemory;
 use flat_language::{
@@ -54,7 +54,7 @@ fn flat_kind(
         }
         Shape::OverTwo(kind, first, second) => {
             let (first, second) = both(alloc, binders, places, progress, first, second)?;
-            Ok(kind.form(first, second))
+            Ok(over_two(kind, first, second))
         }
         Shape::OverForms(kind, list) => {
             Ok(kind.form(flat_forms(alloc, binders, places, progress, list)?))

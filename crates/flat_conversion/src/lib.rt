@@ -2,7 +2,6 @@
 #![tactic(auto)]
 
 mod binders;
-mod bindings;
 mod forms;
 mod marks;
 mod places;

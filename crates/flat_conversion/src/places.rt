@@ -6,9 +6,8 @@ ghost use Rattle.flat_language.specs.FlatState.{kind_of_place};
 ghost use Rattle.flat_conversion.specs.NewVariables.{known_in_slot, slots_of};
 ghost use Rattle.flat_conversion.specs.Places.{scope_of, places_with, places_around};
 
-use crate::bindings::Bindings;
 use crate::variables::{NewVariable, NewVariables};
-use base::NoMemory;
+use base::{NameMap, NoMemory};
 use flat_language::{
     CapturedKind, CapturedKinds, ExitPlace, FlatPart, FlatPartList, Home, Known, MethodPlace,
     VariablePlace,
@@ -20,8 +19,8 @@ use std::alloc::Global;
 /// procedure there are.
 #[derive(Drop)]
 pub(crate) struct Places {
-    pub(crate) variables: Bindings<Known>,
-    pub(crate) exits: Bindings<ExitPlace>,
+    pub(crate) variables: NameMap<Var, Known>,
+    pub(crate) exits: NameMap<ExitVar, ExitPlace>,
     pub(crate) method: Option<MethodPlace>,
     pub(crate) slots: usize,
     pub(crate) own_exits: usize,
@@ -33,14 +32,15 @@ impl Places {
         ensures { scope_of result ≡ no_scope }
     {
         Places {
-            variables: Bindings::new(alloc),
-            exits: Bindings::new(alloc),
+            variables: NameMap::new(alloc),
+            exits: NameMap::new(alloc),
             method: Some(MethodPlace::Own),
             slots: 0,
             own_exits: 0,
         }
     }
 
+    #[tactic(auto, using(crate::proofs::Names::found_under))]
     // What is known of a variable; slot 0 where it is not bound.
     fn known(&self, var: Var) -> Known
         ensures { result ≡ known_of (scope_of self.now) var }
@@ -61,6 +61,7 @@ impl Places {
         self.known(var).place
     }
 
+    #[tactic(auto, using(crate::proofs::Names::found_under))]
     // The place of an exit; the first own one where it is not bound.
     pub(crate) fn exit(&self, exit: ExitVar) -> ExitPlace
         ensures { result ≡ exit_place_of (scope_of self.now) exit }
@@ -151,10 +152,10 @@ impl Places {
         &self,
         alloc: Global,
         parts: &PartList,
-    ) -> Result<Bindings<Known>, NoMemory>
+    ) -> Result<NameMap<Var, Known>, NoMemory>
         ensures { IfOk result (λ made. made ≡ captured_variables (scope_of self.now) parts.now 0) }
     {
-        let mut made = Bindings::new(alloc);
+        let mut made = NameMap::new(alloc);
         for at in (0..parts.len()).rev() {
             let Some(part) = parts.get(at) else {
                 unreachable!()
@@ -167,7 +168,7 @@ impl Places {
     // A captured variable, by its number inside; nothing where the part is none.
     fn captured_variable(
         &self,
-        made: &mut Bindings<Known>,
+        made: &mut NameMap<Var, Known>,
         part: Part,
         at: usize,
     ) -> Result<(), NoMemory>
@@ -266,7 +267,7 @@ fn in_slot(new: NewVariable, slot: usize) -> Known
 
 // New variables in the slots that end at that one.
 fn bind_new(
-    variables: &mut Bindings<Known>,
+    variables: &mut NameMap<Var, Known>,
     news: &NewVariables,
     end: usize,
 ) -> Result<(), NoMemory>
@@ -285,10 +286,10 @@ fn bind_new(
 }
 
 // Captured exits, by their places inside.
-fn captured_exits(alloc: Global, parts: &PartList) -> Result<Bindings<ExitPlace>, NoMemory>
+fn captured_exits(alloc: Global, parts: &PartList) -> Result<NameMap<ExitVar, ExitPlace>, NoMemory>
     ensures { IfOk result (λ made. made ≡ captured_exits parts.now 0) }
 {
-    let mut made = Bindings::new(alloc);
+    let mut made = NameMap::new(alloc);
     for at in (0..parts.len()).rev() {
         let Some(part) = parts.get(at) else {
             unreachable!()
@@ -299,7 +300,7 @@ fn captured_exits(alloc: Global, parts: &PartList) -> Result<Bindings<ExitPlace>
 }
 
 // A captured exit, by its number inside; nothing where the part is none.
-fn captured_exit(made: &mut Bindings<ExitPlace>, part: Part, at: usize) -> Result<(), NoMemory>
+fn captured_exit(made: &mut NameMap<ExitVar, ExitPlace>, part: Part, at: usize) -> Result<(), NoMemory>
     ensures { OnOk result (made.new ≡ captured_exits (part ∷ []) at ++ made.old) }
 {
     match part {

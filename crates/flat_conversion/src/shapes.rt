@@ -10,8 +10,8 @@ use crate::places::Places;
 use base::Name;
 use flat_language::{ExitPlace, FlatCore, FlatCoreForm, FlatCoreList, MethodPlace, VariablePlace};
 use lang_meaning::{
-    BindingList, ClauseList, Core, CoreForm, CoreList, DynBindings, ExitVar, LiteralId, PartList,
-    Primitive, SiteId, Var, VarList,
+    BindingList, ClauseList, Core, CoreForm, CoreList, DynBindings, ExitVar, LiteralId, OverTwo,
+    PartList, Primitive, SiteId, Var, VarList,
 };
 
 /// A form as the walk goes into it.
@@ -137,34 +137,23 @@ impl OverForm {
     }
 }
 
-/// A kind of flat form with two forms inside, one after another.
-#[derive(Clone, Copy)]
-pub(crate) enum OverTwo {
-    Apply,
-    While,
-    Catch,
-    Throw,
-    Unwind,
-    WithHandler,
-    Signal,
-    Continue,
-}
-
-impl OverTwo {
-    // The form of that kind.
-    pub(crate) fn form(self, first: Box<FlatCore>, second: Box<FlatCore>) -> FlatCoreForm
-        ensures { flat_view.view_form result ≡ over_two self first.value second.value }
-    {
-        match self {
-            OverTwo::Apply => FlatCoreForm::Apply(first, second),
-            OverTwo::While => FlatCoreForm::While(first, second),
-            OverTwo::Catch => FlatCoreForm::Catch(first, second),
-            OverTwo::Throw => FlatCoreForm::Throw(first, second),
-            OverTwo::Unwind => FlatCoreForm::Unwind(first, second),
-            OverTwo::WithHandler => FlatCoreForm::WithHandler(first, second),
-            OverTwo::Signal => FlatCoreForm::Signal(first, second),
-            OverTwo::Continue => FlatCoreForm::Continue(first, second),
-        }
+// The flat form of that kind.
+pub(crate) fn over_two(
+    kind: OverTwo,
+    first: Box<FlatCore>,
+    second: Box<FlatCore>,
+) -> FlatCoreForm
+    ensures { flat_view.view_form result ≡ over_two kind first.value second.value }
+{
+    match kind {
+        OverTwo::Apply => FlatCoreForm::Apply(first, second),
+        OverTwo::While => FlatCoreForm::While(first, second),
+        OverTwo::Catch => FlatCoreForm::Catch(first, second),
+        OverTwo::Throw => FlatCoreForm::Throw(first, second),
+        OverTwo::Unwind => FlatCoreForm::Unwind(first, second),
+        OverTwo::WithHandler => FlatCoreForm::WithHandler(first, second),
+        OverTwo::Signal => FlatCoreForm::Signal(first, second),
+        OverTwo::Continue => FlatCoreForm::Continue(first, second),
     }
 }
 

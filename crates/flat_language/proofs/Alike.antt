@@ -2,11 +2,11 @@
 -- two stores. A variable of the program stays a variable of its state; made flat it is in a slot of a frame or in a cell.
 use Rattle.std.proofs.Common.{◌≡◌, ℕ, ◌+◌, ◌≤◌, Bool, true, false, List, [], ◌∷◌, ◌⊎◌, Option, Some, None, length}
 use Rattle.std.specs.Prelude.{⊤, slice_get}
+use Rattle.base.specs.AllOf.{AllOf}
 use Rattle.lang_meaning.specs.declared.part.Part.{Part}
 use Rattle.lang_meaning.specs.declared.part.Part.TheVariants.{Variable, Exit, Method}
 use Rattle.lang_meaning.specs.Form.{Form, Forms, ClauseForms, MaybeForm, BindingForms, DynamicForms}
 use Rattle.lang_meaning.specs.Form as core
-use Rattle.lang_meaning.specs.Subforms.{Each}
 use Rattle.lang_meaning.specs.Values.{Value}
 use Rattle.lang_meaning.specs.Objects.{Object, Environment, function, closure}
 use Rattle.lang_meaning.specs.State.{State, Surroundings, Landing, Evaluated, Act}
@@ -194,7 +194,7 @@ module _ (lambdas : List FlatProcedure) where
     Sound s n (core.let_form bs body) =
         SoundValues s n bs × Sound (with_bound (bound_variables bs) body s) (n + functions_of_values bs) body
     Sound s n (core.lambda required rest body parts) =
-        Each (PartIsThere s) parts
+        AllOf (PartIsThere s) parts
         × slice_get lambdas n ≡ Some (flat_procedure (seen s parts) (n + 1) (kinds_of s parts) required rest body)
         × Sound (body_scope required rest body (seen s parts)) (n + 1) body
     Sound s n (core.call name fs) = SoundForms s n fs

@@ -3,11 +3,11 @@ use Rattle.std.proofs.Common.{◌≡◌, ℕ, suc, ◌+◌, ◌==◌, Bool, true
 use Rattle.std.specs.List.{range_with_len}
 use Rattle.std.proofs.lemmas.Option.{get_or_from_slice_get}
 use Rattle.std.specs.Prelude.{not, slice_get, slice_set, if◌then◌else◌}
+use Rattle.base.specs.AllOf.{AllOf}
 use Rattle.lang_meaning.specs.declared.part.Part.{Part}
 use Rattle.lang_meaning.specs.declared.part.Part.TheVariants.{Variable, Exit, Method}
 use Rattle.lang_meaning.specs.Form.{Form}
 use Rattle.lang_meaning.specs.Captured.{has_cell, sets}
-use Rattle.lang_meaning.specs.Subforms.{Each}
 use Rattle.lang_meaning.specs.Values.{Value, nil}
 use Rattle.lang_meaning.specs.Objects.{Environment}
 use Rattle.lang_meaning.specs.State.{State, Surroundings, Evaluated, Act, Limit, request, charged}
@@ -209,7 +209,7 @@ module _ {w : World} {s : Scope} {env : Environment} {e : FlatEnvironment} (m : 
   after_first inside n p ps f j c h =
       let q : n + suc j ≡ (n + 1) + j = omega arith in subst (λ l. slice_get inside.captured l ≡ Some c) q (f (suc j) c h)
 
-  variables_captured : (inside : FlatEnvironment) (parts : List Part) → Each (PartIsThere s) parts → (n : ℕ) → From inside n parts
+  variables_captured : (inside : FlatEnvironment) (parts : List Part) → AllOf (PartIsThere s) parts → (n : ℕ) → From inside n parts
       → (v : ℕ) (k : Known) → under v (captured_variables s parts n) ≡ Some k → VariableAt (alone w.kinds) inside k (under_number v env.variables)
   variables_captured inside [] t n f v k h = absurd (cc h)
   variables_captured inside (Exit x ∷ ps) t n f v k h = variables_captured inside ps t.1 (n + 1) (after_first inside n (Exit x) ps f) v k h
@@ -228,7 +228,7 @@ module _ {w : World} {s : Scope} {env : Environment} {e : FlatEnvironment} (m : 
       variables_captured inside ps t.1 (n + 1) (after_first inside n (Variable u) ps f) v k
       (sym (under_after v u _ (captured_variables s ps (n + 1)) b) ∙ h))
 
-  exits_captured : (inside : FlatEnvironment) (parts : List Part) → Each (PartIsThere s) parts → (n : ℕ) → From inside n parts
+  exits_captured : (inside : FlatEnvironment) (parts : List Part) → AllOf (PartIsThere s) parts → (n : ℕ) → From inside n parts
       → (x : ℕ) (p : ExitPlace) → under x (captured_exits parts n) ≡ Some p → ExitAt inside p (under_number x env.exits)
   exits_captured inside [] t n f x p h = absurd (cc h)
   exits_captured inside (Variable u ∷ ps) t n f x p h = exits_captured inside ps t.1 (n + 1) (after_first inside n (Variable u) ps f) x p h
@@ -249,7 +249,7 @@ module _ {w : World} {s : Scope} {env : Environment} {e : FlatEnvironment} (m : 
       exits_captured inside ps t.1 (n + 1) (after_first inside n (Exit u) ps f) x p
       (sym (under_after x u _ (captured_exits ps (n + 1)) b) ∙ h))
 
-  methods_captured : (inside : FlatEnvironment) (parts : List Part) → Each (PartIsThere s) parts → (n : ℕ) → From inside n parts
+  methods_captured : (inside : FlatEnvironment) (parts : List Part) → AllOf (PartIsThere s) parts → (n : ℕ) → From inside n parts
       → (p : MethodPlace) → captured_method parts n ≡ Some p → method_of p inside ≡ env.method
   methods_captured inside [] t n f p h = absurd (cc h)
   methods_captured inside (Variable u ∷ ps) t n f p h = methods_captured inside ps t.1 (n + 1) (after_first inside n (Variable u) ps f) p h
@@ -258,7 +258,7 @@ module _ {w : World} {s : Scope} {env : Environment} {e : FlatEnvironment} (m : 
       subst (λ q. method_of q inside ≡ env.method) (some_same h)
       (ap method_in (first_of inside n Method ps f) ∙ ap (λ o. method_of (method_or o) e) t.0.there ∙ m.method t.0.place t.0.there)
 
-  pub seen_matches : (parts : List Part) → Each (PartIsThere s) parts
+  pub seen_matches : (parts : List Part) → AllOf (PartIsThere s) parts
       → Matches (alone w.kinds) (seen s parts) env (record flat_state.no_environment { captured = map (captured_part e y) (flat_parts s parts) })
   seen_matches parts t =
       let inside : FlatEnvironment = record flat_state.no_environment { captured = map (captured_part e y) (flat_parts s parts) } in

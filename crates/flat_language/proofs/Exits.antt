@@ -2,6 +2,7 @@
 use Rattle.std.proofs.Common.{◌≡◌, ℕ, ◌+◌, ◌==◌, Bool, true, false, ◌||◌, List, [], ◌∷◌, ◌++◌, refl, sym, ap, subst, ◌∙◌, Option, Some, None, length, arith, length-append}
 use Rattle.std.specs.Prelude.{slice_get, filter, if◌then◌else◌}
 use Rattle.std.specs.List.{list_all, list_any}
+use Rattle.base.specs.AllOf.{AllOf}
 use Rattle.lang_meaning.specs.declared.part.Part.{Part}
 use Rattle.lang_meaning.specs.declared.part.Part.TheVariants.{Variable, Exit, Method}
 use Rattle.lang_meaning.specs.declared.program.Procedure.{Procedure}
@@ -19,7 +20,7 @@ use Rattle.lang_meaning.specs.Meaning.{bound_variables}
 use Rattle.lang_meaning.specs.Mentions.{same_part, variables_bound}
 use Rattle.lang_meaning.specs.Standing as standing
 use Rattle.lang_meaning.specs.Standing.{exit_around, is_block, is_segment, around_inner, stands}
-use Rattle.lang_meaning.specs.Subforms.{Each, forms_list, clause_list, value_list, dynamic_value_list}
+use Rattle.lang_meaning.specs.Subforms.{forms_list, clause_list, value_list, dynamic_value_list}
 use Rattle.flat_language.specs.declared.place.ExitPlace.{ExitPlace}
 use Rattle.flat_language.specs.declared.place.ExitPlace.TheVariants.{Own, Captured}
 use Rattle.flat_language.specs.declared.program.FlatProcedure.{FlatProcedure}
@@ -305,8 +306,8 @@ none_around l none vs body = record {
 }
 
 -- the procedures of a program, and its main forms
-procedures_lead : (n : ℕ) (ps : List Procedure) → Each (λ (p : Procedure). (in_method : Bool) × BodyIsBound in_method p) ps
-    → Led n (functions_of_procedures ps) (λ all. Each (λ (q : FlatProcedure). Leads all no_exits q.body) (flat_procedures n ps)) (inner_of_procedures n ps)
+procedures_lead : (n : ℕ) (ps : List Procedure) → AllOf (λ (p : Procedure). (in_method : Bool) × BodyIsBound in_method p) ps
+    → Led n (functions_of_procedures ps) (λ all. AllOf (λ (q : FlatProcedure). Leads all no_exits q.body) (flat_procedures n ps)) (inner_of_procedures n ps)
 procedures_lead n [] b = none (λ all. tt)
 procedures_lead n (p ∷ ps) b =
     let l : LexicalScope = standing.alone (parameters p.required p.rest) b.0.0 in
@@ -317,8 +318,8 @@ functions_of_mains : List Form → ℕ
 functions_of_mains [] = 0
 functions_of_mains (f ∷ fs) = functions f + functions_of_mains fs
 
-mains_lead : (n : ℕ) (fs : List Form) → Each (λ f. IsBoundIn (standing.alone [] false) f) fs
-    → Led n (functions_of_mains fs) (λ all. Each (Leads all no_exits) (flat_mains n fs)) (inner_of_mains n fs)
+mains_lead : (n : ℕ) (fs : List Form) → AllOf (λ f. IsBoundIn (standing.alone [] false) f) fs
+    → Led n (functions_of_mains fs) (λ all. AllOf (Leads all no_exits) (flat_mains n fs)) (inner_of_mains n fs)
 unfolding functions_of_mains
 mains_lead n [] b = none (λ all. tt)
 mains_lead n (f ∷ fs) b =
@@ -331,10 +332,10 @@ whole_leads law program whole =
     let k : ℕ = functions_of_procedures program.procedures in
     let after : k ≡ 0 + k = omega arith in
     let all : Led 0 (k + functions_of_mains program.main)
-    (λ all. Each (λ (q : FlatProcedure). Leads all no_exits q.body) (flat_procedures 0 program.procedures) × Each (Leads all no_exits) (flat_mains k program.main))
+    (λ all. AllOf (λ (q : FlatProcedure). Leads all no_exits q.body) (flat_procedures 0 program.procedures) × AllOf (Leads all no_exits) (flat_mains k program.main))
     (inner_of_procedures 0 program.procedures ++ inner_of_mains k program.main) =
     two (procedures_lead 0 program.procedures bound.procedures)
-    (subst (λ m. Led m (functions_of_mains program.main) (λ all. Each (Leads all no_exits) (flat_mains k program.main)) (inner_of_mains k program.main)) after
+    (subst (λ m. Led m (functions_of_mains program.main) (λ all. AllOf (Leads all no_exits) (flat_mains k program.main)) (inner_of_mains k program.main)) after
     (mains_lead k program.main bound.main)) in
     let placed : Placed all.captured 0 all.captured = record { at = λ j q h. let i : 0 + j ≡ j = omega arith in ap (λ m. slice_get all.captured m) i ∙ h } in
     record {

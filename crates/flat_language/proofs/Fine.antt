@@ -5,6 +5,7 @@ use Rattle.std.specs.Prelude.{filter, if◌then◌else◌}
 use Rattle.std.specs.List.{list_all, list_any}
 use Rattle.std.proofs.lemmas.Bool.{eqb-true}
 use Rattle.std.proofs.lemmas.Map.Views.{any-filter_same}
+use Rattle.base.specs.AllOf.{AllOf, all_map}
 use Rattle.lang_meaning.specs.declared.part.Part.{Part}
 use Rattle.lang_meaning.specs.declared.part.Part.TheVariants.{Variable, Exit, Method}
 use Rattle.lang_meaning.specs.declared.scope.Around.{Around}
@@ -12,7 +13,7 @@ use Rattle.lang_meaning.specs.declared.scope.ExitAround.{ExitAround}
 use Rattle.lang_meaning.specs.declared.scope.LexicalScope.{LexicalScope}
 use Rattle.lang_meaning.specs.Form.{Form, BindingForms, parameters}
 use Rattle.lang_meaning.specs.Form as core
-use Rattle.lang_meaning.specs.Subforms.{Each, outer, inner}
+use Rattle.lang_meaning.specs.Subforms.{outer, inner}
 use Rattle.lang_meaning.specs.bridge.Walks.{folded}
 use Rattle.lang_meaning.specs.bridge.Judged.{stands_folded}
 use Rattle.lang_meaning.specs.Mentions.{same_part, owns, binds, some, in_order, variables_bound}
@@ -61,18 +62,14 @@ record IsAmong (gs : List Form) (g : Form) : Type 0 where
   any : (P : Form → Bool) → P g ≡ true → some (map P gs) ≡ true
   all : (P : Form → Bool) → list_all P gs ≡ true → P g ≡ true
 
-each_map : {P Q : Form → Type 0} → ((g : Form) → P g → Q g) → (gs : List Form) → Each P gs → Each Q gs
-each_map h [] e = tt
-each_map h (g ∷ gs) e = (h g e.0, each_map h gs e.1)
-
-members : (gs : List Form) → Each (IsAmong gs) gs
+members : (gs : List Form) → AllOf (IsAmong gs) gs
 members [] = tt
 members (g ∷ gs) = (
   record {
     any = λ P h. or_first (P g) (some (map P gs)) h;
     all = λ P h. first_true (P g) (list_all P gs) h;
   },
-  each_map (λ f a. record {
+  all_map _ _ (λ f a. record {
     any = λ P h. or_second (P g) (some (map P gs)) (a.any P h);
     all = λ P h. a.all P (second_true (P g) (list_all P gs) h);
   }) gs (members gs),
@@ -127,8 +124,8 @@ captures_outer p f h = captures_folded p f ∙ or_first (some (map (captures p) 
 captures_inner : (p : Part) (f : Form) → captures_inside p f (some (map (captures p) (inner f))) ≡ true → captures p f ≡ true
 captures_inner p f h = captures_folded p f ∙ or_second (some (map (captures p) (outer f))) _ h
 
-pub outer_fine : (l : LexicalScope) (s : Scope) (f : Form) → Fine l s f → Each (Fine l s) (outer f)
-outer_fine l s f h = each_map (λ g a. record {
+pub outer_fine : (l : LexicalScope) (s : Scope) (f : Form) → Fine l s f → AllOf (Fine l s) (outer f)
+outer_fine l s f h = all_map _ _ (λ g a. record {
   standing = a.all (stands l) (outer_true l f h.standing);
   kept = λ v k u e. h.kept v k u (sets_outer v f (a.any (sets v) e));
   held = λ v k u e. h.held v k u (captures_outer (Variable v) f (a.any (captures (Variable v)) e));
@@ -137,8 +134,8 @@ outer_fine l s f h = each_map (λ g a. record {
 -- inside a form that binds no variable
 pub inner_fine : (l : LexicalScope) (s s' : Scope) (f : Form) → s'.variables ≡ s.variables → ((v : ℕ) → binds (Variable v) f ≡ false)
     → ((v : ℕ) (b : Bool) → captures_inside (Variable v) f b ≡ (not (binds (Variable v) f) && b))
-    → Fine l s f → Each (Fine (around_inner f l) s') (inner f)
-inner_fine l s s' f same none inside h = each_map (λ g a. record {
+    → Fine l s f → AllOf (Fine (around_inner f l) s') (inner f)
+inner_fine l s s' f same none inside h = all_map _ _ (λ g a. record {
   standing = a.all (stands (around_inner f l)) (inner_true l f h.standing);
   kept = λ v k u e. h.kept v k (ap (λ vs. under v vs) (sym same) ∙ u) (sets_inner v f (none v) (a.any (sets v) e));
   held = λ v k u e. h.held v k (ap (λ vs. under v vs) (sym same) ∙ u)
@@ -230,7 +227,7 @@ record WasKnown (s : Scope) (v : ℕ) (k : Known) : Type 0 where
   there : under v s.variables ≡ Some known
   is : k ≡ captured_known known number
 
-was_known : (s : Scope) (v : ℕ) (k : Known) (parts : List Part) → Each (PartIsThere s) parts → (n : ℕ) → under v (captured_variables s parts n) ≡ Some k → WasKnown s v k
+was_known : (s : Scope) (v : ℕ) (k : Known) (parts : List Part) → AllOf (PartIsThere s) parts → (n : ℕ) → under v (captured_variables s parts n) ≡ Some k → WasKnown s v k
 was_known s v k [] t n h = absurd (cc h)
 was_known s v k (Exit x ∷ ps) t n h = was_known s v k ps t.1 (n + 1) h
 was_known s v k (Method ∷ ps) t n h = was_known s v k ps t.1 (n + 1) h
@@ -259,7 +256,7 @@ same_number n = equal_or_not n n (λ is t. t) (λ f. absurd (unequal n n f refl)
 
 parts_there : (l : LexicalScope) (s : Scope) → ScopesFit l s → (parts : List Part) → list_all (is_bound l) parts ≡ true
     → ((v : ℕ) (k : Known) → under v s.variables ≡ Some k → list_any (same_part (Variable v)) parts ≡ true → KeepsValue k.place k.fixed)
-    → Each (PartIsThere s) parts
+    → AllOf (PartIsThere s) parts
 parts_there l s fit [] h held = tt
 parts_there l s fit (Variable v ∷ ps) h held =
     let known : IsKnown s v = fit.variables v (first_true (is_variable l v) (list_all (is_bound l) ps) h) in (
@@ -354,7 +351,7 @@ let_fine l s bs body h = record {
 }
 
 pub lambda_parts : (l : LexicalScope) (s : Scope) → ScopesFit l s → (required : List ℕ) (rest : Option ℕ) (body : Form) (parts : List Part)
-    → Fine l s (core.lambda required rest body parts) → Each (PartIsThere s) parts
+    → Fine l s (core.lambda required rest body parts) → AllOf (PartIsThere s) parts
 lambda_parts l s fit required rest body parts h =
     parts_there l s fit parts
     (second_true (in_order parts) (list_all (is_bound l) parts)
@@ -362,7 +359,7 @@ lambda_parts l s fit required rest body parts h =
     (itself_true l (core.lambda required rest body parts) h.standing)))
     (λ v k g e. h.held v k g (captures_inner (Variable v) (core.lambda required rest body parts) e))
 
-pub lambda_fine : (l : LexicalScope) (s : Scope) (required : List ℕ) (rest : Option ℕ) (body : Form) (parts : List Part) → Each (PartIsThere s) parts
+pub lambda_fine : (l : LexicalScope) (s : Scope) (required : List ℕ) (rest : Option ℕ) (body : Form) (parts : List Part) → AllOf (PartIsThere s) parts
     → Fine l s (core.lambda required rest body parts)
     → Fine (standing.with_bound (parameters required rest) (standing.seen parts l)) (with_bound (parameters required rest) body (seen s parts)) body
 lambda_fine l s required rest body parts there h = record {

@@ -3,6 +3,7 @@ use Rattle.std.proofs.Common.{◌≡◌, ◌≤◌, ◌<◌, ℕ, ◌+◌, true,
 use Rattle.std.specs.Prelude.{nat_le}
 use Rattle.std.specs.List.{list_all}
 use Rattle.std.proofs.lemmas.Bool.{eqb-true, ltb-true}
+use Rattle.base.specs.AllOf.{AllOf}
 use Rattle.lang_meaning.specs.declared.program.Procedure.{Procedure}
 use Rattle.lang_meaning.specs.declared.program.ProgramRows.{ProgramRows}
 use Rattle.lang_meaning.specs.Arity.{arity}
@@ -12,7 +13,7 @@ use Rattle.lang_meaning.specs.Fits.{fits_itself, fits}
 use Rattle.lang_meaning.specs.Form.{Form, Forms, ClauseForms, MaybeForm, BindingForms, DynamicForms, parameters}
 use Rattle.lang_meaning.specs.Form as core
 use Rattle.lang_meaning.specs.Meaning.{bound_variables}
-use Rattle.lang_meaning.specs.Subforms.{Each, outer, inner, forms_list, clause_list, value_list, dynamic_value_list}
+use Rattle.lang_meaning.specs.Subforms.{outer, inner, forms_list, clause_list, value_list, dynamic_value_list}
 use Rattle.lang_meaning.specs.Cells.{program_cells}
 use Rattle.lang_meaning.specs.Lookup.{all_differ}
 use Rattle.lang_meaning.specs.ProgramCounts.{program_nodes}
@@ -155,7 +156,7 @@ module _ (rows : ProgramRows) where
     BodyFits p = Fits program p.body
 
     mutual
-      pub inner_fit : (s : Scope) (n : ℕ) (f : Form) → fits rows f ≡ true → Each BodyFits (inner_procedures s n f)
+      pub inner_fit : (s : Scope) (n : ℕ) (f : Form) → fits rows f ≡ true → AllOf BodyFits (inner_procedures s n f)
       inner_fit s n (core.literal i) h = tt
       inner_fit s n (core.local v) h = tt
       inner_fit s n (core.set_local v f) h = inner_fit s n f (head_fits f [] (outer_fits (core.set_local v f) h))
@@ -211,12 +212,12 @@ module _ (rows : ProgramRows) where
           let os : list_all (fits rows) (condition ∷ f ∷ []) ≡ true = outer_fits (core.continue_form condition f) h in
           both BodyFits (inner_procedures s n condition) _ (inner_fit s n condition (head_fits condition (f ∷ []) os)) (inner_fit s (n + functions condition) f (head_fits f [] (tail_fits condition (f ∷ []) os)))
 
-      forms_inside : (s : Scope) (n : ℕ) (fs : Forms) → list_all (fits rows) (forms_list fs) ≡ true → Each BodyFits (procedures_of_forms s n fs)
+      forms_inside : (s : Scope) (n : ℕ) (fs : Forms) → list_all (fits rows) (forms_list fs) ≡ true → AllOf BodyFits (procedures_of_forms s n fs)
       forms_inside s n core.no_form h = tt
       forms_inside s n (core.form_and f fs) h =
           both BodyFits (inner_procedures s n f) _ (inner_fit s n f (head_fits f (forms_list fs) h)) (forms_inside s (n + functions f) fs (tail_fits f (forms_list fs) h))
 
-      clauses_inside : (s : Scope) (n : ℕ) (cs : ClauseForms) → list_all (fits rows) (clause_list cs) ≡ true → Each BodyFits (procedures_of_clauses s n cs)
+      clauses_inside : (s : Scope) (n : ℕ) (cs : ClauseForms) → list_all (fits rows) (clause_list cs) ≡ true → AllOf BodyFits (procedures_of_clauses s n cs)
       clauses_inside s n core.no_clause h = tt
       clauses_inside s n (core.clause_and test core.no_body cs) h =
           both BodyFits (inner_procedures s n test ++ []) _ (both BodyFits (inner_procedures s n test) [] (inner_fit s n test (head_fits test (clause_list cs) h)) tt)
@@ -227,12 +228,12 @@ module _ (rows : ProgramRows) where
           (both BodyFits (inner_procedures s n test) _ (inner_fit s n test (head_fits test (f ∷ clause_list cs) h)) (inner_fit s (n + functions test) f (head_fits f (clause_list cs) rest)))
           (clauses_inside s (n + (functions test + functions f)) cs (tail_fits f (clause_list cs) rest))
 
-      values_inside : (s : Scope) (n : ℕ) (bs : BindingForms) → list_all (fits rows) (value_list bs) ≡ true → Each BodyFits (procedures_of_values s n bs)
+      values_inside : (s : Scope) (n : ℕ) (bs : BindingForms) → list_all (fits rows) (value_list bs) ≡ true → AllOf BodyFits (procedures_of_values s n bs)
       values_inside s n core.no_binding h = tt
       values_inside s n (core.binding_and v f bs) h =
           both BodyFits (inner_procedures s n f) _ (inner_fit s n f (head_fits f (value_list bs) h)) (values_inside s (n + functions f) bs (tail_fits f (value_list bs) h))
 
-      dynamics_inside : (s : Scope) (n : ℕ) (ds : DynamicForms) → list_all (fits rows) (dynamic_value_list ds) ≡ true → Each BodyFits (procedures_of_dynamics s n ds)
+      dynamics_inside : (s : Scope) (n : ℕ) (ds : DynamicForms) → list_all (fits rows) (dynamic_value_list ds) ≡ true → AllOf BodyFits (procedures_of_dynamics s n ds)
       dynamics_inside s n core.no_dynamic h = tt
       dynamics_inside s n (core.dynamic_and name f ds) h =
           both BodyFits (inner_procedures s n f) _ (inner_fit s n f (head_fits f (dynamic_value_list ds) h)) (dynamics_inside s (n + functions f) ds (tail_fits f (dynamic_value_list ds) h))
@@ -241,14 +242,14 @@ module _ (rows : ProgramRows) where
     body_fitting : (f : Form) → body_fits rows f ≡ true → fits rows f ≡ true
     body_fitting f h = first_true (fits rows f) (nat_le (core_counts.depth f) 1000) h
 
-    procedures_fit : (n : ℕ) (qs : List Procedure) → list_all (λ q. body_fits rows q.body) qs ≡ true → Each BodyFits (flat_procedures n qs)
+    procedures_fit : (n : ℕ) (qs : List Procedure) → list_all (λ q. body_fits rows q.body) qs ≡ true → AllOf BodyFits (flat_procedures n qs)
     procedures_fit n [] h = tt
     procedures_fit n (q ∷ qs) h = (
       flat_fits (body_scope q.required q.rest q.body no_scope) n q.body (body_fitting q.body (first_true (body_fits rows q.body) (list_all (λ q. body_fits rows q.body) qs) h)),
       procedures_fit (n + functions q.body) qs (second_true (body_fits rows q.body) (list_all (λ q. body_fits rows q.body) qs) h),
     )
 
-    inner_procedures_fit : (n : ℕ) (qs : List Procedure) → list_all (λ q. body_fits rows q.body) qs ≡ true → Each BodyFits (inner_of_procedures n qs)
+    inner_procedures_fit : (n : ℕ) (qs : List Procedure) → list_all (λ q. body_fits rows q.body) qs ≡ true → AllOf BodyFits (inner_of_procedures n qs)
     inner_procedures_fit n [] h = tt
     inner_procedures_fit n (q ∷ qs) h =
         both BodyFits (inner_procedures (body_scope q.required q.rest q.body no_scope) n q.body) _
@@ -260,14 +261,14 @@ module _ (rows : ProgramRows) where
         body_fitting f (first_true (body_fits rows f) (stands_alone false f)
         (first_true (body_fits rows f && stands_alone false f) (list_all (λ f. body_fits rows f && stands_alone false f) fs) h))
 
-    mains_fit : (n : ℕ) (fs : List Form) → list_all (λ f. body_fits rows f && stands_alone false f) fs ≡ true → Each (Fits program) (flat_mains n fs)
+    mains_fit : (n : ℕ) (fs : List Form) → list_all (λ f. body_fits rows f && stands_alone false f) fs ≡ true → AllOf (Fits program) (flat_mains n fs)
     mains_fit n [] h = tt
     mains_fit n (f ∷ fs) h = (
       flat_fits no_scope n f (main_fitting f fs h),
       mains_fit (n + functions f) fs (second_true (body_fits rows f && stands_alone false f) (list_all (λ f. body_fits rows f && stands_alone false f) fs) h),
     )
 
-    inner_mains_fit : (n : ℕ) (fs : List Form) → list_all (λ f. body_fits rows f && stands_alone false f) fs ≡ true → Each BodyFits (inner_of_mains n fs)
+    inner_mains_fit : (n : ℕ) (fs : List Form) → list_all (λ f. body_fits rows f && stands_alone false f) fs ≡ true → AllOf BodyFits (inner_of_mains n fs)
     inner_mains_fit n [] h = tt
     inner_mains_fit n (f ∷ fs) h =
         both BodyFits (inner_procedures no_scope n f) _ (inner_fit no_scope n f (main_fitting f fs h))

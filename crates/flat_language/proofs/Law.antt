@@ -1,6 +1,7 @@
 -- The law of closures.
 use Rattle.std.proofs.Common.{◌≡◌, ℕ, zero, suc, ◌+◌, List, [], ◌∷◌, ◌++◌, refl, sym, ap, subst, ◌∙◌, inl, inr, Option, length, arith}
 use Rattle.std.specs.Prelude.{⊤, true, false, slice_get}
+use Rattle.base.specs.AllOf.{AllOf}
 use Rattle.lang_meaning.specs.declared.program.Procedure.{Procedure}
 use Rattle.lang_meaning.specs.declared.program.ProgramRows.{ProgramRows}
 use Rattle.lang_meaning.specs.BoundNames.{BodyIsBound, IsBoundIn, NamesAreBound, LawOfNames}
@@ -12,7 +13,6 @@ use Rattle.lang_meaning.specs.Meaning.{class_in, meaning, end_of, meant}
 use Rattle.lang_meaning.specs.Objects.{Object}
 use Rattle.lang_meaning.specs.State.{State, first_state, Evaluated}
 use Rattle.lang_meaning.specs.Standing as standing
-use Rattle.lang_meaning.specs.Subforms.{Each}
 use Rattle.lang_meaning.specs.Values.{Value, nil, integer, character, symbol, object}
 use Rattle.flat_language.specs.FlatMeaning.{flat_meaning}
 use Rattle.flat_language.specs.FlatMeaning as flat
@@ -36,7 +36,7 @@ use Rattle.flat_language.proofs.Stands.{bound_stands, flat_stands, body_of, both
 use Rattle.flat_language.proofs.Start.{first_related}
 
 module _ {lambdas : List FlatProcedure} where
-  mains_sound : (n : ℕ) (fs : List Form) → Each (λ f. IsBoundIn (standing.alone [] false) f) fs → Placed lambdas n (inner_of_mains n fs) → SoundMains lambdas n fs
+  mains_sound : (n : ℕ) (fs : List Form) → AllOf (λ f. IsBoundIn (standing.alone [] false) f) fs → Placed lambdas n (inner_of_mains n fs) → SoundMains lambdas n fs
   mains_sound n [] e p = tt
   mains_sound n (f ∷ fs) e p = (
     sounds (standing.alone [] false) no_scope n f (fit_alone [] false f) (own_fine [] false f e.0.itself no_scope refl)
@@ -78,7 +78,7 @@ SoundProcedures lambdas n [] = ⊤
 SoundProcedures lambdas n (q ∷ qs) =
     Sound lambdas (body_scope q.required q.rest q.body no_scope) n q.body × SoundProcedures lambdas (n + functions q.body) qs
 
-procedures_sound : (lambdas : List FlatProcedure) (n : ℕ) (qs : List Procedure) → Each (λ (p : Procedure). (in_method : _) × BodyIsBound in_method p) qs
+procedures_sound : (lambdas : List FlatProcedure) (n : ℕ) (qs : List Procedure) → AllOf (λ (p : Procedure). (in_method : _) × BodyIsBound in_method p) qs
     → Placed lambdas n (inner_of_procedures n qs) → SoundProcedures lambdas n qs
 procedures_sound lambdas n [] e p = tt
 procedures_sound lambdas n (q ∷ qs) e p = (
@@ -97,7 +97,7 @@ procedures_match lambdas n [] e i = tt
 procedures_match lambdas n (q ∷ qs) e zero = record { first = n; is = refl; sound = e.0 }
 procedures_match lambdas n (q ∷ qs) e (suc i) = procedures_match lambdas (n + functions q.body) qs e.1 i
 
-procedures_stand : (lambdas : List FlatProcedure) (n : ℕ) (qs : List Procedure) → SoundProcedures lambdas n qs → Each (ProcedureStands lambdas) (flat_procedures n qs)
+procedures_stand : (lambdas : List FlatProcedure) (n : ℕ) (qs : List Procedure) → SoundProcedures lambdas n qs → AllOf (ProcedureStands lambdas) (flat_procedures n qs)
 procedures_stand lambdas n [] e = tt
 procedures_stand lambdas n (q ∷ qs) e = (
   body_of lambdas true [] no_scope (outermost_stands lambdas) 0 n (omega arith) q.required q.rest q.body e.0,
@@ -118,7 +118,7 @@ inner_stands lambdas n (q ∷ qs) e =
     (bound_stands outermost no_scope (outermost_stands lambdas) (parameters q.required q.rest) q.body) n q.body e.0)
     (inner_stands lambdas (n + functions q.body) qs e.1)
 
-mains_stand : (lambdas : List FlatProcedure) (n : ℕ) (fs : List Form) → SoundMains lambdas n fs → Each (MainStands lambdas) (flat_mains n fs)
+mains_stand : (lambdas : List FlatProcedure) (n : ℕ) (fs : List Form) → SoundMains lambdas n fs → AllOf (MainStands lambdas) (flat_mains n fs)
 mains_stand lambdas n [] e = tt
 mains_stand lambdas n (f ∷ fs) e =
     (flat_stands lambdas (record { homes = []; captured = []; exits = 0; in_procedure = true }) no_scope (outermost_stands lambdas) 0 n (omega arith) f e.0, mains_stand lambdas (n + functions f) fs e.1)

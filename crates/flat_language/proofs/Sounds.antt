@@ -1,5 +1,6 @@
 -- Each form of a program can be made flat in its scope.
 use Rattle.std.proofs.Common.{ℕ, ◌+◌, List, [], ◌++◌, refl}
+use Rattle.base.specs.AllOf.{AllOf}
 use Rattle.lang_meaning.specs.declared.scope.Around.TheVariants as around
 use Rattle.lang_meaning.specs.declared.scope.LexicalScope.{LexicalScope}
 use Rattle.lang_meaning.specs.Counts as core_counts
@@ -7,7 +8,7 @@ use Rattle.lang_meaning.specs.Form.{Form, Forms, ClauseForms, MaybeForm, Binding
 use Rattle.lang_meaning.specs.Form as core
 use Rattle.lang_meaning.specs.Meaning.{bound_variables}
 use Rattle.lang_meaning.specs.Standing as standing
-use Rattle.lang_meaning.specs.Subforms.{Each, forms_list, clause_list, value_list, dynamic_value_list}
+use Rattle.lang_meaning.specs.Subforms.{forms_list, clause_list, value_list, dynamic_value_list}
 use Rattle.flat_language.specs.declared.program.FlatProcedure.{FlatProcedure}
 use Rattle.flat_language.specs.Scope.{Scope, with_bound, with_around, kinds_of, seen}
 use Rattle.flat_language.specs.Flatten.{functions, functions_of_values, functions_of_dynamics, flat_procedure, body_scope, inner_procedures, procedures_of_forms, procedures_of_clauses, procedures_of_values, procedures_of_dynamics}
@@ -111,28 +112,28 @@ module _ {lambdas : List FlatProcedure} where
           (placed_right (procedures_of_dynamics s n ds) (inner_procedures s (n + functions_of_dynamics ds) body) (functions_of_dynamics ds) (dynamics_counted s n ds) p),
     )
 
-    forms_sound : (l : LexicalScope) (s : Scope) (n : ℕ) (fs : Forms) → ScopesFit l s → Each (Fine l s) (forms_list fs) → Placed lambdas n (procedures_of_forms s n fs) → SoundForms lambdas s n fs
+    forms_sound : (l : LexicalScope) (s : Scope) (n : ℕ) (fs : Forms) → ScopesFit l s → AllOf (Fine l s) (forms_list fs) → Placed lambdas n (procedures_of_forms s n fs) → SoundForms lambdas s n fs
     forms_sound l s n core.no_form fit h p = tt
     forms_sound l s n (core.form_and f fs) fit h p = (
       sounds l s n f fit h.0 (placed_left (inner_procedures s n f) (procedures_of_forms s (n + functions f) fs) p),
       forms_sound l s (n + functions f) fs fit h.1 (placed_right (inner_procedures s n f) (procedures_of_forms s (n + functions f) fs) (functions f) (all_counted s n f) p),
     )
 
-    values_sound : (l : LexicalScope) (s : Scope) (n : ℕ) (bs : BindingForms) → ScopesFit l s → Each (Fine l s) (value_list bs) → Placed lambdas n (procedures_of_values s n bs) → SoundValues lambdas s n bs
+    values_sound : (l : LexicalScope) (s : Scope) (n : ℕ) (bs : BindingForms) → ScopesFit l s → AllOf (Fine l s) (value_list bs) → Placed lambdas n (procedures_of_values s n bs) → SoundValues lambdas s n bs
     values_sound l s n core.no_binding fit h p = tt
     values_sound l s n (core.binding_and v f bs) fit h p = (
       sounds l s n f fit h.0 (placed_left (inner_procedures s n f) (procedures_of_values s (n + functions f) bs) p),
       values_sound l s (n + functions f) bs fit h.1 (placed_right (inner_procedures s n f) (procedures_of_values s (n + functions f) bs) (functions f) (all_counted s n f) p),
     )
 
-    dynamics_sound : (l : LexicalScope) (s : Scope) (n : ℕ) (ds : DynamicForms) → ScopesFit l s → Each (Fine l s) (dynamic_value_list ds) → Placed lambdas n (procedures_of_dynamics s n ds) → SoundDynamics lambdas s n ds
+    dynamics_sound : (l : LexicalScope) (s : Scope) (n : ℕ) (ds : DynamicForms) → ScopesFit l s → AllOf (Fine l s) (dynamic_value_list ds) → Placed lambdas n (procedures_of_dynamics s n ds) → SoundDynamics lambdas s n ds
     dynamics_sound l s n core.no_dynamic fit h p = tt
     dynamics_sound l s n (core.dynamic_and name f ds) fit h p = (
       sounds l s n f fit h.0 (placed_left (inner_procedures s n f) (procedures_of_dynamics s (n + functions f) ds) p),
       dynamics_sound l s (n + functions f) ds fit h.1 (placed_right (inner_procedures s n f) (procedures_of_dynamics s (n + functions f) ds) (functions f) (all_counted s n f) p),
     )
 
-    clauses_sound : (l : LexicalScope) (s : Scope) (n : ℕ) (cs : ClauseForms) → ScopesFit l s → Each (Fine l s) (clause_list cs) → Placed lambdas n (procedures_of_clauses s n cs) → SoundClauses lambdas s n cs
+    clauses_sound : (l : LexicalScope) (s : Scope) (n : ℕ) (cs : ClauseForms) → ScopesFit l s → AllOf (Fine l s) (clause_list cs) → Placed lambdas n (procedures_of_clauses s n cs) → SoundClauses lambdas s n cs
     clauses_sound l s n core.no_clause fit h p = tt
     clauses_sound l s n (core.clause_and test core.no_body cs) fit h p =
         let first : List FlatProcedure = inner_procedures s n test ++ [] in

@@ -1,12 +1,12 @@
 -- What a form is made stands where it stood.
 use Rattle.std.proofs.Common.{◌≡◌, ◌≤◌, ℕ, suc, ◌+◌, Bool, true, false, List, [], ◌∷◌, ◌++◌, refl, sym, ap, subst, ◌∙◌, Option, Some, length, arith, length-append, le_refl}
 use Rattle.std.specs.Prelude.{slice_get}
+use Rattle.base.specs.AllOf.{AllOf}
 use Rattle.lang_meaning.specs.declared.part.Part.{Part}
 use Rattle.lang_meaning.specs.declared.part.Part.TheVariants.{Variable, Exit, Method}
 use Rattle.lang_meaning.specs.Form.{Form, Forms, ClauseForms, MaybeForm, BindingForms, DynamicForms, parameters}
 use Rattle.lang_meaning.specs.Form as core
 use Rattle.lang_meaning.specs.Meaning.{bound_variables}
-use Rattle.lang_meaning.specs.Subforms.{Each}
 use Rattle.flat_language.specs.declared.place.CapturedKind.{CapturedKind}
 use Rattle.flat_language.specs.declared.place.Home.{Home}
 use Rattle.flat_language.specs.declared.place.Home.TheVariants as home
@@ -144,7 +144,7 @@ after_first : (inside : FlatScope) (s : Scope) (n : ℕ) (p : Part) (ps : List P
 after_first inside s n p ps f j k h =
     let q : n + suc j ≡ (n + 1) + j = omega arith in subst (λ l. slice_get inside.captured l ≡ Some k) q (f (suc j) k h)
 
-variables_stand : (t inside : FlatScope) (s : Scope) → ScopeStands t s → (parts : List Part) → Each (PartIsThere s) parts → (n : ℕ) → From inside s n parts
+variables_stand : (t inside : FlatScope) (s : Scope) → ScopeStands t s → (parts : List Part) → AllOf (PartIsThere s) parts → (n : ℕ) → From inside s n parts
     → (v : ℕ) (k : Known) → under v (captured_variables s parts n) ≡ Some k → KnownStands inside k
 variables_stand t inside s c [] e n f v k u = absurd (cc u)
 variables_stand t inside s c (Exit x ∷ ps) e n f v k u = variables_stand t inside s c ps e.1 (n + 1) (after_first inside s n (Exit x) ps f) v k u
@@ -180,7 +180,7 @@ method_stands inside s (Variable y ∷ ps) n f p u = method_stands inside s ps (
 method_stands inside s (Exit y ∷ ps) n f p u = method_stands inside s ps (n + 1) (after_first inside s n (Exit y) ps f) p u
 method_stands inside s (Method ∷ ps) n f p u = subst (λ q. MethodStands inside q) (some_same u) (first_kind inside s n Method ps f)
 
-seen_stands : (t : FlatScope) (s : Scope) → ScopeStands t s → (parts : List Part) → Each (PartIsThere s) parts
+seen_stands : (t : FlatScope) (s : Scope) → ScopeStands t s → (parts : List Part) → AllOf (PartIsThere s) parts
     → ScopeStands (record { homes = []; captured = kinds_of s parts; exits = 0; in_procedure = false }) (seen s parts)
 seen_stands t s c parts e =
     let inside : FlatScope = record { homes = []; captured = kinds_of s parts; exits = 0; in_procedure = false } in
@@ -194,7 +194,7 @@ seen_stands t s c parts e =
     }
 
 -- what is captured stands where the function is made
-parts_stand : (t : FlatScope) (s : Scope) → ScopeStands t s → (parts : List Part) → Each (PartIsThere s) parts → PartsStand t (flat_parts s parts) (kinds_of s parts)
+parts_stand : (t : FlatScope) (s : Scope) → ScopeStands t s → (parts : List Part) → AllOf (PartIsThere s) parts → PartsStand t (flat_parts s parts) (kinds_of s parts)
 parts_stand t s c [] e = tt
 parts_stand t s c (Variable v ∷ ps) e = (
   (

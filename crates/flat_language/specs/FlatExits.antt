@@ -1,10 +1,10 @@
 -- Where exits lead (ISO/IEC 13816:2007, 14.8.1): a `return-from` of a flat program leaves a block, and a `go` names a segment that
 -- its tagbody has. An exit that a function captured is what it was where the function was made.
 use Rattle.std.specs.Prelude.{◌≡◌, ⊤, true, List, [], ◌∷◌, ◌++◌, Option, Some, None, slice_get}
+use Rattle.base.specs.AllOf.{AllOf}
 use Rattle.lang_meaning.specs.declared.scope.Around.{Around}
 use Rattle.lang_meaning.specs.declared.scope.Around.TheVariants.{Block, Tagbody}
 use Rattle.lang_meaning.specs.Standing.{is_block, is_segment}
-use Rattle.lang_meaning.specs.Subforms.{Each}
 use Rattle.flat_language.specs.declared.place.ExitPlace.{ExitPlace}
 use Rattle.flat_language.specs.declared.place.ExitPlace.TheVariants.{Own, Captured}
 use Rattle.flat_language.specs.declared.place.FlatPart.{FlatPart}
@@ -119,6 +119,6 @@ module _ (functions : List (List (Option Around))) where
 -- all bodies of a program: each function captured the same exits wherever it is made
 pub record ProgramLeads (program : FlatProgram) : Type 0 where
   pub functions : List (List (Option Around))
-  pub procedures : Each (λ p. Leads functions no_exits p.body) program.procedures
+  pub procedures : AllOf (λ p. Leads functions no_exits p.body) program.procedures
   pub lambdas : FunctionsLead functions program.lambdas functions
-  pub main : Each (Leads functions no_exits) program.main
+  pub main : AllOf (Leads functions no_exits) program.main

@@ -1,8 +1,8 @@
 -- What each flat form says of itself: literals and sites that are there, as many arguments as are taken, and at least one segment
 -- in a `tagbody`.
 use Rattle.std.specs.Prelude.{◌≡◌, ◌≤◌, ◌<◌, ⊤, length}
+use Rattle.base.specs.AllOf.{AllOf}
 use Rattle.lang_meaning.specs.Arity.{arity}
-use Rattle.lang_meaning.specs.Subforms.{Each}
 use Rattle.flat_language.specs.declared.program.FlatProgram.{FlatProgram}
 use Rattle.flat_language.specs.FlatForm.{FlatForm, literal, local, set_local, global, set_global, def_global, clauses, sequence, let_form, make_function, call, call_value, apply, prim, while_form, block, return_from, tagbody, go, catch_form, throw, unwind, dynamic_let, dynamic, set_dynamic, def_dynamic, with_handler, signal_form, continue_form, next_method, has_next, sited}
 use Rattle.flat_language.specs.FlatForm.{FlatForms, no_form, form_and, FlatClauses, no_clause, clause_and, FlatBody, no_body, with_body}
@@ -67,6 +67,6 @@ module _ (program : FlatProgram) where
 
 -- all bodies of a program
 pub record ProgramFits (program : FlatProgram) : Type 0 where
-  pub procedures : Each (λ p. Fits program p.body) program.procedures
-  pub lambdas : Each (λ p. Fits program p.body) program.lambdas
-  pub main : Each (Fits program) program.main
+  pub procedures : AllOf (λ p. Fits program p.body) program.procedures
+  pub lambdas : AllOf (λ p. Fits program p.body) program.lambdas
+  pub main : AllOf (Fits program) program.main

@@ -1,7 +1,7 @@
 -- What the code of a flat program may rest on: each place is there and of its kind where it is named, a captured value is
 -- never set, and a function has a number above that of the function in which it is made.
 use Rattle.std.specs.Prelude.{◌≡◌, ◌≤◌, ◌<◌, ⊤, ℕ, ◌+◌, Bool, true, false, List, [], ◌∷◌, ◌++◌, Some, slice_get}
-use Rattle.lang_meaning.specs.Subforms.{Each}
+use Rattle.base.specs.AllOf.{AllOf}
 use Rattle.flat_language.specs.declared.place.CapturedKind.{CapturedKind}
 use Rattle.flat_language.specs.declared.place.CapturedKind.TheVariants as kind
 use Rattle.flat_language.specs.declared.place.Home.{Home}
@@ -149,6 +149,6 @@ module _ (lambdas : List FlatProcedure) where
 
 -- all bodies of a program
 pub record ProgramStands (program : FlatProgram) : Type 0 where
-  pub procedures : Each (ProcedureStands program.lambdas) program.procedures
+  pub procedures : AllOf (ProcedureStands program.lambdas) program.procedures
   pub lambdas : LambdasStand program.lambdas 0 program.lambdas
-  pub main : Each (MainStands program.lambdas) program.main
+  pub main : AllOf (MainStands program.lambdas) program.main

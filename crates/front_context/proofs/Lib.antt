@@ -1,3 +1,2 @@
 mod Keys
-mod Entries
 mod Places

@@ -10,8 +10,7 @@ use Rattle.front_profile.specs.declared.bound.Target.{Target}
 use Rattle.front_profile.specs.declared.bound.Bound.{Bound}
 use Rattle.front_profile.specs.declared.bound.Bound.TheVariants.{Variable, Function, Block, Tags}
 use Rattle.front_profile.specs.Names.{same_symbol, given_by, target_among, or_first, innermost, as_variable, as_function, as_block, as_tag, variable_of, function_of, block_of, tag_of}
-use Rattle.front_context.specs.Found.{under}
-use Rattle.front_context.specs.Spaces.{Spaces, no_names, targets, with_one, with_all, spaces_of, without}
+use Rattle.front_context.specs.Spaces.{under, Spaces, no_names, targets, with_one, with_all, spaces_of, without}
 
 -- one thing in front of a list
 

@@ -1,9 +1,15 @@
 -- What symbols stand for in each namespace, the innermost first, where these things are bound.
-use Rattle.std.specs.Prelude.{ℕ, ◌+◌, List, [], ◌∷◌, ◌++◌, drop, length}
+use Rattle.std.specs.Prelude.{ℕ, ◌+◌, List, [], ◌∷◌, ◌++◌, drop, length, Option, Some, None, if◌then◌else◌}
 use Rattle.base.specs.declared.datum.Symbol.{Symbol}
 use Rattle.front_profile.specs.declared.bound.Target.{Target}
 use Rattle.front_profile.specs.declared.bound.Bound.{Bound}
 use Rattle.front_profile.specs.declared.bound.Bound.TheVariants.{Variable, Function, Block, Tags}
+use Rattle.front_profile.specs.Names.{same_symbol}
+
+-- what stands under a symbol
+abbrev pub under : {X : Type 0} → Symbol → List (Symbol × X) → Option X
+under x [] = None
+under x (e ∷ es) = if same_symbol x e.0 then Some e.1 else under x es
 
 pub record Spaces : Type 0 where
   pub variables : List (Symbol × ℕ)

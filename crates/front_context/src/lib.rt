@@ -2,7 +2,6 @@
 #![tactic(auto)]
 
 mod bindings;
-mod names;
 mod spaces;
 
 pub use bindings::Bindings;

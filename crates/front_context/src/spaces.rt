@@ -1,11 +1,9 @@
 // The namespaces: what symbols stand for as variables, as local functions, as blocks and as tags.
 
 ghost use Rattle.std.specs.Prelude.{◌≡◌, ◌++◌, length, OnOk};
-ghost use Rattle.front_context.specs.Found.{under};
-ghost use Rattle.front_context.specs.Spaces.{Spaces as Lists, no_names, with_one, with_all, targets};
+ghost use Rattle.front_context.specs.Spaces.{Spaces as Lists, under, no_names, with_one, with_all, targets};
 
-use crate::names::NameMap;
-use base::{NoMemory, Symbol};
+use base::{NameMap, NoMemory, Symbol};
 use front_profile::{Bound, Target};
 use lang_meaning::{ExitVar, Var};
 use std::alloc::Global;
@@ -14,14 +12,13 @@ use std::marker::Model;
 /// What symbols stand for in each namespace.
 #[derive(Drop)]
 pub(crate) struct Spaces {
-    variables: NameMap<Var>,
-    functions: NameMap<Var>,
-    blocks: NameMap<ExitVar>,
-    tags: NameMap<Target>,
+    variables: NameMap<Symbol, Var>,
+    functions: NameMap<Symbol, Var>,
+    blocks: NameMap<Symbol, ExitVar>,
+    tags: NameMap<Symbol, Target>,
 }
 
 impl Model for Spaces {
-    ghost use Rattle.front_context.specs.Found.{under};
     ghost use Rattle.front_context.specs.Spaces.{Spaces as Lists};
 
     ghost Value = { Lists };
@@ -66,7 +63,7 @@ pub(crate) fn bind_all(spaces: &mut Spaces, more: &[Bound]) -> Result<(), NoMemo
 }
 
 // Tags with the segments behind them; the first of a name is the one that counts.
-fn bind_tags(names: &mut NameMap<Target>, tags: &[Symbol], exit: ExitVar) -> Result<(), NoMemory>
+fn bind_tags(names: &mut NameMap<Symbol, Target>, tags: &[Symbol], exit: ExitVar) -> Result<(), NoMemory>
     ensures { OnOk result (names.new ≡ targets exit 1 tags.now ++ names.old) }
 {
     for later in 0..tags.len() {

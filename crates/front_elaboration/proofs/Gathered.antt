@@ -20,13 +20,11 @@ use Rattle.front_profile.specs.declared.making.Leaf.{Leaf}
 use Rattle.front_profile.specs.declared.making.Leaf.TheVariants.{Literal, Local, Global, Dynamic, Go, NextMethod, HasNext, Nothing}
 use Rattle.front_profile.specs.declared.making.One.{One}
 use Rattle.front_profile.specs.declared.making.One.TheVariants.{SetVariable, SetGlobal, DefineGlobal, SetDynamic, DefineDynamic, ReturnTo}
-use Rattle.front_profile.specs.declared.making.Two.{Two}
-use Rattle.front_profile.specs.declared.making.Two.TheVariants.{Applying, Throwing, Signalling, Continuing}
-use Rattle.front_profile.specs.declared.making.WithBody.{WithBody}
-use Rattle.front_profile.specs.declared.making.WithBody.TheVariants.{Repeating, Catching, Unwinding, Handling}
+use Rattle.lang_meaning.specs.declared.kinds.OverTwo.{OverTwo}
+use Rattle.lang_meaning.specs.declared.kinds.OverTwo.TheVariants.{Apply, While, Catch, Throw, Unwind, WithHandler, Signal, Continue}
 use Rattle.front_profile.specs.declared.making.Making.{Making}
 use Rattle.front_profile.specs.declared.making.Making.TheVariants.{Ready, OfOne, OfTwo, OfBody, InSequence, CallOf, CallOfValue, CallOfLocal, CallOfPrimitive, OfClauses, OfVariables, OfDynamics, OfFunction, OfBlock, OfSegments, OfFunctionNamed, OfProcedure, OfAccessor, OfMethods, OfClass}
-use Rattle.front_profile.specs.Makings.{nothing, leaf_form, body_of, one_of, two_of, with_body_of, make_one, make_two, make_with_body, make_clauses, make_segments, make_dynamics, behind_dynamics, forms_found, bindings_found, make}
+use Rattle.front_profile.specs.Makings.{nothing, leaf_form, body_of, one_of, two_of, make_one, make_two, make_with_body, make_clauses, make_segments, make_dynamics, behind_dynamics, forms_found, bindings_found, make}
 use Rattle.front_elaboration.specs.declared.mentioned.Mentioned.{Mentioned}
 use Rattle.front_elaboration.specs.Mentioned.{has, is_part, own_part, AreParts}
 use Rattle.front_elaboration.specs.Kept.{IsKept}
@@ -129,31 +127,28 @@ one_gathers p k [] b d e = absurd (omega (arith, eqb-true (length {A = Form} [])
 one_gathers p k (f ∷ []) b d e = one_of_gathers p k f b d
 one_gathers p k (f ∷ g ∷ fs) b d e = absurd (omega (arith, eqb-true (length (f ∷ g ∷ fs)) 1 e))
 
-two_of_gathers : (p : Part) (k : Two) (f g : Form) (b : Bool) → b ≡ false → Gathers p (two_of k f g) b (list_any (mentions p) (f ∷ g ∷ []))
-two_of_gathers p Applying f g b d = outside p (two_of Applying f g) b _ d refl refl refl
-two_of_gathers p Throwing f g b d = outside p (two_of Throwing f g) b _ d refl refl refl
-two_of_gathers p Signalling f g b d = outside p (two_of Signalling f g) b _ d refl refl refl
-two_of_gathers p Continuing f g b d = outside p (two_of Continuing f g) b _ d refl refl refl
+two_of_gathers : (p : Part) (k : OverTwo) (f g : Form) (b v : Bool) → b ≡ false → list_any (mentions p) (f ∷ g ∷ []) ≡ v → Gathers p (two_of k f g) b v
+two_of_gathers p Apply f g b v d e = outside p (two_of Apply f g) b v d refl e refl
+two_of_gathers p While f g b v d e = outside p (two_of While f g) b v d refl e refl
+two_of_gathers p Catch f g b v d e = outside p (two_of Catch f g) b v d refl e refl
+two_of_gathers p Throw f g b v d e = outside p (two_of Throw f g) b v d refl e refl
+two_of_gathers p Unwind f g b v d e = outside p (two_of Unwind f g) b v d refl e refl
+two_of_gathers p WithHandler f g b v d e = outside p (two_of WithHandler f g) b v d refl e refl
+two_of_gathers p Signal f g b v d e = outside p (two_of Signal f g) b v d refl e refl
+two_of_gathers p Continue f g b v d e = outside p (two_of Continue f g) b v d refl e refl
 
-two_gathers : (p : Part) (k : Two) (fs : List Form) (b : Bool) → b ≡ false → (length fs == 2) ≡ true → Gathers p (make_two k fs) b (list_any (mentions p) fs)
+two_gathers : (p : Part) (k : OverTwo) (fs : List Form) (b : Bool) → b ≡ false → (length fs == 2) ≡ true → Gathers p (make_two k fs) b (list_any (mentions p) fs)
 two_gathers p k [] b d e = absurd (omega (arith, eqb-true (length {A = Form} []) 2 e))
 two_gathers p k (f ∷ []) b d e = absurd (omega (arith, eqb-true (length (f ∷ [])) 2 e))
-two_gathers p k (f ∷ g ∷ []) b d e = two_of_gathers p k f g b d
+two_gathers p k (f ∷ g ∷ []) b d e = two_of_gathers p k f g b _ d refl
 two_gathers p k (f ∷ g ∷ h ∷ fs) b d e = absurd (omega (arith, eqb-true (length (f ∷ g ∷ h ∷ fs)) 2 e))
 
 -- a form and a body
 
-with_body_of_gathers : (p : Part) (k : WithBody) (f body : Form) (b v : Bool) → b ≡ false → list_any (mentions p) (f ∷ body ∷ []) ≡ v
-    → Gathers p (with_body_of k f body) b v
-with_body_of_gathers p Repeating f body b v d e = outside p (with_body_of Repeating f body) b v d refl e refl
-with_body_of_gathers p Catching f body b v d e = outside p (with_body_of Catching f body) b v d refl e refl
-with_body_of_gathers p Unwinding f body b v d e = outside p (with_body_of Unwinding f body) b v d refl e refl
-with_body_of_gathers p Handling f body b v d e = outside p (with_body_of Handling f body) b v d refl e refl
-
-body_gathers : (p : Part) (k : WithBody) (fs : List Form) (b : Bool) → b ≡ false → Gathers p (make_with_body k fs) b (list_any (mentions p) fs)
+body_gathers : (p : Part) (k : OverTwo) (fs : List Form) (b : Bool) → b ≡ false → Gathers p (make_with_body k fs) b (list_any (mentions p) fs)
 body_gathers p k [] b d = outside p nothing b false d refl refl refl
 body_gathers p k (f ∷ fs) b d =
-    with_body_of_gathers p k f (body_of fs) b (list_any (mentions p) (f ∷ fs)) d (ap (λ x. mentions p f || x) (or_false (mentions p (body_of fs)) ∙ body_mentions p fs))
+    two_of_gathers p k f (body_of fs) b (list_any (mentions p) (f ∷ fs)) d (ap (λ x. mentions p f || x) (or_false (mentions p (body_of fs)) ∙ body_mentions p fs))
 
 -- all forms in order
 listed : (p : Part) (fs : List Form) → list_any (mentions p) (forms_list (forms fs)) ≡ list_any (mentions p) fs

@@ -3,6 +3,7 @@ use Rattle.std.proofs.Common.{◌≡◌, ℕ, ◌<◌, ◌≤◌, List, [], leng
 use Rattle.base.specs.declared.origin.Origin.TheVariants.{Prelude, File}
 use Rattle.base.specs.declared.reason.Stop.{Stop}
 use Rattle.base.specs.declared.reason.Stop.TheVariants.{Refused, NoMemory}
+use Rattle.base.specs.Limits.{longest_text}
 use Rattle.base.specs.Names.{IsTable, Extends}
 use Rattle.lang_meaning.specs.declared.program.ProgramRows.{ProgramRows}
 use Rattle.front_profile.specs.declared.tables.Tables.{Tables}
@@ -10,7 +11,7 @@ use Rattle.front_reader.specs.Readers.{first_place}
 use Rattle.front_scope.specs.Scopes.{rows_of, IsFirst}
 use Rattle.front_files.specs.declared.mode.Mode.{Mode}
 use Rattle.front_files.specs.declared.mode.Mode.TheVariants.{Run}
-use Rattle.front_files.specs.Verdicts.{all_taken, JudgesText, accepted, longest_file, too_long, Verdict, source_too_long, prelude_refused, file_refused, file_accepted, Refuses, IsNoProgram}
+use Rattle.front_files.specs.Verdicts.{all_taken, JudgesText, accepted, too_long, Verdict, source_too_long, prelude_refused, file_refused, file_accepted, Refuses, IsNoProgram}
 use Rattle.front_files.specs.bridge.First.{first_later}
 use Rattle.front_files.specs.bridge.Later.{judges_later}
 use Rattle.front_files.specs.bridge.Stopping.{JudgesStop, BothTaken, in_prelude, in_file, BothStop, VerdictStops}
@@ -34,13 +35,13 @@ file_stops names more prelude text mode s t NoMemory e h k = tt
 file_stops names more prelude text mode s t (Refused r) e h k =
     in_file t (judges_later names more Prelude Run s prelude (first_place Prelude) (all_taken t) e h) k
 
-pub whole_accepted : (names more : List (List ℕ)) (prelude text : List ℕ) (mode : Mode) (s u : Tables) (program : ProgramRows) → Extends names more → length text ≤ 1048576 →
+pub whole_accepted : (names more : List (List ℕ)) (prelude text : List ℕ) (mode : Mode) (s u : Tables) (program : ProgramRows) → Extends names more → length text ≤ longest_text →
     IsFirst names s → BothTaken more prelude text mode s u → program ≡ rows_of u → Verdict more prelude text mode (accepted program)
 whole_accepted names more prelude text mode s u program e short first b same =
     subst (λ x. Verdict more prelude text mode (accepted x)) (sym same)
     (file_accepted b.between u short (record { first = s; is_first = first_later names more s e first; judges = b.in_prelude }) b.in_file)
 
-pub whole_stops : (names more : List (List ℕ)) (prelude text : List ℕ) (mode : Mode) (s : Tables) (stop : Stop) → Extends names more → length text ≤ 1048576 →
+pub whole_stops : (names more : List (List ℕ)) (prelude text : List ℕ) (mode : Mode) (s : Tables) (stop : Stop) → Extends names more → length text ≤ longest_text →
     IsFirst names s → BothStop more prelude text mode s stop → VerdictStops more prelude text mode stop
 whole_stops names more prelude text mode s NoMemory e short first h = tt
 whole_stops names more prelude text mode s (Refused r) e short first (in_prelude h) =
@@ -65,7 +66,7 @@ file_was_stopped (Ok x) names more prelude text mode s t e h k = tt
 file_was_stopped (Err x) names more prelude text mode s t e h k = file_stops names more prelude text mode s t x e h k
 
 -- a file that is too long is refused under any table of names
-pub too_long_refused : (prelude text : List ℕ) (mode : Mode) → longest_file < length text → Refuses prelude text mode too_long
+pub too_long_refused : (prelude text : List ℕ) (mode : Mode) → longest_text < length text → Refuses prelude text mode too_long
 too_long_refused prelude text mode h = record {
   names = [];
   table = record { once = λ i j t a b. absurd (cc); short = λ i t a. absurd (cc) };

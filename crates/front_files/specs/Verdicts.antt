@@ -9,6 +9,7 @@ use Rattle.base.specs.declared.reason.Refusal.{Refusal}
 use Rattle.base.specs.declared.reason.Stop.{Stop}
 use Rattle.base.specs.declared.reason.Stop.TheVariants.{Refused, NoMemory}
 use Rattle.base.specs.Data.{Item}
+use Rattle.base.specs.Limits.{longest_text}
 use Rattle.base.specs.Names.{IsTable}
 use Rattle.lang_meaning.specs.declared.program.ProgramRows.{ProgramRows}
 use Rattle.front_profile.specs.declared.tables.Tables.{Tables}
@@ -65,10 +66,6 @@ pub data Outcome : Type 0 where
   accepted : ProgramRows → Outcome
   refused : Refusal → Outcome
 
--- the bytes that a file may have
-abbrev pub longest_file : ℕ
-longest_file = 1048576
-
 abbrev pub too_long : Refusal
 too_long = record { place = first_place File; reason = SourceTooLong }
 
@@ -81,12 +78,12 @@ pub record BehindPrelude (names : List (List ℕ)) (prelude : List ℕ) (j : Jud
 -- `Verdict names prelude text mode v`: where symbols are numbered by the table of names, v is said to the file with this text, which
 -- stands behind the prelude
 pub data Verdict (names : List (List ℕ)) (prelude text : List ℕ) (mode : Mode) : Outcome → Type 0 where
-  source_too_long : longest_file < length text → Verdict names prelude text mode (refused too_long)
-  prelude_refused : (r : Refusal) → length text ≤ longest_file → BehindPrelude names prelude (one_refused r)
+  source_too_long : longest_text < length text → Verdict names prelude text mode (refused too_long)
+  prelude_refused : (r : Refusal) → length text ≤ longest_text → BehindPrelude names prelude (one_refused r)
       → Verdict names prelude text mode (refused r)
-  file_refused : (t : Tables) (r : Refusal) → length text ≤ longest_file → BehindPrelude names prelude (all_taken t)
+  file_refused : (t : Tables) (r : Refusal) → length text ≤ longest_text → BehindPrelude names prelude (all_taken t)
       → JudgesText names File mode t text (one_refused r) → Verdict names prelude text mode (refused r)
-  file_accepted : (t u : Tables) → length text ≤ longest_file → BehindPrelude names prelude (all_taken t)
+  file_accepted : (t u : Tables) → length text ≤ longest_text → BehindPrelude names prelude (all_taken t)
       → JudgesText names File mode t text (all_taken u) → Verdict names prelude text mode (accepted (rows_of u))
 
 -- what refuses the file is its length, or stands in it

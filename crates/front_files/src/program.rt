@@ -1,19 +1,17 @@
 // A prelude and a file, to the program that they are.
 
 ghost use Rattle.std.specs.Prelude.{◌≤◌, ◌≡◌, length, OnOk, IfOk, IfErr};
+ghost use Rattle.base.specs.Limits.{longest_text};
 ghost use Rattle.base.specs.Names.{Extends};
 ghost use Rattle.front_files.specs.Verdicts.{Verdict, accepted, Accepts, IsNoProgram};
 ghost use Rattle.front_files.specs.bridge.Stopping.{VerdictStops, BothTaken, BothStop};
 
 use crate::forms::judge_text;
 use crate::mode::Mode;
-use base::{Names, Origin, Place, Reason, Refusal, Stop};
+use base::{LONGEST_TEXT, Names, Origin, Place, Reason, Refusal, Stop};
 use front_scope::Scope;
 use lang_meaning::Program;
 use std::alloc::Global;
-
-/// The bytes that a file may have.
-const LONGEST_FILE: usize = 1_048_576;
 
 /// A whole program, with the names that its symbols have.
 #[derive(Drop)]
@@ -31,7 +29,7 @@ fn judge_both(
     text: &[u8],
     mode: Mode,
 ) -> Result<(), Stop>
-    requires short { length text.now ≤ 1048576 }
+    requires short { length text.now ≤ longest_text }
     ensures taken { OnOk result (BothTaken names.new prelude.now text.now mode scope.old scope.new) }
     ensures stops { IfErr result (BothStop names.new prelude.now text.now mode scope.old) }
     ensures names { Extends names.old names.new }
@@ -48,7 +46,7 @@ fn program_of(
     text: &[u8],
     mode: Mode,
 ) -> Result<Program, Stop>
-    requires short { length text.now ≤ 1048576 }
+    requires short { length text.now ≤ longest_text }
     ensures program { IfOk result (λ program. Verdict names.new prelude.now text.now mode (accepted program)) }
     ensures stops { IfErr result (VerdictStops names.new prelude.now text.now mode) }
 {
@@ -70,7 +68,7 @@ pub fn read_program(alloc: Global, text: &[u8], prelude: &[u8], mode: Mode) -> R
     ensures program { IfOk result (λ whole. Accepts prelude.now text.now mode whole.names whole.program) }
     ensures stops { IfErr result (IsNoProgram prelude.now text.now mode) }
 {
-    if text.len() > LONGEST_FILE {
+    if text.len() > LONGEST_TEXT {
         return Err(Stop::Refused(Refusal {
             place: Place { line: 1, column: 1 },
             reason: Reason::SourceTooLong,

@@ -4,40 +4,14 @@ ghost use Rattle.std.specs.Prelude.{◌≡◌, [], ◌∷◌, length, Some, None
 ghost use Rattle.std.specs.List.{list_any};
 ghost use Rattle.std.specs.Str.{bytes_eq};
 ghost use Rattle.base.specs.Data.{item, string, items_of};
-ghost use Rattle.base.specs.DataNames.{symbol_text, text_of};
 ghost use Rattle.base.specs.GoodData.{Good};
 ghost use Rattle.base.specs.Names.{Extends};
 ghost use Rattle.front_files.specs.Shown.{first_text, head_text, not_shown, stays, named_at, list_at, IsPrinting, IsForm};
 
 use crate::mode::Mode;
-use base::{Bytes, Datum, DatumList, Kind, Name, Names, NoMemory, Place, Symbol};
+use base::{Bytes, Datum, DatumList, Kind, Name, Names, NoMemory, Place, Symbol, text_of};
 use front_reader::Reader;
 use std::alloc::Global;
-
-// The name of a symbol, where it has one.
-fn symbol_text<'n>(names: &'n Names, symbol: Symbol) -> Option<&'n [u8]>
-    ensures { MatchOption result (symbol_text names.now symbol ≡ None) (λ text. symbol_text names.now symbol ≡ Some text.now) }
-{
-    match symbol {
-        Symbol::Named(name) => names.text(name),
-        Symbol::Fresh { .. } => None,
-    }
-}
-
-// The name that a datum is.
-fn text_of<'n>(names: &'n Names, datum: &Datum) -> Option<&'n [u8]>
-    ensures { MatchOption result (text_of names.now datum.now ≡ None) (λ text. text_of names.now datum.now ≡ Some text.now) }
-{
-    match &datum.kind {
-        Kind::Sym(symbol) => symbol_text(names, *symbol),
-        Kind::Int(_) => None,
-        Kind::Char(_) => None,
-        Kind::Str(_) => None,
-        Kind::Vector(_) => None,
-        Kind::Nil => None,
-        Kind::List { .. } => None,
-    }
-}
 
 // The name in front of data.
 fn first_text<'n>(names: &'n Names, items: &[Datum]) -> Option<&'n [u8]>

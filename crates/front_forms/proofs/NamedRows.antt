@@ -16,8 +16,7 @@ use Rattle.front_profile.specs.declared.making.Leaf.{Leaf}
 use Rattle.front_profile.specs.declared.special.Special.{Special}
 use Rattle.front_profile.specs.declared.special.Special.TheVariants as name
 use Rattle.front_profile.specs.declared.tables.Tables.{Tables}
-use Rattle.front_profile.specs.declared.making.Two.{Two}
-use Rattle.front_profile.specs.declared.making.WithBody.{WithBody}
+use Rattle.lang_meaning.specs.declared.kinds.OverTwo.{OverTwo}
 use Rattle.front_profile.specs.Nodes.{Around, Node, unnamed}
 use Rattle.front_profile.specs.Shapes.{symbol_of, is_true, Pair, ClauseParts, name_of, pairs_in, parameters_in, clauses_in, all_differ, tags_in}
 use Rattle.front_profile.specs.Names.{variable_of, function_of, block_of, tag_of}
@@ -98,13 +97,13 @@ cond_said : (a : Around) (s : Tables) (p : Place) (cs : Option (List ClauseParts
 cond_said a s p None = record { said = refl }
 cond_said a s p (Some cs) = within_said (value.own_depth cs) a p _ (record { said = refl })
 
-two_said : (k : Two) (a : Around) (s : Tables) (p : Place) (ds : List Item) → Said (value.two_row k a s p ds)
+two_said : (k : OverTwo) (a : Around) (s : Tables) (p : Place) (ds : List Item) → Said (value.two_row k a s p ds)
 two_said k a s p [] = record { said = refl }
 two_said k a s p (d ∷ []) = record { said = refl }
 two_said k a s p (d ∷ e ∷ []) = within_said 1 a p _ (record { said = refl })
 two_said k a s p (d ∷ e ∷ f ∷ ds) = record { said = refl }
 
-body_said : (k : WithBody) (a : Around) (s : Tables) (p : Place) (ds : List Item) → Said (value.body_row k a s p ds)
+body_said : (k : OverTwo) (a : Around) (s : Tables) (p : Place) (ds : List Item) → Said (value.body_row k a s p ds)
 body_said k a s p [] = record { said = refl }
 body_said k a s p (d ∷ ds) = within_said 2 a p _ (record { said = refl })
 

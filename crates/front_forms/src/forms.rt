@@ -17,7 +17,7 @@ ghost use Rattle.front_drafts.specs.Drafts.{around, drawn, Draws};
 ghost use Rattle.front_drafts.specs.Views.{at, shown};
 ghost use Rattle.front_profile.specs.Marks.{Grows};
 
-use base::{Datum, Kind, Name, Names, NoMemory, Reason, Symbol};
+use base::{Datum, Kind, Name, Names, NoMemory, Reason, Symbol, symbol_text, text_of};
 use front_class_definitions::classes::defclass_draft;
 use front_definitions::defining::{defdynamic_draft, defun_draft, global_draft};
 use front_definitions::generics::defgeneric_draft;
@@ -26,7 +26,7 @@ use front_drafts::draft::{Draft, offence};
 use front_drafts::here::{Here, Setting};
 use front_drafts::plan::Plan;
 use front_drafts::take::take;
-use front_profile::{Leaf, Special, Tables, Two, WithBody, special_named};
+use front_profile::{Leaf, Special, Tables, special_named};
 use front_special_forms::bindings::{
     dynamic_let_draft, lambda_draft, let_draft, with_functions_draft,
 };
@@ -39,8 +39,8 @@ use front_special_forms::values::{
 use front_syntax::setters::add_setters;
 use front_syntax::shapes::symbol_of;
 use front_syntax::words::{is_kept, is_left_out, is_reserved_name};
-use lang_derived::{list_items, symbol_text, text_of};
-use lang_meaning::LiteralRow;
+use lang_derived::list_items;
+use lang_meaning::{LiteralRow, OverTwo};
 
 // Whether no definition of a file may have the name of the first of these.
 fn first_reserved(names: &Names, items: &[Datum]) -> bool
@@ -109,19 +109,19 @@ fn special_draft<'a>(
         Special::Progn => progn_draft(here, items),
         Special::Let => let_draft(here, items),
         Special::Lambda => lambda_draft(here, items),
-        Special::Apply => two_draft(here, Two::Applying, items),
-        Special::While => body_draft(here, WithBody::Repeating, items),
+        Special::Apply => two_draft(here, OverTwo::Apply, items),
+        Special::While => body_draft(here, OverTwo::While, items),
         Special::Block => block_draft(here, items),
         Special::ReturnFrom => return_from_draft(here, items),
         Special::Tagbody => tagbody_draft(here, items),
         Special::Go => go_draft(here, items),
-        Special::Catch => body_draft(here, WithBody::Catching, items),
-        Special::Throw => two_draft(here, Two::Throwing, items),
-        Special::UnwindProtect => body_draft(here, WithBody::Unwinding, items),
+        Special::Catch => body_draft(here, OverTwo::Catch, items),
+        Special::Throw => two_draft(here, OverTwo::Throw, items),
+        Special::UnwindProtect => body_draft(here, OverTwo::Unwind, items),
         Special::DynamicLet => dynamic_let_draft(here, items),
         Special::Dynamic => dynamic_draft(here, items),
         Special::SetDynamic => set_dynamic_draft(here, items),
-        Special::WithHandler => body_draft(here, WithBody::Handling, items),
+        Special::WithHandler => body_draft(here, OverTwo::WithHandler, items),
         Special::Function => function_draft(here, items),
         Special::Class => class_draft(here, items),
         Special::CallNextMethod => method_draft(here, Leaf::NextMethod, items),

@@ -5,12 +5,12 @@ use Rattle.std.specs.Str.{bytes_eq}
 use Rattle.std.proofs.lemmas.Bool.{and_parts, and_from, or_parts, or_right, not-true, eqb-true, eqb-false, eq-eqb, ne_eqb, ltb-true, lt-ltb, cases_lt}
 use Rattle.base.specs.declared.datum.Name.{Name}
 use Rattle.base.specs.Names.{slice_get-behind}
+use Rattle.base.specs.AllOf.{AllOf}
 use Rattle.lang_meaning.specs.declared.program.Procedure.{Procedure}
 use Rattle.lang_meaning.specs.declared.program.GenericRow.{GenericRow}
 use Rattle.lang_meaning.specs.declared.program.MethodRow.{MethodRow}
 use Rattle.lang_meaning.specs.declared.program.FunctionRow.{FunctionRow}
 use Rattle.lang_meaning.specs.declared.program.Qualifier.TheVariants.{Primary}
-use Rattle.lang_meaning.specs.Subforms.{Each}
 use Rattle.lang_meaning.specs.Classes.{is_qualifier}
 use Rattle.lang_meaning.specs.Standing.{is_alone}
 use Rattle.lang_meaning.specs.Facts.{is_congruent, method_fits, same_method, is_of_method}
@@ -296,14 +296,14 @@ stands_alone_next q g p e a s = record {
     below_or i b = ⊎_elim inl (λ k. inr (omega (arith, k, b))) (cases_lt i q)
 
 pub each_differs : (n : Name) (us : List Use) → list_any (λ (w : Use). same_name n w.name) us ≡ false → (c : ℕ) (t u : Tables)
-    → ((w : Use) → same_name n w.name ≡ false → IsReady c t w → IsReady c u w) → Each (IsReady c t) us → Each (IsReady c u) us
+    → ((w : Use) → same_name n w.name ≡ false → IsReady c t w → IsReady c u w) → AllOf (IsReady c t) us → AllOf (IsReady c u) us
 each_differs n [] d c t u f r = tt
 each_differs n (w ∷ us) d c t u f r =
     let o : (same_name n w.name ≡ false) × (list_any (λ (w : Use). same_name n w.name) us ≡ false) = or_parts (same_name n w.name) (list_any (λ (w : Use). same_name n w.name) us) d in
     (f w o.0 r.0, each_differs n us o.1 c t u f r.1)
 
 pub functions_joined : (fs : List Function) (c p : ℕ) (of_file : Bool) (t : Tables) → SoundDefinitions (defined t) → c < length t.classes.rows → AllGiven fs
-    → FunctionsMade p fs t.procedures → Each (IsReady c t) (uses_of fs) → names_differ (uses_of fs) ≡ true
+    → FunctionsMade p fs t.procedures → AllOf (IsReady c t) (uses_of fs) → names_differ (uses_of fs) ≡ true
     → Joins p (defined t) (defined (with_slot_functions (flat_map slot_function fs) c p of_file t))
 functions_joined [] c p of_file t w l g m r d = record { joined = joined_same (defined t) w; stand = all_stand_below p (defined t) m }
 functions_joined (for_initform x ∷ fs) c p of_file t w l g m r d =

@@ -8,14 +8,13 @@ use Rattle.base.specs.declared.reason.Refusal.{Refusal}
 use Rattle.base.specs.Data.{Item, item, integer, character, symbol, string, vector, nil, list, items_list, Tail, no_tail, dotted}
 use Rattle.base.specs.DataFormed.{formed_tells}
 use Rattle.base.specs.DataNames.{symbol_text}
-use Rattle.base.specs.DataParts.{AllOf}
+use Rattle.base.specs.AllOf.{AllOf}
 use Rattle.base.specs.GoodData.{Good}
 use Rattle.lang_meaning.specs.declared.program.LiteralRow.TheVariants as row
 use Rattle.lang_derived.specs.Asked.{list_items}
 use Rattle.lang_derived.specs.Derived.{Derivation, plain, unfit, becomes, derivation}
 use Rattle.front_profile.specs.declared.making.Leaf.TheVariants.{NextMethod, HasNext}
-use Rattle.front_profile.specs.declared.making.Two.TheVariants.{Applying, Throwing}
-use Rattle.front_profile.specs.declared.making.WithBody.TheVariants.{Repeating, Catching, Unwinding, Handling}
+use Rattle.lang_meaning.specs.declared.kinds.OverTwo.TheVariants.{Apply, While, Catch, Throw, Unwind, WithHandler}
 use Rattle.front_profile.specs.declared.making.Making.TheVariants.{CallOfValue}
 use Rattle.front_profile.specs.declared.special.Special.{Special}
 use Rattle.front_profile.specs.declared.special.Special.TheVariants as name
@@ -52,19 +51,19 @@ module _ (rules : ClassRules) where
   apt_special names n name.Progn a s p ds b g = apt_progn n a s p ds b g
   apt_special names n name.Let a s p ds b g = apt_let n a s p ds b g
   apt_special names n name.Lambda a s p ds b g = apt_lambda n a s p ds b g
-  apt_special names n name.Apply a s p ds b g = apt_two n Applying a s p ds b g
-  apt_special names n name.While a s p ds b g = apt_body n Repeating a s p ds b g
+  apt_special names n name.Apply a s p ds b g = apt_two n Apply a s p ds b g
+  apt_special names n name.While a s p ds b g = apt_body n While a s p ds b g
   apt_special names n name.Block a s p ds b g = apt_block n a s p ds b g
   apt_special names n name.ReturnFrom a s p ds b g = apt_return_from n a s p ds b g
   apt_special names n name.Tagbody a s p ds b g = apt_tagbody n a s p ds b g
   apt_special names n name.Go a s p ds b g = apt_go n a s p ds b
-  apt_special names n name.Catch a s p ds b g = apt_body n Catching a s p ds b g
-  apt_special names n name.Throw a s p ds b g = apt_two n Throwing a s p ds b g
-  apt_special names n name.UnwindProtect a s p ds b g = apt_body n Unwinding a s p ds b g
+  apt_special names n name.Catch a s p ds b g = apt_body n Catch a s p ds b g
+  apt_special names n name.Throw a s p ds b g = apt_two n Throw a s p ds b g
+  apt_special names n name.UnwindProtect a s p ds b g = apt_body n Unwind a s p ds b g
   apt_special names n name.DynamicLet a s p ds b g = apt_dynamic_let n a s p ds b g
   apt_special names n name.Dynamic a s p ds b g = apt_dynamic n a s p ds b
   apt_special names n name.SetDynamic a s p ds b g = apt_set_dynamic n a s p ds b g
-  apt_special names n name.WithHandler a s p ds b g = apt_body n Handling a s p ds b g
+  apt_special names n name.WithHandler a s p ds b g = apt_body n WithHandler a s p ds b g
   apt_special names n name.Function a s p ds b g = apt_function n a s p ds b
   apt_special names n name.Class a s p ds b g = apt_class n a s p ds b
   apt_special names n name.CallNextMethod a s p ds b g = apt_method n NextMethod a s p ds b next_of_methods

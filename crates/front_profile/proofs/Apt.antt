@@ -7,7 +7,7 @@ use Rattle.base.specs.declared.place.Place.{Place}
 use Rattle.base.specs.declared.datum.Symbol.{Symbol}
 use Rattle.base.specs.declared.reason.Reason.TheVariants.{DepthLimit}
 use Rattle.base.specs.Data.{Item}
-use Rattle.base.specs.DataParts.{AllOf}
+use Rattle.base.specs.AllOf.{AllOf, all_map}
 use Rattle.base.specs.GoodData.{Good}
 use Rattle.lang_meaning.specs.declared.program.LiteralRow.{LiteralRow}
 use Rattle.lang_meaning.specs.declared.scope.LexicalScope.{LexicalScope}
@@ -29,7 +29,7 @@ use Rattle.front_profile.specs.Definitions.{Definitions, defined, rows_of, Later
 use Rattle.front_profile.specs.Numbers.{Numbered}
 use Rattle.front_profile.specs.Places.{scope_of, NothingAround, GoodAround}
 use Rattle.front_profile.specs.Right.{RightIn, RightAt, Behind, Counted}
-use Rattle.front_profile.proofs.Forms.{each_more, right_sited}
+use Rattle.front_profile.proofs.Forms.{right_sited}
 use Rattle.front_profile.proofs.Definitions.{undefined_then, each_stands_same, Entered, later_same, later_then, entered_same, entered_then, entered_site, entered_literal, counted_same, counted_then, counted_more}
 use Rattle.front_profile.proofs.Procedures.{MadeFrom, Same, AllOrdinary}
 use Rattle.front_profile.proofs.Nodes.{found_nodes, site_nodes}
@@ -108,7 +108,7 @@ came_earlier o i g h xs rs k e c = record {
   made = λ l. subst (λ (n : ℕ). MadeFrom n xs k.procedures) (ap length e.same.procedures) (c.made l);
   undefined = λ p l. undefined_then g h k e.same (c.undefined p l);
   stand = λ p s. c.stand p (each_stands_same g h e.same s);
-  newer = each_more (λ v. h.variables ≤ v) (λ v. g.variables ≤ v) (λ v l. omega (arith, l, e.later.variables)) (new_variables rs) c.newer;
+  newer = all_map (λ v. h.variables ≤ v) (λ v. g.variables ≤ v) (λ v l. omega (arith, l, e.later.variables)) (new_variables rs) c.newer;
   match = c.match;
 }
 

@@ -7,6 +7,7 @@ use Rattle.front_profile.specs.declared.making.Made.{Made}
 use Rattle.front_profile.specs.declared.making.Making.{Making}
 use Rattle.lang_meaning.specs.declared.program.Procedure.{Procedure}
 use Rattle.base.specs.declared.datum.Symbol.{Symbol}
+use Rattle.base.specs.AllOf.{all_both}
 use Rattle.front_profile.specs.Makings.{finish, with_procedure, procedure_found, accessor_procedure}
 use Rattle.front_profile.specs.Nodes.{Around, Part, form, below, inner, bind, parameter, wrong, function, Written, initform, accessor, method, Node, offends, unnamed, steps, whole, Standing, Verdict, stands as comes_to, ended, behind, recorded}
 use Rattle.front_profile.specs.RowWords.{deeper, each_inner, each_parameter}
@@ -17,7 +18,6 @@ use Rattle.front_profile.specs.Judged.{with_fresh, with_variable, subject, Verdi
 use Rattle.front_profile.specs.Marks.{Grows}
 use Rattle.front_profile.specs.bridge.Growing.{grows_then}
 use Rattle.front_profile.specs.Below.{SameNames, NothingDefined, OneProcedure}
-use Rattle.front_profile.proofs.Places.{each_append}
 use Rattle.front_profile.proofs.Procedures.{IsOrdinary, AllOrdinary, IsLow, AllLow, all_low, inner_ordinary}
 use Rattle.front_profile.proofs.Starting.{grows_numbers, names_then, none_defined, none_then, none_literal, none_numbers, none_fresh, LowWhole, JoinsSuited, Starts}
 use Rattle.front_profile.proofs.Known.{known_same}
@@ -184,7 +184,7 @@ function_one o s (method n has_next ps fs) =
     record {
       defined = none_defined s;
       parts = all_low false false xs refl refl;
-      ordinary = each_append IsOrdinary (each_parameter (all_symbols ps)) (each_inner fs) (parameters_ordinary (all_symbols ps)) (inner_ordinary fs);
+      ordinary = all_both IsOrdinary (each_parameter (all_symbols ps)) (each_inner fs) (parameters_ordinary (all_symbols ps)) (inner_ordinary fs);
       makes = λ rs u. one_more u (procedure_found (Some n) (length ps.required) (is_some ps.rest) rs);
     }
 

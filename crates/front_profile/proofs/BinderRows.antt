@@ -3,12 +3,11 @@ use Rattle.std.proofs.Common.{◌≡◌, ◌+◌, ◌≤◌, ℕ, Bool, true, fa
 use Rattle.base.specs.declared.place.Place.{Place}
 use Rattle.base.specs.declared.datum.Name.{Name}
 use Rattle.base.specs.Data.{Item}
-use Rattle.base.specs.DataParts.{AllOf}
+use Rattle.base.specs.AllOf.{AllOf}
 use Rattle.base.specs.GoodData.{Good}
 use Rattle.lang_meaning.specs.declared.part.Part.{Part as Captured}
 use Rattle.lang_meaning.specs.declared.scope.LexicalScope.{LexicalScope}
 use Rattle.lang_meaning.specs.Form.{parameters}
-use Rattle.lang_meaning.specs.Subforms.{Each}
 use Rattle.lang_meaning.specs.Mentions.{variables_bound, mentions}
 use Rattle.lang_meaning.specs.Standing.{with_bound}
 use Rattle.front_profile.specs.declared.tables.Tables.{Tables}
@@ -49,7 +48,7 @@ found_let h a qs fs rs l x =
     let m : BoundMatch (spots h (deeper 1 a) (deeper 2 a) rs) rs = bound_match (spots h (deeper 1 a) (deeper 2 a) rs) qs fs rs x in
     made_let h (scope_of a) a.spot.depth (bindings_found rs) (forms_found rs) (omega (arith, l)) m.values
     (two_deeper h (with_bound (variables_bound (bindings_found rs)) (scope_of a)) a.spot.depth (forms_found rs)
-    (subst (λ (vs : List ℕ). Each (RightIn h (with_bound vs (scope_of a)) (a.spot.depth + 2)) (forms_found rs)) (sym m.variables) m.forms))
+    (subst (λ (vs : List ℕ). AllOf (RightIn h (with_bound vs (scope_of a)) (a.spot.depth + 2)) (forms_found rs)) (sym m.variables) m.forms))
 
 apt_let_as : (n : ℕ) (a : Around) (s : Tables) (p : Place) (bs : Item) (fs : List Item) (qs : Option (List Pair)) → Stage a s → AllOf (Good n) fs → MaybePairs n qs
     → a.spot.depth + 2 ≤ 1000 → AptAt n a s (let_as a s p bs fs qs)
@@ -145,7 +144,7 @@ found_lambda g h a ps fs rs l o c =
     let t : LexicalScope = with_bound (new_variables rs) (scope_of a) in
     let required : List ℕ = take (length ps.required) (variables_found rs) in
     let rest : Option ℕ = rest_found (is_some ps.rest) (drop (length ps.required) (variables_found rs)) in
-    let forms : Each (RightIn h t (a.spot.depth + 1 + 1)) (forms_found rs) = two_deeper h t a.spot.depth (forms_found rs) m.forms in
+    let forms : AllOf (RightIn h t (a.spot.depth + 1 + 1)) (forms_found rs) = two_deeper h t a.spot.depth (forms_found rs) m.forms in
     let body : RightIn h t (a.spot.depth + 1) (body_of (forms_found rs)) = made_body h t (a.spot.depth + 1) (forms_found rs) (omega (arith, l)) forms in
     let parts : List Captured = filter (λ p. mentions p (body_of (forms_found rs))) (parts_around a.bound a.spot.in_method) in
     let captured : IsCaptured (scope_of a) (new_variables rs) (body_of (forms_found rs)) parts =
@@ -202,7 +201,7 @@ apt_functions_as n a s p fs false (Some bs) b g f =
       parts = inner_apt n i fs g;
       right = λ u rs c.
           made_body (defined u) (scope_of a) a.spot.depth (forms_found rs) l
-          (subst (λ (t : LexicalScope). Each (RightIn (defined u) t (a.spot.depth + 1)) (forms_found rs)) (functions_scope bs (deeper 1 a) f)
+          (subst (λ (t : LexicalScope). AllOf (RightIn (defined u) t (a.spot.depth + 1)) (forms_found rs)) (functions_scope bs (deeper 1 a) f)
           (found_inner (defined u) (deeper 1 a) i fs rs c.match));
       ends = λ u rs. refl;
       nodes = λ u rs c.

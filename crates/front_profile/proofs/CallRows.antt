@@ -7,18 +7,17 @@ use Rattle.std.proofs.lemmas.Bool.{and_parts}
 use Rattle.base.specs.declared.place.Place.{Place}
 use Rattle.base.specs.declared.datum.Name.{Name}
 use Rattle.base.specs.Data.{Item}
-use Rattle.base.specs.DataParts.{AllOf}
+use Rattle.base.specs.AllOf.{AllOf}
 use Rattle.base.specs.GoodData.{Good}
 use Rattle.lang_meaning.specs.declared.primitive.Primitive.{Primitive}
 use Rattle.lang_meaning.specs.Arity.{arity}
 use Rattle.lang_meaning.specs.Form.{Form}
-use Rattle.lang_meaning.specs.Subforms.{Each}
 use Rattle.lang_meaning.specs.Standing.{is_variable}
 use Rattle.lang_meaning.specs.Counts.{all_nodes}
 use Rattle.front_profile.specs.declared.tables.Tables.{Tables}
 use Rattle.front_profile.specs.declared.making.Found.{Found}
-use Rattle.front_profile.specs.declared.making.Two.{Two}
-use Rattle.front_profile.specs.declared.making.Two.TheVariants.{Signalling, Continuing}
+use Rattle.lang_meaning.specs.declared.kinds.OverTwo.{OverTwo}
+use Rattle.lang_meaning.specs.declared.kinds.OverTwo.TheVariants.{Signal, Continue}
 use Rattle.front_profile.specs.declared.making.Making.{Making}
 use Rattle.front_profile.specs.declared.making.Making.TheVariants.{OfTwo, CallOf, CallOfValue, CallOfLocal, CallOfPrimitive}
 use Rattle.front_profile.specs.Primitives.{primitive_named, taking, primitive_called}
@@ -41,10 +40,10 @@ use Rattle.front_profile.proofs.Apt.{apt_within, apt_made, plain_parts, forms_ap
 pub data IsCall : Making → ℕ → Type 0 where
   of_name : (n : Name) (count : ℕ) → IsCall (CallOf n) count
   of_value : (count : ℕ) → 1 ≤ count → IsCall CallOfValue count
-  of_two : (k : Two) (count : ℕ) → count ≡ 2 → IsCall (OfTwo k) count
+  of_two : (k : OverTwo) (count : ℕ) → count ≡ 2 → IsCall (OfTwo k) count
   of_primitive : (p : Primitive) (count : ℕ) → count ≡ arity p → IsCall (CallOfPrimitive p) count
 
-made_of_two : (g : Definitions) (a : Around) (k : Two) (fs : List Form) → a.spot.depth + 1 ≤ 1000 → length fs ≡ 2 → Each (RightIn g (scope_of a) (a.spot.depth + 1)) fs
+made_of_two : (g : Definitions) (a : Around) (k : OverTwo) (fs : List Form) → a.spot.depth + 1 ≤ 1000 → length fs ≡ 2 → AllOf (RightIn g (scope_of a) (a.spot.depth + 1)) fs
     → RightAt g a (make_two k fs)
 made_of_two g a k [] l e r = absurd (omega (arith, e))
 made_of_two g a k (f ∷ []) l e r = absurd (omega (arith, e))
@@ -53,11 +52,11 @@ made_of_two g a k (f ∷ h ∷ fs) l e r = made_two g (scope_of a) a.spot.depth 
 found_call : (g : Definitions) (a i : Around) (m : Making) (ds : List Item) (rs : List Found) → IsCall m (length ds) → a.spot.depth + 1 ≤ 1000
     → AllMatch (spots g (deeper 1 a) i rs) (each_form ds) rs → RightAt g a (make m rs)
 found_call g a i m ds rs c l x =
-    let right : Each (RightIn g (scope_of a) (a.spot.depth + 1)) (forms_found rs) = forms_match (spots g (deeper 1 a) i rs) ds rs x in
+    let right : AllOf (RightIn g (scope_of a) (a.spot.depth + 1)) (forms_found rs) = forms_match (spots g (deeper 1 a) i rs) ds rs x in
     let many : length (forms_found rs) ≡ length ds = forms_as_many (spots g (deeper 1 a) i rs) ds rs x in
     by_call m (length ds) c right many
   where
-    by_call : (m : Making) (count : ℕ) → IsCall m count → Each (RightIn g (scope_of a) (a.spot.depth + 1)) (forms_found rs) → length (forms_found rs) ≡ count
+    by_call : (m : Making) (count : ℕ) → IsCall m count → AllOf (RightIn g (scope_of a) (a.spot.depth + 1)) (forms_found rs) → length (forms_found rs) ≡ count
         → RightAt g a (make m rs)
     by_call m count (of_name n k) r e = made_call g (scope_of a) a.spot.depth n.0 (forms_found rs) l r
     by_call m count (of_value k h) r e = made_call_value g (scope_of a) a.spot.depth (forms_found rs) l (omega (arith, e, h)) r
@@ -70,7 +69,7 @@ call_ends m count (of_value k h) u rs = refl
 call_ends m count (of_two t k h) u rs = refl
 call_ends m count (of_primitive p k h) u rs = refl
 
-two_counted : (k : Two) (fs : List Form) → length fs ≡ 2 → nodes_in fs + 1 ≤ all_nodes (make_two k fs)
+two_counted : (k : OverTwo) (fs : List Form) → length fs ≡ 2 → nodes_in fs + 1 ≤ all_nodes (make_two k fs)
 two_counted k [] e = absurd (omega (arith, e))
 two_counted k (f ∷ []) e = absurd (omega (arith, e))
 two_counted k (f ∷ h ∷ []) e = two_more (all_nodes f) (all_nodes h) _ (two_nodes k f h)
@@ -125,9 +124,9 @@ call_is : (n : Name) (text : List ℕ) (count : ℕ) → IsCall (call_making n t
 call_is n text count =
     one_of_two (is_value_call text count) count _ _ (λ e. of_value count (leb-true 1 count (and_parts (bytes_eq text (codes "funcall")) (nat_le 1 count) e).1))
     (one_of_two (is_pair_call text (codes "signal-condition") count) count _ _
-    (λ e. of_two Signalling count (eqb-true count 2 (and_parts (bytes_eq text (codes "signal-condition")) (nat_eq count 2) e).1))
+    (λ e. of_two Signal count (eqb-true count 2 (and_parts (bytes_eq text (codes "signal-condition")) (nat_eq count 2) e).1))
     (one_of_two (is_pair_call text (codes "continue-condition") count) count _ _
-    (λ e. of_two Continuing count (eqb-true count 2 (and_parts (bytes_eq text (codes "continue-condition")) (nat_eq count 2) e).1))
+    (λ e. of_two Continue count (eqb-true count 2 (and_parts (bytes_eq text (codes "continue-condition")) (nat_eq count 2) e).1))
     (named_is_call n count (primitive_called text count) (primitive_taken (primitive_named text) count))))
 
 pub apt_named_call : (n : ℕ) (name : Name) (text : List ℕ) (a : Around) (s : Tables) (p : Place) (ds : List Item) → Stage a s → AllOf (Good n) ds

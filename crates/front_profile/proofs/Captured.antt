@@ -6,11 +6,11 @@ use Rattle.std.proofs.lemmas.Bool.{eqb-true, eq-eqb, ne_eqb, lt-ltb}
 use Rattle.std.proofs.lemmas.List.Folds.{list_any-append}
 use Rattle.std.proofs.lemmas.Map.Views.{any-filter_same}
 use Rattle.std.proofs.lemmas.Bool.{and_parts, and_from, or_left, or_right, or_cases}
+use Rattle.base.specs.AllOf.{AllOf, all_both}
 use Rattle.lang_meaning.specs.declared.part.Part.{Part}
 use Rattle.lang_meaning.specs.declared.part.Part.TheVariants as part
 use Rattle.lang_meaning.specs.declared.scope.LexicalScope.{LexicalScope}
 use Rattle.lang_meaning.specs.Form.{Form}
-use Rattle.lang_meaning.specs.Subforms.{Each}
 use Rattle.lang_meaning.specs.Mentions.{same_part, comes_before, is_next, in_order, owns, mentions}
 use Rattle.lang_meaning.specs.Standing.{with_bound, is_variable, is_bound, seen, are_captured, stands}
 use Rattle.front_profile.specs.declared.bound.Bound.{Bound}
@@ -22,12 +22,12 @@ use Rattle.front_profile.specs.Definitions.{Definitions}
 use Rattle.front_profile.specs.Places.{variables_around, exit_at, exit_numbers, exit_of, exits_around, scope_of, Rises, GoodAround}
 use Rattle.front_profile.proofs.Tests.{all_more}
 use Rattle.front_profile.proofs.Enough.{enough, seen_variables, exit_some, exit_kept, no_exit, no_method}
-use Rattle.front_profile.proofs.Places.{any_front, any_behind, each_append}
+use Rattle.front_profile.proofs.Places.{any_front, any_behind}
 
 -- parts in their order
 
 abbrev After : Part → List Part → Type 0
-After p ps = Each (λ q. comes_before p q ≡ true) ps
+After p ps = AllOf (λ q. comes_before p q ≡ true) ps
 
 abbrev Ordered : List Part → Type 0
 Ordered [] = Unit {0}
@@ -43,11 +43,11 @@ ordered_in_order (p ∷ ps) h = and_from _ _ (next_after p ps h.0) (ordered_in_o
 
 -- what is kept of a list
 
-each_if : {X : Type 0} (P : X → Type 0) (b : Bool) (x : X) (xs : List X) → P x → Each P xs → Each P (if b then x ∷ xs else xs)
+each_if : {X : Type 0} (P : X → Type 0) (b : Bool) (x : X) (xs : List X) → P x → AllOf P xs → AllOf P (if b then x ∷ xs else xs)
 each_if P true x xs h e = (h, e)
 each_if P false x xs h e = e
 
-pub each_kept : {X : Type 0} (P : X → Type 0) (q : X → Bool) (xs : List X) → Each P xs → Each P (filter q xs)
+pub each_kept : {X : Type 0} (P : X → Type 0) (q : X → Bool) (xs : List X) → AllOf P xs → AllOf P (filter q xs)
 each_kept P q [] e = tt
 each_kept P q (x ∷ xs) e = each_if P (q x) x (filter q xs) e.0 (each_kept P q xs e.1)
 
@@ -59,9 +59,9 @@ ordered_kept : (q : Part → Bool) (ps : List Part) → Ordered ps → Ordered (
 ordered_kept q [] o = tt
 ordered_kept q (p ∷ ps) o = ordered_if (q p) p (filter q ps) (each_kept _ q ps o.0) (ordered_kept q ps o.1)
 
-ordered_both : (ps qs : List Part) → Ordered ps → Ordered qs → Each (λ p. After p qs) ps → Ordered (ps ++ qs)
+ordered_both : (ps qs : List Part) → Ordered ps → Ordered qs → AllOf (λ p. After p qs) ps → Ordered (ps ++ qs)
 ordered_both [] qs o r a = r
-ordered_both (p ∷ ps) qs o r a = (each_append _ ps qs o.0 a.0, ordered_both ps qs o.1 r a.1)
+ordered_both (p ∷ ps) qs o r a = (all_both _ ps qs o.0 a.0, ordered_both ps qs o.1 r a.1)
 
 -- the parts around by their numbers
 
@@ -111,7 +111,7 @@ method_after : (e : ℕ) (m : Bool) → After (part.Exit e) (method_part m)
 method_after e true = (refl, tt)
 method_after e false = tt
 
-exits_before_method : (es : List ℕ) (m : Bool) → Each (λ p. After p (method_part m)) (map part.Exit es)
+exits_before_method : (es : List ℕ) (m : Bool) → AllOf (λ p. After p (method_part m)) (map part.Exit es)
 exits_before_method [] m = tt
 exits_before_method (e ∷ es) m = (method_after e m, exits_before_method es m)
 
@@ -120,7 +120,7 @@ behind_variable v [] true = (refl, tt)
 behind_variable v [] false = tt
 behind_variable v (e ∷ es) m = (refl, behind_variable v es m)
 
-variables_first : (vs es : List ℕ) (m : Bool) → Each (λ p. After p (map part.Exit es ++ method_part m)) (map part.Variable vs)
+variables_first : (vs es : List ℕ) (m : Bool) → AllOf (λ p. After p (map part.Exit es ++ method_part m)) (map part.Variable vs)
 variables_first [] es m = tt
 variables_first (v ∷ vs) es m = (behind_variable v es m, variables_first vs es m)
 
@@ -268,11 +268,11 @@ seen_enough body a vs = record { provides = provides }
 
 -- none is one of the function's own variables, which are newer
 
-newer_apart : (n low : ℕ) (vs : List ℕ) → n < low → Each (λ v. low ≤ v) vs → list_any (λ v. n == v) vs ≡ false
+newer_apart : (n low : ℕ) (vs : List ℕ) → n < low → AllOf (λ v. low ≤ v) vs → list_any (λ v. n == v) vs ≡ false
 newer_apart n low [] l e = refl
 newer_apart n low (v ∷ vs) l e = rw (ne_eqb n v (λ k. omega (arith, k, l, e.0))) (newer_apart n low vs l e.1)
 
-not_owned : (vs ns : List ℕ) (low high : ℕ) → Each (λ v. high ≤ v) vs → Rises low ns high → list_all (λ p. not (owns vs p)) (map part.Variable ns) ≡ true
+not_owned : (vs ns : List ℕ) (low high : ℕ) → AllOf (λ v. high ≤ v) vs → Rises low ns high → list_all (λ p. not (owns vs p)) (map part.Variable ns) ≡ true
 not_owned vs [] low high e h = refl
 not_owned vs (n ∷ ns) low high e h =
     and_from _ _ (ap not (newer_apart n high vs (below n ns high h.1) e)) (not_owned vs ns (n + 1) high e h.1)
@@ -289,7 +289,7 @@ no_method_owned : (vs : List ℕ) (m : Bool) → list_all (λ p. not (owns vs p)
 no_method_owned vs true = and_from _ _ (ap not (no_method vs)) refl
 no_method_owned vs false = refl
 
-none_owned : (g : Definitions) (a : Around) (vs : List ℕ) → GoodAround g a → Each (λ v. g.variables ≤ v) vs → list_all (λ p. not (owns vs p)) (around_parts a) ≡ true
+none_owned : (g : Definitions) (a : Around) (vs : List ℕ) → GoodAround g a → AllOf (λ v. g.variables ≤ v) vs → list_all (λ p. not (owns vs p)) (around_parts a) ≡ true
 none_owned g a vs o e =
     ap (list_all (λ p. not (owns vs p))) (parts_numbered a.bound a.spot.in_method)
     ∙ all_append _ (map part.Variable (variables_around a.bound)) _ (not_owned vs (variables_around a.bound) 0 g.variables e o.variables)
@@ -313,7 +313,7 @@ pub record IsCaptured (s : LexicalScope) (vs : List ℕ) (body : Form) (parts : 
   pub captured : are_captured s vs body parts ≡ true
   pub stands : stands (with_bound vs (seen parts s)) body ≡ true
 
-pub is_captured : (g : Definitions) (a : Around) (vs : List ℕ) (body : Form) → GoodAround g a → Each (λ v. g.variables ≤ v) vs
+pub is_captured : (g : Definitions) (a : Around) (vs : List ℕ) (body : Form) → GoodAround g a → AllOf (λ v. g.variables ≤ v) vs
     → stands (with_bound vs (scope_of a)) body ≡ true → IsCaptured (scope_of a) vs body (filter (λ p. mentions p body) (parts_around a.bound a.spot.in_method))
 is_captured g a vs body o e h = record {
   captured = and_from _ _

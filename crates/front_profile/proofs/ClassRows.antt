@@ -9,12 +9,11 @@ use Rattle.base.specs.declared.place.Place.{Place}
 use Rattle.base.specs.declared.datum.Name.{Name}
 use Rattle.base.specs.Data.{Item}
 use Rattle.base.specs.DataFormed.{formed_tells}
-use Rattle.base.specs.DataParts.{AllOf}
+use Rattle.base.specs.AllOf.{AllOf, all_both}
 use Rattle.base.specs.GoodData.{Good}
 use Rattle.lang_meaning.specs.declared.program.ClassRow.{ClassRow}
 use Rattle.lang_meaning.specs.declared.program.GenericRow.{GenericRow}
 use Rattle.lang_meaning.specs.declared.program.FunctionRow.{FunctionRow}
-use Rattle.lang_meaning.specs.Subforms.{Each}
 use Rattle.lang_classes.specs.Given.{given as given_slots, spec_names, is_wrong}
 use Rattle.lang_classes.specs.InheritedPrecedence.{supers_fit}
 use Rattle.lang_classes.specs.InheritedSlots.{same_name, each_first}
@@ -33,7 +32,6 @@ use Rattle.front_profile.specs.ClassRows.{Function, for_initform, for_method, fu
 use Rattle.front_profile.specs.bridge.SoundClasses.{sound_defclass}
 use Rattle.front_profile.specs.Definitions.{Definitions, defined, Later, slot_fits, SoundDefinitions}
 use Rattle.front_profile.proofs.Definitions.{literals_later, procedures_later, own_later, generics_later, functions_later, mains_later, all_push}
-use Rattle.front_profile.proofs.Places.{each_append}
 use Rattle.front_profile.proofs.Procedures.{MadeFrom}
 use Rattle.front_profile.proofs.Wanted.{AptAt, Stage}
 use Rattle.front_profile.proofs.ValueRows.{class_there}
@@ -58,7 +56,7 @@ part_functions x (for_method (given n) k) = (refl, tt)
 
 all_part_functions : (x : WrittenSlot) (fs : List Function) → AllFunctions (flat_map (part_of x) fs)
 all_part_functions x [] = tt
-all_part_functions x (f ∷ fs) = each_append IsFunction (part_of x f) (flat_map (part_of x) fs) (part_functions x f) (all_part_functions x fs)
+all_part_functions x (f ∷ fs) = all_both IsFunction (part_of x f) (flat_map (part_of x) fs) (part_functions x f) (all_part_functions x fs)
 
 chosen_functions : (b : Bool) (xs ys : List Part) → AllFunctions xs → AllFunctions ys → AllFunctions (if b then xs else ys)
 chosen_functions true xs ys f g = f
@@ -68,7 +66,7 @@ slot_part_functions : (inherited earlier : List Name) (xs : List WrittenSlot) �
 slot_part_functions inherited earlier [] = tt
 slot_part_functions inherited earlier (x ∷ xs) =
     chosen_functions (has_wrong_options x || is_wrong x.name earlier (each_first (inherited ++ earlier))) _ _ (tt, tt)
-    (each_append IsFunction (flat_map (part_of x) (functions_of x)) (slot_parts inherited (earlier ++ x.name ∷ []) xs)
+    (all_both IsFunction (flat_map (part_of x) (functions_of x)) (slot_parts inherited (earlier ++ x.name ∷ []) xs)
     (all_part_functions x (functions_of x)) (slot_part_functions inherited (earlier ++ x.name ∷ []) xs))
 
 pub class_functions : (s : Tables) (cs : List WrittenSuper) (xs : List WrittenSlot) → AllFunctions (class_parts s cs xs)
@@ -150,7 +148,7 @@ use_ready names a s u (Some i) w e f k t = by_found (found u.name s.generics) re
         }
 
 uses_ready : (names : List (List ℕ)) (a : Around) (s : Tables) (us : List Use) → KnownTables s → list_any (is_of_function a s) us ≡ false
-    → list_any (is_kept_name names a s) us ≡ false → list_all (fits_generic s) us ≡ true → Each (IsReady (length s.classes.rows) s) us
+    → list_any (is_kept_name names a s) us ≡ false → list_all (fits_generic s) us ≡ true → AllOf (IsReady (length s.classes.rows) s) us
 uses_ready names a s [] w f k t = tt
 uses_ready names a s (u ∷ us) w f k t =
     let p : (is_of_function a s u ≡ false) × (list_any (is_of_function a s) us ≡ false) = or_parts (is_of_function a s u) (list_any (is_of_function a s) us) f in
@@ -211,7 +209,7 @@ pub record Judged (s : Tables) (n : Name) (cs : List WrittenSuper) (xs : List Wr
   pub supers : supers_fit s.classes.rows (known_supers s.classes.rows cs) ≡ true
   pub few : length (each_first (inherited_names s.classes (known_supers s.classes.rows cs))) ≤ slot_limit
   pub given : AllGiven (all_functions xs)
-  pub ready : Each (IsReady (length s.classes.rows) s) (uses xs)
+  pub ready : AllOf (IsReady (length s.classes.rows) s) (uses xs)
   pub differ : names_differ (uses xs) ≡ true
 
 -- what its tests say of it, one after another
@@ -234,7 +232,7 @@ judged names a s n cs xs w written there taken reserved supers few fit =
     }
 
 -- what is ready stays so where the same is defined
-pub ready_same : (c : ℕ) (s t : Tables) (us : List Use) → t.generics ≡ s.generics → t.functions ≡ s.functions → Each (IsReady c s) us → Each (IsReady c t) us
+pub ready_same : (c : ℕ) (s t : Tables) (us : List Use) → t.generics ≡ s.generics → t.functions ≡ s.functions → AllOf (IsReady c s) us → AllOf (IsReady c t) us
 ready_same c s t [] e f r = tt
 ready_same c s t (u ∷ us) e f r = (
   subst (λ (fs : List FunctionRow). MaybeReady c u fs (found u.name t.generics)) (sym f)
@@ -272,8 +270,8 @@ class_finished rules s n cs xs b of_file u w j c =
     let one : Joined (defined u) (defined t) = class_joined u new of_file c.sound hierarchy (slots_fit (defined u) xs p made) in
     let count : length u.classes.rows ≡ length s.classes.rows = ap (λ (h : Hierarchy). length h.rows) c.same.classes in
     let longer : length t.classes.rows ≡ length u.classes.rows + 1 = rows_longer u.classes n supers (given_slots (slot_specs p xs)) b in
-    let ready : Each (IsReady (length u.classes.rows) t) (uses xs) =
-    ready_same (length u.classes.rows) s t (uses xs) c.same.generics c.same.functions (subst (λ (k : ℕ). Each (IsReady k s) (uses xs)) (sym count) j.ready) in
+    let ready : AllOf (IsReady (length u.classes.rows) t) (uses xs) =
+    ready_same (length u.classes.rows) s t (uses xs) c.same.generics c.same.functions (subst (λ (k : ℕ). AllOf (IsReady k s) (uses xs)) (sym count) j.ready) in
     let rest : Joins p (defined t) (defined (with_slot_functions (slot_functions xs) (length u.classes.rows) p of_file t)) =
     functions_joined (all_functions xs) (length u.classes.rows) p of_file t one.sound (omega (arith, longer)) j.given made ready j.differ in
     record {

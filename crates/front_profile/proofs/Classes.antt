@@ -8,9 +8,9 @@ use Rattle.std.proofs.lemmas.List.Elements.{All-head, All-tail}
 use Rattle.std.proofs.lemmas.Option.{slice_get_within}
 use Rattle.std.proofs.lemmas.Bool.{and_from, and_parts}
 use Rattle.base.specs.declared.datum.Name.{Name}
+use Rattle.base.specs.AllOf.{AllOf, all_both, all_map}
 use Rattle.lang_meaning.specs.declared.program.ClassRow.{ClassRow}
 use Rattle.lang_meaning.specs.declared.program.SlotRow.{SlotRow}
-use Rattle.lang_meaning.specs.Subforms.{Each}
 use Rattle.lang_meaning.specs.BuiltIn.{built_in_precedence, built_in_slots}
 use Rattle.lang_meaning.specs.Facts.{is_one, is_plain_slot, is_row, begins_with_built_in}
 use Rattle.lang_meaning.specs.bridge.Prefixes.{of_prefix}
@@ -22,8 +22,6 @@ use Rattle.lang_meaning.specs.Facts.{initform_fits, class_fits}
 use Rattle.front_profile.specs.Marks.{StandsFirst}
 use Rattle.front_profile.specs.Definitions.{Definitions, rows_of, slot_fits, initform_takes_nothing, WholeClasses}
 use Rattle.front_profile.specs.Classes.{BeginsBuiltIn}
-use Rattle.front_profile.proofs.Forms.{each_more}
-use Rattle.front_profile.proofs.Places.{each_append}
 use Rattle.front_profile.proofs.Captured.{each_kept}
 
 -- a slot that is its own initarg, and that nothing gives a value
@@ -31,30 +29,30 @@ pub record IsOwn (s : SlotRow) : Type 0 where
   pub initargs : s.initargs ≡ s.name ∷ []
   pub initform : s.initform ≡ None
 
-own_said : (ns : List Name) → Each IsOwn (map own_initarg ns)
+own_said : (ns : List Name) → AllOf IsOwn (map own_initarg ns)
 own_said [] = tt
 own_said (n ∷ ns) = (record { initargs = refl; initform = refl }, own_said ns)
 
-own_slots_said : (P : SlotRow → Type 0) (own : List (List SlotRow)) → ((c : ℕ) (slots : List SlotRow) → slice_get own c ≡ Some slots → Each P slots) → (c : ℕ) → Each P (own_slots own c)
+own_slots_said : (P : SlotRow → Type 0) (own : List (List SlotRow)) → ((c : ℕ) (slots : List SlotRow) → slice_get own c ≡ Some slots → AllOf P slots) → (c : ℕ) → AllOf P (own_slots own c)
 own_slots_said P own h c = by_slots (slice_get own c) refl
   where
-    by_slots : (o : Option (List SlotRow)) → slice_get own c ≡ o → Each P (slots_said_by o)
+    by_slots : (o : Option (List SlotRow)) → slice_get own c ≡ o → AllOf P (slots_said_by o)
     by_slots None e = tt
     by_slots (Some slots) e = h c slots e
 
-all_said : (P : SlotRow → Type 0) (own : List (List SlotRow)) → ((c : ℕ) (slots : List SlotRow) → slice_get own c ≡ Some slots → Each P slots) → (cs : List ℕ) → Each P (said_by own cs)
+all_said : (P : SlotRow → Type 0) (own : List (List SlotRow)) → ((c : ℕ) (slots : List SlotRow) → slice_get own c ≡ Some slots → AllOf P slots) → (cs : List ℕ) → AllOf P (said_by own cs)
 all_said P own h [] = tt
-all_said P own h (c ∷ cs) = each_append P (said_by own cs) (own_slots own c) (all_said P own h cs) (own_slots_said P own h c)
+all_said P own h (c ∷ cs) = all_both P (said_by own cs) (own_slots own c) (all_said P own h cs) (own_slots_said P own h c)
 
 -- the slots that are united of such are plain
 
-no_initform : (ss : List SlotRow) → Each IsOwn ss → last_initform ss ≡ None
+no_initform : (ss : List SlotRow) → AllOf IsOwn ss → last_initform ss ≡ None
 no_initform [] e = refl
 no_initform (s ∷ ss) e = rw (no_initform ss e.1) e.0.initform
 
 -- names that are all that one
 abbrev AllThat : Name → List Name → Type 0
-AllThat n ms = Each (λ m. same_name n m ≡ true) ms
+AllThat n ms = AllOf (λ m. same_name n m ≡ true) ms
 
 that_kept : (n : Name) (p : Name → Bool) (ms : List Name) → AllThat n ms → AllThat n (filter p ms)
 that_kept n p ms e = each_kept (λ m. same_name n m ≡ true) p ms e
@@ -78,34 +76,34 @@ one_left : (n m : Name) (ms : List Name) → AllThat n (m ∷ ms) → is_one n (
 one_left n m ms e = ap (λ ks. is_one n (m ∷ ks)) (none_left n m (each_first ms) e.0 (that_first n ms e.1)) ∙ e.0
 
 -- what is said of a slot by its name
-of_that : (n : Name) (ss : List SlotRow) → Each IsOwn ss → Each (λ s. IsOwn s × (same_name n s.name ≡ true)) (of_name n ss)
+of_that : (n : Name) (ss : List SlotRow) → AllOf IsOwn ss → AllOf (λ s. IsOwn s × (same_name n s.name ≡ true)) (of_name n ss)
 of_that n [] e = tt
 of_that n (s ∷ ss) e = by_test (same_name n s.name) refl (of_name n ss) (of_that n ss e.1)
   where
-    by_test : (b : Bool) → same_name n s.name ≡ b → (ks : List SlotRow) → Each (λ k. IsOwn k × (same_name n k.name ≡ true)) ks
-        → Each (λ k. IsOwn k × (same_name n k.name ≡ true)) (if b then s ∷ ks else ks)
+    by_test : (b : Bool) → same_name n s.name ≡ b → (ks : List SlotRow) → AllOf (λ k. IsOwn k × (same_name n k.name ≡ true)) ks
+        → AllOf (λ k. IsOwn k × (same_name n k.name ≡ true)) (if b then s ∷ ks else ks)
     by_test true k ks f = ((e.0, k), f)
     by_test false k ks f = f
 
-initargs_that : (n : Name) (ss : List SlotRow) → Each (λ s. IsOwn s × (same_name n s.name ≡ true)) ss → AllThat n (flat_map (λ s. s.initargs) ss)
+initargs_that : (n : Name) (ss : List SlotRow) → AllOf (λ s. IsOwn s × (same_name n s.name ≡ true)) ss → AllThat n (flat_map (λ s. s.initargs) ss)
 initargs_that n [] e = tt
 initargs_that n (s ∷ ss) e =
-    each_append (λ m. same_name n m ≡ true) s.initargs (flat_map (λ s. s.initargs) ss)
+    all_both (λ m. same_name n m ≡ true) s.initargs (flat_map (λ s. s.initargs) ss)
     (subst (AllThat n) (sym e.0.0.initargs) (e.0.1, tt)) (initargs_that n ss e.1)
 
 -- there is such a slot
-one_of_first : (n : Name) (ss : List SlotRow) → Each (λ s. IsOwn s × (same_name n s.name ≡ true)) ss → 1 ≤ length ss → is_one n (each_first (flat_map (λ s. s.initargs) ss)) ≡ true
+one_of_first : (n : Name) (ss : List SlotRow) → AllOf (λ s. IsOwn s × (same_name n s.name ≡ true)) ss → 1 ≤ length ss → is_one n (each_first (flat_map (λ s. s.initargs) ss)) ≡ true
 one_of_first n [] e l = absurd (omega (arith, l))
 one_of_first n (s ∷ ss) e l =
     let front : flat_map (λ s. s.initargs) (s ∷ ss) ≡ s.name ∷ flat_map (λ s. s.initargs) ss =
     ap (λ ns. ns ++ flat_map (λ s. s.initargs) ss) e.0.0.initargs in
     ap (λ ns. is_one n (each_first ns)) front ∙ one_left n s.name (flat_map (λ s. s.initargs) ss) (e.0.1, initargs_that n ss e.1)
 
-slot_plain : (said : List SlotRow) (n : Name) → Each IsOwn said → 1 ≤ length (of_name n said) → is_plain_slot (slot_of said n) ≡ true
+slot_plain : (said : List SlotRow) (n : Name) → AllOf IsOwn said → 1 ≤ length (of_name n said) → is_plain_slot (slot_of said n) ≡ true
 slot_plain said n e l =
-    let of : Each (λ s. IsOwn s × (same_name n s.name ≡ true)) (of_name n said) = of_that n said e in
+    let of : AllOf (λ s. IsOwn s × (same_name n s.name ≡ true)) (of_name n said) = of_that n said e in
     let none : last_initform (of_name n said) ≡ None =
-    no_initform (of_name n said) (each_more (λ s. IsOwn s × (same_name n s.name ≡ true)) IsOwn (λ s k. k.0) (of_name n said) of) in
+    no_initform (of_name n said) (all_map (λ s. IsOwn s × (same_name n s.name ≡ true)) IsOwn (λ s k. k.0) (of_name n said) of) in
     and_from _ _ (one_of_first n (of_name n said) of l) (ap (λ (o : Option ℕ). not (is_some o)) none)
 
 -- each name of these is the name of one
@@ -122,19 +120,19 @@ occurs_more s ss n h = by_test (same_name n s.name)
 occurs_here : (s : SlotRow) (ss : List SlotRow) → Occurs (s ∷ ss) s.name
 occurs_here s ss = let same : same_name s.name s.name ≡ true = eq-eqb s.name.0 s.name.0 refl in rw same (omega arith)
 
-all_occur : (ss : List SlotRow) → Each (Occurs ss) (names_of ss)
+all_occur : (ss : List SlotRow) → AllOf (Occurs ss) (names_of ss)
 all_occur [] = tt
-all_occur (s ∷ ss) = (occurs_here s ss, each_more (Occurs ss) (Occurs (s ∷ ss)) (occurs_more s ss) (names_of ss) (all_occur ss))
+all_occur (s ∷ ss) = (occurs_here s ss, all_map (Occurs ss) (Occurs (s ∷ ss)) (occurs_more s ss) (names_of ss) (all_occur ss))
 
-first_of_each : (P : Name → Type 0) (ns : List Name) → Each P ns → Each P (each_first ns)
+first_of_each : (P : Name → Type 0) (ns : List Name) → AllOf P ns → AllOf P (each_first ns)
 first_of_each P [] e = tt
 first_of_each P (n ∷ ns) e = (e.0, each_kept P (λ m. not (same_name n m)) (each_first ns) (first_of_each P ns e.1))
 
-slots_plain : (said : List SlotRow) (ns : List Name) → Each IsOwn said → Each (Occurs said) ns → list_all is_plain_slot (slots_of said ns) ≡ true
+slots_plain : (said : List SlotRow) (ns : List Name) → AllOf IsOwn said → AllOf (Occurs said) ns → list_all is_plain_slot (slots_of said ns) ≡ true
 slots_plain said [] e o = refl
 slots_plain said (n ∷ ns) e o = and_from _ _ (slot_plain said n e o.0) (slots_plain said ns e o.1)
 
-united_plain : (said : List SlotRow) → Each IsOwn said → list_all is_plain_slot (united said) ≡ true
+united_plain : (said : List SlotRow) → AllOf IsOwn said → list_all is_plain_slot (united said) ≡ true
 unfolding united
 united_plain said e = slots_plain said (each_first (names_of said)) e (first_of_each (Occurs said) (names_of said) (all_occur said))
 
@@ -148,7 +146,7 @@ row_plain texts h b c row e =
     (all_said IsOwn (take (c + 1) h.own)
     (λ d slots k.
     let s : SaysSlots texts (built_in_own d) slots = b.named.own d slots (of_prefix (c + 1) h.own d slots k).1 in
-    subst (Each IsOwn) (sym s.slots_are) (own_said (names_of slots)))
+    subst (AllOf IsOwn) (sym s.slots_are) (own_said (names_of slots)))
     row.precedence)
 
 line_below : (n : ℕ) (ds : List ℕ) (c : ℕ) → All (λ d. d ≤ c) ds → c < n → list_all (λ d. nat_lt d n) ds ≡ true
@@ -243,7 +241,7 @@ built_in_slots_fit g texts h b =
 abbrev FitsThere : ProgramRows → SlotRow → Type 0
 FitsThere r s = initform_fits r s.initform ≡ true
 
-last_fits : (r : ProgramRows) (ss : List SlotRow) → Each (FitsThere r) ss → initform_fits r (last_initform ss) ≡ true
+last_fits : (r : ProgramRows) (ss : List SlotRow) → AllOf (FitsThere r) ss → initform_fits r (last_initform ss) ≡ true
 last_fits r [] e = refl
 last_fits r (s ∷ ss) e = by_test (is_some (last_initform ss)) (last_initform ss) (last_fits r ss e.1)
   where
@@ -251,16 +249,16 @@ last_fits r (s ∷ ss) e = by_test (is_some (last_initform ss)) (last_initform s
     by_test true o h = h
     by_test false o h = e.0
 
-united_fits : (r : ProgramRows) (said : List SlotRow) (ns : List Name) → Each (FitsThere r) said → list_all (λ s. initform_fits r s.initform) (slots_of said ns) ≡ true
+united_fits : (r : ProgramRows) (said : List SlotRow) (ns : List Name) → AllOf (FitsThere r) said → list_all (λ s. initform_fits r s.initform) (slots_of said ns) ≡ true
 united_fits r said [] e = refl
 united_fits r said (n ∷ ns) e =
     and_from _ _ (last_fits r (of_name n said) (each_kept (FitsThere r) (λ s. same_name n s.name) said e)) (united_fits r said ns e)
 
-all_united_fit : (r : ProgramRows) (said : List SlotRow) → Each (FitsThere r) said → list_all (λ s. initform_fits r s.initform) (united said) ≡ true
+all_united_fit : (r : ProgramRows) (said : List SlotRow) → AllOf (FitsThere r) said → list_all (λ s. initform_fits r s.initform) (united said) ≡ true
 unfolding united
 all_united_fit r said e = united_fits r said (each_first (names_of said)) e
 
-each_of_all : (g : Definitions) (slots : List SlotRow) → list_all (slot_fits g) slots ≡ true → Each (FitsThere (rows_of g)) slots
+each_of_all : (g : Definitions) (slots : List SlotRow) → list_all (slot_fits g) slots ≡ true → AllOf (FitsThere (rows_of g)) slots
 each_of_all g [] h = tt
 each_of_all g (s ∷ ss) h =
     let k : (slot_fits g s ≡ true) × (list_all (slot_fits g) ss ≡ true) = and_parts _ _ h in

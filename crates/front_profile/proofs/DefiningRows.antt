@@ -8,7 +8,7 @@ use Rattle.base.specs.declared.place.Place.{Place}
 use Rattle.base.specs.declared.datum.Name.{Name}
 use Rattle.base.specs.Data.{Item}
 use Rattle.base.specs.DataFormed.{is_formed, formed_tells}
-use Rattle.base.specs.DataParts.{AllOf}
+use Rattle.base.specs.AllOf.{AllOf}
 use Rattle.base.specs.GoodData.{Good}
 use Rattle.base.specs.Names.{slice_get-behind, slice_get-push}
 use Rattle.lang_meaning.specs.declared.program.GenericRow.{GenericRow}

@@ -4,6 +4,7 @@ use Rattle.std.specs.List.{list_all, list_any}
 use Rattle.std.proofs.lemmas.Bool.{eqb-true, eq-eqb}
 use Rattle.std.proofs.lemmas.Map.Views.{any-filter_same}
 use Rattle.std.proofs.lemmas.Bool.{and_parts, and_from, or_left, or_right, not-true, or_from}
+use Rattle.base.specs.AllOf.{AllOf}
 use Rattle.lang_meaning.specs.declared.part.Part.{Part}
 use Rattle.lang_meaning.specs.declared.part.Part.TheVariants.{Variable, Exit, Method}
 use Rattle.lang_meaning.specs.declared.scope.Around.{Around}
@@ -11,7 +12,7 @@ use Rattle.lang_meaning.specs.declared.scope.Around.TheVariants.{Block, Tagbody}
 use Rattle.lang_meaning.specs.declared.scope.ExitAround.{ExitAround}
 use Rattle.lang_meaning.specs.declared.scope.LexicalScope.{LexicalScope}
 use Rattle.lang_meaning.specs.Form.{Form, local, set_local, let_form, lambda, block, return_from, tagbody, go, next_method, has_next, parameters}
-use Rattle.lang_meaning.specs.Subforms.{Each, outer, inner}
+use Rattle.lang_meaning.specs.Subforms.{outer, inner}
 use Rattle.lang_meaning.specs.Counts.{count_forms}
 use Rattle.lang_meaning.specs.Mentions.{same_part, owns, in_order, variables_bound, binds, names_part, mentions}
 use Rattle.lang_meaning.specs.Standing.{with_bound, with_around, is_variable, exit_around, is_block, is_segment, is_bound, seen, is_free, around_inner, stands_itself, stands}
@@ -207,7 +208,7 @@ itself f s t m h = refl
 abbrev Enough : Form → Type 0
 Enough f = (s t : LexicalScope) → MentionsWithin f s t → stands s f ≡ true → stands t f ≡ true
 
-each_enough : (s t : LexicalScope) (fs : List Form) → Each Enough fs → ((p : Part) → list_any (mentions p) fs ≡ true → Provides s t p)
+each_enough : (s t : LexicalScope) (fs : List Form) → AllOf Enough fs → ((p : Part) → list_any (mentions p) fs ≡ true → Provides s t p)
     → list_all (stands s) fs ≡ true → list_all (stands t) fs ≡ true
 each_enough s t [] e m h = refl
 each_enough s t (f ∷ fs) e m h =
@@ -215,7 +216,7 @@ each_enough s t (f ∷ fs) e m h =
     and_from _ _ (e.0 s t (record { provides = λ p k. m p (or_left _ _ k) }) a.0)
     (each_enough s t fs e.1 (λ p k. m p (or_right (mentions p f) _ k)) a.1)
 
-one_step : (f : Form) → Each Enough (outer f) → Each Enough (inner f) → Enough f
+one_step : (f : Form) → AllOf Enough (outer f) → AllOf Enough (inner f) → Enough f
 one_step f os is s t m h =
     let a : ((stands_itself s f && list_all (stands s) (outer f)) ≡ true) × (list_all (stands (around_inner f s)) (inner f) ≡ true) =
     and_parts _ _ (sym (stands_folded s f) ∙ h) in

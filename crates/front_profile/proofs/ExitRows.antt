@@ -5,12 +5,11 @@ use Rattle.base.specs.declared.datum.Name.{Name}
 use Rattle.base.specs.declared.datum.Symbol.{Symbol}
 use Rattle.base.specs.declared.reason.Reason.{Reason}
 use Rattle.base.specs.Data.{Item}
-use Rattle.base.specs.DataParts.{AllOf}
+use Rattle.base.specs.AllOf.{AllOf}
 use Rattle.base.specs.GoodData.{Good}
 use Rattle.lang_meaning.specs.declared.scope.LexicalScope.{LexicalScope}
 use Rattle.lang_meaning.specs.declared.scope.Around.TheVariants as exit
 use Rattle.lang_meaning.specs.Form.{Form}
-use Rattle.lang_meaning.specs.Subforms.{Each}
 use Rattle.lang_meaning.specs.Standing.{with_around}
 use Rattle.front_profile.specs.declared.tables.Tables.{Tables}
 use Rattle.front_profile.specs.declared.bound.Target.{Target}
@@ -46,11 +45,11 @@ apt_no_such n a s p r None = tt
 apt_no_such n a s p r (Some name) = tt
 
 -- two deeper is one deeper twice
-pub two_deeper : (g : Definitions) (s : LexicalScope) (n : ℕ) (fs : List Form) → Each (RightIn g s (n + 2)) fs → Each (RightIn g s (n + 1 + 1)) fs
-two_deeper g s n fs e = let same : n + 2 ≡ n + 1 + 1 = omega arith in subst (λ k. Each (RightIn g s k) fs) same e
+pub two_deeper : (g : Definitions) (s : LexicalScope) (n : ℕ) (fs : List Form) → AllOf (RightIn g s (n + 2)) fs → AllOf (RightIn g s (n + 1 + 1)) fs
+two_deeper g s n fs e = let same : n + 2 ≡ n + 1 + 1 = omega arith in subst (λ k. AllOf (RightIn g s k) fs) same e
 
-in_scope : (g : Definitions) (s t : LexicalScope) (n : ℕ) (fs : List Form) → s ≡ t → Each (RightIn g s n) fs → Each (RightIn g t n) fs
-in_scope g s t n fs e r = subst (λ (u : LexicalScope). Each (RightIn g u n) fs) e r
+in_scope : (g : Definitions) (s t : LexicalScope) (n : ℕ) (fs : List Form) → s ≡ t → AllOf (RightIn g s n) fs → AllOf (RightIn g t n) fs
+in_scope g s t n fs e r = subst (λ (u : LexicalScope). AllOf (RightIn g u n) fs) e r
 
 -- block and return-from
 

@@ -3,10 +3,11 @@ use Rattle.std.proofs.Common.{◌≡◌, ◌+◌, ◌≤◌, ◌<◌, ℕ, max, 
 use Rattle.std.specs.List.{list_all}
 use Rattle.std.proofs.lemmas.Bool.{leb-true, ltb-true, le-leb, lt-ltb}
 use Rattle.std.proofs.lemmas.Bool.{and_parts, and_from}
+use Rattle.base.specs.AllOf.{AllOf}
 use Rattle.lang_meaning.specs.declared.program.ProgramRows.{ProgramRows}
 use Rattle.lang_meaning.specs.declared.scope.LexicalScope.{LexicalScope}
 use Rattle.lang_meaning.specs.Form.{Form, literal, sited}
-use Rattle.lang_meaning.specs.Subforms.{Each, outer, inner}
+use Rattle.lang_meaning.specs.Subforms.{outer, inner}
 use Rattle.lang_meaning.specs.Inside.{inside_form}
 use Rattle.lang_meaning.specs.Counts.{is_function, greatest, own_depth, depth}
 use Rattle.lang_meaning.specs.Fits.{fits_itself, fits}
@@ -54,19 +55,15 @@ right_less g s m n f l r = record { stands = r.stands; fits = r.fits; deep = ome
 
 -- forms together
 
-pub each_more : {X : Type 0} (P Q : X → Type 0) → ((x : X) → P x → Q x) → (xs : List X) → Each P xs → Each Q xs
-each_more P Q f [] e = tt
-each_more P Q f (x ∷ xs) e = (f x e.0, each_more P Q f xs e.1)
-
-all_stand : (g : Definitions) (s : LexicalScope) (n : ℕ) (fs : List Form) → Each (RightIn g s n) fs → list_all (stands s) fs ≡ true
+all_stand : (g : Definitions) (s : LexicalScope) (n : ℕ) (fs : List Form) → AllOf (RightIn g s n) fs → list_all (stands s) fs ≡ true
 all_stand g s n [] e = refl
 all_stand g s n (f ∷ fs) e = and_from _ _ e.0.stands (all_stand g s n fs e.1)
 
-all_fit : (g : Definitions) (s : LexicalScope) (n : ℕ) (fs : List Form) → Each (RightIn g s n) fs → list_all (fits (rows_of g)) fs ≡ true
+all_fit : (g : Definitions) (s : LexicalScope) (n : ℕ) (fs : List Form) → AllOf (RightIn g s n) fs → list_all (fits (rows_of g)) fs ≡ true
 all_fit g s n [] e = refl
 all_fit g s n (f ∷ fs) e = and_from _ _ e.0.fits (all_fit g s n fs e.1)
 
-pub all_deep : (g : Definitions) (s : LexicalScope) (n : ℕ) (fs : List Form) → n ≤ 1000 → Each (RightIn g s n) fs → greatest (map depth fs) + n ≤ 1000
+pub all_deep : (g : Definitions) (s : LexicalScope) (n : ℕ) (fs : List Form) → n ≤ 1000 → AllOf (RightIn g s n) fs → greatest (map depth fs) + n ≤ 1000
 all_deep g s n [] l e = omega arith
 all_deep g s n (f ∷ fs) l e = omega (arith, e.0.deep, all_deep g s n fs l e.1)
 
@@ -81,7 +78,7 @@ deep_enough d a b o n false e p q k l = omega arith
 -- a form that is no function and no site is right where the forms right inside it are
 pub right_whole : (g : Definitions) (s : LexicalScope) (n : ℕ) (f : Form) → own_depth f ≡ 1 → is_function f ≡ false → n + 1 ≤ 1000
     → stands_itself s f ≡ true → fits_itself (rows_of g) f ≡ true
-    → Each (RightIn g s (n + 1)) (outer f) → Each (RightIn g (around_inner f s) (n + 1)) (inner f) → RightIn g s n f
+    → AllOf (RightIn g s (n + 1)) (outer f) → AllOf (RightIn g (around_inner f s) (n + 1)) (inner f) → RightIn g s n f
 right_whole g s n f own function l here fit os is = record {
   stands = stands_folded s f ∙ and_from _ _ (and_from _ _ here (all_stand g s (n + 1) (outer f) os)) (all_stand g (around_inner f s) (n + 1) (inner f) is);
   fits = fits_folded (rows_of g) f ∙ and_from _ _ (and_from _ _ fit (all_fit g s (n + 1) (outer f) os)) (all_fit g (around_inner f s) (n + 1) (inner f) is);

@@ -2,21 +2,20 @@
 use Rattle.std.proofs.Common.{◌≡◌, ◌+◌, ◌≤◌, ℕ, List, [], ◌∷◌, ◌++◌, map, suc, take, drop, length, Option, Some, None, refl, sym, ap, subst, ◌∙◌, arith}
 use Rattle.base.specs.declared.datum.Symbol.{Symbol}
 use Rattle.base.specs.Data.{Item}
+use Rattle.base.specs.AllOf.{AllOf, all_both}
 use Rattle.lang_meaning.specs.Form.{Form}
-use Rattle.lang_meaning.specs.Subforms.{Each, clause_list}
+use Rattle.lang_meaning.specs.Subforms.{clause_list}
 use Rattle.lang_meaning.specs.Counts.{all_nodes}
 use Rattle.front_profile.specs.declared.making.Found.{Found}
 use Rattle.front_profile.specs.declared.making.Found.TheVariants.{Value, Binding, Parameter}
 use Rattle.front_profile.specs.declared.making.One.{One}
-use Rattle.front_profile.specs.declared.making.Two.{Two}
-use Rattle.front_profile.specs.declared.making.WithBody.{WithBody}
+use Rattle.lang_meaning.specs.declared.kinds.OverTwo.{OverTwo}
 use Rattle.front_profile.specs.Nodes.{Part, form, below, inner, bind, parameter, wrong, function}
 use Rattle.front_profile.specs.Makings.{forms_found, make_one, make_two, make_with_body, make_clauses}
 use Rattle.front_profile.specs.Shapes.{Pair, ClauseParts, symbol_of, forms_in, form_unless, lengths_in, one_longer, before}
 use Rattle.front_profile.specs.RowWords.{each_form, each_below, each_inner, each_parameter}
 use Rattle.front_profile.specs.ValueRows.{length_if, clause_lengths, clause_parts}
 use Rattle.front_profile.specs.BindingRows.{values_of}
-use Rattle.front_profile.proofs.Places.{each_append}
 use Rattle.front_profile.proofs.Matches.{Spots, AllMatch, BodyThen, body_then, dropped_front}
 use Rattle.front_profile.proofs.Nodes.{nodes_in, added, found_nodes, body_nodes, one_nodes, two_nodes, with_body_nodes, split_nodes}
 
@@ -29,10 +28,10 @@ IsPlain (function w) = ⊥
 IsPlain other = Unit {0}
 
 abbrev pub AllPlain : List Part → Type 0
-AllPlain xs = Each IsPlain xs
+AllPlain xs = AllOf IsPlain xs
 
 pub both_plain : (xs ys : List Part) → AllPlain xs → AllPlain ys → AllPlain (xs ++ ys)
-both_plain xs ys a b = each_append IsPlain xs ys a b
+both_plain xs ys a b = all_both IsPlain xs ys a b
 
 made_plain : {X : Type 0} (f : X → Part) → ((x : X) → IsPlain (f x)) → (xs : List X) → AllPlain (map f xs)
 made_plain f h [] = tt
@@ -91,7 +90,7 @@ found_one_nodes p k d (Value f ∷ r ∷ rs) m = absurd m.1
 found_one_nodes p k d (Binding v f ∷ rs) m = absurd m.0
 found_one_nodes p k d (Parameter v ∷ rs) m = absurd m.0
 
-pub found_two_nodes : (p : Spots) (k : Two) (d e : Item) (rs : List Found) → AllMatch p (form d ∷ form e ∷ []) rs → found_nodes rs + 1 ≤ all_nodes (make_two k (forms_found rs))
+pub found_two_nodes : (p : Spots) (k : OverTwo) (d e : Item) (rs : List Found) → AllMatch p (form d ∷ form e ∷ []) rs → found_nodes rs + 1 ≤ all_nodes (make_two k (forms_found rs))
 found_two_nodes p k d e [] m = absurd m
 found_two_nodes p k d e (Value f ∷ []) m = absurd m.1
 found_two_nodes p k d e (Value f ∷ Value g ∷ []) m = two_more (all_nodes f) (all_nodes g) _ (two_nodes k f g)
@@ -104,7 +103,7 @@ found_two_nodes p k d e (Value f ∷ Parameter v ∷ rs) m = absurd m.1.0
 found_two_nodes p k d e (Binding v f ∷ rs) m = absurd m.0
 found_two_nodes p k d e (Parameter v ∷ rs) m = absurd m.0
 
-pub found_with_body_nodes : (p : Spots) (k : WithBody) (d : Item) (ds : List Item) (rs : List Found) → AllMatch p (form d ∷ each_below ds) rs
+pub found_with_body_nodes : (p : Spots) (k : OverTwo) (d : Item) (ds : List Item) (rs : List Found) → AllMatch p (form d ∷ each_below ds) rs
     → found_nodes rs + 1 ≤ all_nodes (make_with_body k (forms_found rs))
 found_with_body_nodes p k d ds [] m = absurd m
 found_with_body_nodes p k d ds (Value f ∷ rs) m =

@@ -7,7 +7,7 @@ use Rattle.std.proofs.lemmas.Bool.{le-leb, eq-eqb, and_from, or_left, or_right}
 use Rattle.base.specs.declared.datum.Name.{Name}
 use Rattle.base.specs.Data.{Item}
 use Rattle.base.specs.DataFormed.{is_formed}
-use Rattle.base.specs.DataParts.{AllOf}
+use Rattle.base.specs.AllOf.{AllOf}
 use Rattle.base.specs.GoodData.{Good}
 use Rattle.base.specs.Names.{slice_get-front}
 use Rattle.lang_meaning.specs.declared.program.LiteralRow.TheVariants as row

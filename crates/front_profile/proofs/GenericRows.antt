@@ -7,7 +7,7 @@ use Rattle.base.specs.declared.place.Place.{Place}
 use Rattle.base.specs.declared.datum.Name.{Name}
 use Rattle.base.specs.declared.reason.Reason.TheVariants.{NotTopLevel}
 use Rattle.base.specs.Data.{Item}
-use Rattle.base.specs.DataParts.{AllOf}
+use Rattle.base.specs.AllOf.{AllOf, all_both}
 use Rattle.base.specs.GoodData.{Good}
 use Rattle.base.specs.Names.{slice_get-behind}
 use Rattle.lang_meaning.specs.declared.program.GenericRow.{GenericRow}
@@ -31,7 +31,6 @@ use Rattle.lang_meaning.specs.Facts.{method_fits, same_method}
 use Rattle.lang_classes.specs.InheritedClasses.{Hierarchy}
 use Rattle.lang_classes.specs.InheritedSlots.{same_name}
 use Rattle.front_profile.specs.Definitions.{Definitions, defined, rows_of, SoundDefinitions}
-use Rattle.front_profile.proofs.Places.{each_append}
 use Rattle.front_profile.proofs.Procedures.{IsAt, MadeFrom}
 use Rattle.front_profile.proofs.Wanted.{AptAt, Stage}
 use Rattle.front_profile.proofs.DefiningRows.{fresh_name}
@@ -60,7 +59,7 @@ method_functions s n m = specialised_functions s n m (specialised_in s.words m.l
 
 pub each_functions : (s : Tables) (n : Name) (ms : List WrittenMethod) → AllFunctions (each_method s n ms)
 each_functions s n [] = tt
-each_functions s n (m ∷ ms) = each_append IsFunction (method_parts s n m) (each_method s n ms) (method_functions s n m) (each_functions s n ms)
+each_functions s n (m ∷ ms) = all_both IsFunction (method_parts s n m) (each_method s n ms) (method_functions s n m) (each_functions s n ms)
 
 -- a method that fits has a qualifier
 pub some_qualifier : (x : GenericRow) (s : Tables) (m : WrittenMethod) → fits s (Some x) m ≡ true → is_some m.qualifier ≡ true

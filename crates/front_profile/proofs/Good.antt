@@ -2,10 +2,10 @@
 use Rattle.std.proofs.Common.{◌≡◌, ◌+◌, ◌==◌, ℕ, Bool, true, false, List, [], ◌∷◌, ◌++◌, length, Option, Some, None, refl, sym, ap, subst, ◌∙◌, append-nil}
 use Rattle.std.specs.List.{list_any}
 use Rattle.base.specs.declared.datum.Symbol.{Symbol}
+use Rattle.base.specs.AllOf.{AllOf, all_both, all_map}
 use Rattle.lang_meaning.specs.declared.scope.Around.TheVariants as exit
 use Rattle.lang_meaning.specs.declared.scope.ExitAround.{ExitAround}
 use Rattle.lang_meaning.specs.declared.scope.LexicalScope.{LexicalScope}
-use Rattle.lang_meaning.specs.Subforms.{Each}
 use Rattle.lang_meaning.specs.Standing.{with_around}
 use Rattle.front_profile.specs.declared.bound.Bound.{Bound}
 use Rattle.front_profile.specs.declared.bound.Bound.TheVariants.{Variable, Block, Tags}
@@ -16,8 +16,7 @@ use Rattle.front_profile.specs.RowWords.{deeper, deeper_at_top, with_all, alone}
 use Rattle.front_profile.specs.BindingRows.{function_and, variable_that_is, functions_of}
 use Rattle.front_profile.specs.Definitions.{Definitions, Later}
 use Rattle.front_profile.specs.Places.{variables_around, exit_numbers, exits_around, scope_of, Rises, FunctionThere, NothingAround, GoodAround}
-use Rattle.front_profile.proofs.Places.{rises_longer, rises_push, variables_append, exit_numbers_append, exits_append, each_append, function_there_more, any_front, variable_there}
-use Rattle.front_profile.proofs.Forms.{each_more}
+use Rattle.front_profile.proofs.Places.{rises_longer, rises_push, variables_append, exit_numbers_append, exits_append, function_there_more, any_front, variable_there}
 
 -- later, deeper, alone
 
@@ -49,10 +48,10 @@ good_alone g has_next a o = record { variables = o.variables; exits = o.exits; f
 abbrev pub counted : ℕ → ℕ → Definitions → Definitions
 counted v e g = record g { variables = v; exits = e }
 
-functions_still : (bs cs : List Bound) → Each (FunctionThere (variables_around bs)) bs
-    → Each (FunctionThere (variables_around (bs ++ cs))) bs
+functions_still : (bs cs : List Bound) → AllOf (FunctionThere (variables_around bs)) bs
+    → AllOf (FunctionThere (variables_around (bs ++ cs))) bs
 functions_still bs cs f =
-    each_more (FunctionThere (variables_around bs)) (FunctionThere (variables_around (bs ++ cs)))
+    all_map (FunctionThere (variables_around bs)) (FunctionThere (variables_around (bs ++ cs)))
     (function_there_more (variables_around bs) (variables_around (bs ++ cs))
     (λ v e. rw (variables_append bs cs) (any_front (λ w. v == w) (variables_around bs) (variables_around cs) e)))
     bs f
@@ -64,7 +63,7 @@ good_variable g x a low o =
     record {
       variables = rw (variables_append a.bound b) (rises_push 0 (variables_around a.bound) g.variables o.variables);
       exits = rw (exit_numbers_append a.bound b, append-nil (exit_numbers a.bound)) o.exits;
-      functions = each_append _ a.bound b (functions_still a.bound b o.functions) (tt, tt);
+      functions = all_both _ a.bound b (functions_still a.bound b o.functions) (tt, tt);
       top = λ e. absurd (cc (low, e));
     }
 
@@ -76,7 +75,7 @@ good_exit g x a none one plain low o =
     record {
       variables = subst (λ vs. Rises 0 vs g.variables) (sym (variables_append a.bound b ∙ ap (λ vs. variables_around a.bound ++ vs) none ∙ append-nil (variables_around a.bound))) o.variables;
       exits = subst (λ es. Rises 0 es (g.exits + 1)) (sym (exit_numbers_append a.bound b ∙ ap (λ es. exit_numbers a.bound ++ es) one)) (rises_push 0 (exit_numbers a.bound) g.exits o.exits);
-      functions = each_append _ a.bound b (functions_still a.bound b o.functions) (plain _, tt);
+      functions = all_both _ a.bound b (functions_still a.bound b o.functions) (plain _, tt);
       top = λ e. absurd (cc (low, e));
     }
 
@@ -94,7 +93,7 @@ pub record AreFunctions (vs : List ℕ) (bs : List Bound) : Type 0 where
   pub variables : variables_around bs ≡ []
   pub exits : exit_numbers bs ≡ []
   pub around : exits_around bs ≡ []
-  pub there : Each (FunctionThere vs) bs
+  pub there : AllOf (FunctionThere vs) bs
 
 abbrev pub MaybeFunctions : List ℕ → Option (List Bound) → Type 0
 MaybeFunctions vs None = Unit {0}
@@ -138,7 +137,7 @@ good_functions g bs a low f o = record {
   variables = rw (same_variables a.bound bs f.variables) o.variables;
   exits = rw (exit_numbers_append a.bound bs, f.exits, append-nil (exit_numbers a.bound)) o.exits;
   functions = rw (same_variables a.bound bs f.variables)
-      (each_append (FunctionThere (variables_around a.bound)) a.bound bs o.functions f.there);
+      (all_both (FunctionThere (variables_around a.bound)) a.bound bs o.functions f.there);
   top = λ e. absurd (cc (low, e));
 }
 

@@ -10,8 +10,7 @@ use Rattle.lang_derived.specs.Asked.{list_items}
 use Rattle.lang_derived.specs.Derived.{Derivation, plain, unfit, becomes, derivation}
 use Rattle.front_profile.specs.declared.tables.Tables.{Tables}
 use Rattle.front_profile.specs.declared.making.Leaf.TheVariants.{NextMethod, HasNext}
-use Rattle.front_profile.specs.declared.making.Two.TheVariants.{Applying, Throwing}
-use Rattle.front_profile.specs.declared.making.WithBody.TheVariants.{Repeating, Catching, Unwinding, Handling}
+use Rattle.lang_meaning.specs.declared.kinds.OverTwo.TheVariants.{Apply, While, Catch, Throw, Unwind, WithHandler}
 use Rattle.front_profile.specs.declared.making.Making.TheVariants.{CallOfValue}
 use Rattle.front_profile.specs.declared.special.Special.{Special}
 use Rattle.front_profile.specs.declared.special.Special.TheVariants as name
@@ -35,19 +34,19 @@ starts_special names s name.Cond a p ds = starts_cond_as s a p (clauses_in ds)
 starts_special names s name.Progn a p ds = starts_progn s a p ds
 starts_special names s name.Let a p ds = starts_let s a p ds
 starts_special names s name.Lambda a p ds = starts_lambda s a p ds
-starts_special names s name.Apply a p ds = starts_two s Applying a p ds
-starts_special names s name.While a p ds = starts_body s Repeating a p ds
+starts_special names s name.Apply a p ds = starts_two s Apply a p ds
+starts_special names s name.While a p ds = starts_body s While a p ds
 starts_special names s name.Block a p ds = starts_block s a p ds
 starts_special names s name.ReturnFrom a p ds = starts_return_from s a p ds
 starts_special names s name.Tagbody a p ds = starts_tagbody s a p ds
 starts_special names s name.Go a p ds = starts_go s a p ds
-starts_special names s name.Catch a p ds = starts_body s Catching a p ds
-starts_special names s name.Throw a p ds = starts_two s Throwing a p ds
-starts_special names s name.UnwindProtect a p ds = starts_body s Unwinding a p ds
+starts_special names s name.Catch a p ds = starts_body s Catch a p ds
+starts_special names s name.Throw a p ds = starts_two s Throw a p ds
+starts_special names s name.UnwindProtect a p ds = starts_body s Unwind a p ds
 starts_special names s name.DynamicLet a p ds = starts_dynamic_let s a p ds
 starts_special names s name.Dynamic a p ds = starts_dynamic s a p ds
 starts_special names s name.SetDynamic a p ds = starts_set_dynamic s a p ds
-starts_special names s name.WithHandler a p ds = starts_body s Handling a p ds
+starts_special names s name.WithHandler a p ds = starts_body s WithHandler a p ds
 starts_special names s name.Function a p ds = starts_function s a p ds
 starts_special names s name.Class a p ds = starts_class s a p ds
 starts_special names s name.CallNextMethod a p ds = starts_method s NextMethod a p ds

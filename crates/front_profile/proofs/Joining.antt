@@ -7,10 +7,10 @@ use Rattle.std.proofs.Common.{get_or}
 use Rattle.base.specs.declared.place.Place.{Place}
 use Rattle.base.specs.Data.{Item}
 use Rattle.base.specs.DataFormed.{is_formed}
+use Rattle.base.specs.AllOf.{AllOf}
 use Rattle.lang_meaning.specs.declared.program.GenericRow.{GenericRow}
 use Rattle.lang_meaning.specs.Form.{Form}
 use Rattle.lang_meaning.specs.ProgramCounts.{procedure_nodes}
-use Rattle.lang_meaning.specs.Subforms.{Each}
 use Rattle.lang_meaning.specs.Standing.{is_alone}
 use Rattle.front_profile.specs.declared.tables.Tables.{Tables}
 use Rattle.front_profile.specs.declared.making.Found.{Found}
@@ -43,7 +43,7 @@ IsFunction (function (method n has_next ps fs)) = Unit {0}
 IsFunction other = ⊥
 
 abbrev pub AllFunctions : List Part → Type 0
-AllFunctions xs = Each IsFunction xs
+AllFunctions xs = AllOf IsFunction xs
 
 apt_function : (n w : ℕ) (o i a : Around) (x : Part) → a.spot.top ≡ true → SoundPart n w o i x → IsFunction x → AptPart n a x
 apt_function n w o i a (wrong p r) e s f = tt

@@ -2,13 +2,14 @@
 use Rattle.std.proofs.Common.{◌≡◌, ◌+◌, ◌≤◌, ◌<◌, ℕ, zero, suc, max, if◌then◌else◌, Bool, true, false, List, [], ◌∷◌, map, length, take, drop, Option, Some, refl, sym, ap, subst, ◌∙◌, arith}
 use Rattle.std.proofs.lemmas.Bool.{le-leb, lt-ltb, eq-eqb}
 use Rattle.std.proofs.lemmas.Bool.{and_from}
+use Rattle.base.specs.AllOf.{AllOf, all_take, all_drop}
 use Rattle.lang_meaning.specs.declared.primitive.Primitive.{Primitive}
 use Rattle.lang_meaning.specs.declared.part.Part.{Part as Captured}
 use Rattle.lang_meaning.specs.declared.scope.Around.TheVariants as exit
 use Rattle.lang_meaning.specs.declared.scope.LexicalScope.{LexicalScope}
 use Rattle.lang_meaning.specs.Form.{Form, form_and, ClauseForms, BindingForms, DynamicForms, literal, local, let_form, lambda, call, call_value, prim, clauses, block, tagbody, dynamic_let, go, parameters}
 use Rattle.lang_meaning.specs.Arity.{arity}
-use Rattle.lang_meaning.specs.Subforms.{Each, forms_list, clause_list, value_list, dynamic_value_list, inner}
+use Rattle.lang_meaning.specs.Subforms.{forms_list, clause_list, value_list, dynamic_value_list, inner}
 use Rattle.lang_meaning.specs.Counts.{count_forms, depth, greatest}
 use Rattle.lang_meaning.specs.Mentions.{variables_bound}
 use Rattle.lang_meaning.specs.Standing.{with_bound, with_around, is_variable, exit_around, is_block, is_segment}
@@ -17,11 +18,9 @@ use Rattle.lang_meaning.specs.bridge.Lengths.{forms_counted}
 use Rattle.lang_meaning.specs.bridge.Judged.{fits_folded, stands_folded}
 use Rattle.front_profile.specs.declared.making.One.{One}
 use Rattle.front_profile.specs.declared.making.One.TheVariants.{SetVariable, ReturnTo}
-use Rattle.front_profile.specs.declared.making.Two.{Two}
-use Rattle.front_profile.specs.declared.making.Two.TheVariants.{Applying, Throwing, Signalling, Continuing}
-use Rattle.front_profile.specs.declared.making.WithBody.{WithBody}
-use Rattle.front_profile.specs.declared.making.WithBody.TheVariants.{Repeating, Catching, Unwinding, Handling}
-use Rattle.front_profile.specs.Makings.{body_of, one_of, two_of, with_body_of, make_segments}
+use Rattle.lang_meaning.specs.declared.kinds.OverTwo.{OverTwo}
+use Rattle.lang_meaning.specs.declared.kinds.OverTwo.TheVariants.{Apply, While, Catch, Throw, Unwind, WithHandler, Signal, Continue}
+use Rattle.front_profile.specs.Makings.{body_of, one_of, two_of, make_segments}
 use Rattle.front_profile.specs.Definitions.{Definitions, rows_of}
 use Rattle.front_profile.specs.Right.{RightIn}
 use Rattle.front_profile.proofs.Forms.{right_whole, depth_folded}
@@ -29,18 +28,8 @@ use Rattle.front_profile.proofs.Captured.{IsCaptured}
 
 -- lists of forms
 
-pub listed : (P : Form → Type 0) (fs : List Form) → Each P fs → Each P (forms_list (forms fs))
-listed P fs e = subst (Each P) (sym (forms_back fs)) e
-
-pub each_taken : (P : Form → Type 0) (n : ℕ) (fs : List Form) → Each P fs → Each P (take n fs)
-each_taken P zero fs e = tt
-each_taken P (suc n) [] e = tt
-each_taken P (suc n) (f ∷ fs) e = (e.0, each_taken P n fs e.1)
-
-pub each_dropped : (P : Form → Type 0) (n : ℕ) (fs : List Form) → Each P fs → Each P (drop n fs)
-each_dropped P zero fs e = e
-each_dropped P (suc n) [] e = tt
-each_dropped P (suc n) (f ∷ fs) e = each_dropped P n fs e.1
+pub listed : (P : Form → Type 0) (fs : List Form) → AllOf P fs → AllOf P (forms_list (forms fs))
+listed P fs e = subst (AllOf P) (sym (forms_back fs)) e
 
 -- one form, two, and a form with a body
 
@@ -54,38 +43,39 @@ made_one g s n (SetVariable v) f l h r = right_whole g s n _ refl refl l h refl 
 made_one g s n (ReturnTo x) f l h r = right_whole g s n _ refl refl l (ap is_block h) refl (r, tt) tt
 made_one g s n other f l h r = right_whole g s n _ refl refl l refl refl (r, tt) tt
 
-pub made_two : (g : Definitions) (s : LexicalScope) (n : ℕ) (k : Two) (f h : Form) → n + 1 ≤ 1000 → RightIn g s (n + 1) f → RightIn g s (n + 1) h → RightIn g s n (two_of k f h)
-made_two g s n Applying f h l r q = right_whole g s n _ refl refl l refl refl (r, (q, tt)) tt
-made_two g s n Throwing f h l r q = right_whole g s n _ refl refl l refl refl (r, (q, tt)) tt
-made_two g s n Signalling f h l r q = right_whole g s n _ refl refl l refl refl (r, (q, tt)) tt
-made_two g s n Continuing f h l r q = right_whole g s n _ refl refl l refl refl (r, (q, tt)) tt
+pub made_two : (g : Definitions) (s : LexicalScope) (n : ℕ) (k : OverTwo) (f h : Form) → n + 1 ≤ 1000 → RightIn g s (n + 1) f → RightIn g s (n + 1) h → RightIn g s n (two_of k f h)
+made_two g s n Apply f h l r q = right_whole g s n _ refl refl l refl refl (r, (q, tt)) tt
+made_two g s n While f h l r q = right_whole g s n _ refl refl l refl refl (r, (q, tt)) tt
+made_two g s n Catch f h l r q = right_whole g s n _ refl refl l refl refl (r, (q, tt)) tt
+made_two g s n Throw f h l r q = right_whole g s n _ refl refl l refl refl (r, (q, tt)) tt
+made_two g s n Unwind f h l r q = right_whole g s n _ refl refl l refl refl (r, (q, tt)) tt
+made_two g s n WithHandler f h l r q = right_whole g s n _ refl refl l refl refl (r, (q, tt)) tt
+made_two g s n Signal f h l r q = right_whole g s n _ refl refl l refl refl (r, (q, tt)) tt
+made_two g s n Continue f h l r q = right_whole g s n _ refl refl l refl refl (r, (q, tt)) tt
 
-pub made_body : (g : Definitions) (s : LexicalScope) (n : ℕ) (fs : List Form) → n + 1 ≤ 1000 → Each (RightIn g s (n + 1)) fs → RightIn g s n (body_of fs)
+pub made_body : (g : Definitions) (s : LexicalScope) (n : ℕ) (fs : List Form) → n + 1 ≤ 1000 → AllOf (RightIn g s (n + 1)) fs → RightIn g s n (body_of fs)
 made_body g s n fs l e = right_whole g s n _ refl refl l refl refl (listed _ fs e) tt
 
-pub made_with_body : (g : Definitions) (s : LexicalScope) (n : ℕ) (k : WithBody) (f : Form) (fs : List Form) → n + 1 + 1 ≤ 1000 → RightIn g s (n + 1) f
-    → Each (RightIn g s (n + 1 + 1)) fs → RightIn g s n (with_body_of k f (body_of fs))
-made_with_body g s n Repeating f fs l r e = right_whole g s n _ refl refl (omega (arith, l)) refl refl (r, (made_body g s (n + 1) fs l e, tt)) tt
-made_with_body g s n Catching f fs l r e = right_whole g s n _ refl refl (omega (arith, l)) refl refl (r, (made_body g s (n + 1) fs l e, tt)) tt
-made_with_body g s n Unwinding f fs l r e = right_whole g s n _ refl refl (omega (arith, l)) refl refl (r, (made_body g s (n + 1) fs l e, tt)) tt
-made_with_body g s n Handling f fs l r e = right_whole g s n _ refl refl (omega (arith, l)) refl refl (r, (made_body g s (n + 1) fs l e, tt)) tt
+pub made_with_body : (g : Definitions) (s : LexicalScope) (n : ℕ) (k : OverTwo) (f : Form) (fs : List Form) → n + 1 + 1 ≤ 1000 → RightIn g s (n + 1) f
+    → AllOf (RightIn g s (n + 1 + 1)) fs → RightIn g s n (two_of k f (body_of fs))
+made_with_body g s n k f fs l r e = made_two g s n k f (body_of fs) (omega (arith, l)) r (made_body g s (n + 1) fs l e)
 
 -- calls
 
-pub made_call : (g : Definitions) (s : LexicalScope) (n name : ℕ) (fs : List Form) → n + 1 ≤ 1000 → Each (RightIn g s (n + 1)) fs → RightIn g s n (call name (forms fs))
+pub made_call : (g : Definitions) (s : LexicalScope) (n name : ℕ) (fs : List Form) → n + 1 ≤ 1000 → AllOf (RightIn g s (n + 1)) fs → RightIn g s n (call name (forms fs))
 made_call g s n name fs l e = right_whole g s n _ refl refl l refl refl (listed _ fs e) tt
 
-pub made_call_value : (g : Definitions) (s : LexicalScope) (n : ℕ) (fs : List Form) → n + 1 ≤ 1000 → 1 ≤ length fs → Each (RightIn g s (n + 1)) fs
+pub made_call_value : (g : Definitions) (s : LexicalScope) (n : ℕ) (fs : List Form) → n + 1 ≤ 1000 → 1 ≤ length fs → AllOf (RightIn g s (n + 1)) fs
     → RightIn g s n (call_value (forms fs))
 made_call_value g s n fs l k e =
     right_whole g s n _ refl refl l refl (le-leb 1 (count_forms (forms fs)) (omega (arith, k, forms_counted fs))) (listed _ fs e) tt
 
-pub made_prim : (g : Definitions) (s : LexicalScope) (n : ℕ) (p : Primitive) (fs : List Form) → n + 1 ≤ 1000 → length fs ≡ arity p → Each (RightIn g s (n + 1)) fs
+pub made_prim : (g : Definitions) (s : LexicalScope) (n : ℕ) (p : Primitive) (fs : List Form) → n + 1 ≤ 1000 → length fs ≡ arity p → AllOf (RightIn g s (n + 1)) fs
     → RightIn g s n (prim p (forms fs))
 made_prim g s n p fs l k e =
     right_whole g s n _ refl refl l refl (eq-eqb (count_forms (forms fs)) (arity p) (forms_counted fs ∙ k)) (listed _ fs e) tt
 
-pub made_local_call : (g : Definitions) (s : LexicalScope) (n v : ℕ) (fs : List Form) → n + 1 + 1 ≤ 1000 → is_variable s v ≡ true → Each (RightIn g s (n + 1)) fs
+pub made_local_call : (g : Definitions) (s : LexicalScope) (n v : ℕ) (fs : List Form) → n + 1 + 1 ≤ 1000 → is_variable s v ≡ true → AllOf (RightIn g s (n + 1)) fs
     → RightIn g s n (call_value (form_and (local v) (forms fs)))
 made_local_call g s n v fs l h e =
     right_whole g s n _ refl refl (omega (arith, l)) refl
@@ -94,43 +84,43 @@ made_local_call g s n v fs l h e =
 
 -- clauses
 
-pub made_clauses : (g : Definitions) (s : LexicalScope) (n : ℕ) (cs : ClauseForms) → n + 1 ≤ 1000 → Each (RightIn g s (n + 1)) (clause_list cs) → RightIn g s n (clauses cs)
+pub made_clauses : (g : Definitions) (s : LexicalScope) (n : ℕ) (cs : ClauseForms) → n + 1 ≤ 1000 → AllOf (RightIn g s (n + 1)) (clause_list cs) → RightIn g s n (clauses cs)
 made_clauses g s n cs l e = right_whole g s n _ refl refl l refl refl e tt
 
 -- forms that bind
 
-pub made_let : (g : Definitions) (s : LexicalScope) (n : ℕ) (bs : BindingForms) (fs : List Form) → n + 1 + 1 ≤ 1000 → Each (RightIn g s (n + 1)) (value_list bs)
-    → Each (RightIn g (with_bound (variables_bound bs) s) (n + 1 + 1)) fs → RightIn g s n (let_form bs (body_of fs))
+pub made_let : (g : Definitions) (s : LexicalScope) (n : ℕ) (bs : BindingForms) (fs : List Form) → n + 1 + 1 ≤ 1000 → AllOf (RightIn g s (n + 1)) (value_list bs)
+    → AllOf (RightIn g (with_bound (variables_bound bs) s) (n + 1 + 1)) fs → RightIn g s n (let_form bs (body_of fs))
 made_let g s n bs fs l e h =
     right_whole g s n _ refl refl (omega (arith, l)) refl refl e (made_body g (with_bound (variables_bound bs) s) (n + 1) fs l h, tt)
 
-pub made_dynamic_let : (g : Definitions) (s : LexicalScope) (n : ℕ) (ds : DynamicForms) (fs : List Form) → n + 1 + 1 ≤ 1000 → Each (RightIn g s (n + 1)) (dynamic_value_list ds)
-    → Each (RightIn g s (n + 1 + 1)) fs → RightIn g s n (dynamic_let ds (body_of fs))
+pub made_dynamic_let : (g : Definitions) (s : LexicalScope) (n : ℕ) (ds : DynamicForms) (fs : List Form) → n + 1 + 1 ≤ 1000 → AllOf (RightIn g s (n + 1)) (dynamic_value_list ds)
+    → AllOf (RightIn g s (n + 1 + 1)) fs → RightIn g s n (dynamic_let ds (body_of fs))
 made_dynamic_let g s n ds fs l e h =
     right_whole g s n _ refl refl (omega (arith, l)) refl refl e (made_body g s (n + 1) fs l h, tt)
 
-pub made_block : (g : Definitions) (s : LexicalScope) (n x : ℕ) (fs : List Form) → n + 1 + 1 ≤ 1000 → Each (RightIn g (with_around x exit.Block s) (n + 1 + 1)) fs
+pub made_block : (g : Definitions) (s : LexicalScope) (n x : ℕ) (fs : List Form) → n + 1 + 1 ≤ 1000 → AllOf (RightIn g (with_around x exit.Block s) (n + 1 + 1)) fs
     → RightIn g s n (block x (body_of fs))
 made_block g s n x fs l h =
     right_whole g s n _ refl refl (omega (arith, l)) refl refl tt (made_body g (with_around x exit.Block s) (n + 1) fs l h, tt)
 
-segments_right : (g : Definitions) (s : LexicalScope) (n : ℕ) (ns : List ℕ) (fs : List Form) → n + 1 ≤ 1000 → Each (RightIn g s (n + 1)) fs
-    → Each (RightIn g s n) (forms_list (make_segments ns fs))
+segments_right : (g : Definitions) (s : LexicalScope) (n : ℕ) (ns : List ℕ) (fs : List Form) → n + 1 ≤ 1000 → AllOf (RightIn g s (n + 1)) fs
+    → AllOf (RightIn g s n) (forms_list (make_segments ns fs))
 segments_right g s n [] fs l e = tt
 segments_right g s n (k ∷ ks) fs l e =
-    (made_body g s n (take k fs) l (each_taken _ k fs e), segments_right g s n ks (drop k fs) l (each_dropped _ k fs e))
+    (made_body g s n (take k fs) l (all_take _ k fs e), segments_right g s n ks (drop k fs) l (all_drop _ k fs e))
 
 segments_counted : (ns : List ℕ) (fs : List Form) → count_forms (make_segments ns fs) ≡ length ns
 segments_counted [] fs = refl
 segments_counted (n ∷ ns) fs = omega (arith, segments_counted ns (drop n fs))
 
 pub made_tagbody : (g : Definitions) (s : LexicalScope) (n x tags : ℕ) (ns : List ℕ) (fs : List Form) → n + 1 + 1 ≤ 1000 → length ns ≡ tags + 1
-    → Each (RightIn g (with_around x (exit.Tagbody (tags + 1)) s) (n + 1 + 1)) fs → RightIn g s n (tagbody x (make_segments ns fs))
+    → AllOf (RightIn g (with_around x (exit.Tagbody (tags + 1)) s) (n + 1 + 1)) fs → RightIn g s n (tagbody x (make_segments ns fs))
 made_tagbody g s n x tags ns fs l c h =
     let same : count_forms (make_segments ns fs) ≡ tags + 1 = segments_counted ns fs ∙ c in
     right_whole g s n _ refl refl (omega (arith, l)) refl (le-leb 1 (count_forms (make_segments ns fs)) (omega (arith, same))) tt
     (segments_right g (with_around x (exit.Tagbody (count_forms (make_segments ns fs))) s) (n + 1) ns fs l
-    (subst (λ (k : ℕ). Each (RightIn g (with_around x (exit.Tagbody k) s) (n + 1 + 1)) fs) (sym same) h))
+    (subst (λ (k : ℕ). AllOf (RightIn g (with_around x (exit.Tagbody k) s) (n + 1 + 1)) fs) (sym same) h))
 
 -- a function: its body begins a depth of its own
 
@@ -139,7 +129,7 @@ deep_function d a b o n true e p q k l = omega arith
 deep_function d a b o n false e p q k l = absurd (cc k)
 
 pub made_lambda : (g : Definitions) (s : LexicalScope) (n : ℕ) (required : List ℕ) (rest : Option ℕ) (parts : List Captured) (fs : List Form) (t : LexicalScope) → n + 1 + 1 ≤ 1000
-    → IsCaptured s (parameters required rest) (body_of fs) parts → Each (RightIn g t (n + 1 + 1)) fs
+    → IsCaptured s (parameters required rest) (body_of fs) parts → AllOf (RightIn g t (n + 1 + 1)) fs
     → RightIn g s n (lambda required rest (body_of fs) parts)
 made_lambda g s n required rest parts fs t l c e =
     let f : Form = lambda required rest (body_of fs) parts in

@@ -3,9 +3,10 @@ use Rattle.std.proofs.Common.{◌≡◌, ◌+◌, ℕ, List, [], ◌∷◌, ◌+
 use Rattle.base.specs.declared.datum.Symbol.{Symbol}
 use Rattle.base.specs.declared.datum.Name.{Name}
 use Rattle.base.specs.Data.{Item}
+use Rattle.base.specs.AllOf.{AllOf}
 use Rattle.lang_meaning.specs.declared.scope.LexicalScope.{LexicalScope}
 use Rattle.lang_meaning.specs.Form.{Form}
-use Rattle.lang_meaning.specs.Subforms.{Each, value_list, dynamic_value_list}
+use Rattle.lang_meaning.specs.Subforms.{value_list, dynamic_value_list}
 use Rattle.lang_meaning.specs.Mentions.{variables_bound}
 use Rattle.front_profile.specs.declared.making.Found.{Found}
 use Rattle.front_profile.specs.declared.making.Found.TheVariants.{Value, Binding, Parameter}
@@ -104,7 +105,7 @@ all_match_within p s (x ∷ xs) (r ∷ rs) w h = (match_within p s x r w h.0, al
 
 -- forms outside, forms of bodies there, and forms inside
 
-pub forms_match : (p : Spots) (ds : List Item) (rs : List Found) → AllMatch p (each_form ds) rs → Each (RightOutside p) (forms_found rs)
+pub forms_match : (p : Spots) (ds : List Item) (rs : List Found) → AllMatch p (each_form ds) rs → AllOf (RightOutside p) (forms_found rs)
 forms_match p [] [] h = tt
 forms_match p [] (r ∷ rs) h = absurd h
 forms_match p (d ∷ ds) [] h = absurd h
@@ -121,7 +122,7 @@ forms_as_many p (d ∷ ds) (Value f ∷ rs) h = omega (arith, forms_as_many p ds
 forms_as_many p (d ∷ ds) (Binding v f ∷ rs) h = absurd h.0
 forms_as_many p (d ∷ ds) (Parameter v ∷ rs) h = absurd h.0
 
-pub below_match : (p : Spots) (ds : List Item) (rs : List Found) → AllMatch p (each_below ds) rs → Each (RightBelow p) (forms_found rs)
+pub below_match : (p : Spots) (ds : List Item) (rs : List Found) → AllMatch p (each_below ds) rs → AllOf (RightBelow p) (forms_found rs)
 below_match p [] [] h = tt
 below_match p [] (r ∷ rs) h = absurd h
 below_match p (d ∷ ds) [] h = absurd h
@@ -129,7 +130,7 @@ below_match p (d ∷ ds) (Value f ∷ rs) h = (h.0, below_match p ds rs h.1)
 below_match p (d ∷ ds) (Binding v f ∷ rs) h = absurd h.0
 below_match p (d ∷ ds) (Parameter v ∷ rs) h = absurd h.0
 
-pub inner_match : (p : Spots) (ds : List Item) (rs : List Found) → AllMatch p (each_inner ds) rs → Each (RightInside p) (forms_found rs)
+pub inner_match : (p : Spots) (ds : List Item) (rs : List Found) → AllMatch p (each_inner ds) rs → AllOf (RightInside p) (forms_found rs)
 inner_match p [] [] h = tt
 inner_match p [] (r ∷ rs) h = absurd h
 inner_match p (d ∷ ds) [] h = absurd h
@@ -140,8 +141,8 @@ inner_match p (d ∷ ds) (Parameter v ∷ rs) h = absurd h.0
 -- variables with their values, and a body
 
 pub record BoundMatch (p : Spots) (rs : List Found) : Type 0 where
-  pub values : Each (RightOutside p) (value_list (bindings_found rs))
-  pub forms : Each (RightInside p) (forms_found rs)
+  pub values : AllOf (RightOutside p) (value_list (bindings_found rs))
+  pub forms : AllOf (RightInside p) (forms_found rs)
   pub variables : variables_bound (bindings_found rs) ≡ new_variables rs
 
 body_match : (p : Spots) (ds : List Item) (rs : List Found) → AllMatch p (each_inner ds) rs → BoundMatch p rs
@@ -166,7 +167,7 @@ bound_match p (q ∷ qs) ds (Parameter v ∷ rs) h = absurd h.0
 -- parameters, and a body
 
 pub record ParametersMatch (p : Spots) (many : ℕ) (rs : List Found) : Type 0 where
-  pub forms : Each (RightInside p) (forms_found rs)
+  pub forms : AllOf (RightInside p) (forms_found rs)
   pub variables : variables_found rs ≡ new_variables rs
   pub count : length (variables_found rs) ≡ many
 
@@ -193,8 +194,8 @@ parameters_match p (x ∷ xs) ds (Parameter v ∷ rs) h =
 -- dynamic variables with their values, and a body
 
 pub record DynamicsMatch (p : Spots) (ns : List Name) (rs : List Found) : Type 0 where
-  pub values : Each (RightOutside p) (dynamic_value_list (make_dynamics ns (forms_found rs)))
-  pub forms : Each (RightBelow p) (behind_dynamics ns (forms_found rs))
+  pub values : AllOf (RightOutside p) (dynamic_value_list (make_dynamics ns (forms_found rs)))
+  pub forms : AllOf (RightBelow p) (behind_dynamics ns (forms_found rs))
 
 pub dynamics_match : (p : Spots) (ns : List Name) (qs : List Pair) (ds : List Item) (rs : List Found) → length ns ≡ length qs
     → AllMatch p (values_of qs ++ each_below ds) rs → DynamicsMatch p ns rs
@@ -213,7 +214,7 @@ dynamics_match p (n ∷ ns) (q ∷ qs) ds (Parameter v ∷ rs) e h = absurd h.0
 pub record BodyThen (p : Spots) (many : ℕ) (ys : List Part) (rs : List Found) : Type 0 where
   pub body : List Form
   pub rest : List Found
-  pub right : Each (RightBelow p) body
+  pub right : AllOf (RightBelow p) body
   pub count : length body ≡ many
   pub found : forms_found rs ≡ body ++ forms_found rest
   pub behind : AllMatch p ys rest

@@ -6,9 +6,9 @@ use Rattle.base.specs.declared.place.Place.{Place}
 use Rattle.base.specs.declared.datum.Name.{Name}
 use Rattle.base.specs.declared.datum.Symbol.{Symbol}
 use Rattle.base.specs.Data.{Item}
+use Rattle.base.specs.AllOf.{AllOf}
 use Rattle.lang_meaning.specs.declared.program.ClassRow.{ClassRow}
 use Rattle.lang_meaning.specs.declared.program.Qualifier.{Qualifier}
-use Rattle.lang_meaning.specs.Subforms.{Each}
 use Rattle.lang_classes.specs.InheritedClasses.{class_named}
 use Rattle.lang_derived.specs.Asked.{list_items}
 use Rattle.front_profile.specs.declared.tables.Tables.{Tables}
@@ -29,7 +29,7 @@ IsRight (wrong p r) = ⊥
 IsRight other = Unit {0}
 
 abbrev pub AllRight : List Part → Type 0
-AllRight xs = Each IsRight xs
+AllRight xs = AllOf IsRight xs
 
 -- what stands is right
 pub all_right : (p : Spots) (xs : List Part) (rs : List Found) → AllMatch p xs rs → AllRight xs
@@ -43,11 +43,11 @@ all_right p (parameter x ∷ xs) (r ∷ rs) m = (tt, all_right p xs rs m.1)
 all_right p (wrong q k ∷ xs) (r ∷ rs) m = absurd m.0
 all_right p (function w ∷ xs) (r ∷ rs) m = (tt, all_right p xs rs m.1)
 
-pub each_front : {X : Type 0} (P : X → Type 0) (xs ys : List X) → Each P (xs ++ ys) → Each P xs
+pub each_front : {X : Type 0} (P : X → Type 0) (xs ys : List X) → AllOf P (xs ++ ys) → AllOf P xs
 each_front P [] ys e = tt
 each_front P (x ∷ xs) ys e = (e.0, each_front P xs ys e.1)
 
-pub each_behind : {X : Type 0} (P : X → Type 0) (xs ys : List X) → Each P (xs ++ ys) → Each P ys
+pub each_behind : {X : Type 0} (P : X → Type 0) (xs ys : List X) → AllOf P (xs ++ ys) → AllOf P ys
 each_behind P [] ys e = e
 each_behind P (x ∷ xs) ys e = each_behind P xs ys e.1
 

@@ -13,11 +13,9 @@ use Rattle.front_profile.specs.declared.making.Found.{Found}
 use Rattle.front_profile.specs.declared.making.Found.TheVariants.{Value, Binding, Parameter}
 use Rattle.front_profile.specs.declared.making.One.{One}
 use Rattle.front_profile.specs.declared.making.One.TheVariants.{SetVariable}
-use Rattle.front_profile.specs.declared.making.Two.{Two}
-use Rattle.front_profile.specs.declared.making.Two.TheVariants.{Applying, Throwing, Signalling, Continuing}
-use Rattle.front_profile.specs.declared.making.WithBody.{WithBody}
-use Rattle.front_profile.specs.declared.making.WithBody.TheVariants.{Repeating, Catching, Unwinding, Handling}
-use Rattle.front_profile.specs.Makings.{forms_found, bindings_found, body_of, one_of, two_of, with_body_of, make_segments, make_dynamics, behind_dynamics}
+use Rattle.lang_meaning.specs.declared.kinds.OverTwo.{OverTwo}
+use Rattle.lang_meaning.specs.declared.kinds.OverTwo.TheVariants.{Apply, While, Catch, Throw, Unwind, WithHandler, Signal, Continue}
+use Rattle.front_profile.specs.Makings.{forms_found, bindings_found, body_of, one_of, two_of, make_segments, make_dynamics, behind_dynamics}
 
 abbrev pub nodes_in : List Form → ℕ
 nodes_in [] = 0
@@ -88,20 +86,18 @@ pub one_nodes : (k : One) (f : Form) → all_nodes f + 1 ≤ all_nodes (one_of k
 one_nodes (SetVariable v) f = omega arith
 one_nodes other f = omega arith
 
-pub two_nodes : (k : Two) (f g : Form) → all_nodes f + all_nodes g + 1 ≤ all_nodes (two_of k f g)
-two_nodes Applying f g = omega arith
-two_nodes Throwing f g = omega arith
-two_nodes Signalling f g = omega arith
-two_nodes Continuing f g = omega arith
+pub two_nodes : (k : OverTwo) (f g : Form) → all_nodes f + all_nodes g + 1 ≤ all_nodes (two_of k f g)
+two_nodes Apply f g = omega arith
+two_nodes While f g = omega arith
+two_nodes Catch f g = omega arith
+two_nodes Throw f g = omega arith
+two_nodes Unwind f g = omega arith
+two_nodes WithHandler f g = omega arith
+two_nodes Signal f g = omega arith
+two_nodes Continue f g = omega arith
 
-pub with_body_nodes : (k : WithBody) (f : Form) (fs : List Form) → all_nodes f + nodes_in fs + 1 ≤ all_nodes (with_body_of k f (body_of fs))
-with_body_nodes k f fs = at k (all_nodes (body_of fs)) (body_nodes fs) refl
-  where
-    at : (k : WithBody) (b : ℕ) → b ≡ nodes_in fs + 1 → all_nodes (body_of fs) ≡ b → all_nodes f + nodes_in fs + 1 ≤ all_nodes (with_body_of k f (body_of fs))
-    at Repeating b e p = omega (arith, nodes_folded (with_body_of Repeating f (body_of fs)), e, p)
-    at Catching b e p = omega (arith, nodes_folded (with_body_of Catching f (body_of fs)), e, p)
-    at Unwinding b e p = omega (arith, nodes_folded (with_body_of Unwinding f (body_of fs)), e, p)
-    at Handling b e p = omega (arith, nodes_folded (with_body_of Handling f (body_of fs)), e, p)
+pub with_body_nodes : (k : OverTwo) (f : Form) (fs : List Form) → all_nodes f + nodes_in fs + 1 ≤ all_nodes (two_of k f (body_of fs))
+with_body_nodes k f fs = omega (arith, two_nodes k f (body_of fs), body_nodes fs)
 
 pub call_nodes : (n : ℕ) (fs : List Form) → nodes_in fs + 1 ≤ all_nodes (call n (forms fs))
 call_nodes n fs = omega (arith, nodes_folded (call n (forms fs)), listed_nodes fs)

@@ -3,26 +3,24 @@ use Rattle.std.proofs.Common.{◌≡◌, ◌≤◌, ◌<◌, ℕ, nat_le, nat_lt
 use Rattle.std.specs.List.{list_all}
 use Rattle.std.proofs.lemmas.Bool.{and_parts, and_from, leb-true, ltb-true, le-leb, lt-ltb}
 use Rattle.base.specs.declared.datum.Name.{Name}
+use Rattle.base.specs.AllOf.{AllOf, all_take, all_drop, all_map}
 use Rattle.lang_meaning.specs.Form.{Form, sited, parameters}
-use Rattle.lang_meaning.specs.Subforms.{Each, forms_list, clause_list, value_list, dynamic_value_list, outer, inner}
+use Rattle.lang_meaning.specs.Subforms.{forms_list, clause_list, value_list, dynamic_value_list, outer, inner}
 use Rattle.lang_meaning.specs.Inside.{inside_form}
 use Rattle.lang_meaning.specs.Mentions.{variables_bound}
 use Rattle.lang_meaning.specs.bridge.Judged.{all_inside}
 use Rattle.front_profile.specs.declared.making.Found.{Found}
 use Rattle.front_profile.specs.declared.making.One.{One}
 use Rattle.front_profile.specs.declared.making.One.TheVariants.{SetVariable, SetGlobal, DefineGlobal, SetDynamic, DefineDynamic, ReturnTo}
-use Rattle.front_profile.specs.declared.making.Two.{Two}
-use Rattle.front_profile.specs.declared.making.Two.TheVariants.{Applying, Throwing, Signalling, Continuing}
-use Rattle.front_profile.specs.declared.making.WithBody.{WithBody}
-use Rattle.front_profile.specs.declared.making.WithBody.TheVariants.{Repeating, Catching, Unwinding, Handling}
+use Rattle.lang_meaning.specs.declared.kinds.OverTwo.{OverTwo}
+use Rattle.lang_meaning.specs.declared.kinds.OverTwo.TheVariants.{Apply, While, Catch, Throw, Unwind, WithHandler, Signal, Continue}
 use Rattle.front_profile.specs.declared.making.Making.{Making}
 use Rattle.front_profile.specs.declared.making.Making.TheVariants.{Ready, OfOne, OfTwo, OfBody, InSequence, CallOf, CallOfValue, CallOfLocal, CallOfPrimitive, OfClauses, OfVariables, OfDynamics, OfFunction, OfBlock, OfSegments, OfFunctionNamed, OfProcedure, OfAccessor, OfMethods, OfClass}
 use Rattle.front_profile.specs.Makings.{leaf_form, forms_found, variables_found, bindings_found, body_of, make_one, make_two, make_with_body, make_clauses, make_segments, make_dynamics, behind_dynamics, rest_found, make, at_site}
 use Rattle.front_profile.specs.Definitions.{Definitions, Later}
 use Rattle.front_profile.specs.Numbers.{is_from, numbers_fit, Numbered}
 use Rattle.front_profile.proofs.Tests.{all_more}
-use Rattle.front_profile.proofs.Forms.{each_more}
-use Rattle.front_profile.proofs.MadeForms.{listed, each_taken, each_dropped}
+use Rattle.front_profile.proofs.MadeForms.{listed}
 use Rattle.front_profile.proofs.Matches.{new_variables}
 
 -- wider bounds
@@ -49,11 +47,11 @@ numbered_wider g g2 h h2 f l k n = record {
 
 -- a form, by the forms right inside
 
-all_numbered : (g h : Definitions) (fs : List Form) → Each (Numbered g h) fs → list_all (λ f. list_all (numbers_fit g h) (inside_form f)) fs ≡ true
+all_numbered : (g h : Definitions) (fs : List Form) → AllOf (Numbered g h) fs → list_all (λ f. list_all (numbers_fit g h) (inside_form f)) fs ≡ true
 all_numbered g h [] e = refl
 all_numbered g h (f ∷ fs) e = and_from _ _ e.0.numbers (all_numbered g h fs e.1)
 
-pub numbered_whole : (g h : Definitions) (f : Form) → numbers_fit g h f ≡ true → Each (Numbered g h) (outer f) → Each (Numbered g h) (inner f) → Numbered g h f
+pub numbered_whole : (g h : Definitions) (f : Form) → numbers_fit g h f ≡ true → AllOf (Numbered g h) (outer f) → AllOf (Numbered g h) (inner f) → Numbered g h f
 numbered_whole g h f t os is = record {
   numbers = all_inside (numbers_fit g h) f ∙ and_from _ _ (and_from _ _ t (all_numbered g h (outer f) os)) (all_numbered g h (inner f) is);
 }
@@ -61,8 +59,8 @@ numbered_whole g h f t os is = record {
 -- what was found of parts
 
 pub record AllNumbered (g h : Definitions) (rs : List Found) : Type 0 where
-  pub forms : Each (Numbered g h) (forms_found rs)
-  pub values : Each (Numbered g h) (value_list (bindings_found rs))
+  pub forms : AllOf (Numbered g h) (forms_found rs)
+  pub values : AllOf (Numbered g h) (value_list (bindings_found rs))
   pub variables : list_all (is_from g.variables h.variables) (new_variables rs) ≡ true
 
 -- what a making itself binds, or the form that it has
@@ -78,10 +76,10 @@ OwnNumbers g h (OfBlock x) rs = is_from g.exits h.exits x ≡ true
 OwnNumbers g h (OfSegments x ns) rs = is_from g.exits h.exits x ≡ true
 OwnNumbers g h k rs = Unit {0}
 
-body_numbered : (g h : Definitions) (fs : List Form) → Each (Numbered g h) fs → Numbered g h (body_of fs)
+body_numbered : (g h : Definitions) (fs : List Form) → AllOf (Numbered g h) fs → Numbered g h (body_of fs)
 body_numbered g h fs e = numbered_whole g h (body_of fs) refl (listed (Numbered g h) fs e) tt
 
-one_numbered : (g h : Definitions) (k : One) (fs : List Form) → Each (Numbered g h) fs → Numbered g h (make_one k fs)
+one_numbered : (g h : Definitions) (k : One) (fs : List Form) → AllOf (Numbered g h) fs → Numbered g h (make_one k fs)
 one_numbered g h k [] e = record { numbers = refl }
 one_numbered g h (SetVariable v) (f ∷ fs) e = numbered_whole g h _ refl (e.0, tt) tt
 one_numbered g h (SetGlobal n) (f ∷ fs) e = numbered_whole g h _ refl (e.0, tt) tt
@@ -90,39 +88,40 @@ one_numbered g h (SetDynamic n) (f ∷ fs) e = numbered_whole g h _ refl (e.0, t
 one_numbered g h (DefineDynamic row) (f ∷ fs) e = numbered_whole g h _ refl (e.0, tt) tt
 one_numbered g h (ReturnTo x) (f ∷ fs) e = numbered_whole g h _ refl (e.0, tt) tt
 
-two_numbered : (g h : Definitions) (k : Two) (fs : List Form) → Each (Numbered g h) fs → Numbered g h (make_two k fs)
+two_numbered : (g h : Definitions) (k : OverTwo) (fs : List Form) → AllOf (Numbered g h) fs → Numbered g h (make_two k fs)
 two_numbered g h k [] e = record { numbers = refl }
 two_numbered g h k (f ∷ []) e = record { numbers = refl }
-two_numbered g h Applying (f ∷ i ∷ fs) e = numbered_whole g h _ refl (e.0, (e.1.0, tt)) tt
-two_numbered g h Throwing (f ∷ i ∷ fs) e = numbered_whole g h _ refl (e.0, (e.1.0, tt)) tt
-two_numbered g h Signalling (f ∷ i ∷ fs) e = numbered_whole g h _ refl (e.0, (e.1.0, tt)) tt
-two_numbered g h Continuing (f ∷ i ∷ fs) e = numbered_whole g h _ refl (e.0, (e.1.0, tt)) tt
+two_numbered g h Apply (f ∷ i ∷ fs) e = numbered_whole g h _ refl (e.0, (e.1.0, tt)) tt
+two_numbered g h While (f ∷ i ∷ fs) e = numbered_whole g h _ refl (e.0, (e.1.0, tt)) tt
+two_numbered g h Catch (f ∷ i ∷ fs) e = numbered_whole g h _ refl (e.0, (e.1.0, tt)) tt
+two_numbered g h Throw (f ∷ i ∷ fs) e = numbered_whole g h _ refl (e.0, (e.1.0, tt)) tt
+two_numbered g h Unwind (f ∷ i ∷ fs) e = numbered_whole g h _ refl (e.0, (e.1.0, tt)) tt
+two_numbered g h WithHandler (f ∷ i ∷ fs) e = numbered_whole g h _ refl (e.0, (e.1.0, tt)) tt
+two_numbered g h Signal (f ∷ i ∷ fs) e = numbered_whole g h _ refl (e.0, (e.1.0, tt)) tt
+two_numbered g h Continue (f ∷ i ∷ fs) e = numbered_whole g h _ refl (e.0, (e.1.0, tt)) tt
 
-with_body_numbered : (g h : Definitions) (k : WithBody) (fs : List Form) → Each (Numbered g h) fs → Numbered g h (make_with_body k fs)
+with_body_numbered : (g h : Definitions) (k : OverTwo) (fs : List Form) → AllOf (Numbered g h) fs → Numbered g h (make_with_body k fs)
 with_body_numbered g h k [] e = record { numbers = refl }
-with_body_numbered g h Repeating (f ∷ fs) e = numbered_whole g h _ refl (e.0, (body_numbered g h fs e.1, tt)) tt
-with_body_numbered g h Catching (f ∷ fs) e = numbered_whole g h _ refl (e.0, (body_numbered g h fs e.1, tt)) tt
-with_body_numbered g h Unwinding (f ∷ fs) e = numbered_whole g h _ refl (e.0, (body_numbered g h fs e.1, tt)) tt
-with_body_numbered g h Handling (f ∷ fs) e = numbered_whole g h _ refl (e.0, (body_numbered g h fs e.1, tt)) tt
+with_body_numbered g h k (f ∷ fs) e = two_numbered g h k (f ∷ body_of fs ∷ []) (e.0, (body_numbered g h fs e.1, tt))
 
-clauses_numbered : (g h : Definitions) (ns : List (Option ℕ)) (fs : List Form) → Each (Numbered g h) fs → Each (Numbered g h) (clause_list (make_clauses ns fs))
+clauses_numbered : (g h : Definitions) (ns : List (Option ℕ)) (fs : List Form) → AllOf (Numbered g h) fs → AllOf (Numbered g h) (clause_list (make_clauses ns fs))
 clauses_numbered g h [] fs e = tt
 clauses_numbered g h (n ∷ ns) [] e = tt
 clauses_numbered g h (None ∷ ns) (f ∷ fs) e = (e.0, clauses_numbered g h ns fs e.1)
 clauses_numbered g h (Some n ∷ ns) (f ∷ fs) e =
-    (e.0, (body_numbered g h (take n fs) (each_taken _ n fs e.1), clauses_numbered g h ns (drop n fs) (each_dropped _ n fs e.1)))
+    (e.0, (body_numbered g h (take n fs) (all_take _ n fs e.1), clauses_numbered g h ns (drop n fs) (all_drop _ n fs e.1)))
 
-dynamics_numbered : (g h : Definitions) (ns : List Name) (fs : List Form) → Each (Numbered g h) fs
-    → Each (Numbered g h) (dynamic_value_list (make_dynamics ns fs)) × Each (Numbered g h) (behind_dynamics ns fs)
+dynamics_numbered : (g h : Definitions) (ns : List Name) (fs : List Form) → AllOf (Numbered g h) fs
+    → AllOf (Numbered g h) (dynamic_value_list (make_dynamics ns fs)) × AllOf (Numbered g h) (behind_dynamics ns fs)
 dynamics_numbered g h [] fs e = (tt, e)
 dynamics_numbered g h (n ∷ ns) [] e = (tt, tt)
 dynamics_numbered g h (n ∷ ns) (f ∷ fs) e =
-    let r : Each (Numbered g h) (dynamic_value_list (make_dynamics ns fs)) × Each (Numbered g h) (behind_dynamics ns fs) = dynamics_numbered g h ns fs e.1 in
+    let r : AllOf (Numbered g h) (dynamic_value_list (make_dynamics ns fs)) × AllOf (Numbered g h) (behind_dynamics ns fs) = dynamics_numbered g h ns fs e.1 in
     ((e.0, r.0), r.1)
 
-segments_numbered : (g h : Definitions) (ns : List ℕ) (fs : List Form) → Each (Numbered g h) fs → Each (Numbered g h) (forms_list (make_segments ns fs))
+segments_numbered : (g h : Definitions) (ns : List ℕ) (fs : List Form) → AllOf (Numbered g h) fs → AllOf (Numbered g h) (forms_list (make_segments ns fs))
 segments_numbered g h [] fs e = tt
-segments_numbered g h (n ∷ ns) fs e = (body_numbered g h (take n fs) (each_taken _ n fs e), segments_numbered g h ns (drop n fs) (each_dropped _ n fs e))
+segments_numbered g h (n ∷ ns) fs e = (body_numbered g h (take n fs) (all_take _ n fs e), segments_numbered g h ns (drop n fs) (all_drop _ n fs e))
 
 pub make_numbered : (g h : Definitions) (k : Making) (rs : List Found) → AllNumbered g h rs → OwnNumbers g h k rs → Numbered g h (make k rs)
 make_numbered g h (OfOne k) rs a o = one_numbered g h k (forms_found rs) a.forms
@@ -137,7 +136,7 @@ make_numbered g h (OfClauses ns) rs a o = numbered_whole g h _ refl (clauses_num
 make_numbered g h OfVariables rs a o =
     numbered_whole g h _ (and_from _ _ o refl) a.values (body_numbered g h (forms_found rs) a.forms, tt)
 make_numbered g h (OfDynamics ns) rs a o =
-    let r : Each (Numbered g h) (dynamic_value_list (make_dynamics ns (forms_found rs))) × Each (Numbered g h) (behind_dynamics ns (forms_found rs)) =
+    let r : AllOf (Numbered g h) (dynamic_value_list (make_dynamics ns (forms_found rs))) × AllOf (Numbered g h) (behind_dynamics ns (forms_found rs)) =
     dynamics_numbered g h ns (forms_found rs) a.forms in
     numbered_whole g h _ refl r.0 (body_numbered g h (behind_dynamics ns (forms_found rs)) r.1, tt)
 make_numbered g h (OfFunction n rest parts) rs a o =
@@ -158,7 +157,7 @@ next_number low high n l k = and_from _ _ (le-leb low n l) (lt-ltb n high k)
 
 pub all_numbered_wider : (g g2 h h2 : Definitions) (rs : List Found) → Later g2 g → Later h h2 → AllNumbered g h rs → AllNumbered g2 h2 rs
 all_numbered_wider g g2 h h2 rs l k a = record {
-  forms = each_more (Numbered g h) (Numbered g2 h2) (λ f n. numbered_wider g g2 h h2 f l k n) (forms_found rs) a.forms;
-  values = each_more (Numbered g h) (Numbered g2 h2) (λ f n. numbered_wider g g2 h h2 f l k n) (value_list (bindings_found rs)) a.values;
+  forms = all_map (Numbered g h) (Numbered g2 h2) (λ f n. numbered_wider g g2 h h2 f l k n) (forms_found rs) a.forms;
+  values = all_map (Numbered g h) (Numbered g2 h2) (λ f n. numbered_wider g g2 h h2 f l k n) (value_list (bindings_found rs)) a.values;
   variables = all_wider g.variables g2.variables h.variables h2.variables (new_variables rs) l.variables k.variables a.variables;
 }

@@ -6,7 +6,6 @@ use Rattle.base.specs.declared.datum.Symbol.{Symbol}
 use Rattle.lang_meaning.specs.declared.scope.LexicalScope.{LexicalScope}
 use Rattle.lang_meaning.specs.declared.part.Part.{Part as Captured}
 use Rattle.lang_meaning.specs.declared.part.Part.TheVariants as part
-use Rattle.lang_meaning.specs.Subforms.{Each}
 use Rattle.lang_meaning.specs.Standing.{with_bound, exit_around}
 use Rattle.lang_meaning.specs.Counts.{all_nodes}
 use Rattle.front_profile.specs.declared.tables.Tables.{Tables}
@@ -18,7 +17,7 @@ use Rattle.front_profile.specs.Scopes.{Provides, Within}
 use Rattle.front_profile.specs.Definitions.{Definitions, defined, Later, Undefined, SoundDefinitions, EachStands}
 use Rattle.front_profile.specs.Places.{variables_around, scope_of, GoodAround}
 use Rattle.front_profile.specs.Right.{Counted}
-use Rattle.front_profile.proofs.Forms.{each_more, right_later, right_within}
+use Rattle.front_profile.proofs.Forms.{right_later, right_within}
 use Rattle.front_profile.proofs.Definitions.{later_same, later_then, undefined_then, each_stands_same, Entered, counted_then, counted_more}
 use Rattle.front_profile.specs.Numbers.{Numbered}
 use Rattle.front_profile.proofs.Numbers.{AllNumbered, numbered_wider, all_numbered_wider, next_number}
@@ -28,6 +27,7 @@ use Rattle.front_profile.proofs.Captured.{any_cases}
 use Rattle.front_profile.proofs.Matches.{AllMatch, new_variables, all_match_within}
 use Rattle.front_profile.proofs.Wanted.{spots, AllCame, AptPart, AllApt, part_nodes, counted_nodes, Want, nothing, never, right_at, one_procedure, wanted_nodes, LeavesAs}
 use Rattle.base.specs.Names.{slice_get-behind}
+use Rattle.base.specs.AllOf.{AllOf, all_map}
 use Rattle.front_profile.specs.Nodes.{Written}
 use Rattle.front_profile.proofs.Procedures.{MadeFrom, Same, IsAt, OneMore}
 use Rattle.front_profile.proofs.Parts.{CameAs, AllCameTo, part_place, part_spot, part_tables, variable_entered}
@@ -66,8 +66,8 @@ wider vs s = record { provides = provides }
 
 -- a part more
 
-newer_from : (m n : ℕ) (vs : List ℕ) → m ≤ n → Each (λ v. n ≤ v) vs → Each (λ v. m ≤ v) vs
-newer_from m n vs l e = each_more (λ v. n ≤ v) (λ v. m ≤ v) (λ v k. omega (arith, k, l)) vs e
+newer_from : (m n : ℕ) (vs : List ℕ) → m ≤ n → AllOf (λ v. n ≤ v) vs → AllOf (λ v. m ≤ v) vs
+newer_from m n vs l e = all_map (λ v. n ≤ v) (λ v. m ≤ v) (λ v k. omega (arith, k, l)) vs e
 
 -- those behind a variable that is bound match beside it too
 bound_match : (o i : Around) (s : Tables) (x : Symbol) (xs : List Part) (m : Standing) (r : AllFound)

@@ -2,17 +2,17 @@
 use Rattle.std.proofs.Common.{◌≡◌, ◌+◌, ◌≤◌, ℕ, zero, suc, Bool, true, false, List, [], ◌∷◌, ◌++◌, length, take, drop, Option, Some, None, is_some, if◌then◌else◌, refl, sym, ap, subst, ◌∙◌, arith}
 use Rattle.base.specs.declared.datum.Symbol.{Symbol}
 use Rattle.base.specs.Data.{Item}
+use Rattle.base.specs.AllOf.{AllOf}
 use Rattle.lang_meaning.specs.declared.scope.LexicalScope.{LexicalScope}
 use Rattle.lang_meaning.specs.Form.{Form, parameters}
-use Rattle.lang_meaning.specs.Subforms.{Each, clause_list}
+use Rattle.lang_meaning.specs.Subforms.{clause_list}
 use Rattle.lang_meaning.specs.Standing.{with_bound}
 use Rattle.front_profile.specs.declared.tables.Tables.{Tables}
 use Rattle.front_profile.specs.declared.making.Found.{Found}
 use Rattle.front_profile.specs.declared.making.Found.TheVariants.{Value, Binding, Parameter}
 use Rattle.front_profile.specs.declared.making.One.{One}
 use Rattle.front_profile.specs.declared.making.One.TheVariants.{SetVariable}
-use Rattle.front_profile.specs.declared.making.Two.{Two}
-use Rattle.front_profile.specs.declared.making.WithBody.{WithBody}
+use Rattle.lang_meaning.specs.declared.kinds.OverTwo.{OverTwo}
 use Rattle.front_profile.specs.Nodes.{Around, form}
 use Rattle.front_profile.specs.Makings.{forms_found, make_one, make_two, make_with_body, make_clauses, rest_found, finish_one}
 use Rattle.front_profile.specs.Shapes.{ClauseParts, all_symbols, symbols_of_rest}
@@ -39,7 +39,7 @@ pub one_ends : (k : One) (t : Tables) → defined (finish_one k t) ≡ defined t
 one_ends (SetVariable v) t = refl
 one_ends other t = refl
 
-pub found_two : (h : Definitions) (a i : Around) (k : Two) (d e : Item) (rs : List Found) → a.spot.depth + 1 ≤ 1000
+pub found_two : (h : Definitions) (a i : Around) (k : OverTwo) (d e : Item) (rs : List Found) → a.spot.depth + 1 ≤ 1000
     → AllMatch (spots h (deeper 1 a) i rs) (form d ∷ form e ∷ []) rs → RightAt h a (make_two k (forms_found rs))
 found_two h a i k d e [] l m = absurd m
 found_two h a i k d e (Value f ∷ []) l m = absurd m.1
@@ -49,7 +49,7 @@ found_two h a i k d e (Value f ∷ Parameter v ∷ rs) l m = absurd m.1.0
 found_two h a i k d e (Binding v f ∷ rs) l m = absurd m.0
 found_two h a i k d e (Parameter v ∷ rs) l m = absurd m.0
 
-pub found_with_body : (h : Definitions) (a i : Around) (k : WithBody) (d : Item) (ds : List Item) (rs : List Found) → a.spot.depth + 2 ≤ 1000
+pub found_with_body : (h : Definitions) (a i : Around) (k : OverTwo) (d : Item) (ds : List Item) (rs : List Found) → a.spot.depth + 2 ≤ 1000
     → AllMatch (spots h (deeper 1 a) i rs) (form d ∷ each_below ds) rs → RightAt h a (make_with_body k (forms_found rs))
 found_with_body h a i k d ds [] l m = absurd m
 found_with_body h a i k d ds (Value f ∷ rs) l m =
@@ -69,19 +69,19 @@ no_new p (d ∷ ds) (Binding v f ∷ rs) m = absurd m.0
 no_new p (d ∷ ds) (Parameter v ∷ rs) m = absurd m.0
 
 pub found_inner : (h : Definitions) (o i : Around) (ds : List Item) (rs : List Found) → AllMatch (spots h o i rs) (each_inner ds) rs
-    → Each (RightIn h (scope_of i) i.spot.depth) (forms_found rs)
+    → AllOf (RightIn h (scope_of i) i.spot.depth) (forms_found rs)
 found_inner h o i ds rs m =
-    subst (λ (vs : List ℕ). Each (RightIn h (with_bound vs (scope_of i)) i.spot.depth) (forms_found rs)) (no_new (spots h o i rs) ds rs m)
+    subst (λ (vs : List ℕ). AllOf (RightIn h (with_bound vs (scope_of i)) i.spot.depth) (forms_found rs)) (no_new (spots h o i rs) ds rs m)
     (inner_match (spots h o i rs) ds rs m)
 
 -- clauses
 
-some_deep : (g : Definitions) (s : LexicalScope) (n : ℕ) (fs : List Form) → Each (RightIn g s n) fs → 1 ≤ length fs → n ≤ 1000
+some_deep : (g : Definitions) (s : LexicalScope) (n : ℕ) (fs : List Form) → AllOf (RightIn g s n) fs → 1 ≤ length fs → n ≤ 1000
 some_deep g s n [] e l = absurd (omega (arith, l))
 some_deep g s n (f ∷ fs) e l = omega (arith, e.0.deep)
 
 abbrev pub ClausesRight : Spots → List (Option ℕ) → List Form → Type 0
-ClausesRight p ns fs = Each (RightOutside p) (clause_list (make_clauses ns fs))
+ClausesRight p ns fs = AllOf (RightOutside p) (clause_list (make_clauses ns fs))
 
 behind_test : (p : Spots) (f : Form) (ds : List Item) (cs : List ClauseParts) (rs : List Found) → RightOutside p f → (b : BodyThen p (length ds) (clause_parts cs) rs)
     → ClausesRight p (clause_lengths cs) (forms_found b.rest) → ClausesRight p (length_if ds ∷ clause_lengths cs) (f ∷ forms_found rs)
@@ -98,7 +98,7 @@ behind_test p f (d ∷ ds) cs rs r b more =
     let deep : p.depth + 1 ≤ 1000 = some_deep p.defined p.outside (p.depth + 1) b.body b.right (omega (arith, count)) in (
       r,
       (
-        made_body p.defined p.outside p.depth (take (length ds + 1) (forms_found rs)) deep (subst (Each (RightBelow p)) (sym front) b.right),
+        made_body p.defined p.outside p.depth (take (length ds + 1) (forms_found rs)) deep (subst (AllOf (RightBelow p)) (sym front) b.right),
         subst (ClausesRight p (clause_lengths cs)) (sym rest) more,
       ),
     )

@@ -4,10 +4,10 @@ use Rattle.std.specs.List.{list_any}
 use Rattle.std.proofs.lemmas.Bool.{eq-eqb, ne_eqb, lt-ltb}
 use Rattle.std.proofs.lemmas.Bool.{or_left, or_right}
 use Rattle.base.specs.declared.datum.Symbol.{Symbol}
+use Rattle.base.specs.AllOf.{AllOf}
 use Rattle.lang_meaning.specs.declared.scope.Around.{Around as Kind}
 use Rattle.lang_meaning.specs.declared.scope.Around.TheVariants as exit
 use Rattle.lang_meaning.specs.declared.scope.ExitAround.{ExitAround}
-use Rattle.lang_meaning.specs.Subforms.{Each}
 use Rattle.lang_meaning.specs.Standing.{exit_around, is_segment}
 use Rattle.front_profile.specs.declared.bound.Bound.{Bound}
 use Rattle.front_profile.specs.declared.bound.Bound.TheVariants.{Variable, Function, Block, Tags}
@@ -42,10 +42,6 @@ exit_numbers_append (b ∷ bs) cs = ap (λ ns. exit_at b ++ ns) (exit_numbers_ap
 pub exits_append : (bs cs : List Bound) → exits_around (bs ++ cs) ≡ exits_around cs ++ exits_around bs
 exits_append [] cs = sym (append-nil (exits_around cs))
 exits_append (b ∷ bs) cs = ap (λ es. es ++ exit_of b) (exits_append bs cs) ∙ append_assoc (exits_around cs) (exits_around bs) (exit_of b)
-
-pub each_append : {X : Type 0} (P : X → Type 0) (xs ys : List X) → Each P xs → Each P ys → Each P (xs ++ ys)
-each_append P [] ys e f = f
-each_append P (x ∷ xs) ys e f = (e.0, each_append P xs ys e.1 f)
 
 pub any_front : {X : Type 0} (p : X → Bool) (xs ys : List X) → list_any p xs ≡ true → list_any p (xs ++ ys) ≡ true
 any_front p [] ys h = absurd (cc h)
@@ -137,7 +133,7 @@ function_given x vs (Variable y n) v f h = absurd (cc h)
 function_given x vs (Block y n) v f h = absurd (cc h)
 function_given x vs (Tags ys n) v f h = absurd (cc h)
 
-pub function_there : (x : Symbol) (vs : List ℕ) (bs : List Bound) (v : ℕ) → Each (FunctionThere vs) bs → function_of bs x ≡ Some v
+pub function_there : (x : Symbol) (vs : List ℕ) (bs : List Bound) (v : ℕ) → AllOf (FunctionThere vs) bs → function_of bs x ≡ Some v
     → list_any (λ w. v == w) vs ≡ true
 function_there x vs [] v f h = absurd (cc h)
 function_there x vs (b ∷ bs) v f h =

@@ -2,9 +2,9 @@
 use Rattle.std.proofs.Common.{◌≡◌, ◌+◌, ℕ, Bool, true, false, List, [], ◌∷◌, ◌++◌, length, Some, is_some, slice_get}
 use Rattle.lang_meaning.specs.declared.program.Procedure.{Procedure}
 use Rattle.lang_meaning.specs.Standing.{is_alone}
-use Rattle.lang_meaning.specs.Subforms.{Each}
 use Rattle.front_profile.specs.Nodes.{Part, form, below, inner, bind, parameter, wrong, function, Written, initform, accessor, method}
 use Rattle.base.specs.Data.{Item}
+use Rattle.base.specs.AllOf.{AllOf}
 use Rattle.front_profile.specs.Makings.{arguments_of}
 use Rattle.front_profile.specs.RowWords.{each_inner}
 use Rattle.front_profile.specs.Definitions.{Definitions, Later, SoundDefinitions}
@@ -59,7 +59,7 @@ IsOrdinary (function w) = ⊥
 IsOrdinary other = Unit {0}
 
 abbrev pub AllOrdinary : List Part → Type 0
-AllOrdinary xs = Each IsOrdinary xs
+AllOrdinary xs = AllOf IsOrdinary xs
 
 -- parts below top level, where outside or inside may be top level
 abbrev pub IsLow : Bool → Bool → Part → Type 0
@@ -72,7 +72,7 @@ IsLow o i (wrong p r) = Unit {0}
 IsLow o i (function w) = Unit {0}
 
 abbrev pub AllLow : Bool → Bool → List Part → Type 0
-AllLow o i xs = Each (IsLow o i) xs
+AllLow o i xs = AllOf (IsLow o i) xs
 
 is_low : (o i : Bool) (x : Part) → o ≡ false → i ≡ false → IsLow o i x
 is_low o i (form d) e f = e

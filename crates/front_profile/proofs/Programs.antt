@@ -6,13 +6,13 @@ use Rattle.std.proofs.lemmas.Bool.{le-leb}
 use Rattle.std.proofs.lemmas.Bool.{and_parts, and_from}
 use Rattle.base.specs.Data.{Item}
 use Rattle.base.specs.GoodData.{Good}
+use Rattle.base.specs.AllOf.{AllOf}
 use Rattle.lang_meaning.specs.declared.program.Procedure.{Procedure}
 use Rattle.lang_meaning.specs.declared.program.ProgramRows.{ProgramRows}
 use Rattle.lang_meaning.specs.Cells.{program_cells}
 use Rattle.lang_meaning.specs.declared.program.FunctionRow.{FunctionRow}
 use Rattle.lang_meaning.specs.declared.scope.LexicalScope.{LexicalScope}
 use Rattle.lang_meaning.specs.Form.{Form}
-use Rattle.lang_meaning.specs.Subforms.{Each}
 use Rattle.lang_meaning.specs.Counts.{depth, all_nodes}
 use Rattle.lang_meaning.specs.ProgramCounts.{program_nodes}
 use Rattle.lang_meaning.specs.Lookup.{all_differ}
@@ -65,7 +65,7 @@ pub nothing_good : (g : Definitions) (a : Around) → NothingAround a → GoodAr
 nothing_good g a n = record {
   variables = subst (λ (bs : List Bound). Rises 0 (variables_around bs) g.variables) (sym n.bound) (omega arith);
   exits = subst (λ (bs : List Bound). Rises 0 (exit_numbers bs) g.exits) (sym n.bound) (omega arith);
-  functions = subst (λ (bs : List Bound). Each (FunctionThere (variables_around bs)) bs) (sym n.bound) tt;
+  functions = subst (λ (bs : List Bound). AllOf (FunctionThere (variables_around bs)) bs) (sym n.bound) tt;
   top = λ e. n;
 }
 

@@ -9,8 +9,8 @@ use Rattle.base.specs.declared.datum.Symbol.TheVariants.{Named, Fresh}
 use Rattle.base.specs.declared.reason.Reason.TheVariants.{BadSlot}
 use Rattle.base.specs.Data.{Item, place_of}
 use Rattle.base.specs.DataNames.{symbol_text}
+use Rattle.base.specs.AllOf.{AllOf, all_both}
 use Rattle.lang_meaning.specs.declared.program.Procedure.{Procedure}
-use Rattle.lang_meaning.specs.Subforms.{Each}
 use Rattle.lang_meaning.specs.Standing.{is_alone}
 use Rattle.lang_meaning.specs.Facts.{initform_fits}
 use Rattle.lang_classes.specs.Given.{given as given_slots, spec_names, is_wrong}
@@ -27,7 +27,6 @@ use Rattle.front_profile.specs.GivenNames.{GivenName, no_name, unfit, lacking, g
 use Rattle.front_profile.specs.ClassShapes.{SlotOption, wrong_option, initform_of, initarg_by, method_by, accessor_with, accessor_by, slot_option, option_and, slot_options, WrittenSlot, slot_with, name_in, slot_in_list, slot_by, slot_and, each_slot, slots_in}
 use Rattle.front_profile.specs.ClassRows.{Function, for_initform, for_method, functions_of_option, functions_of, all_functions, is_lacking, has_wrong_options, part_of, slot_parts, initform_from, slot_specs}
 use Rattle.front_profile.specs.Definitions.{Definitions, rows_of, takes_nothing, initform_takes_nothing, slot_fits}
-use Rattle.front_profile.proofs.Places.{each_append}
 use Rattle.front_profile.proofs.Procedures.{Takes, MadeFrom}
 use Rattle.front_profile.proofs.MethodViews.{IsRight, AllRight, each_front, each_behind}
 
@@ -41,7 +40,7 @@ IsNamed (for_method lacking k) = Unit {0}
 IsNamed (for_method (given n) k) = Unit {0}
 
 abbrev AllNamed : List Function → Type 0
-AllNamed fs = Each IsNamed fs
+AllNamed fs = AllOf IsNamed fs
 
 abbrev NamedOption : SlotOption → Type 0
 NamedOption o = AllNamed (functions_of_option o)
@@ -106,7 +105,7 @@ named_option names o d =
 one_option : (o : Option SlotOption) (os : Option (List SlotOption)) → MaybeOption o → MaybeOptions os → MaybeOptions (option_and o os)
 one_option None os g h = tt
 one_option (Some o) None g h = tt
-one_option (Some o) (Some os) g h = each_append IsNamed (functions_of_option o) (flat_map functions_of_option os) g h
+one_option (Some o) (Some os) g h = all_both IsNamed (functions_of_option o) (flat_map functions_of_option os) g h
 
 named_options : (names : List (List ℕ)) (ds : List Item) → MaybeOptions (slot_options names ds)
 named_options names [] = tt
@@ -130,7 +129,7 @@ named_slot names d (Some x) = named_slot_with (place_of d) (name_of x) (Some [])
 one_slot : (x : Option WrittenSlot) (xs : Option (List WrittenSlot)) → MaybeSlot x → MaybeSlots xs → MaybeSlots (slot_and x xs)
 one_slot None xs g h = tt
 one_slot (Some x) None g h = tt
-one_slot (Some x) (Some xs) g h = each_append IsNamed (functions_of x) (all_functions xs) g h
+one_slot (Some x) (Some xs) g h = all_both IsNamed (functions_of x) (all_functions xs) g h
 
 named_each : (names : List (List ℕ)) (ds : List Item) → MaybeSlots (each_slot names ds)
 named_each names [] = tt
@@ -150,7 +149,7 @@ IsGiven (for_method lacking k) = ⊥
 IsGiven (for_method (given n) k) = Unit {0}
 
 abbrev pub AllGiven : List Function → Type 0
-AllGiven fs = Each IsGiven fs
+AllGiven fs = AllOf IsGiven fs
 
 one_given : (f : Function) → IsNamed f → is_lacking f ≡ false → IsGiven f
 one_given (for_initform d) n l = tt

@@ -4,6 +4,7 @@ use Rattle.base.specs.declared.place.Place.{Place}
 use Rattle.base.specs.declared.datum.Name.{Name}
 use Rattle.base.specs.declared.datum.Symbol.{Symbol}
 use Rattle.base.specs.Data.{Item}
+use Rattle.base.specs.AllOf.{all_map}
 use Rattle.lang_meaning.specs.declared.program.LiteralRow.{LiteralRow}
 use Rattle.lang_derived.specs.Derived.{new_symbols}
 use Rattle.front_profile.specs.declared.tables.Tables.{Tables}
@@ -28,7 +29,6 @@ use Rattle.front_profile.specs.Below.{SameNames, NothingDefined}
 use Rattle.front_profile.specs.Known.{KnownTables}
 use Rattle.front_profile.proofs.MethodViews.{AllRight}
 use Rattle.front_profile.proofs.Joining.{AllFunctions}
-use Rattle.front_profile.proofs.Forms.{each_more}
 use Rattle.front_profile.proofs.FoundNodes.{IsPlain, AllPlain}
 use Rattle.front_profile.proofs.Procedures.{IsOrdinary, AllOrdinary, AllLow, all_low}
 
@@ -215,7 +215,7 @@ plain_part (function w) h = absurd h
 plain_part other h = tt
 
 pub plain_ordinary : (xs : List Part) → AllPlain xs → AllOrdinary xs
-plain_ordinary xs h = each_more IsPlain IsOrdinary plain_part xs h
+plain_ordinary xs h = all_map IsPlain IsOrdinary plain_part xs h
 
 pub bound_ordinary : (qs : List Pair) → AllOrdinary (each_bound qs)
 bound_ordinary [] = tt

@@ -6,6 +6,7 @@ use Rattle.base.specs.declared.datum.Symbol.{Symbol}
 use Rattle.base.specs.declared.datum.Symbol.TheVariants.{Named, Fresh}
 use Rattle.base.specs.declared.reason.Reason.{Reason}
 use Rattle.base.specs.Data.{Item, item, symbol, place_of}
+use Rattle.base.specs.AllOf.{all_both}
 use Rattle.lang_classes.specs.InheritedClasses.{class_named}
 use Rattle.front_profile.specs.declared.bound.Bound.{Bound}
 use Rattle.front_profile.specs.declared.bound.Bound.TheVariants.{Block, Tags}
@@ -14,9 +15,8 @@ use Rattle.front_profile.specs.declared.parameters.Parameters.{Parameters}
 use Rattle.front_profile.specs.declared.tables.Tables.{Tables}
 use Rattle.front_profile.specs.declared.making.Leaf.{Leaf}
 use Rattle.front_profile.specs.declared.making.One.{One}
-use Rattle.front_profile.specs.declared.making.Two.{Two}
-use Rattle.front_profile.specs.declared.making.Two.TheVariants.{Signalling, Continuing}
-use Rattle.front_profile.specs.declared.making.WithBody.{WithBody}
+use Rattle.lang_meaning.specs.declared.kinds.OverTwo.{OverTwo}
+use Rattle.lang_meaning.specs.declared.kinds.OverTwo.TheVariants.{Signal, Continue}
 use Rattle.front_profile.specs.declared.making.Making.{Making}
 use Rattle.front_profile.specs.declared.making.Making.TheVariants.{OfOne, OfTwo, OfBody, InSequence, CallOfValue, CallOfLocal, OfVariables, OfDynamics, OfBlock, OfSegments}
 use Rattle.front_profile.specs.Names.{variable_of, function_of, block_of, tag_of}
@@ -32,7 +32,6 @@ use Rattle.front_profile.specs.BindingRows.{values_of, let_as, let_row, names_of
 use Rattle.front_profile.specs.Marks.{Grows}
 use Rattle.front_profile.specs.bridge.Growing.{grows_same}
 use Rattle.front_profile.specs.Below.{NothingDefined}
-use Rattle.front_profile.proofs.Places.{each_append}
 use Rattle.front_profile.proofs.FoundNodes.{both_plain, forms_plain, below_plain, inner_plain, parameters_plain, values_plain, clauses_plain}
 use Rattle.front_profile.proofs.Procedures.{IsOrdinary, inner_ordinary}
 use Rattle.front_profile.proofs.Starting.{grows_set, grows_numbers, none_defined, none_set, none_numbers, MakesNothing, IsSimple, Starts, starts_if, starts_within, starts_made, starts_plain, starts_at_once, starts_unsited, starts_literal, Sets, sets_nothing, plain_ordinary, bound_ordinary}
@@ -85,13 +84,13 @@ pub starts_cond_as : (s : Tables) (a : Around) (p : Place) (cs : Option (List Cl
 starts_cond_as s a p None = tt
 starts_cond_as s a p (Some cs) = starts_within s (own_depth cs) a p _ (starts_plain s a p (clause_parts cs) _ tt (plain_ordinary (clause_parts cs) (clauses_plain cs)) (λ rs u. none_defined u))
 
-pub starts_two : (s : Tables) (k : Two) (a : Around) (p : Place) (ds : List Item) → Starts s a.spot.top (two_row k a s p ds)
+pub starts_two : (s : Tables) (k : OverTwo) (a : Around) (p : Place) (ds : List Item) → Starts s a.spot.top (two_row k a s p ds)
 starts_two s k a p (d ∷ e ∷ []) = starts_within s 1 a p _ (starts_plain s a p (form d ∷ form e ∷ []) (OfTwo k) tt (tt, (tt, tt)) (λ rs u. none_defined u))
 starts_two s k a p [] = tt
 starts_two s k a p (d ∷ []) = tt
 starts_two s k a p (d ∷ e ∷ f ∷ ds) = tt
 
-pub starts_body : (s : Tables) (k : WithBody) (a : Around) (p : Place) (ds : List Item) → Starts s a.spot.top (body_row k a s p ds)
+pub starts_body : (s : Tables) (k : OverTwo) (a : Around) (p : Place) (ds : List Item) → Starts s a.spot.top (body_row k a s p ds)
 starts_body s k a p [] = tt
 starts_body s k a p (d ∷ ds) =
     starts_within s 2 a p _ (starts_plain s a p (form d ∷ each_below ds) (OfBody k) tt (tt, plain_ordinary (each_below ds) (below_plain ds)) (λ rs u. none_defined u))
@@ -226,8 +225,8 @@ named_nothing n (Some p) = λ rs u. none_defined u
 pub call_nothing : (n : Name) (text : List ℕ) (count : ℕ) → MakesNothing (call_making n text count)
 call_nothing n text count =
     chosen_nothing (is_value_call text count) CallOfValue _ (λ rs u. none_defined u)
-    (chosen_nothing (is_pair_call text (codes "signal-condition") count) (OfTwo Signalling) _ (λ rs u. none_defined u)
-    (chosen_nothing (is_pair_call text (codes "continue-condition") count) (OfTwo Continuing) _ (λ rs u. none_defined u) (named_nothing n (primitive_called text count))))
+    (chosen_nothing (is_pair_call text (codes "signal-condition") count) (OfTwo Signal) _ (λ rs u. none_defined u)
+    (chosen_nothing (is_pair_call text (codes "continue-condition") count) (OfTwo Continue) _ (λ rs u. none_defined u) (named_nothing n (primitive_called text count))))
 
 chosen_simple : (b : Bool) (k l : Making) → IsSimple k → IsSimple l → IsSimple (if b then k else l)
 chosen_simple true k l h g = h
@@ -240,8 +239,8 @@ named_simple n (Some p) = tt
 pub call_simple : (n : Name) (text : List ℕ) (count : ℕ) → IsSimple (call_making n text count)
 call_simple n text count =
     chosen_simple (is_value_call text count) CallOfValue _ tt
-    (chosen_simple (is_pair_call text (codes "signal-condition") count) (OfTwo Signalling) _ tt
-    (chosen_simple (is_pair_call text (codes "continue-condition") count) (OfTwo Continuing) _ tt (named_simple n (primitive_called text count))))
+    (chosen_simple (is_pair_call text (codes "signal-condition") count) (OfTwo Signal) _ tt
+    (chosen_simple (is_pair_call text (codes "continue-condition") count) (OfTwo Continue) _ tt (named_simple n (primitive_called text count))))
 
 pub starts_local_call : (s : Tables) (v : ℕ) (a : Around) (p : Place) (ds : List Item) → Starts s a.spot.top (local_call v a s p ds)
 starts_local_call s v a p ds =
@@ -253,7 +252,7 @@ starts_let_as : (s : Tables) (a : Around) (p : Place) (bs : Item) (fs : List Ite
 starts_let_as s a p bs fs None = tt
 starts_let_as s a p bs fs (Some qs) =
     starts_made s a (deeper 2 a) p s (each_bound qs ++ each_inner fs) OfVariables tt (grows_same s) (none_defined s) (λ e. refl)
-    (each_append IsOrdinary (each_bound qs) (each_inner fs) (bound_ordinary qs) (inner_ordinary fs)) (λ e rs u. none_defined u)
+    (all_both IsOrdinary (each_bound qs) (each_inner fs) (bound_ordinary qs) (inner_ordinary fs)) (λ e rs u. none_defined u)
 
 pub starts_let : (s : Tables) (a : Around) (p : Place) (ds : List Item) → Starts s a.spot.top (let_row a s p ds)
 starts_let s a p [] = tt

@@ -8,9 +8,9 @@ use Rattle.base.specs.declared.datum.Name.{Name}
 use Rattle.base.specs.declared.place.Place.{Place}
 use Rattle.base.specs.declared.reason.Reason.TheVariants.{BadSupers}
 use Rattle.base.specs.Names.{slice_get-behind}
+use Rattle.base.specs.AllOf.{AllOf}
 use Rattle.lang_meaning.specs.declared.program.GenericRow.{GenericRow}
 use Rattle.lang_meaning.specs.declared.program.FunctionRow.{FunctionRow}
-use Rattle.lang_meaning.specs.Subforms.{Each}
 use Rattle.lang_classes.specs.Given.{given as given_slots}
 use Rattle.lang_classes.specs.InheritedPrecedence.{supers_fit}
 use Rattle.lang_classes.specs.InheritedSlots.{same_name, each_first}
@@ -92,7 +92,7 @@ suited (Some i) n k c p of_file t w e r l = by_found (found n t.generics) refl r
     by_found (Some x) f r = suited_there i n k c p of_file t x w (found_named n t.generics i e ∙ f) (found_name n t.generics x f) r l
 
 -- one function after another
-functions_suit : (fs : List Function) (c p : ℕ) (of_file : Bool) (t : Tables) → KnownTables t → c < length t.classes.rows → AllGiven fs → Each (IsReady c t) (uses_of fs)
+functions_suit : (fs : List Function) (c p : ℕ) (of_file : Bool) (t : Tables) → KnownTables t → c < length t.classes.rows → AllGiven fs → AllOf (IsReady c t) (uses_of fs)
     → names_differ (uses_of fs) ≡ true
     → SuitsFunctions (flat_map slot_function fs) c p of_file t × KnownTables (with_slot_functions (flat_map slot_function fs) c p of_file t)
 functions_suit [] c p of_file t w l g r d = (tt, w)
@@ -166,7 +166,7 @@ class_suits keep s n cs xs b p of_file u w e j r =
     let t : Tables = with_new_class class of_file u in
     let longer : length t.classes.rows ≡ c + 1 = rows_longer u.classes n supers (given_slots (slot_specs p xs)) b in
     let count : c ≡ length s.classes.rows = ap (λ (h : Hierarchy). length h.rows) e.classes in
-    let ready : Each (IsReady c t) (uses xs) = ready_same c s t (uses xs) e.generics e.functions (subst (λ (k : ℕ). Each (IsReady k s) (uses xs)) (sym count) j.ready) in
+    let ready : AllOf (IsReady c t) (uses xs) = ready_same c s t (uses xs) e.generics e.functions (subst (λ (k : ℕ). AllOf (IsReady k s) (uses xs)) (sym count) j.ready) in
     let rest : SuitsFunctions (slot_functions xs) c p of_file t × KnownTables (with_slot_functions (slot_functions xs) c p of_file t) =
     functions_suit (all_functions xs) c p of_file t (known_class u class of_file (known_same s u e w)) (omega (arith, longer)) j.given ready j.differ in
     ((one, rest.0), rest.1)

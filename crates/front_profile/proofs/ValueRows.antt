@@ -7,7 +7,7 @@ use Rattle.base.specs.declared.datum.Symbol.{Symbol}
 use Rattle.base.specs.declared.datum.Symbol.TheVariants.{Named, Fresh}
 use Rattle.base.specs.Data.{Item, item, symbol, place_of}
 use Rattle.base.specs.DataFormed.{formed_tells}
-use Rattle.base.specs.DataParts.{AllOf}
+use Rattle.base.specs.AllOf.{AllOf}
 use Rattle.base.specs.GoodData.{Good}
 use Rattle.lang_meaning.specs.declared.program.ClassRow.{ClassRow}
 use Rattle.lang_meaning.specs.declared.program.LiteralRow.TheVariants as row
@@ -21,8 +21,7 @@ use Rattle.front_profile.specs.declared.making.Leaf.{Leaf}
 use Rattle.front_profile.specs.declared.making.Leaf.TheVariants.{Local, Global, Dynamic}
 use Rattle.front_profile.specs.declared.making.One.{One}
 use Rattle.front_profile.specs.declared.making.One.TheVariants.{SetVariable, SetGlobal, SetDynamic}
-use Rattle.front_profile.specs.declared.making.Two.{Two}
-use Rattle.front_profile.specs.declared.making.WithBody.{WithBody}
+use Rattle.lang_meaning.specs.declared.kinds.OverTwo.{OverTwo}
 use Rattle.front_profile.specs.declared.making.Making.TheVariants.{OfOne, OfTwo, OfBody, InSequence, OfClauses}
 use Rattle.front_profile.specs.Names.{variable_of, function_of}
 use Rattle.front_profile.specs.Nodes.{Around}
@@ -150,7 +149,7 @@ apt_cond n a s p ds b g = apt_cond_as n a s p (clauses_in ds) b (good_clauses n 
 
 -- two forms, and a form with a body
 
-pub apt_two : (n : ℕ) (k : Two) (a : Around) (s : Tables) (p : Place) (ds : List Item) → Stage a s → AllOf (Good n) ds → AptAt n a s (two_row k a s p ds)
+pub apt_two : (n : ℕ) (k : OverTwo) (a : Around) (s : Tables) (p : Place) (ds : List Item) → Stage a s → AllOf (Good n) ds → AptAt n a s (two_row k a s p ds)
 apt_two n k a s p (d ∷ e ∷ []) b g =
     apt_within n a s 1 p _ (λ l. apt_made n a s (deeper 1 a) p s _ (OfTwo k) b
     (plain_parts n a s _ (OfTwo k) b (g.0, (g.1.0, tt)) (λ u rs c. found_two (defined u) a (deeper 1 a) k d e rs l c.match) (λ u rs. refl)
@@ -160,7 +159,7 @@ apt_two n k a s p [] b g = tt
 apt_two n k a s p (d ∷ []) b g = tt
 apt_two n k a s p (d ∷ e ∷ f ∷ ds) b g = tt
 
-pub apt_body : (n : ℕ) (k : WithBody) (a : Around) (s : Tables) (p : Place) (ds : List Item) → Stage a s → AllOf (Good n) ds → AptAt n a s (body_row k a s p ds)
+pub apt_body : (n : ℕ) (k : OverTwo) (a : Around) (s : Tables) (p : Place) (ds : List Item) → Stage a s → AllOf (Good n) ds → AptAt n a s (body_row k a s p ds)
 apt_body n k a s p [] b g = tt
 apt_body n k a s p (d ∷ ds) b g =
     apt_within n a s 2 p _ (λ l. apt_made n a s (deeper 1 a) p s _ (OfBody k) b

@@ -4,10 +4,9 @@
 use Rattle.std.proofs.Common.{◌≡◌, ◌+◌, ◌≤◌, ℕ, Bool, true, false, List, [], ◌∷◌, length, arith}
 use Rattle.base.specs.Data.{Item}
 use Rattle.base.specs.DataFormed.{is_formed}
-use Rattle.base.specs.DataParts.{AllOf}
+use Rattle.base.specs.AllOf.{AllOf}
 use Rattle.base.specs.GoodData.{Good}
 use Rattle.lang_meaning.specs.Form.{Form}
-use Rattle.lang_meaning.specs.Subforms.{Each}
 use Rattle.lang_meaning.specs.Counts.{all_nodes}
 use Rattle.lang_meaning.specs.Standing.{with_bound}
 use Rattle.front_profile.specs.declared.spot.Spot.{Spot}
@@ -45,7 +44,7 @@ pub record AllCame (o i : Around) (g : Definitions) (xs : List Part) (rs : List 
   pub made : AllLow o.spot.top i.spot.top xs → MadeFrom (length g.procedures) xs h.procedures
   pub undefined : AllOrdinary xs → AllLow o.spot.top i.spot.top xs → Undefined g h
   pub stand : AllOrdinary xs → EachStands g → EachStands h
-  pub newer : Each (λ v. g.variables ≤ v) (new_variables rs)
+  pub newer : AllOf (λ v. g.variables ≤ v) (new_variables rs)
   pub match : AllMatch (spots h o i rs) xs rs
 
 -- what functions of definitions are of

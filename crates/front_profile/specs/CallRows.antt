@@ -8,7 +8,7 @@ use Rattle.lang_meaning.specs.declared.primitive.Primitive.{Primitive}
 use Rattle.front_profile.specs.declared.tables.Tables.{Tables}
 use Rattle.front_profile.specs.Primitives.{primitive_called}
 use Rattle.front_profile.specs.declared.making.Making.{Making}
-use Rattle.front_profile.specs.declared.making.Two.TheVariants.{Signalling, Continuing}
+use Rattle.lang_meaning.specs.declared.kinds.OverTwo.TheVariants.{Signal, Continue}
 use Rattle.front_profile.specs.declared.making.Making.TheVariants.{OfTwo, CallOf, CallOfValue, CallOfLocal, CallOfPrimitive}
 use Rattle.front_profile.specs.Nodes.{Around, Node}
 use Rattle.front_profile.specs.RowWords.{deeper, within_depth, made_of, each_form}
@@ -40,8 +40,8 @@ is_pair_call text name count = bytes_eq text name && nat_eq count 2
 abbrev pub call_making : Name → List ℕ → ℕ → Making
 call_making n text count =
     if is_value_call text count then CallOfValue
-    else if is_pair_call text (codes "signal-condition") count then OfTwo Signalling
-    else if is_pair_call text (codes "continue-condition") count then OfTwo Continuing
+    else if is_pair_call text (codes "signal-condition") count then OfTwo Signal
+    else if is_pair_call text (codes "continue-condition") count then OfTwo Continue
     else named_making n (primitive_called text count)
 
 abbrev pub named_call : Name → List ℕ → Around → Tables → Place → List Item → Node

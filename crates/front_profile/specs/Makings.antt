@@ -25,8 +25,7 @@ use Rattle.front_profile.specs.declared.tables.Tables.{Tables}
 use Rattle.front_profile.specs.declared.making.Found.{Found}
 use Rattle.front_profile.specs.declared.making.Leaf.{Leaf}
 use Rattle.front_profile.specs.declared.making.One.{One}
-use Rattle.front_profile.specs.declared.making.Two.{Two}
-use Rattle.front_profile.specs.declared.making.WithBody.{WithBody}
+use Rattle.lang_meaning.specs.declared.kinds.OverTwo.{OverTwo}
 use Rattle.front_profile.specs.declared.making.Making.{Making}
 use Rattle.front_profile.specs.declared.making.Made.{Made}
 use Rattle.front_profile.specs.declared.making.Accessor.{Accessor}
@@ -40,8 +39,7 @@ use Rattle.front_profile.specs.declared.making.NewClass.{NewClass}
 use Rattle.front_profile.specs.declared.making.Found.TheVariants.{Value, Binding, Parameter}
 use Rattle.front_profile.specs.declared.making.Leaf.TheVariants.{Literal, Local, Global, Dynamic, Go, NextMethod, HasNext, Nothing}
 use Rattle.front_profile.specs.declared.making.One.TheVariants.{SetVariable, SetGlobal, DefineGlobal, SetDynamic, DefineDynamic, ReturnTo}
-use Rattle.front_profile.specs.declared.making.Two.TheVariants.{Applying, Throwing, Signalling, Continuing}
-use Rattle.front_profile.specs.declared.making.WithBody.TheVariants.{Repeating, Catching, Unwinding, Handling}
+use Rattle.lang_meaning.specs.declared.kinds.OverTwo.TheVariants.{Apply, While, Catch, Throw, Unwind, WithHandler, Signal, Continue}
 use Rattle.front_profile.specs.declared.making.Making.TheVariants.{Ready, OfOne, OfTwo, OfBody, InSequence, CallOf, CallOfValue, CallOfLocal, CallOfPrimitive, OfClauses, OfVariables, OfDynamics, OfFunction, OfBlock, OfSegments, OfFunctionNamed, OfProcedure, OfAccessor, OfMethods, OfClass}
 
 -- forms without a body, where none was found
@@ -96,30 +94,28 @@ one_of (SetDynamic n) f = set_dynamic n.0 f
 one_of (DefineDynamic v) f = def_dynamic v.name.0 f
 one_of (ReturnTo x) f = return_from x f
 
-abbrev pub two_of : Two → Form → Form → Form
-two_of Applying f g = apply f g
-two_of Throwing f g = throw f g
-two_of Signalling f g = signal_form f g
-two_of Continuing f g = continue_form f g
-
-abbrev pub with_body_of : WithBody → Form → Form → Form
-with_body_of Repeating f body = while_form f body
-with_body_of Catching f body = catch_form f body
-with_body_of Unwinding f body = unwind f body
-with_body_of Handling f body = with_handler f body
+abbrev pub two_of : OverTwo → Form → Form → Form
+two_of Apply f g = apply f g
+two_of While f g = while_form f g
+two_of Catch f g = catch_form f g
+two_of Throw f g = throw f g
+two_of Unwind f g = unwind f g
+two_of WithHandler f g = with_handler f g
+two_of Signal f g = signal_form f g
+two_of Continue f g = continue_form f g
 
 abbrev pub make_one : One → List Form → Form
 make_one k [] = nothing
 make_one k (f ∷ fs) = one_of k f
 
-abbrev pub make_two : Two → List Form → Form
+abbrev pub make_two : OverTwo → List Form → Form
 make_two k [] = nothing
 make_two k (f ∷ []) = nothing
 make_two k (f ∷ g ∷ fs) = two_of k f g
 
-abbrev pub make_with_body : WithBody → List Form → Form
+abbrev pub make_with_body : OverTwo → List Form → Form
 make_with_body k [] = nothing
-make_with_body k (f ∷ fs) = with_body_of k f (body_of fs)
+make_with_body k (f ∷ fs) = two_of k f (body_of fs)
 
 -- clauses: for each a test, and a body of so many forms or none
 abbrev pub clause_body : Option ℕ → List Form → MaybeForm

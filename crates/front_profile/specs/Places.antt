@@ -2,10 +2,10 @@
 -- the next variable and the next exit; and the lexical scope of such a place (ISO/IEC 13816:2007, 11).
 use Rattle.std.specs.Prelude.{◌≡◌, ℕ, ◌+◌, ◌==◌, ◌≤◌, true, false, List, [], ◌∷◌, ◌++◌, length}
 use Rattle.std.specs.List.{list_any}
+use Rattle.base.specs.AllOf.{AllOf}
 use Rattle.lang_meaning.specs.declared.scope.ExitAround.{ExitAround}
 use Rattle.lang_meaning.specs.declared.scope.Around.TheVariants as exit
 use Rattle.lang_meaning.specs.declared.scope.LexicalScope.{LexicalScope}
-use Rattle.lang_meaning.specs.Subforms.{Each}
 use Rattle.front_profile.specs.declared.bound.Bound.{Bound}
 use Rattle.front_profile.specs.declared.bound.Bound.TheVariants.{Variable, Function, Block, Tags}
 use Rattle.front_profile.specs.Nodes.{Around}
@@ -68,5 +68,5 @@ pub record NothingAround (a : Around) : Type 0 where
 pub record GoodAround (g : Definitions) (a : Around) : Type 0 where
   pub variables : Rises 0 (variables_around a.bound) g.variables
   pub exits : Rises 0 (exit_numbers a.bound) g.exits
-  pub functions : Each (FunctionThere (variables_around a.bound)) a.bound
+  pub functions : AllOf (FunctionThere (variables_around a.bound)) a.bound
   pub top : a.spot.top ≡ true → NothingAround a

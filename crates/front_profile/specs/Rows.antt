@@ -20,8 +20,7 @@ use Rattle.front_profile.specs.declared.tables.Tables.{Tables}
 use Rattle.front_profile.specs.Words.{special_named, is_left_out, is_kept, is_reserved_text}
 use Rattle.front_profile.specs.Names.{function_of}
 use Rattle.front_profile.specs.declared.making.Leaf.TheVariants.{NextMethod, HasNext}
-use Rattle.front_profile.specs.declared.making.Two.TheVariants.{Applying, Throwing}
-use Rattle.front_profile.specs.declared.making.WithBody.TheVariants.{Repeating, Catching, Unwinding, Handling}
+use Rattle.lang_meaning.specs.declared.kinds.OverTwo.TheVariants.{Apply, While, Catch, Throw, Unwind, WithHandler}
 use Rattle.front_profile.specs.declared.making.Making.TheVariants.{CallOfValue}
 use Rattle.front_profile.specs.Nodes.{Around, Node, offends, steps}
 use Rattle.front_profile.specs.Shapes.{symbol_of}
@@ -71,19 +70,19 @@ special_row names name.Cond a s p ds = cond_row a s p ds
 special_row names name.Progn a s p ds = progn_row a s p ds
 special_row names name.Let a s p ds = let_row a s p ds
 special_row names name.Lambda a s p ds = lambda_row a s p ds
-special_row names name.Apply a s p ds = two_row Applying a s p ds
-special_row names name.While a s p ds = body_row Repeating a s p ds
+special_row names name.Apply a s p ds = two_row Apply a s p ds
+special_row names name.While a s p ds = body_row While a s p ds
 special_row names name.Block a s p ds = block_row a s p ds
 special_row names name.ReturnFrom a s p ds = return_from_row a s p ds
 special_row names name.Tagbody a s p ds = tagbody_row a s p ds
 special_row names name.Go a s p ds = go_row a s p ds
-special_row names name.Catch a s p ds = body_row Catching a s p ds
-special_row names name.Throw a s p ds = two_row Throwing a s p ds
-special_row names name.UnwindProtect a s p ds = body_row Unwinding a s p ds
+special_row names name.Catch a s p ds = body_row Catch a s p ds
+special_row names name.Throw a s p ds = two_row Throw a s p ds
+special_row names name.UnwindProtect a s p ds = body_row Unwind a s p ds
 special_row names name.DynamicLet a s p ds = dynamic_let_row a s p ds
 special_row names name.Dynamic a s p ds = dynamic_row a s p ds
 special_row names name.SetDynamic a s p ds = set_dynamic_row a s p ds
-special_row names name.WithHandler a s p ds = body_row Handling a s p ds
+special_row names name.WithHandler a s p ds = body_row WithHandler a s p ds
 special_row names name.Function a s p ds = function_row a s p ds
 special_row names name.Class a s p ds = class_row a s p ds
 special_row names name.CallNextMethod a s p ds = method_row NextMethod a s p ds

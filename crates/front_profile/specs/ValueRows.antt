@@ -16,8 +16,7 @@ use Rattle.front_profile.specs.declared.tables.ReservedWords.{ReservedWords}
 use Rattle.front_profile.specs.Names.{variable_of, function_of}
 use Rattle.front_profile.specs.declared.making.Leaf.{Leaf}
 use Rattle.front_profile.specs.declared.making.One.{One}
-use Rattle.front_profile.specs.declared.making.Two.{Two}
-use Rattle.front_profile.specs.declared.making.WithBody.{WithBody}
+use Rattle.lang_meaning.specs.declared.kinds.OverTwo.{OverTwo}
 use Rattle.front_profile.specs.declared.making.Leaf.TheVariants.{Local, Global, Dynamic}
 use Rattle.front_profile.specs.declared.making.One.TheVariants.{SetVariable, SetGlobal, SetDynamic}
 use Rattle.front_profile.specs.declared.making.Making.TheVariants.{OfOne, OfTwo, OfBody, InSequence, OfClauses}
@@ -120,18 +119,18 @@ abbrev pub cond_row : Around → Tables → Place → List Item → Node
 cond_row a s p ds = cond_as a s p (clauses_in ds)
 
 -- two forms: (throw x x), (%apply x x)
-abbrev pub two_parts : Around → Tables → Place → Two → Item → Item → Node
+abbrev pub two_parts : Around → Tables → Place → OverTwo → Item → Item → Node
 two_parts a s p k d e =
     within_depth 1 a p (made_of a (deeper 1 a) p s (form d ∷ form e ∷ []) (OfTwo k))
 
-abbrev pub two_row : Two → Around → Tables → Place → List Item → Node
+abbrev pub two_row : OverTwo → Around → Tables → Place → List Item → Node
 two_row k a s p (d ∷ e ∷ []) = two_parts a s p k d e
 two_row k a s p [] = bad_shape p
 two_row k a s p (d ∷ []) = bad_shape p
 two_row k a s p (d ∷ e ∷ f ∷ ds) = bad_shape p
 
 -- a form and a body: (while x f*), (catch x f*), (unwind-protect x f*), (with-handler x f*)
-abbrev pub body_row : WithBody → Around → Tables → Place → List Item → Node
+abbrev pub body_row : OverTwo → Around → Tables → Place → List Item → Node
 body_row k a s p [] = bad_shape p
 body_row k a s p (d ∷ ds) =
     within_depth 2 a p (made_of a (deeper 1 a) p s (form d ∷ each_below ds) (OfBody k))

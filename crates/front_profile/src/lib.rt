@@ -13,7 +13,7 @@ pub mod whole_laws;
 pub use bound::{Bound, BoundList, Target};
 pub use making::{
     Accessor, BodyLengths, Found, FoundList, Head, Heads, Leaf, Lengths, Made, Making, NewClass,
-    One, SlotFunction, SlotFunctions, Taker, Two, WithBody,
+    One, SlotFunction, SlotFunctions, Taker,
 };
 pub use parameters::Parameters;
 pub use special::{Special, is_special_name, special_named};

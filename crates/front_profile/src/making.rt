@@ -4,7 +4,7 @@ use crate::tables::{DynamicRow, GlobalRow};
 use base::{ItemList, Name, NameList};
 use lang_classes::SlotSpecs;
 use lang_meaning::{
-    ClassIds, Core, ExitVar, GenericId, LiteralId, PartList, Primitive, ProcedureId, Qualifier,
+    ClassIds, Core, ExitVar, GenericId, LiteralId, OverTwo, PartList, Primitive, ProcedureId, Qualifier,
     SiteId, Var,
 };
 
@@ -44,24 +44,6 @@ pub enum One {
     SetDynamic(Name),
     DefineDynamic(DynamicRow),
     ReturnTo(ExitVar),
-}
-
-/// A form with two parts.
-#[derive(Clone, Copy)]
-pub enum Two {
-    Applying,
-    Throwing,
-    Signalling,
-    Continuing,
-}
-
-/// A form with a part and a body.
-#[derive(Clone, Copy)]
-pub enum WithBody {
-    Repeating,
-    Catching,
-    Unwinding,
-    Handling,
 }
 
 /// For each clause the length of its body, or none.
@@ -123,8 +105,9 @@ pub struct NewClass {
 pub enum Making {
     Ready(Leaf),
     OfOne(One),
-    OfTwo(Two),
-    OfBody(WithBody),
+    OfTwo(OverTwo),
+    /// A part, and a body.
+    OfBody(OverTwo),
     /// All parts in order.
     InSequence,
     CallOf(Name),

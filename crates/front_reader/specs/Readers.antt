@@ -4,6 +4,7 @@ use Rattle.base.specs.declared.place.Place.{Place}
 use Rattle.base.specs.declared.origin.Origin.{Origin}
 use Rattle.base.specs.declared.origin.Origin.TheVariants.{Prelude, File}
 use Rattle.base.specs.declared.reason.Refusal.{Refusal}
+use Rattle.base.specs.Limits.{longest_text}
 
 pub record ReaderState : Type 0 where
   pub rest : List ℕ
@@ -22,4 +23,4 @@ PlacesFit p text = 0 < p.line → (p.line + length text < 2 ^ 32) × (p.column +
 -- the length that a file may have
 abbrev pub MayBeRead : Origin → List ℕ → Type 0
 MayBeRead Prelude text = Unit {0}
-MayBeRead File text = length text < 1048577
+MayBeRead File text = length text < longest_text + 1

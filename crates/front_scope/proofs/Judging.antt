@@ -2,7 +2,7 @@
 use Rattle.std.proofs.Common.{◌≡◌, ℕ, ◌<◌, Bool, false, List, [], ◌∷◌, ◌++◌, length, Result, Ok, Err, IfErr, IfOk, OnOk, ap, subst, sym, ◌∙◌, ⊎_elim, arith}
 use Rattle.base.specs.Names.{Extends, Extends-then}
 use Rattle.base.specs.Data.{Item}
-use Rattle.base.specs.DataParts.{AllOf}
+use Rattle.base.specs.AllOf.{AllOf}
 use Rattle.base.specs.GoodData.{Good}
 use Rattle.base.specs.declared.datum.Symbol.{Symbol}
 use Rattle.base.specs.declared.place.Place.{Place}

@@ -11,9 +11,9 @@ use base::{Datum, Name, NoMemory};
 use front_drafts::draft::{Draft, Note, made_within};
 use front_drafts::here::Setting;
 use front_drafts::plan::{Parts, one_form, push_forms};
-use front_profile::{Making, Two};
+use front_profile::Making;
 use front_syntax::primitives::primitive_called;
-use lang_meaning::{Primitive, Var};
+use lang_meaning::{OverTwo, Primitive, Var};
 
 /// A form with so many core forms of its own, all of whose parts stand where it stands: these, and behind them these forms.
 pub(crate) fn with_forms<'a>(
@@ -94,9 +94,9 @@ fn call_making(name: Name, text: &[u8], count: usize) -> Making
     if is_value_call(text, count) {
         Making::CallOfValue
     } else if is_pair_call(text, b"signal-condition", count) {
-        Making::OfTwo(Two::Signalling)
+        Making::OfTwo(OverTwo::Signal)
     } else if is_pair_call(text, b"continue-condition", count) {
-        Making::OfTwo(Two::Continuing)
+        Making::OfTwo(OverTwo::Continue)
     } else {
         named_making(name, primitive_called(text, count))
     }

@@ -14,9 +14,9 @@ use base::{Datum, Kind, Name, NoMemory, Reason, Symbol};
 use front_drafts::draft::{Draft, Note, made_at_once, made_within, offence, one_part};
 use front_drafts::here::{Setting, deeper_at_top, fits_depth};
 use front_drafts::plan::{Parts, one_form, push_below, push_form};
-use front_profile::{BodyLengths, Leaf, Making, One, ReservedWords, Tables, Two, WithBody};
+use front_profile::{BodyLengths, Leaf, Making, One, ReservedWords, Tables};
 use front_syntax::shapes::{Clauses, clauses_in, is_true, name_of, symbol_of};
-use lang_meaning::LiteralRow;
+use lang_meaning::{LiteralRow, OverTwo};
 
 /// A symbol: `t`, a variable around, or a global variable.
 pub fn symbol_draft<'a>(here: Setting, symbol: Symbol) -> Result<Draft<'a>, NoMemory>
@@ -175,7 +175,7 @@ pub fn cond_draft<'a>(here: Setting, items: &'a [Datum]) -> Result<Draft<'a>, No
 }
 
 /// Two forms: `(throw x x)`, `(%apply x x)`.
-pub fn two_draft<'a>(here: Setting, kind: Two, items: &'a [Datum]) -> Result<Draft<'a>, NoMemory>
+pub fn two_draft<'a>(here: Setting, kind: OverTwo, items: &'a [Datum]) -> Result<Draft<'a>, NoMemory>
     ensures { Draws here.entry
         (row.two_row kind (around here.entry) here.entry.tables.now here.entry.place items.now) result }
 {
@@ -189,7 +189,7 @@ pub fn two_draft<'a>(here: Setting, kind: Two, items: &'a [Datum]) -> Result<Dra
 /// A form and a body: `(while x f*)`, `(catch x f*)`, `(unwind-protect x f*)`, `(with-handler x f*)`.
 pub fn body_draft<'a>(
     here: Setting,
-    kind: WithBody,
+    kind: OverTwo,
     items: &'a [Datum],
 ) -> Result<Draft<'a>, NoMemory>
     ensures { Draws here.entry

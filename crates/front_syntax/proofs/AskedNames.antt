@@ -13,7 +13,7 @@ use Rattle.base.specs.declared.datum.Symbol.TheVariants.{Named, Fresh}
 use Rattle.base.specs.Names.{Extends, Extends-same, Extends-then, slice_get-front}
 use Rattle.base.specs.Data.{Item, item, integer, character, symbol, string, vector, nil, list, place_of}
 use Rattle.base.specs.DataNames.{symbol_text}
-use Rattle.base.specs.DataParts.{AllOf}
+use Rattle.base.specs.AllOf.{AllOf}
 use Rattle.base.specs.GoodData.{Good, all_good_stay}
 use Rattle.lang_derived.specs.Asked.{list_items, is_word, setf_text}
 use Rattle.front_profile.specs.declared.special.Special.{Special}

@@ -9,8 +9,8 @@ ghost use Rattle.front_syntax.specs.Definitions.{borrowed, view_given, made_of_t
 ghost use Rattle.front_syntax.specs.Lacking.{text_to_set, operator_in};
 
 use crate::shapes::symbol_of;
-use base::{Bytes, Datum, Name, Names, NoMemory, Symbol};
-use lang_derived::{is_word, list_items, symbol_text};
+use base::{Bytes, Datum, Name, Names, NoMemory, Symbol, symbol_text};
+use lang_derived::{is_word, list_items};
 use std::alloc::Global;
 
 // The longest name that a name `(setf s)` is made of.

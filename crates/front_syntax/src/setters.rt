@@ -1,7 +1,7 @@
 // The names `(setf s)` that a definition asks for, which the table of names has before the definition is judged.
 
 ghost use Rattle.std.specs.Prelude.{◌≡◌, length, OnOk};
-ghost use Rattle.base.specs.DataParts.{AllOf};
+ghost use Rattle.base.specs.AllOf.{AllOf};
 ghost use Rattle.base.specs.GoodData.{Good};
 ghost use Rattle.base.specs.Names.{Extends};
 ghost use Rattle.lang_derived.specs.Asked.{list_items};
@@ -11,9 +11,9 @@ ghost use Rattle.front_syntax.specs.Lacking.{HasNames, setter_lacks, name_lacks,
 
 use crate::naming::{operator_in, setter_text};
 use crate::shapes::symbol_of;
-use base::{Datum, Names, NoMemory};
+use base::{Datum, Names, NoMemory, symbol_text};
 use front_profile::{Special, special_named};
-use lang_derived::{is_word, list_items, symbol_text};
+use lang_derived::{is_word, list_items};
 use std::alloc::Global;
 
 // The name `(setf s)` of a datum that is the symbol s, where there is one.

@@ -6,9 +6,9 @@ ghost use Rattle.front_profile.specs.Words as kept;
 ghost use Rattle.front_syntax.specs.Views.{texts};
 
 use crate::primitives::{is_among, is_direct_name, is_own_name};
-use base::{Name, Names, Symbol};
+use base::{Name, Names, Symbol, symbol_text};
 use front_profile::is_special_name;
-use lang_derived::{is_derived_name, symbol_text};
+use lang_derived::is_derived_name;
 
 // Whether it is the name of a form, or that of a primitive that begins with %.
 fn is_of_language(text: &[u8]) -> bool

@@ -3,13 +3,13 @@ use Rattle.std.specs.Prelude.{◌≡◌, ℕ, Bool, true, false, List, [], ◌�
 use Rattle.std.specs.Str.{bytes_eq}
 use Rattle.base.specs.Data.{Item, item, Content, integer, character, symbol, string, vector, nil, list, items_list, Tail, no_tail, dotted}
 use Rattle.base.specs.DataNames.{text_of}
+use Rattle.base.specs.AllOf.{AllOf}
 use Rattle.lang_derived.specs.Pieces.{Piece, Right}
 use Rattle.lang_derived.specs.Patterns.{Parts, fit_all}
 use Rattle.lang_derived.specs.RightSides.{write_all}
 use Rattle.lang_derived.specs.Table.{Row, table, is_derived}
 use Rattle.lang_derived.specs.Derived.{right_of, row_right, or_else, first_right, table_right, Derivation, plain, unfit, becomes, judged, by_table, by_name, list_derivation, derivation}
 use Rattle.lang_derived.proofs.Parts.{OfPartsSome, OfParts}
-use Rattle.lang_derived.proofs.Writing.{Each}
 use Rattle.lang_derived.proofs.Names.{both_true}
 
 abbrev pub OfRight : (Piece → Type 0) → Option Right → Type 0
@@ -56,13 +56,13 @@ passed_groups f Q g (rs ∷ gs) h =
 
 -- a row, by what holds of all that its right side writes
 
-right_kept : (Q : Piece → Type 0) (xs new : List Piece) → Each Q xs → OfRight Q (right_of xs new)
+right_kept : (Q : Piece → Type 0) (xs new : List Piece) → AllOf Q xs → OfRight Q (right_of xs new)
 right_kept Q [] new h = tt
 right_kept Q (x ∷ []) new h = h.0
 right_kept Q (x ∷ y ∷ xs) new h = tt
 
 pub row_kept : (P : Item → Type 0) (Q : Piece → Type 0) (names : List (List ℕ)) (s : ℕ) (r : Row)
-    → ((parts : Parts) → OfParts P parts → Each Q (write_all names s r.right s parts)) → (found : Option Parts) → OfPartsSome P found
+    → ((parts : Parts) → OfParts P parts → AllOf Q (write_all names s r.right s parts)) → (found : Option Parts) → OfPartsSome P found
     → OfRight Q (row_right names s r found)
 row_kept P Q names s r f None h = tt
 row_kept P Q names s r f (Some parts) h = right_kept Q (write_all names s r.right s parts) (write_all names s r.new s parts) (f parts h)

@@ -4,7 +4,8 @@ use Rattle.std.proofs.Common.{arith, ap, subst, sym}
 use Rattle.std.proofs.Math.Seq.{take-length, drop-length}
 use Rattle.base.specs.Data.{Item, item, integer, character, symbol, string, vector, nil, list, Items, no_item, item_and, items_list, no_tail, dotted}
 use Rattle.base.specs.DataMeasures.{size_of, sizes_of}
-use Rattle.base.specs.DataParts.{AllOf, of_list}
+use Rattle.base.specs.AllOf.{AllOf, all_both}
+use Rattle.base.specs.DataParts.{of_list}
 use Rattle.lang_derived.specs.Pieces.{Piece, taken, parens, Pieces, no_piece, piece_and, pieces_of, listed, form, all_taken}
 use Rattle.lang_derived.specs.Asked.{list_items}
 use Rattle.lang_derived.specs.Patterns.{a_datum, inside, others, Patterns, patterns, Parts, joined, opened, fit, fit_all}
@@ -16,7 +17,7 @@ use Rattle.lang_derived.specs.Ends.{piece_weight, pieces_weight, IfDerived, AllF
 use Rattle.lang_derived.proofs.Parts.{AllOfSome, GoesDown, OfParts, items_too, part_too, fit_all_too}
 use Rattle.lang_derived.proofs.Quotations.{AllIn, Keeps, template_kept}
 use Rattle.lang_derived.proofs.Names.{free_front, front_free, both_true, PlainWord, setter_named}
-use Rattle.lang_derived.proofs.Writing.{Each, each_both, repeated_each}
+use Rattle.lang_derived.proofs.Writing.{repeated_each}
 use Rattle.lang_derived.proofs.Derivations.{OfRight, OfDerivation, OfArguments, RowKeeps, AllGroups, passed_groups, row_kept, derivation_kept}
 
 -- the sizes of data in a list
@@ -48,7 +49,7 @@ abbrev mutual
   all_apart (template_and x xs) = if apart x then all_apart xs else false
 
 -- what holds of parts of the form holds of what is left of the form that makes a quotation
-further_in : (F : Piece → Type 0) (xs : List Piece) → Each (AllFurther F) xs → AllFurtherIn F (pieces_of xs)
+further_in : (F : Piece → Type 0) (xs : List Piece) → AllOf (AllFurther F) xs → AllFurtherIn F (pieces_of xs)
 further_in F [] h = tt
 further_in F (x ∷ xs) h = (h.0, further_in F xs h.1)
 
@@ -69,7 +70,7 @@ quotation_further F = record {
 }
 
 module _ (F : Piece → Type 0) (down : GoesDown (λ d. F (taken d))) (names : List (List ℕ)) (s : ℕ) where
-  taken_further : (ds : List Item) → AllOf (λ d. F (taken d)) ds → Each (AllFurther F) (all_taken ds)
+  taken_further : (ds : List Item) → AllOf (λ d. F (taken d)) ds → AllOf (AllFurther F) (all_taken ds)
   taken_further [] h = tt
   taken_further (d ∷ ds) h = (h.0, taken_further ds h.1)
 
@@ -87,7 +88,7 @@ module _ (F : Piece → Type 0) (down : GoesDown (λ d. F (taken d))) (names : L
   mutual
     unfolding write
 
-    write_further : (x : Template) → apart x ≡ true → (own : ℕ) (parts : Parts) → OfParts (λ d. F (taken d)) parts → Each (AllFurther F) (write names s x own parts)
+    write_further : (x : Template) → apart x ≡ true → (own : ℕ) (parts : Parts) → OfParts (λ d. F (taken d)) parts → AllOf (AllFurther F) (write names s x own parts)
     write_further (datum i) a own parts h = (first_further (part_of parts i) (part_too (λ d. F (taken d)) parts i h), tt)
     write_further (all_of i) a own parts h = taken_further (part_of parts i) (part_too (λ d. F (taken d)) parts i h)
     write_further (the_setter i) a own parts h = (word_further (setter_piece names (part_of parts i)) (setter_named names (part_of parts i)), tt)
@@ -109,11 +110,11 @@ module _ (F : Piece → Type 0) (down : GoesDown (λ d. F (taken d))) (names : L
         (part_of parts i) (part_too (λ d. F (taken d)) parts i h) s
 
     all_write_further : (xs : Templates) → all_apart xs ≡ true → (own : ℕ) (parts : Parts) → OfParts (λ d. F (taken d)) parts
-        → Each (AllFurther F) (write_all names s xs own parts)
+        → AllOf (AllFurther F) (write_all names s xs own parts)
     all_write_further no_template a own parts h = tt
     all_write_further (template_and x xs) a own parts h =
         let b : (apart x ≡ true) × (all_apart xs ≡ true) = both_true (apart x) (all_apart xs) a in
-        each_both (AllFurther F) (write names s x own parts) (write_all names s xs own parts) (write_further x b.0 own parts h) (all_write_further xs b.1 own parts h)
+        all_both (AllFurther F) (write names s x own parts) (write_all names s xs own parts) (write_further x b.0 own parts h) (all_write_further xs b.1 own parts h)
 
 -- the arguments of a form: F holds of each as a part that is taken over, and of all that is smaller than the form, in parentheses
 pub record Arguments (F : Piece → Type 0) (ds : List Item) : Type 0 where

@@ -2,7 +2,8 @@
 use Rattle.std.specs.Prelude.{ℕ, zero, suc, ◌-◌, Bool, true, false, List, [], ◌∷◌, ◌++◌, length, take, drop, Option, Some, None}
 use Rattle.base.specs.declared.place.Place.{Place}
 use Rattle.base.specs.Data.{Item, item, integer, character, symbol, string, vector, nil, list, Items, Tail, no_tail, dotted}
-use Rattle.base.specs.DataParts.{AllItems, OfDotted, AllParts, AllOf, of_list, all_take, all_drop}
+use Rattle.base.specs.AllOf.{AllOf, all_take, all_drop}
+use Rattle.base.specs.DataParts.{AllItems, OfDotted, AllParts, of_list}
 use Rattle.lang_derived.specs.Asked.{is_symbol, is_word, list_items}
 use Rattle.lang_derived.specs.Patterns.{Pattern, a_datum, a_symbol, the_word, an_operator, inside, others, one_at_most, each_fits, Patterns, no_pattern, pattern_and, pattern_count, taken_by, Parts, part_if, nothing_if, one_datum, is_none, is_some, all_data, has_setter, joined, opened, of_one, fit, fit_all}
 use Rattle.lang_derived.specs.RightSides.{part_of}

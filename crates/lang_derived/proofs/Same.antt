@@ -5,7 +5,8 @@ use Rattle.std.proofs.Common.{ap, ◌∙◌}
 use Rattle.base.specs.declared.place.Place.{Place}
 use Rattle.base.specs.Data.{Item, item, Content, integer, character, symbol, string, vector, nil, list, Items, no_item, item_and, items_list, Tail, no_tail, dotted}
 use Rattle.base.specs.DataNames.{text_of}
-use Rattle.base.specs.DataParts.{AllItems, AllOf, OfDotted, all_drop, all_take, of_list}
+use Rattle.base.specs.AllOf.{AllOf, all_drop, all_take}
+use Rattle.base.specs.DataParts.{AllItems, OfDotted, of_list}
 use Rattle.lang_derived.specs.Pieces.{Piece, Pieces, no_piece, piece_and, listed, form, Right}
 use Rattle.lang_derived.specs.Asked.{is_word, is_text, list_items, setter}
 use Rattle.lang_derived.specs.Patterns.{Pattern, a_datum, a_symbol, the_word, an_operator, inside, others, one_at_most, each_fits, Patterns, no_pattern, pattern_and, pattern_count, taken_by, Parts, part_if, nothing_if, one_datum, is_some, all_data, has_setter, joined, opened, of_one, fit, fit_all}

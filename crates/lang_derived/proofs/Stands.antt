@@ -5,7 +5,8 @@ use Rattle.std.proofs.Common.{ap, ◌∙◌, subst, sym}
 use Rattle.base.specs.declared.place.Place.{Place}
 use Rattle.base.specs.declared.datum.Symbol.TheVariants.{Named}
 use Rattle.base.specs.Data.{Item, item, integer, character, symbol, string, vector, nil, list, Items, no_item, item_and, items_list, Tail, no_tail, dotted}
-use Rattle.base.specs.DataParts.{AllItems, AllOf, OfDotted}
+use Rattle.base.specs.AllOf.{AllOf}
+use Rattle.base.specs.DataParts.{AllItems, OfDotted}
 use Rattle.lang_derived.specs.Pieces.{Piece, word, taken, parens, Pieces, no_piece, piece_and, pieces_of, all_taken, Right, in_parens, Builds}
 use Rattle.lang_derived.specs.Patterns.{Parts, fit_all}
 use Rattle.lang_derived.specs.RightSides.{Template, datum, all_of, the_setter, the_quotation, the_symbol, new_symbol, new_behind, own_symbol, group, for_each, Templates, no_template, template_and, part_of, of_first, setter_piece, write, write_all}

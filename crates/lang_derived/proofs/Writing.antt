@@ -1,28 +1,20 @@
 -- What holds of each part that a right side writes.
-use Rattle.std.specs.Prelude.{ℕ, ◌+◌, List, [], ◌∷◌, ◌++◌, Option, Some, None}
+use Rattle.std.specs.Prelude.{ℕ, ◌+◌, List, [], ◌∷◌, Option, Some, None}
 use Rattle.base.specs.Data.{Item}
-use Rattle.base.specs.DataParts.{AllOf}
+use Rattle.base.specs.AllOf.{AllOf, all_both}
 use Rattle.lang_derived.specs.Pieces.{Piece}
 use Rattle.lang_derived.specs.Patterns.{Patterns, Parts, fit_all}
 use Rattle.lang_derived.specs.RightSides.{before_others, repeated}
 use Rattle.lang_derived.proofs.Parts.{GoesDown, OfParts, OfPartsSome, fit_all_too}
 
-abbrev pub Each : (Piece → Type 0) → List Piece → Type 0
-Each Q [] = Unit {0}
-Each Q (x ∷ xs) = Q x × Each Q xs
-
-pub each_both : (Q : Piece → Type 0) (xs ys : List Piece) → Each Q xs → Each Q ys → Each Q (xs ++ ys)
-each_both Q [] ys g h = h
-each_both Q (x ∷ xs) ys g h = (g.0, each_both Q xs ys g.1 h)
-
 module _ (P : Item → Type 0) (Q : Piece → Type 0) (down : GoesDown P) where
-  before_each : (f : ℕ → Parts → List Piece) → ((n : ℕ) (parts : Parts) → OfParts P parts → Each Q (f n parts)) → (own : ℕ) (found : Option Parts)
-      (more : ℕ → List Piece) → OfPartsSome P found → ((n : ℕ) → Each Q (more n)) → Each Q (before_others f own found more)
+  before_each : (f : ℕ → Parts → List Piece) → ((n : ℕ) (parts : Parts) → OfParts P parts → AllOf Q (f n parts)) → (own : ℕ) (found : Option Parts)
+      (more : ℕ → List Piece) → OfPartsSome P found → ((n : ℕ) → AllOf Q (more n)) → AllOf Q (before_others f own found more)
   before_each f g own None more p h = h own
-  before_each f g own (Some parts) more p h = each_both Q (f own parts) (more (own + 1)) (g own parts p) (h (own + 1))
+  before_each f g own (Some parts) more p h = all_both Q (f own parts) (more (own + 1)) (g own parts p) (h (own + 1))
 
-  pub repeated_each : (names : List (List ℕ)) (ps : Patterns) (f : ℕ → Parts → List Piece) → ((n : ℕ) (parts : Parts) → OfParts P parts → Each Q (f n parts))
-      → (ds : List Item) → AllOf P ds → (own : ℕ) → Each Q (repeated names ps f ds own)
+  pub repeated_each : (names : List (List ℕ)) (ps : Patterns) (f : ℕ → Parts → List Piece) → ((n : ℕ) (parts : Parts) → OfParts P parts → AllOf Q (f n parts))
+      → (ds : List Item) → AllOf P ds → (own : ℕ) → AllOf Q (repeated names ps f ds own)
   repeated_each names ps f g [] h own = tt
   repeated_each names ps f g (d ∷ ds) h own =
       before_each f g own (fit_all names ps (d ∷ [])) (λ n. repeated names ps f ds n)

@@ -14,4 +14,4 @@ mod table;
 mod template;
 
 pub use one_step::{Step, derive, is_derived_name};
-pub use shape::{is_word, list_items, symbol_text, text_of};
+pub use shape::{is_word, list_items};

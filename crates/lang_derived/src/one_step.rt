@@ -17,10 +17,11 @@ use crate::build::build;
 use crate::pattern::{Parts, fit_all};
 use crate::piece::{PieceList, nil};
 use crate::right::Right;
-use crate::shape::text_of;
 use crate::table::{Row, names_some_row, table};
 use crate::template::{Start, written};
-use base::{Datum, FreshList, Kind, Names, NoMemory, Place, Reason, Refusal, Stop, Symbol};
+use base::{
+    Datum, FreshList, Kind, Names, NoMemory, Place, Reason, Refusal, Stop, Symbol, text_of,
+};
 use std::alloc::Global;
 
 /// What a step makes of a datum: another datum, or nothing where it is no derived form.

@@ -6,8 +6,7 @@ ghost use Rattle.lang_derived.specs.Asked.{setf_text, setter_of, setter};
 ghost use Rattle.lang_derived.specs.Setters.{known_setter, setter_word};
 
 use crate::piece::{Piece, named, word};
-use crate::shape::text_of;
-use base::{Bytes, Datum, Names, NoMemory};
+use base::{Bytes, Datum, Names, NoMemory, text_of};
 use std::alloc::Global;
 
 // The longest name that a name `(setf op)` is made of.

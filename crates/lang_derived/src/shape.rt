@@ -1,35 +1,9 @@
-// What a row asks of a datum: whether it is a symbol, its name, and the items of a list.
+// What a row asks of a datum: whether it is a symbol, of that name, and the items of a list.
 
 ghost use Rattle.std.specs.Prelude.{◌≡◌, Some, None, MatchOption};
-ghost use Rattle.base.specs.DataNames.{symbol_text, text_of};
 ghost use Rattle.lang_derived.specs.Asked.{is_word, is_symbol, list_items};
 
-use base::{Datum, Kind, Names, Symbol};
-
-/// The name of a symbol; none of a fresh one, and of what is no symbol.
-pub fn text_of<'n>(names: &'n Names, datum: &Datum) -> Option<&'n [u8]>
-    ensures { MatchOption result (text_of names.now datum.now ≡ None) (λ text. text_of names.now datum.now ≡ Some text.now) }
-{
-    match &datum.kind {
-        Kind::Sym(symbol) => symbol_text(names, *symbol),
-        Kind::Int(_) => None,
-        Kind::Char(_) => None,
-        Kind::Str(_) => None,
-        Kind::Vector(_) => None,
-        Kind::Nil => None,
-        Kind::List { .. } => None,
-    }
-}
-
-/// The name of a symbol, where a text names it.
-pub fn symbol_text<'n>(names: &'n Names, symbol: Symbol) -> Option<&'n [u8]>
-    ensures { MatchOption result (symbol_text names.now symbol ≡ None) (λ text. symbol_text names.now symbol ≡ Some text.now) }
-{
-    match symbol {
-        Symbol::Named(name) => names.text(name),
-        Symbol::Fresh { .. } => None,
-    }
-}
+use base::{Datum, Kind, Names, text_of};
 
 /// Whether it is the symbol of that name.
 pub fn is_word(names: &Names, text: &[u8], datum: &Datum) -> bool

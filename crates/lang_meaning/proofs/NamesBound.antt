@@ -11,7 +11,7 @@ use Rattle.lang_meaning.specs.declared.program.MethodRow.{MethodRow}
 use Rattle.lang_meaning.specs.declared.program.ProgramRows.{ProgramRows}
 use Rattle.lang_meaning.specs.declared.scope.LexicalScope.{LexicalScope}
 use Rattle.lang_meaning.specs.Form.{Form, lambda, parameters}
-use Rattle.lang_meaning.specs.Subforms.{Each, outer, inner}
+use Rattle.lang_meaning.specs.Subforms.{outer, inner}
 use Rattle.lang_meaning.specs.bridge.Walks.{by_subforms}
 use Rattle.lang_meaning.specs.bridge.Judged.{inside_folded, stands_folded}
 use Rattle.lang_meaning.specs.Cells.{program_cells}
@@ -23,19 +23,20 @@ use Rattle.lang_meaning.specs.Standing.{alone, is_bound, is_free, around_inner, 
 use Rattle.lang_meaning.specs.Facts.{body_fits, class_fits, initform_fits, knows_next, method_fits, same_method, generic_fits, callee_fits, is_of_method, procedures_stand, rows_fit, bodies_stand}
 use Rattle.lang_meaning.specs.BoundNames.{StandsAsFunction, IsBoundIn, BodyIsBound, ProcedureIsBound, CalleeIsBound, InitformIsBound, LawOfNames}
 use Rattle.std.proofs.lemmas.Bool.{eqb-true}
+use Rattle.base.specs.AllOf.{AllOf}
 use Rattle.lang_meaning.proofs.Bounds.{first_true, second_true}
 
 -- of both lists
-both : (xs ys : List Form) → Each StandsAsFunction xs → Each StandsAsFunction ys → Each StandsAsFunction (xs ++ ys)
+both : (xs ys : List Form) → AllOf StandsAsFunction xs → AllOf StandsAsFunction ys → AllOf StandsAsFunction (xs ++ ys)
 both [] ys e f = f
 both (x ∷ xs) ys e f = (e.0, both xs ys e.1 f)
 
 -- each function inside a form that stands, as the induction has it
 abbrev FunctionsStand : Form → Type 0
-FunctionsStand f = (s : LexicalScope) → stands s f ≡ true → Each StandsAsFunction (inside_form f)
+FunctionsStand f = (s : LexicalScope) → stands s f ≡ true → AllOf StandsAsFunction (inside_form f)
 
-in_each : (s : LexicalScope) (xs : List Form) → Each FunctionsStand xs → list_all (stands s) xs ≡ true
-    → Each StandsAsFunction (flat_map (λ fs. fs) (map inside_form xs))
+in_each : (s : LexicalScope) (xs : List Form) → AllOf FunctionsStand xs → list_all (stands s) xs ≡ true
+    → AllOf StandsAsFunction (flat_map (λ fs. fs) (map inside_form xs))
 in_each s [] e h = tt
 in_each s (x ∷ xs) e h =
     both (inside_form x) (flat_map (λ fs. fs) (map inside_form xs))
@@ -52,26 +53,26 @@ itself s (lambda required rest body parts) h k = record {
 }
 itself s f h k = tt
 
-one_step : (f : Form) → Each FunctionsStand (outer f) → Each FunctionsStand (inner f) → FunctionsStand f
+one_step : (f : Form) → AllOf FunctionsStand (outer f) → AllOf FunctionsStand (inner f) → FunctionsStand f
 one_step f os is s h =
     let here : (stands_itself s f && list_all (stands s) (outer f) && list_all (stands (around_inner f s)) (inner f)) ≡ true = sym (stands_folded s f) ∙ h in
     let around : (stands_itself s f && list_all (stands s) (outer f)) ≡ true = first_true _ (list_all (stands (around_inner f s)) (inner f)) here in
     let within : list_all (stands (around_inner f s)) (inner f) ≡ true = second_true (stands_itself s f && list_all (stands s) (outer f)) _ here in
-    subst (Each StandsAsFunction) (sym (inside_folded f)) (
+    subst (AllOf StandsAsFunction) (sym (inside_folded f)) (
       itself s f (first_true (stands_itself s f) (list_all (stands s) (outer f)) around) within,
       both (flat_map (λ fs. fs) (map inside_form (outer f))) (flat_map (λ fs. fs) (map inside_form (inner f)))
           (in_each s (outer f) os (second_true (stands_itself s f) (list_all (stands s) (outer f)) around))
           (in_each (around_inner f s) (inner f) is within),
     )
 
-inside : (s : LexicalScope) (f : Form) → stands s f ≡ true → Each StandsAsFunction (inside_form f)
+inside : (s : LexicalScope) (f : Form) → stands s f ≡ true → AllOf StandsAsFunction (inside_form f)
 inside s f h = by_subforms FunctionsStand one_step f s h
 
 bound_in : (s : LexicalScope) (f : Form) → stands s f ≡ true → IsBoundIn s f
 bound_in s f h = record { itself = h; functions = inside s f h }
 
 -- what passes a test has what the test says
-each : {X : Type 0} (P : X → Type 0) (p : X → Bool) → ((x : X) → p x ≡ true → P x) → (xs : List X) → list_all p xs ≡ true → Each P xs
+each : {X : Type 0} (P : X → Type 0) (p : X → Bool) → ((x : X) → p x ≡ true → P x) → (xs : List X) → list_all p xs ≡ true → AllOf P xs
 each P p f [] h = tt
 each P p f (x ∷ xs) h = (f x (first_true (p x) (list_all p xs) h), each P p f xs (second_true (p x) (list_all p xs) h))
 
@@ -127,7 +128,7 @@ of_method rows i p all there h =
 -- these procedures, where they stand from the i-th place on
 procedures_bound : (rows : ProgramRows) (i : ℕ) (ps : List Procedure) → list_all (generic_fits rows) rows.generics ≡ true
     → ((j : ℕ) (p : Procedure) → slice_get ps j ≡ Some p → slice_get rows.procedures (i + j) ≡ Some p)
-    → procedures_stand rows i ps ≡ true → Each (λ p. (in_method : Bool) × BodyIsBound in_method p) ps
+    → procedures_stand rows i ps ≡ true → AllOf (λ p. (in_method : Bool) × BodyIsBound in_method p) ps
 procedures_bound rows i [] all at h = tt
 procedures_bound rows i (p ∷ ps) all at h =
     let here : slice_get rows.procedures i ≡ Some p =

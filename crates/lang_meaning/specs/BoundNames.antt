@@ -2,6 +2,7 @@
 -- functions inside them.
 use Rattle.std.specs.Prelude.{◌≡◌, ⊤, ℕ, Bool, true, false, List, [], Option, Some, None, slice_get}
 use Rattle.std.specs.List.{list_all}
+use Rattle.base.specs.AllOf.{AllOf}
 use Rattle.lang_meaning.specs.declared.part.Part.{Part}
 use Rattle.lang_meaning.specs.declared.program.Procedure.{Procedure}
 use Rattle.lang_meaning.specs.declared.program.Callee.{Callee}
@@ -9,7 +10,6 @@ use Rattle.lang_meaning.specs.declared.program.Callee.TheVariants as callee
 use Rattle.lang_meaning.specs.declared.program.ProgramRows.{ProgramRows}
 use Rattle.lang_meaning.specs.declared.scope.LexicalScope.{LexicalScope}
 use Rattle.lang_meaning.specs.Form.{Form, lambda, parameters}
-use Rattle.lang_meaning.specs.Subforms.{Each}
 use Rattle.lang_meaning.specs.Inside.{inside_form}
 use Rattle.lang_meaning.specs.Signals.{variables}
 use Rattle.lang_meaning.specs.Standing.{alone, with_bound, seen, is_bound, stands}
@@ -30,7 +30,7 @@ StandsAsFunction f = ⊤
 -- a body stands in a scope, and each function inside it stands
 pub record IsBoundIn (s : LexicalScope) (body : Form) : Type 0 where
   pub itself : stands s body ≡ true
-  pub functions : Each StandsAsFunction (inside_form body)
+  pub functions : AllOf StandsAsFunction (inside_form body)
 
 -- the body of a procedure stands where its own variables are bound, and a next method where it may have one
 abbrev pub BodyIsBound : Bool → Procedure → Type 0
@@ -52,11 +52,11 @@ InitformIsBound rows (Some p) = ProcedureIsBound false (slice_get rows.procedure
 -- all bodies of a program: those that functions, methods and initforms name, those that nothing names, and the main
 -- forms
 pub record NamesAreBound (rows : ProgramRows) : Type 0 where
-  pub functions : Each (λ f. CalleeIsBound rows f.callee) rows.functions
-  pub methods : Each (λ g. Each (λ m. ProcedureIsBound (knows_next m.qualifier) (slice_get rows.procedures m.procedure)) g.methods) rows.generics
-  pub initforms : Each (λ c. Each (λ s. InitformIsBound rows s.initform) c.slots) rows.classes
-  pub procedures : Each (λ p. (in_method : Bool) × BodyIsBound in_method p) rows.procedures
-  pub main : Each (λ f. IsBoundIn (alone [] false) f) rows.main
+  pub functions : AllOf (λ f. CalleeIsBound rows f.callee) rows.functions
+  pub methods : AllOf (λ g. AllOf (λ m. ProcedureIsBound (knows_next m.qualifier) (slice_get rows.procedures m.procedure)) g.methods) rows.generics
+  pub initforms : AllOf (λ c. AllOf (λ s. InitformIsBound rows s.initform) c.slots) rows.classes
+  pub procedures : AllOf (λ p. (in_method : Bool) × BodyIsBound in_method p) rows.procedures
+  pub main : AllOf (λ f. IsBoundIn (alone [] false) f) rows.main
 
 -- the law of names
 abbrev pub LawOfNames : Type 0

@@ -61,11 +61,6 @@ inner (tagbody x segments) = forms_list segments
 inner (dynamic_let ds body) = body ∷ []
 inner f = []
 
--- what holds of each of a list
-abbrev pub Each : {X : Type 0} → (X → Type 0) → List X → Type 0
-Each P [] = ⊤
-Each P (x ∷ xs) = P x × Each P xs
-
 -- the walk: a step makes what is found of a form of what is found of its outer and its inner forms
 module _ {X : Type 0} (step : Form → List X → List X → X) where
   abbrev mutual

@@ -4,6 +4,7 @@
 pub mod classes;
 pub mod core_form;
 pub mod evaluation;
+pub mod kinds;
 pub mod laws;
 pub mod mentioned;
 pub mod nodes;
@@ -19,6 +20,7 @@ pub use core_form::{
     SegmentList, Subforms,
 };
 pub use evaluation::EvaluationEnd;
+pub use kinds::OverTwo;
 pub use mentioned::{mentions, owns};
 pub use nodes::{
     class_list_nodes, form_list_nodes, form_nodes, frame_words, literal_list_nodes,

@@ -14,7 +14,7 @@ use Rattle.lang_meaning.specs.Layout.{class_value}
 use Rattle.lang_meaning.specs.Primitives.{Answer, makes, program_error, can_be_made, instance_words, primitive}
 use Rattle.mid_code.specs.declared.program.MidProcedure.{MidProcedure}
 use Rattle.mid_code.specs.declared.operation.Comparison.TheVariants.{Different}
-use Rattle.mid_code.specs.Words.{sum32, shift_right, one_if_less, difference32}
+use Rattle.base.specs.Arithmetic.{sum32, shift_right, one_if_less, difference32}
 use Rattle.mid_code.specs.Arena.{Arena, left, word_at}
 use Rattle.mid_code.specs.MidCode.{MidStep, code_of}
 use Rattle.mid_code.specs.State.{State, Outcome, falls, returns, no_room, ends, first_registers}

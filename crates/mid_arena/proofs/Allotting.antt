@@ -4,7 +4,7 @@ use Rattle.std.specs.Prelude.{slice_get}
 use Rattle.lang_meaning.specs.Values.{same}
 use Rattle.mid_code.specs.declared.operation.Arithmetic.TheVariants as which
 use Rattle.mid_code.specs.declared.operation.Operation.TheVariants.{Move, Request}
-use Rattle.mid_code.specs.Words.{sum32}
+use Rattle.base.specs.Arithmetic.{sum32}
 use Rattle.mid_code.specs.Arena.{Arena, left, word_at, with_word, with_heap}
 use Rattle.mid_code.specs.MidCode.{MidStep, perform, code_of}
 use Rattle.mid_code.specs.State.{State, falls, ends}

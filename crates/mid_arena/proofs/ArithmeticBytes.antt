@@ -4,7 +4,7 @@ use Rattle.std.specs.Prelude.{slice_set, ◌≢◌}
 use Rattle.std.proofs.Math.ListN.{length-set, length-replicate}
 use Rattle.std.proofs.lemmas.List.{get_or-replicate, get_or-set_same, get_or-set_other, get_or_past}
 use Rattle.std.proofs.lemmas.Bool.{cases_lt, cases_eq}
-use Rattle.mid_code.specs.Words.{sum32, difference32, product32, shift_left, shift_right}
+use Rattle.base.specs.Arithmetic.{sum32, difference32, product32, shift_left, shift_right}
 use Rattle.mid_arena.proofs.WordFacts.{low_byte_alone}
 use Rattle.mid_arena.specs.Tags.{character_word}
 use Rattle.mid_arena.specs.Layouts.{byte_words, byte_at, packed, AreBytes}

@@ -7,7 +7,7 @@ use Rattle.std.proofs.lemmas.Nat.{mul-le, div-mul-add, mod-mul-add}
 use Rattle.std.proofs.lemmas.Int.{ints, quot-rem, rem_below, unsigned_abs-mul}
 use Rattle.std.proofs.lemmas.Bool.{cases_lt, lt-ltb, eq-eqb, ne_eqb}
 use borrow.Author.Differences.{up, down, true_is_lt, false_is_lt}
-use Rattle.mid_code.specs.Words.{low_word, sum32, difference32, product32, high_signed, quotient_signed, remainder_signed, shift_left, shifted_down, less_signed, one_if_less_signed, one_if_less}
+use Rattle.base.specs.Arithmetic.{low_word, sum32, difference32, product32, high_signed, quotient_signed, remainder_signed, shift_left, shifted_down, less_signed, one_if_less_signed, one_if_less}
 use Rattle.lang_meaning.specs.Values.{in_range, int_equal}
 use Rattle.lang_meaning.specs.Primitives.{floor_quotient, floor_remainder}
 use Rattle.mid_arena.specs.Tags.{integer_word}

@@ -6,7 +6,7 @@ use Rattle.std.proofs.lemmas.Nat.{mul-le}
 use Rattle.std.proofs.lemmas.Int.{ints, unsigned_abs-mul}
 use Rattle.std.proofs.lemmas.Bool.{cases_lt, ne_eqb, lt-ltb, le-ltb}
 use borrow.Author.Differences.{up, down}
-use Rattle.mid_code.specs.Words.{low_word, product32, high_signed, shift_right_signed, shifted_down}
+use Rattle.base.specs.Arithmetic.{low_word, product32, high_signed, shift_right_signed, shifted_down}
 use Rattle.lang_meaning.specs.Values.{in_range}
 use Rattle.mid_arena.specs.Tags.{integer_word}
 use Rattle.mid_arena.proofs.WordFacts.{low_word_of_pos, low_word_of_negsuc, signed_low, signed_high, four_fits, range_tells, in_range_is, above_range_is, below_range_is}

@@ -4,7 +4,7 @@ use Rattle.std.specs.Prelude.{negsuc, ◌*ℤ◌, ◌+ℤ◌, ◌-ℤ◌, neg_�
 use Rattle.std.proofs.lemmas.Int.{ints}
 use Rattle.std.proofs.lemmas.Bool.{cases_lt}
 use borrow.Author.Differences.{up, down, true_is_lt, false_is_lt}
-use Rattle.mid_code.specs.Words.{low_word, signed, sum32, difference32, one_if_less_signed}
+use Rattle.base.specs.Arithmetic.{low_word, signed, sum32, difference32, one_if_less_signed}
 use Rattle.lang_meaning.specs.Values.{in_range}
 use Rattle.mid_arena.specs.Tags.{integer_word}
 use Rattle.mid_arena.proofs.WordFacts.{signed_integer_word, signed_is, range_tells, in_range_is, above_range_is, below_range_is, same_truth, is_negative}

@@ -6,7 +6,7 @@ use Rattle.std.proofs.Math.IntN.{*ℤ_comm}
 use Rattle.std.proofs.Math.Nat.{div-eq_of_lt-le}
 use Rattle.std.proofs.lemmas.Int.{ints}
 use borrow.Author.Differences.{up, down}
-use Rattle.mid_code.specs.Words.{low_word, sum32, difference32, product32, shifted_down, shift_right_signed, high_signed}
+use Rattle.base.specs.Arithmetic.{low_word, sum32, difference32, product32, shifted_down, shift_right_signed, high_signed}
 use Rattle.mid_arena.proofs.WordFacts.{low_word_apart, low_word_is, same_low_word, low_word_of_pos, signed_low_word}
 
 pub sum_of_low_words : (y z : ℤ) → sum32 (low_word y) (low_word z) ≡ low_word (y +ℤ z)

@@ -10,7 +10,8 @@ use Rattle.lang_meaning.specs.Primitives.{result, domain_error, needs, byte_of}
 use Rattle.mid_code.specs.declared.program.MidProcedure.{MidProcedure}
 use Rattle.mid_code.specs.declared.operation.Arithmetic.TheVariants as which
 use Rattle.mid_code.specs.declared.operation.Comparison.TheVariants as comparison
-use Rattle.mid_code.specs.Words.{compares, shift_left, shift_right, sum32}
+use Rattle.base.specs.Arithmetic.{shift_left, shift_right, sum32}
+use Rattle.mid_code.specs.Words.{compares}
 use Rattle.mid_code.specs.MidCode.{MidStep, return_word, code_of}
 use Rattle.mid_code.specs.State.{State, Outcome}
 use Rattle.mid_code.specs.Meaning.{Task}

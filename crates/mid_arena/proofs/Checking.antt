@@ -10,7 +10,7 @@ use Rattle.lang_meaning.specs.Classes.{fetch}
 use Rattle.lang_meaning.specs.Primitives.{Answer, domain_error, an_integer, a_character, a_cons}
 use Rattle.mid_code.specs.declared.program.MidProcedure.{MidProcedure}
 use Rattle.mid_code.specs.Arena.{word_at}
-use Rattle.mid_code.specs.Words.{shift_left, difference32}
+use Rattle.base.specs.Arithmetic.{shift_left, difference32}
 use Rattle.mid_code.specs.MidCode.{MidStep, code_of}
 use Rattle.mid_code.specs.State.{Registers, State, Outcome, falls, ends, register}
 use Rattle.mid_code.specs.Meaning.{Task}

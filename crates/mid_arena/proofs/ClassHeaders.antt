@@ -9,7 +9,8 @@ use Rattle.lang_meaning.specs.Layout.{class_value}
 use Rattle.mid_code.specs.declared.program.MidProcedure.{MidProcedure}
 use Rattle.mid_code.specs.declared.operation.Test.{Test}
 use Rattle.mid_code.specs.Arena.{word_at}
-use Rattle.mid_code.specs.Words.{compares, shift_left}
+use Rattle.base.specs.Arithmetic.{shift_left}
+use Rattle.mid_code.specs.Words.{compares}
 use Rattle.mid_code.specs.MidCode.{MidStep, choose, MidCode, no_step, step_and, code_of}
 use Rattle.mid_code.specs.State.{Registers, State, Outcome, falls, ends, register}
 use Rattle.mid_code.specs.Meaning.{Task}

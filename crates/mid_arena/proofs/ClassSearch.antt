@@ -13,7 +13,7 @@ use Rattle.mid_code.specs.declared.program.MidProcedure.{MidProcedure}
 use Rattle.mid_code.specs.declared.operation.Arithmetic.TheVariants as which
 use Rattle.mid_code.specs.declared.operation.Comparison.TheVariants.{Equal}
 use Rattle.mid_code.specs.Arena.{word_at}
-use Rattle.mid_code.specs.Words.{sum32}
+use Rattle.base.specs.Arithmetic.{sum32}
 use Rattle.mid_code.specs.MidCode.{MidStep, return_word, code_of}
 use Rattle.mid_code.specs.State.{Registers, State, Outcome, falls, returns, ends, register}
 use Rattle.mid_code.specs.Meaning.{Task}

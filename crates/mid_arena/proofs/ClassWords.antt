@@ -11,7 +11,7 @@ use Rattle.lang_meaning.specs.Values.{named, unnamed, Value, integer, character,
 use Rattle.lang_meaning.specs.Classes.{class_of, class_of_object as class_of_stored}
 use Rattle.mid_code.specs.declared.operation.Comparison.TheVariants.{Equal}
 use Rattle.mid_code.specs.Arena.{word_at}
-use Rattle.mid_code.specs.Words.{shift_left}
+use Rattle.base.specs.Arithmetic.{shift_left}
 use Rattle.mid_code.specs.MidCode.{return_word, MidStep, code_of}
 use Rattle.mid_code.specs.State.{first_registers, Registers, State, register}
 use Rattle.mid_arena.specs.Tags.{nil_word, class_header, tag_of}

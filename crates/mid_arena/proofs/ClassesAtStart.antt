@@ -5,6 +5,7 @@ use Rattle.std.specs.List.{range_with_len}
 use Rattle.std.proofs.lemmas.Bool.Decides.{nat_tests}
 use Rattle.std.proofs.lemmas.List.{append_assoc}
 use Rattle.base.specs.Data as datum
+use Rattle.base.specs.AllOf.{AllOf}
 use Rattle.lang_meaning.specs.declared.program.ProgramRows.{ProgramRows}
 use Rattle.lang_meaning.specs.declared.program.SlotRow.{SlotRow}
 use Rattle.lang_meaning.specs.declared.program.ClassRow.{ClassRow}
@@ -22,7 +23,6 @@ use Rattle.lang_meaning.specs.Values.{Value, object}
 use Rattle.lang_meaning.specs.Objects.{Object, instance, class_object, input_stream, output_stream, built_in_classes}
 use Rattle.lang_meaning.specs.State.{first_state}
 use Rattle.lang_meaning.specs.Classes.{fetch}
-use Rattle.lang_meaning.specs.Subforms.{Each}
 use Rattle.mid_arena.specs.ClassesThere.{ClassesThere}
 
 -- an object that is no class and no instance
@@ -30,48 +30,48 @@ record Ordinary (o : Object) : Type 0 where
   no_class : (c : ℕ) → o ≡ class_object c → ⊥
   no_instance : (c : ℕ) (values : List (Option Value)) (mark : Value) → o ≡ instance c values mark → ⊥
 
-both : {X : Type 0} (P : X → Type 0) (xs ys : List X) → Each P xs → Each P ys → Each P (xs ++ ys)
+both : {X : Type 0} (P : X → Type 0) (xs ys : List X) → AllOf P xs → AllOf P ys → AllOf P (xs ++ ys)
 both P [] ys e f = f
 both P (x ∷ xs) ys e f = (e.0, both P xs ys e.1 f)
 
-mapped : {X Y : Type 0} (P : Y → Type 0) (g : X → Y) → ((x : X) → P (g x)) → (xs : List X) → Each P (map g xs)
+mapped : {X Y : Type 0} (P : Y → Type 0) (g : X → Y) → ((x : X) → P (g x)) → (xs : List X) → AllOf P (map g xs)
 mapped P g h [] = tt
 mapped P g h (x ∷ xs) = (h x, mapped P g h xs)
 
-flat_mapped : {X Y : Type 0} (P : Y → Type 0) (g : X → List Y) → ((x : X) → Each P (g x)) → (xs : List X) → Each P (flat_map g xs)
+flat_mapped : {X Y : Type 0} (P : Y → Type 0) (g : X → List Y) → ((x : X) → AllOf P (g x)) → (xs : List X) → AllOf P (flat_map g xs)
 flat_mapped P g h [] = tt
 flat_mapped P g h (x ∷ xs) = both P (g x) (flat_map g xs) (h x) (flat_mapped P g h xs)
 
-one_more : (os : List Object) (o : Object) → Each Ordinary os → Ordinary o → Each Ordinary (os ++ o ∷ [])
+one_more : (os : List Object) (o : Object) → AllOf Ordinary os → Ordinary o → AllOf Ordinary (os ++ o ∷ [])
 one_more os o e h = both Ordinary os (o ∷ []) e (h, tt)
 
 -- ---- what data make
 
 mutual
-  laid : (names : List (List ℕ)) (d : datum.Item) (n : ℕ) → Each Ordinary (lay names d n).objects
+  laid : (names : List (List ℕ)) (d : datum.Item) (n : ℕ) → AllOf Ordinary (lay names d n).objects
   laid names (datum.item p c) n = content_laid names c n
 
-  content_laid : (names : List (List ℕ)) (c : datum.Content) (n : ℕ) → Each Ordinary (lay_content names c n).objects
+  content_laid : (names : List (List ℕ)) (c : datum.Content) (n : ℕ) → AllOf Ordinary (lay_content names c n).objects
   content_laid names (datum.string bytes) n = (record { no_class = λ c e. cc e; no_instance = λ c vs m e. cc e }, tt)
   content_laid names (datum.vector ds) n =
       one_more (lay_items names ds n).0 _ (items_laid names ds n) (record { no_class = λ c e. cc e; no_instance = λ c vs m e. cc e })
   content_laid names (datum.list ds end) n = list_laid names ds (lay_tail names end) (λ m. tail_laid names end m) n
   content_laid names w n = tt
 
-  items_laid : (names : List (List ℕ)) (ds : datum.Items) (n : ℕ) → Each Ordinary (lay_items names ds n).0
+  items_laid : (names : List (List ℕ)) (ds : datum.Items) (n : ℕ) → AllOf Ordinary (lay_items names ds n).0
   items_laid names datum.no_item n = tt
   items_laid names (datum.item_and d ds) n =
       both Ordinary (lay names d n).objects _ (laid names d n) (items_laid names ds (n + length (lay names d n).objects))
 
-  list_laid : (names : List (List ℕ)) (ds : datum.Items) (end : ℕ → Laid) → ((m : ℕ) → Each Ordinary (end m).objects) → (n : ℕ)
-      → Each Ordinary (lay_list names ds end n).objects
+  list_laid : (names : List (List ℕ)) (ds : datum.Items) (end : ℕ → Laid) → ((m : ℕ) → AllOf Ordinary (end m).objects) → (n : ℕ)
+      → AllOf Ordinary (lay_list names ds end n).objects
   list_laid names datum.no_item end e n = e n
   list_laid names (datum.item_and d ds) end e n =
       one_more ((lay names d n).objects ++ (lay_list names ds end (n + length (lay names d n).objects)).objects) _
       (both Ordinary (lay names d n).objects _ (laid names d n) (list_laid names ds end e (n + length (lay names d n).objects)))
       (record { no_class = λ c e. cc e; no_instance = λ c vs m e. cc e })
 
-  tail_laid : (names : List (List ℕ)) (t : datum.Tail) (n : ℕ) → Each Ordinary (lay_tail names t n).objects
+  tail_laid : (names : List (List ℕ)) (t : datum.Tail) (n : ℕ) → AllOf Ordinary (lay_tail names t n).objects
   tail_laid names datum.no_tail n = tt
   tail_laid names (datum.dotted d) n = laid names d n
 
@@ -109,9 +109,9 @@ entry_at (l ∷ ks) n (suc i) k e found =
 -- a thing that is no class
 record Plainly (t : Thing) : Type 0 where
   no_class : (c : ℕ) → t.key ≡ class c → ⊥
-  objects : (n : ℕ) → Each Ordinary (t.objects n)
+  objects : (n : ℕ) → AllOf Ordinary (t.objects n)
 
-keyed_entries : (key : Key) (os : List Object) (n : ℕ) → ((c : ℕ) → key ≡ class c → ⊥) → Each Ordinary os → Entries (keyed key os) n
+keyed_entries : (key : Key) (os : List Object) (n : ℕ) → ((c : ℕ) → key ≡ class c → ⊥) → AllOf Ordinary os → Entries (keyed key os) n
 keyed_entries key [] n h e = tt
 keyed_entries key (o ∷ []) n h e = (another h e.0, tt)
 keyed_entries key (o ∷ p ∷ os) n h e = (another (λ c f. cc f) e.0, keyed_entries key (p ∷ os) (n + 1) h e.1)
@@ -121,7 +121,7 @@ keyed_length key [] = refl
 keyed_length key (o ∷ []) = refl
 keyed_length key (o ∷ p ∷ os) = ap (λ n. suc n) (keyed_length key (p ∷ os))
 
-plain_entries : (ts : List Thing) → Each Plainly ts → (n : ℕ) → Entries (laid_out ts n) n
+plain_entries : (ts : List Thing) → AllOf Plainly ts → (n : ℕ) → Entries (laid_out ts n) n
 plain_entries [] e n = tt
 plain_entries (t ∷ ts) e n =
     entries_both (keyed t.key (t.objects n)) _ n (keyed_entries t.key (t.objects n) n e.0.no_class (e.0.objects n))
@@ -147,16 +147,16 @@ callee_ordinary : (c : Callee) → Ordinary (function_object c)
 callee_ordinary (callee.Procedure p) = record { no_class = λ c e. cc e; no_instance = λ c vs m e. cc e }
 callee_ordinary (callee.Generic g) = record { no_class = λ c e. cc e; no_instance = λ c vs m e. cc e }
 
-literal_ordinary : (names : List (List ℕ)) (r : LiteralRow) (n : ℕ) → Each Ordinary (literal_objects names r n)
+literal_ordinary : (names : List (List ℕ)) (r : LiteralRow) (n : ℕ) → AllOf Ordinary (literal_objects names r n)
 literal_ordinary names (row.Datum d) n = laid names d n
 literal_ordinary names (row.Class c) n = tt
 literal_ordinary names (row.Function name) n = tt
 
-initform_ordinary : (o : Option ℕ) → Each Ordinary (initform_objects o)
+initform_ordinary : (o : Option ℕ) → AllOf Ordinary (initform_objects o)
 initform_ordinary (Some p) = (record { no_class = λ c e. cc e; no_instance = λ c vs m e. cc e }, tt)
 initform_ordinary None = tt
 
-slot_plainly : (names : List (List ℕ)) (c : ℕ) (s : SlotRow × ℕ) → Each Plainly (slot_things names c s)
+slot_plainly : (names : List (List ℕ)) (c : ℕ) (s : SlotRow × ℕ) → AllOf Plainly (slot_things names c s)
 slot_plainly names c s = (
   record { no_class = λ d e. cc e; objects = λ n. content_laid names (initargs_list s.0) n },
   (record { no_class = λ d e. cc e; objects = λ n. initform_ordinary s.0.initform }, tt),
@@ -179,7 +179,7 @@ module _ (names : List (List ℕ)) (program : ProgramRows) where
   abbrev behind_classes : List Thing
   behind_classes = function_things names program.functions ++ (literal_things names program.literals ++ slots_of_classes)
 
-  behind_plainly : Each Plainly behind_classes
+  behind_plainly : AllOf Plainly behind_classes
   behind_plainly =
       both Plainly (function_things names program.functions) (literal_things names program.literals ++ slots_of_classes)
       (mapped Plainly (λ (f : FunctionRow). single (function_of (text names f.name.0)) (function_object f.callee))

@@ -10,7 +10,7 @@ use Rattle.lang_meaning.specs.Primitives.{fails, integer_result, floor_quotient,
 use Rattle.mid_code.specs.declared.program.MidProcedure.{MidProcedure}
 use Rattle.mid_code.specs.declared.operation.Arithmetic.TheVariants as which
 use Rattle.mid_code.specs.declared.operation.Comparison.TheVariants as comparison
-use Rattle.mid_code.specs.Words.{sum32, product32, difference32, quotient_signed, remainder_signed}
+use Rattle.base.specs.Arithmetic.{sum32, product32, difference32, quotient_signed, remainder_signed}
 use Rattle.mid_code.specs.MidCode.{MidStep, return_word, code_of}
 use Rattle.mid_code.specs.State.{State, Outcome}
 use Rattle.mid_code.specs.Meaning.{Task}

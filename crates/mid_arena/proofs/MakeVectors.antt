@@ -11,7 +11,7 @@ use Rattle.lang_meaning.specs.Primitives.{domain_error, needs, length_of, makes_
 use Rattle.mid_code.specs.declared.program.MidProcedure.{MidProcedure}
 use Rattle.mid_code.specs.declared.operation.Arithmetic.TheVariants as which
 use Rattle.mid_code.specs.declared.operation.Operation.TheVariants.{Move, Request}
-use Rattle.mid_code.specs.Words.{sum32, shift_right}
+use Rattle.base.specs.Arithmetic.{sum32, shift_right}
 use Rattle.mid_code.specs.Arena.{left, word_at}
 use Rattle.mid_code.specs.MidCode.{MidStep, perform, code_of}
 use Rattle.mid_code.specs.State.{State, Outcome, falls, returns, no_room, ends, first_registers}

@@ -12,7 +12,7 @@ use Rattle.mid_code.specs.declared.program.MidProcedure.{MidProcedure}
 use Rattle.mid_code.specs.declared.operation.Arithmetic.TheVariants as which
 use Rattle.mid_code.specs.declared.operation.Comparison.TheVariants as comparison
 use Rattle.mid_code.specs.declared.operation.Operation.TheVariants as operation
-use Rattle.mid_code.specs.Words.{difference32, one_if_less}
+use Rattle.base.specs.Arithmetic.{difference32, one_if_less}
 use Rattle.mid_code.specs.Arena.{word_at, with_word}
 use Rattle.mid_code.specs.MidCode.{MidStep, perform, return_word, code_of}
 use Rattle.mid_code.specs.State.{Registers, State, Outcome, returns, ends, first_registers}

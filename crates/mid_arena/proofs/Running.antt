@@ -8,7 +8,8 @@ use Rattle.mid_code.specs.declared.operation.Counted.TheVariants.{Turn}
 use Rattle.mid_code.specs.declared.operation.Operation.TheVariants.{Move, Constant, Compute, Load, Store, Request, Put, Get}
 use Rattle.mid_code.specs.declared.operation.Test.{Test}
 use Rattle.mid_code.specs.declared.program.MidProcedure.{MidProcedure}
-use Rattle.mid_code.specs.Words.{computed, compares, low_word, address}
+use Rattle.base.specs.Arithmetic.{low_word}
+use Rattle.mid_code.specs.Words.{computed, compares, address}
 use Rattle.mid_code.specs.MidCode.{MidStep, perform, choose, repeat, return_word, MidCode, no_step, step_and, code_of}
 use Rattle.mid_code.specs.Arena.{Block, activation_frame, left, is_lent, word_at, with_word, with_heap, with_new_block}
 use Rattle.mid_code.specs.Costs.{operation_cost, test_cost, jump_cost, return_cost, entry_cost}

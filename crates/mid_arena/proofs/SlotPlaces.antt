@@ -14,7 +14,7 @@ use Rattle.lang_meaning.specs.Layout.{class_value}
 use Rattle.lang_meaning.specs.Primitives.{Spelt, as_symbol, a_symbol, is_slot, slot_place}
 use Rattle.mid_code.specs.declared.program.MidProcedure.{MidProcedure}
 use Rattle.mid_code.specs.declared.operation.Arithmetic.TheVariants as which
-use Rattle.mid_code.specs.Words.{sum32, product32}
+use Rattle.base.specs.Arithmetic.{sum32, product32}
 use Rattle.mid_code.specs.MidCode.{MidStep, code_of}
 use Rattle.mid_code.specs.State.{Registers, State, Outcome, returns, ends, first_registers}
 use Rattle.mid_code.specs.Meaning.{Task}

@@ -13,7 +13,7 @@ use Rattle.lang_meaning.specs.Primitives.{Answer, result, domain_error, needs, a
 use Rattle.mid_code.specs.declared.program.MidProcedure.{MidProcedure}
 use Rattle.mid_code.specs.declared.operation.Arithmetic.TheVariants as which
 use Rattle.mid_code.specs.declared.operation.Comparison.TheVariants.{Different}
-use Rattle.mid_code.specs.Words.{sum32, product32}
+use Rattle.base.specs.Arithmetic.{sum32, product32}
 use Rattle.mid_code.specs.MidCode.{MidStep, return_word, code_of}
 use Rattle.mid_code.specs.State.{State, Outcome, first_registers}
 use Rattle.mid_code.specs.Meaning.{Task}

@@ -12,7 +12,8 @@ use Rattle.lang_meaning.specs.Primitives.{Answer, result, a_slot, an_integer, an
 use Rattle.mid_code.specs.declared.program.MidProcedure.{MidProcedure}
 use Rattle.mid_code.specs.declared.operation.Arithmetic.TheVariants as which
 use Rattle.mid_code.specs.declared.operation.Comparison.TheVariants.{Different}
-use Rattle.mid_code.specs.Words.{sum32, address}
+use Rattle.base.specs.Arithmetic.{sum32}
+use Rattle.mid_code.specs.Words.{address}
 use Rattle.mid_code.specs.Arena.{word_at}
 use Rattle.mid_code.specs.MidCode.{MidStep, return_word, code_of}
 use Rattle.mid_code.specs.State.{Registers, State, Outcome, register, first_registers}

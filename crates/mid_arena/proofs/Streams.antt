@@ -13,7 +13,7 @@ use Rattle.mid_code.specs.declared.program.MidProcedure.{MidProcedure}
 use Rattle.mid_code.specs.declared.operation.Arithmetic.TheVariants as which
 use Rattle.mid_code.specs.declared.operation.Comparison.TheVariants as comparison
 use Rattle.mid_code.specs.declared.operation.Operation.TheVariants as operation
-use Rattle.mid_code.specs.Words.{shift_left}
+use Rattle.base.specs.Arithmetic.{shift_left}
 use Rattle.mid_code.specs.Arena.{Arena, word_at, with_word}
 use Rattle.mid_code.specs.MidCode.{MidStep, perform, return_word, code_of}
 use Rattle.mid_code.specs.State.{Registers, State, Outcome, falls, returns, ends, first_registers}

@@ -12,7 +12,7 @@ use Rattle.lang_meaning.specs.Primitives.{result, an_integer, a_string, an_index
 use Rattle.mid_code.specs.declared.program.MidProcedure.{MidProcedure}
 use Rattle.mid_code.specs.Meaning.{Task, Context}
 use Rattle.mid_code.specs.declared.operation.Arithmetic.TheVariants as which
-use Rattle.mid_code.specs.Words.{sum32, shift_left, shift_right}
+use Rattle.base.specs.Arithmetic.{sum32, shift_left, shift_right}
 use Rattle.mid_code.specs.Arena.{Arena, word_at, with_word}
 use Rattle.mid_code.specs.MidCode.{MidStep, return_word, code_of}
 use Rattle.mid_code.specs.State.{State, Outcome, falls, ends, first_registers}

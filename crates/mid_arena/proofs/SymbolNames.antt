@@ -13,7 +13,7 @@ use Rattle.mid_code.specs.declared.operation.Arithmetic.TheVariants as which
 use Rattle.mid_code.specs.declared.operation.Comparison.TheVariants.{Equal}
 use Rattle.mid_code.specs.declared.operation.Operation.TheVariants.{Move, Request}
 use Rattle.mid_code.specs.Arena.{Arena, left, word_at}
-use Rattle.mid_code.specs.Words.{sum32}
+use Rattle.base.specs.Arithmetic.{sum32}
 use Rattle.mid_code.specs.MidCode.{MidStep, perform, return_word, code_of}
 use Rattle.mid_code.specs.State.{State, Outcome, returns, no_room, ends, first_registers}
 use Rattle.mid_code.specs.Meaning.{Task, Context}

@@ -11,7 +11,7 @@ use Rattle.lang_meaning.specs.Objects.{vector}
 use Rattle.lang_meaning.specs.State as meaning
 use Rattle.lang_meaning.specs.Primitives.{result, an_integer, an_index, change}
 use Rattle.mid_code.specs.declared.operation.Arithmetic.TheVariants as which
-use Rattle.mid_code.specs.Words.{sum32}
+use Rattle.base.specs.Arithmetic.{sum32}
 use Rattle.mid_code.specs.Arena.{Arena, word_at, with_word}
 use Rattle.mid_code.specs.MidCode.{MidStep, return_word}
 use Rattle.mid_code.specs.State.{State, first_registers}

@@ -7,9 +7,10 @@ use borrow.Author.Differences.{up, down, true_is_lt, false_is_lt, true_is_le, fa
 use Rattle.std.proofs.lemmas.Bool.{eqb-true, eq-eqb, not-true, ltb-true, leb-true, le-ltb, and_left, and_right}
 use Rattle.std.proofs.lemmas.Bool.Decides.{nat_tests}
 use Rattle.mid_code.specs.declared.operation.Comparison.TheVariants as comparison
-use Rattle.mid_code.specs.Words.{compares, less_signed, sum32, product32, difference32}
+use Rattle.base.specs.Arithmetic.{less_signed, sum32, product32, difference32}
+use Rattle.mid_code.specs.Words.{compares}
 use Rattle.mid_code.proofs.WordBounds.{first_true, second_true}
-use Rattle.mid_code.specs.Words.{low_word, signed, shift_left, shift_right}
+use Rattle.base.specs.Arithmetic.{low_word, signed, shift_left, shift_right}
 use Rattle.lang_meaning.specs.Values.{in_range, int_equal}
 use Rattle.lang_meaning.specs.Primitives.{index_of, length_of, byte_of}
 use Rattle.mid_arena.specs.Tags.{integer_word, character_word, nil_word, instance_header}

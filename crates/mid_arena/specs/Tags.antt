@@ -1,7 +1,7 @@
 -- What the bits of a word say: the two lowest are its tag, 0 for an integer, 1 for a cons, 2 for another object or a symbol, 3 for nil,
 -- a character and what is no value. The first word of an object other than a cons is its header, which says of what kind it is.
 use Rattle.std.specs.Prelude.{ℕ, ◌+◌, ◌*◌, ℤ, pos, ◌*ℤ◌}
-use Rattle.mid_code.specs.Words.{low_word}
+use Rattle.base.specs.Arithmetic.{low_word}
 use Rattle.lang_meaning.specs.Objects.{Object, cons, string, vector, instance, function, closure, generic_function, class_object, input_stream, output_stream, fresh_symbol}
 
 abbrev pub cons_tag : ℕ

@@ -6,7 +6,8 @@ use Rattle.std.proofs.lemmas.Nat.{or_lt, xor_lt}
 use Rattle.std.proofs.Math.Nat.{div-le_self}
 use Rattle.mid_code.specs.declared.operation.Arithmetic.{Arithmetic}
 use Rattle.mid_code.specs.declared.operation.Arithmetic.TheVariants as which
-use Rattle.mid_code.specs.Words.{computed, low_word, high_signed, quotient_signed, remainder_signed, shift_right_signed, less_signed}
+use Rattle.base.specs.Arithmetic.{low_word, high_signed, quotient_signed, remainder_signed, shift_right_signed, less_signed}
+use Rattle.mid_code.specs.Words.{computed}
 use Rattle.mid_code.specs.Arena.{word_in, emptied}
 use Rattle.mid_code.specs.Bounds.{IsWord, AreWords, AreWordsOrNone}
 

@@ -1,6 +1,6 @@
 -- The worked programs compute.
 use Rattle.std.proofs.Common.{refl}
-use Rattle.mid_code.specs.Words.{low_word}
+use Rattle.base.specs.Arithmetic.{low_word}
 use Rattle.mid_code.specs.State.{go_on, with_some, choose_by, with_registers, landed}
 use Rattle.mid_code.specs.Meaning.{called, leaves, exec, exec_step, turns, levels, at_top, runs}
 use Rattle.mid_lines.specs.LineMeaning.{proceed, after}

@@ -7,7 +7,8 @@ use Rattle.base.specs.declared.datum.Kind.{Kind}
 use Rattle.base.specs.Data.{Item, item, integer, symbol, string, vector, list, items_of, Tail, dotted}
 use Rattle.base.specs.DataMeasures.{SymbolBelow, NamesBelow, size_of, sizes_of, size_of_tail}
 use Rattle.base.specs.DataFormed.{has_30_bits, formed_tells}
-use Rattle.base.specs.DataParts.{AllOf, OfDotted}
+use Rattle.base.specs.AllOf.{AllOf}
+use Rattle.base.specs.DataParts.{OfDotted}
 use Rattle.base.specs.GoodData.{Good, good_items, good_tail, good_elements}
 use Rattle.base.specs.model.DataView.{view_content, view_item}
 use Rattle.lang_meaning.specs.Values.{in_range}

@@ -4,7 +4,8 @@ ghost use Rattle.std.specs.Prelude.{◌≡◌, ℕ, ◌+◌, ◌*◌, ◌≤◌,
 ghost use Rattle.base.specs.Data.{items_of, string, vector, list};
 ghost use Rattle.base.specs.Data as data_specs;
 ghost use Rattle.base.specs.DataMeasures.{SymbolBelow, size_of, sizes_of, size_of_tail};
-ghost use Rattle.base.specs.DataParts.{AllOf, OfDotted};
+ghost use Rattle.base.specs.AllOf.{AllOf};
+ghost use Rattle.base.specs.DataParts.{OfDotted};
 ghost use Rattle.base.specs.GoodData.{Good};
 ghost use Rattle.base.specs.Names.{IsTable};
 ghost use Rattle.base.specs.model.DataView.{tail_of};

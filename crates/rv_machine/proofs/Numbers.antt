@@ -7,7 +7,7 @@ use Rattle.std.proofs.lemmas.Bool.{cases_lt, eq-eqb}
 use Rattle.std.proofs.lemmas.Bool.Decides.{nat_tests}
 use Rattle.std.proofs.lemmas.Int.{to_z-of_z, fits_signed_mul}
 use Rattle.std.proofs.lemmas.Nat.{div_below}
-use Rattle.rv_machine.specs.Arithmetic.{low_word, shifted_down, signed, quotient_signed, remainder_signed}
+use Rattle.base.specs.Arithmetic.{low_word, shifted_down, signed, quotient_signed, remainder_signed}
 
 fits32 : (z : ℤ) → mag z < 2147483648 → FitsSigned w32 z
 fits32 z h = record { sfits = h }

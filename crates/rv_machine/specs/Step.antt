@@ -11,7 +11,8 @@ use Rattle.rv_machine.specs.declared.ending.StepEnd.{StepEnd}
 use Rattle.rv_machine.specs.declared.ending.StepEnd.TheVariants.{Went, Call, Trap}
 use Rattle.rv_machine.specs.State.{State, Counted, register, put}
 use Rattle.rv_machine.specs.Memory.{number_at, stored_at}
-use Rattle.rv_machine.specs.Arithmetic.{even, sign_extended, sum32, difference32, less_signed, one_if_less_signed, one_if_less, shift_left, shift_right, shift_right_signed, product32, high_signed, high_mixed, high_unsigned, quotient_signed, remainder_signed, quotient, remainder}
+use Rattle.base.specs.Arithmetic.{sum32, difference32, less_signed, one_if_less_signed, one_if_less, shift_left, shift_right, shift_right_signed, product32, high_signed, quotient_signed, remainder_signed}
+use Rattle.rv_machine.specs.Arithmetic.{even, sign_extended, high_mixed, high_unsigned, quotient, remainder}
 
 -- what a step comes to: the next state, an environment call, or a trap with its address; with the
 -- latter two nothing changes

@@ -8,6 +8,6 @@ mod shown;
 mod table;
 
 pub use answer::Answer;
-pub use read::{LONGEST, read_data};
+pub use read::read_data;
 pub use shown::{Style, show, show_symbol};
 pub use table::{Table, put_table};

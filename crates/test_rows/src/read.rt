@@ -1,17 +1,15 @@
 // The data of an input, read by the reader.
 
 ghost use Rattle.std.specs.Prelude.{◌≤◌, length};
+ghost use Rattle.base.specs.Limits.{longest_text};
 
 use crate::answer::Answer;
-use base::{DatumList, Names, Origin};
+use base::{DatumList, LONGEST_TEXT, Names, Origin};
 use front_reader::Reader;
-
-/// The bytes that a file may have.
-pub const LONGEST: usize = 1_048_576;
 
 /// All data of a text of a file; none where the text is refused.
 pub fn read_data(got: &mut Answer, names: &mut Names, text: &[u8]) -> Option<DatumList> {
-    if text.len() > LONGEST {
+    if text.len() > LONGEST_TEXT {
         return None;
     }
     let mut data = DatumList::new(got.alloc);
@@ -24,7 +22,7 @@ pub fn read_data(got: &mut Answer, names: &mut Names, text: &[u8]) -> Option<Dat
 
 // Appends the data of a text.
 fn add_data(got: &mut Answer, names: &mut Names, data: &mut DatumList, text: &[u8]) -> Option<()>
-    requires { length text.now ≤ 1048576 }
+    requires { length text.now ≤ longest_text }
 {
     let mut reader = Reader::new(text, Origin::File);
     for _ in 0..text.len() {

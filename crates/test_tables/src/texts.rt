@@ -1,16 +1,17 @@
 // Texts, and the data or the stop that the reader gives of them.
 
 ghost use Rattle.std.specs.Prelude.{◌≤◌, length};
+ghost use Rattle.base.specs.Limits.{longest_text};
 
 use crate::tables::DEPTH;
-use base::{Names, Origin};
+use base::{LONGEST_TEXT, Names, Origin};
 use front_reader::Reader;
-use test_rows::{Answer, LONGEST, Style, show};
+use test_rows::{Answer, Style, show};
 
 /// A text. The answer is each datum with its places and then `end`, or `!` and the stop with its
 /// place. Where `last` says otherwise, or the stop is not answered again, it is said too.
 pub fn put(got: &mut Answer, origin: Origin, text: &[u8]) -> Option<()> {
-    if text.len() > LONGEST {
+    if text.len() > LONGEST_TEXT {
         return None;
     }
     let mut names = Names::new(got.alloc);
@@ -20,7 +21,7 @@ pub fn put(got: &mut Answer, origin: Origin, text: &[u8]) -> Option<()> {
 }
 
 fn put_all(got: &mut Answer, names: &mut Names, origin: Origin, text: &[u8]) -> Option<()>
-    requires { length text.now ≤ 1048576 }
+    requires { length text.now ≤ longest_text }
 {
     let mut reader = Reader::new(text, origin);
     for _ in 0..=text.len() {

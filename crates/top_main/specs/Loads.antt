@@ -1,6 +1,6 @@
 -- What is taken of a file: all of it, or one byte more than a source may have where it is longer.
 use Rattle.std.specs.Prelude.{◌≡◌, ℕ, ◌+◌, List, take, Option, IfSome}
-use Rattle.back_first_path.specs.Limits.{longest_source}
+use Rattle.base.specs.Limits.{longest_text}
 
 abbrev pub IsTaken : Option (List ℕ) → List ℕ → Type 0
-IsTaken held text = IfSome held (λ file. text ≡ take (longest_source + 1) file)
+IsTaken held text = IfSome held (λ file. text ≡ take (longest_text + 1) file)

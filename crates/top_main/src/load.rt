@@ -5,7 +5,7 @@ ghost use Rattle.base.specs.Outside.{Rose};
 ghost use Rattle.top_main.specs.Loads.{IsTaken};
 ghost use Rattle.top_main.specs.declared.load.LoadStop.TheVariants.{Failed as Stopped};
 
-use base::{Bytes, Failed, Shelf};
+use base::{Bytes, Failed, LONGEST_TEXT, Shelf};
 use std::alloc::Global;
 
 /// Why a file was not taken.
@@ -27,7 +27,7 @@ impl From<base::NoMemory> for LoadStop {
 }
 
 // As many bytes of a file are taken: one more than any source file may have.
-const LIMIT: usize = 1_048_577;
+const LIMIT: usize = LONGEST_TEXT + 1;
 
 // The bytes that are asked for at once.
 const PIECE: usize = 4096;

@@ -3,14 +3,14 @@
 ghost use Rattle.std.specs.Prelude.{◌≡◌, IfOk};
 ghost use Rattle.lang_meaning.specs.Form.{local, call_value, form_and};
 ghost use Rattle.lang_meaning.specs.model.View as view;
-ghost use Rattle.front_profile.specs.Makings.{nothing, leaf_form, one_of, two_of, with_body_of, make_one, make_two, make_with_body};
+ghost use Rattle.front_profile.specs.Makings.{nothing, leaf_form, one_of, two_of, make_one, make_two, make_with_body};
 
 use crate::make::accessors::variable_and;
 use crate::make::parts::boxed;
 use crate::make::queue::FormQueue;
 use base::NoMemory;
-use front_profile::{Leaf, One, Two, WithBody};
-use lang_meaning::{Core, CoreForm, CoreList, Var};
+use front_profile::{Leaf, One};
+use lang_meaning::{Core, CoreForm, CoreList, OverTwo, Var};
 use std::alloc::Global;
 
 /// No forms.
@@ -60,19 +60,23 @@ pub(crate) fn make_one(alloc: Global, one: One, forms: CoreList) -> Result<Core,
     Ok(one_of(one, boxed(alloc, form)?))
 }
 
-fn two_of(two: Two, form: Box<Core>, other: Box<Core>) -> Core
-    ensures { result ≡ two_of two form.value other.value }
+fn two_of(kind: OverTwo, first: Box<Core>, second: Box<Core>) -> Core
+    ensures { result ≡ two_of kind first.value second.value }
 {
-    Core::new(match two {
-        Two::Applying => CoreForm::Apply(form, other),
-        Two::Throwing => CoreForm::Throw(form, other),
-        Two::Signalling => CoreForm::Signal(form, other),
-        Two::Continuing => CoreForm::Continue(form, other),
+    Core::new(match kind {
+        OverTwo::Apply => CoreForm::Apply(first, second),
+        OverTwo::While => CoreForm::While(first, second),
+        OverTwo::Catch => CoreForm::Catch(first, second),
+        OverTwo::Throw => CoreForm::Throw(first, second),
+        OverTwo::Unwind => CoreForm::Unwind(first, second),
+        OverTwo::WithHandler => CoreForm::WithHandler(first, second),
+        OverTwo::Signal => CoreForm::Signal(first, second),
+        OverTwo::Continue => CoreForm::Continue(first, second),
     })
 }
 
 /// Of the first two forms.
-pub(crate) fn make_two(alloc: Global, two: Two, forms: CoreList) -> Result<Core, NoMemory>
+pub(crate) fn make_two(alloc: Global, two: OverTwo, forms: CoreList) -> Result<Core, NoMemory>
     ensures { IfOk result (λ core. core ≡ make_two two forms) }
 {
     let mut queue = FormQueue::new(forms);
@@ -94,21 +98,10 @@ pub(crate) fn make_two(alloc: Global, two: Two, forms: CoreList) -> Result<Core,
     Ok(two_of(two, form, other))
 }
 
-fn with_body_of(with_body: WithBody, form: Box<Core>, body: Box<Core>) -> Core
-    ensures { result ≡ with_body_of with_body form.value body.value }
-{
-    Core::new(match with_body {
-        WithBody::Repeating => CoreForm::While(form, body),
-        WithBody::Catching => CoreForm::Catch(form, body),
-        WithBody::Unwinding => CoreForm::Unwind(form, body),
-        WithBody::Handling => CoreForm::WithHandler(form, body),
-    })
-}
-
 /// Of the first form, with those behind it as its body.
 pub(crate) fn make_with_body(
     alloc: Global,
-    with_body: WithBody,
+    with_body: OverTwo,
     forms: CoreList,
 ) -> Result<Core, NoMemory>
     ensures { IfOk result (λ core. core ≡ make_with_body with_body forms) }
@@ -126,7 +119,7 @@ pub(crate) fn make_with_body(
         drop(form);
         return Err(NoMemory);
     };
-    Ok(with_body_of(with_body, form, body))
+    Ok(two_of(with_body, form, body))
 }
 
 /// The call of the function that is a variable's value.

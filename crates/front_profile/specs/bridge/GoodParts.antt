@@ -4,7 +4,8 @@ use Rattle.base.specs.declared.place.Place.{Place}
 use Rattle.base.specs.declared.datum.Symbol.{Symbol}
 use Rattle.base.specs.Data.{Item, item, integer, character, symbol, string, vector, nil, list, Items, no_item, item_and, items_list, Tail, no_tail, dotted}
 use Rattle.base.specs.DataMeasures.{Formed, NamesBelow}
-use Rattle.base.specs.DataParts.{AllItems, AllOf, all_both}
+use Rattle.base.specs.AllOf.{AllOf, all_both}
+use Rattle.base.specs.DataParts.{AllItems}
 use Rattle.base.specs.GoodData.{Good, formed_parts, below_parts}
 use Rattle.lang_derived.specs.Asked.{list_items}
 use Rattle.front_profile.specs.declared.tables.ReservedWords.{ReservedWords}

@@ -9,7 +9,7 @@ use Rattle.base.specs.declared.datum.Symbol.TheVariants.{Named, Fresh}
 use Rattle.base.specs.Names.{Extends}
 use Rattle.base.specs.Data.{Item, item, integer, character, symbol, string, vector, nil, list, place_of}
 use Rattle.base.specs.DataNames.{symbol_text, text_of}
-use Rattle.base.specs.DataParts.{AllOf}
+use Rattle.base.specs.AllOf.{AllOf}
 use Rattle.base.specs.GoodData.{Good}
 use Rattle.lang_derived.specs.Asked.{list_items, is_word, is_text}
 use Rattle.front_profile.specs.declared.making.Accessor.{Accessor}

@@ -10,7 +10,7 @@ use Rattle.base.specs.declared.reason.Reason.TheVariants.{NotTopLevel, ReservedN
 use Rattle.base.specs.Names.{Extends}
 use Rattle.base.specs.Data.{Item, place_of}
 use Rattle.base.specs.DataNames.{symbol_text, text_of}
-use Rattle.base.specs.DataParts.{AllOf}
+use Rattle.base.specs.AllOf.{AllOf}
 use Rattle.base.specs.GoodData.{Good}
 use Rattle.lang_meaning.specs.declared.program.Qualifier.{Qualifier}
 use Rattle.lang_meaning.specs.declared.program.Qualifier.TheVariants.{Before, After, Around as AroundMethod}

@@ -10,7 +10,7 @@ use Rattle.base.specs.declared.datum.Symbol.TheVariants.{Named, Fresh}
 use Rattle.base.specs.Names.{Extends}
 use Rattle.base.specs.Data.{Item, item, Content, integer, character, symbol, string, vector, nil, list}
 use Rattle.base.specs.DataNames.{symbol_text, text_of, text_same}
-use Rattle.base.specs.DataParts.{AllOf}
+use Rattle.base.specs.AllOf.{AllOf}
 use Rattle.base.specs.GoodData.{Good}
 use Rattle.lang_derived.specs.Asked.{list_items, is_word, is_text, setf_text}
 use Rattle.front_profile.specs.Shapes.{symbol_of}

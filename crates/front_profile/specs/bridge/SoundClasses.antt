@@ -8,7 +8,7 @@ use Rattle.base.specs.declared.datum.Symbol.{Symbol}
 use Rattle.base.specs.declared.datum.Symbol.TheVariants.{Named, Fresh}
 use Rattle.base.specs.Data.{Item, place_of}
 use Rattle.base.specs.DataNames.{symbol_text}
-use Rattle.base.specs.DataParts.{AllOf}
+use Rattle.base.specs.AllOf.{AllOf}
 use Rattle.base.specs.GoodData.{Good}
 use Rattle.lang_classes.specs.Given.{is_wrong}
 use Rattle.lang_classes.specs.InheritedClasses.{inherited_names}

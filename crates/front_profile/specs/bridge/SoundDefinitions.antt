@@ -6,7 +6,7 @@ use Rattle.base.specs.declared.place.Place.{Place}
 use Rattle.base.specs.declared.datum.Name.{Name}
 use Rattle.base.specs.declared.datum.Symbol.{Symbol}
 use Rattle.base.specs.Data.{Item}
-use Rattle.base.specs.DataParts.{AllOf}
+use Rattle.base.specs.AllOf.{AllOf}
 use Rattle.base.specs.GoodData.{Good}
 use Rattle.lang_meaning.specs.declared.program.Qualifier.{Qualifier}
 use Rattle.lang_derived.specs.Asked.{list_items, is_word}

@@ -7,7 +7,7 @@ use Rattle.base.specs.declared.datum.Symbol.{Symbol}
 use Rattle.base.specs.declared.datum.Symbol.TheVariants.{Named, Fresh}
 use Rattle.base.specs.declared.reason.Reason.{Reason}
 use Rattle.base.specs.Data.{Item, item, integer, character, symbol, string, vector, nil, list, place_of}
-use Rattle.base.specs.DataParts.{AllOf}
+use Rattle.base.specs.AllOf.{AllOf}
 use Rattle.base.specs.GoodData.{Good}
 use Rattle.lang_classes.specs.InheritedClasses.{class_named}
 use Rattle.front_profile.specs.declared.tables.Tables.{Tables}
@@ -15,8 +15,7 @@ use Rattle.front_profile.specs.declared.bound.Target.{Target}
 use Rattle.front_profile.specs.declared.bound.Bound.TheVariants.{Block, Tags}
 use Rattle.front_profile.specs.declared.making.Leaf.{Leaf}
 use Rattle.front_profile.specs.declared.making.One.{One}
-use Rattle.front_profile.specs.declared.making.Two.{Two}
-use Rattle.front_profile.specs.declared.making.WithBody.{WithBody}
+use Rattle.lang_meaning.specs.declared.kinds.OverTwo.{OverTwo}
 use Rattle.front_profile.specs.declared.making.Making.{Making}
 use Rattle.front_profile.specs.Names.{variable_of, function_of, block_of, tag_of}
 use Rattle.front_profile.specs.Nodes.{Around, with_bound}
@@ -118,7 +117,7 @@ sound_cond n a s p ds g = sound_cond_as n a s p (clauses_in ds) (good_clauses n 
 
 -- two forms, and a form with a body
 
-pub sound_two : (n : ℕ) (k : Two) (a : Around) (s : Tables) (p : Place) (ds : List Item) → AllOf (Good n) ds → SoundNode n (weight a.spot) (two_row k a s p ds)
+pub sound_two : (n : ℕ) (k : OverTwo) (a : Around) (s : Tables) (p : Place) (ds : List Item) → AllOf (Good n) ds → SoundNode n (weight a.spot) (two_row k a s p ds)
 sound_two n k a s p (d ∷ e ∷ []) g =
     sound_within n (weight a.spot) 1 a p _ (λ h.
     ((g.0, weight_deeper 1 a.spot (omega arith) h), ((g.1.0, weight_deeper 1 a.spot (omega arith) h), tt)))
@@ -126,7 +125,7 @@ sound_two n k a s p [] g = tt
 sound_two n k a s p (d ∷ []) g = tt
 sound_two n k a s p (d ∷ e ∷ f ∷ ds) g = tt
 
-pub sound_body : (n : ℕ) (k : WithBody) (a : Around) (s : Tables) (p : Place) (ds : List Item) → AllOf (Good n) ds → SoundNode n (weight a.spot) (body_row k a s p ds)
+pub sound_body : (n : ℕ) (k : OverTwo) (a : Around) (s : Tables) (p : Place) (ds : List Item) → AllOf (Good n) ds → SoundNode n (weight a.spot) (body_row k a s p ds)
 sound_body n k a s p [] g = tt
 sound_body n k a s p (d ∷ ds) g = sound_within n (weight a.spot) 2 a p _ (λ h.
     ((g.0, weight_deeper 1 a.spot (omega arith) (omega arith)), below_sound n (weight a.spot) (deeper 1 a) (deeper 1 a) ds (weight_below a.spot h) g.1))

@@ -5,7 +5,7 @@ use Rattle.base.specs.declared.place.Place.{Place}
 use Rattle.base.specs.declared.reason.Reason.TheVariants.{DepthLimit}
 use Rattle.base.specs.declared.datum.Symbol.{Symbol}
 use Rattle.base.specs.Data.{Item}
-use Rattle.base.specs.DataParts.{AllOf}
+use Rattle.base.specs.AllOf.{AllOf}
 use Rattle.base.specs.GoodData.{Good}
 use Rattle.lang_meaning.specs.declared.program.LiteralRow.{LiteralRow}
 use Rattle.front_profile.specs.declared.making.Leaf.{Leaf}

@@ -5,11 +5,10 @@ use Rattle.base.specs.declared.datum.Symbol.{Symbol}
 use Rattle.base.specs.declared.datum.Symbol.TheVariants.{Named, Fresh}
 use Rattle.base.specs.Data.{Item, item, integer, character, symbol, string, vector, nil, list, items_list, Tail, no_tail, dotted}
 use Rattle.base.specs.DataNames.{symbol_text}
-use Rattle.base.specs.DataParts.{AllOf}
+use Rattle.base.specs.AllOf.{AllOf}
 use Rattle.base.specs.GoodData.{Good}
 use Rattle.front_profile.specs.declared.making.Leaf.TheVariants.{NextMethod, HasNext}
-use Rattle.front_profile.specs.declared.making.Two.TheVariants.{Applying, Throwing}
-use Rattle.front_profile.specs.declared.making.WithBody.TheVariants.{Repeating, Catching, Unwinding, Handling}
+use Rattle.lang_meaning.specs.declared.kinds.OverTwo.TheVariants.{Apply, While, Catch, Throw, Unwind, WithHandler}
 use Rattle.front_profile.specs.declared.making.Making.TheVariants.{CallOfValue}
 use Rattle.front_profile.specs.declared.special.Special.{Special}
 use Rattle.front_profile.specs.declared.special.Special.TheVariants as name
@@ -37,19 +36,19 @@ sound_special names n name.Cond a s p ds g = sound_cond n a s p ds g
 sound_special names n name.Progn a s p ds g = sound_progn n a s p ds g
 sound_special names n name.Let a s p ds g = sound_let n a s p ds g
 sound_special names n name.Lambda a s p ds g = sound_lambda n a s p ds g
-sound_special names n name.Apply a s p ds g = sound_two n Applying a s p ds g
-sound_special names n name.While a s p ds g = sound_body n Repeating a s p ds g
+sound_special names n name.Apply a s p ds g = sound_two n Apply a s p ds g
+sound_special names n name.While a s p ds g = sound_body n While a s p ds g
 sound_special names n name.Block a s p ds g = sound_block n a s p ds g
 sound_special names n name.ReturnFrom a s p ds g = sound_return_from n a s p ds g
 sound_special names n name.Tagbody a s p ds g = sound_tagbody n a s p ds g
 sound_special names n name.Go a s p ds g = sound_go n (weight a.spot) a s p ds
-sound_special names n name.Catch a s p ds g = sound_body n Catching a s p ds g
-sound_special names n name.Throw a s p ds g = sound_two n Throwing a s p ds g
-sound_special names n name.UnwindProtect a s p ds g = sound_body n Unwinding a s p ds g
+sound_special names n name.Catch a s p ds g = sound_body n Catch a s p ds g
+sound_special names n name.Throw a s p ds g = sound_two n Throw a s p ds g
+sound_special names n name.UnwindProtect a s p ds g = sound_body n Unwind a s p ds g
 sound_special names n name.DynamicLet a s p ds g = sound_dynamic_let n a s p ds g
 sound_special names n name.Dynamic a s p ds g = sound_dynamic n (weight a.spot) a s p ds
 sound_special names n name.SetDynamic a s p ds g = sound_set_dynamic n a s p ds g
-sound_special names n name.WithHandler a s p ds g = sound_body n Handling a s p ds g
+sound_special names n name.WithHandler a s p ds g = sound_body n WithHandler a s p ds g
 sound_special names n name.Function a s p ds g = sound_function n (weight a.spot) a s p ds
 sound_special names n name.Class a s p ds g = sound_class n (weight a.spot) a s p ds
 sound_special names n name.CallNextMethod a s p ds g = sound_method n (weight a.spot) NextMethod a s p ds

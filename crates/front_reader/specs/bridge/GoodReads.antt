@@ -8,7 +8,7 @@ use Rattle.base.specs.declared.place.Place.{Place}
 use Rattle.base.specs.declared.datum.Symbol.TheVariants.{Named}
 use Rattle.base.specs.Data.{Item, item, Content, integer, character, symbol, string, vector, nil, list, Items, no_item, items_of}
 use Rattle.base.specs.DataMeasures.{Formed, FormedInside, AllFormed, NamesBelow, NamesBelowInside, AllNamesBelow}
-use Rattle.base.specs.DataParts.{AllOf}
+use Rattle.base.specs.AllOf.{AllOf}
 use Rattle.base.specs.GoodData.{Good}
 use Rattle.front_reader.specs.declared.opening.Prefix.{Prefix}
 use Rattle.front_reader.specs.declared.opening.Prefix.TheVariants.{Quote, Quasiquote, Unquote, UnquoteSplicing, Function}

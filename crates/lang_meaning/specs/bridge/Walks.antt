@@ -2,10 +2,11 @@
 -- smaller.
 use Rattle.std.specs.Prelude.{◌≡◌, List, [], ◌∷◌, map, refl}
 use Rattle.std.proofs.Common.{ap}
+use Rattle.base.specs.AllOf.{AllOf}
 use Rattle.lang_meaning.specs.Form.{Form, literal, local, set_local, global, set_global, def_global, clauses, sequence, let_form, lambda, call, call_value, apply, prim, while_form, block, return_from, tagbody, go, catch_form, throw, unwind, dynamic_let, dynamic, set_dynamic, def_dynamic, with_handler, signal_form, continue_form, next_method, has_next, sited}
 use Rattle.lang_meaning.specs.Form.{Forms, no_form, form_and, ClauseForms, no_clause, clause_and, no_body, with_body}
 use Rattle.lang_meaning.specs.Form.{BindingForms, no_binding, binding_and, DynamicForms, no_dynamic, dynamic_and}
-use Rattle.lang_meaning.specs.Subforms.{forms_list, clause_list, value_list, dynamic_value_list, Each, outer, inner, fold, fold_forms, fold_clauses, fold_values, fold_dynamics}
+use Rattle.lang_meaning.specs.Subforms.{forms_list, clause_list, value_list, dynamic_value_list, outer, inner, fold, fold_forms, fold_clauses, fold_values, fold_dynamics}
 
 -- a step of the walk, over the forms right inside
 
@@ -63,7 +64,7 @@ module _ {X : Type 0} (step : Form → List X → List X → X) where
 
 -- induction: what holds of a form where it holds of the forms right inside it holds of each form
 
-module _ (P : Form → Type 0) (step : (f : Form) → Each P (outer f) → Each P (inner f) → P f) where
+module _ (P : Form → Type 0) (step : (f : Form) → AllOf P (outer f) → AllOf P (inner f) → P f) where
   mutual
     pub by_subforms : (f : Form) → P f
     by_subforms (literal i) = step (literal i) tt tt
@@ -99,19 +100,19 @@ module _ (P : Form → Type 0) (step : (f : Form) → Each P (outer f) → Each 
     by_subforms has_next = step has_next tt tt
     by_subforms (sited site f) = step (sited site f) (by_subforms f, tt) tt
 
-    by_forms : (fs : Forms) → Each P (forms_list fs)
+    by_forms : (fs : Forms) → AllOf P (forms_list fs)
     by_forms no_form = tt
     by_forms (form_and f fs) = (by_subforms f, by_forms fs)
 
-    by_clauses : (cs : ClauseForms) → Each P (clause_list cs)
+    by_clauses : (cs : ClauseForms) → AllOf P (clause_list cs)
     by_clauses no_clause = tt
     by_clauses (clause_and test no_body cs) = (by_subforms test, by_clauses cs)
     by_clauses (clause_and test (with_body f) cs) = (by_subforms test, (by_subforms f, by_clauses cs))
 
-    by_values : (bs : BindingForms) → Each P (value_list bs)
+    by_values : (bs : BindingForms) → AllOf P (value_list bs)
     by_values no_binding = tt
     by_values (binding_and v f bs) = (by_subforms f, by_values bs)
 
-    by_dynamics : (ds : DynamicForms) → Each P (dynamic_value_list ds)
+    by_dynamics : (ds : DynamicForms) → AllOf P (dynamic_value_list ds)
     by_dynamics no_dynamic = tt
     by_dynamics (dynamic_and n f ds) = (by_subforms f, by_dynamics ds)

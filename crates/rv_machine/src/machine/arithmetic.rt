@@ -1,7 +1,8 @@
 // What the instructions compute, on words (RISC-V Unprivileged ISA, 2.4, and the M extension).
 
 ghost use Rattle.std.specs.Prelude.{◌≡◌, ◌+◌, ◌*◌, ◌<◌, ◌^◌, nat_lt, if◌then◌else◌};
-ghost use Rattle.rv_machine.specs.Arithmetic.{even as even_of, sign_extended, less_signed, one_if_less_signed as one_if_less_signed_of, one_if_less as one_if_less_of, shift_left as shift_left_of, shift_right as shift_right_of, shift_right_signed as shift_right_signed_of, product32, high_signed as high_signed_of, high_mixed as high_mixed_of, high_unsigned as high_unsigned_of, quotient_signed as quotient_signed_of, remainder_signed as remainder_signed_of, quotient as quotient_of, remainder as remainder_of, low_word, shifted_down};
+ghost use Rattle.base.specs.Arithmetic.{less_signed, one_if_less_signed as one_if_less_signed_of, one_if_less as one_if_less_of, shift_left as shift_left_of, shift_right as shift_right_of, shift_right_signed as shift_right_signed_of, product32, high_signed as high_signed_of, quotient_signed as quotient_signed_of, remainder_signed as remainder_signed_of, low_word, shifted_down};
+ghost use Rattle.rv_machine.specs.Arithmetic.{even as even_of, sign_extended, high_mixed as high_mixed_of, high_unsigned as high_unsigned_of, quotient as quotient_of, remainder as remainder_of};
 
 use rv_encode::{Immediate12, Offset13, Offset21};
 

@@ -3,9 +3,9 @@ use Rattle.std.proofs.Common.{rules, refl, sym, subst}
 use Rattle.back_first_path.specs.Verdicts.{IsStopped, source_too_long, program_too_long}
 use Rattle.back_first_path.proofs.program.read_program.Goals as goal
 
-pub returns-then-text-gt-LONGEST_FILE-clause-stopped :
-    goal.returns-then-text-gt-LONGEST_FILE-clause-stopped
-returns-then-text-gt-LONGEST_FILE-clause-stopped c =
+pub returns-then-text-gt-LONGEST_TEXT-clause-stopped :
+    goal.returns-then-text-gt-LONGEST_TEXT-clause-stopped
+returns-then-text-gt-LONGEST_TEXT-clause-stopped c =
     subst (IsStopped c.args.text.now) (sym c.refused.ensures) (source_too_long (search rules) refl)
 
 pub returns-then-text-gt-LONGEST_PROGRAM-clause-stopped :

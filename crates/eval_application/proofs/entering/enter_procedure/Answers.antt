@@ -7,11 +7,11 @@ use Rattle.eval_application.proofs.entering.enter_procedure.Goals as goal
 pub returns-then-takes : goal.returns-then-takes
 returns-then-takes c =
     over_ok c.take_words.result
-    (taken c.args.machine.now c.take_words.new.machine c.args.procedure c.args.operands c.held_operands-count.result c.args.level c.args.around c.held_operands-count.ensures (sym c.takes.ensures ∙ c.if-takes.true))
+    (taken c.args.machine.now c.take_words.new.machine c.args.procedure c.args.operands c.held_operands-count.result c.args.procedure.level c.args.procedure.around c.held_operands-count.ensures (sym c.takes.ensures ∙ c.if-takes.true))
     c.take_words.ensures
 
 pub returns-else-takes : goal.returns-else-takes
 returns-else-takes c =
     over_ok c.signal_class.result
-    (not_taken c.args.machine.now c.drop_operands.new.self c.signal_class.new.self c.args.procedure c.args.operands c.held_operands-count.result c.args.level c.args.around c.held_operands-count.ensures (sym c.takes.ensures ∙ c.if-takes.false) c.drop_operands.ensures)
+    (not_taken c.args.machine.now c.drop_operands.new.self c.signal_class.new.self c.args.procedure c.args.operands c.held_operands-count.result c.args.procedure.level c.args.procedure.around c.held_operands-count.ensures (sym c.takes.ensures ∙ c.if-takes.false) c.drop_operands.ensures)
     c.signal_class.ensures

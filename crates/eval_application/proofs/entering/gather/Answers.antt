@@ -6,4 +6,4 @@ use Rattle.eval_application.proofs.entering.gather.Goals as goal
 
 pub returns-else-is_some : goal.returns-else-is_some
 returns-else-is_some c =
-    over_ok c.keep_record.result (none_gathered c.args.machine.now c.keep_record.new.machine c.args.procedure c.args.count c.args.level c.args.around (sym c.is_some.ensures ∙ c.if-is_some.false)) c.keep_record.ensures
+    over_ok c.keep_record.result (none_gathered c.args.machine.now c.keep_record.new.machine c.args.procedure c.args.count c.args.procedure.level c.args.procedure.around (sym c.is_some.ensures ∙ c.if-is_some.false)) c.keep_record.ensures

@@ -6,8 +6,8 @@ use Rattle.eval_application.proofs.entering.keep_record.Goals as goal
 pub returns-then-granted : goal.returns-then-granted
 returns-then-granted c =
     over_ok c.make_cells.result
-    (record_then c.args.machine.now c.take_record.new.machine c.make_cells.new.machine c.args.procedure c.args.count c.args.level c.args.around _ c.in-Ok.ensures c.if-granted.true)
+    (record_then c.args.machine.now c.take_record.new.machine c.make_cells.new.machine c.args.procedure c.args.count c.args.procedure.level c.args.procedure.around _ c.in-Ok.ensures c.if-granted.true)
     c.make_cells.ensures
 
 pub returns-else-granted : goal.returns-else-granted
-returns-else-granted c = record_filled c.args.machine.now c.take_record.new.machine c.drop_operands.new.self c.args.procedure c.args.count c.args.level c.args.around _ c.in-Ok.ensures c.if-granted.false c.drop_operands.ensures
+returns-else-granted c = record_filled c.args.machine.now c.take_record.new.machine c.drop_operands.new.self c.args.procedure c.args.count c.args.procedure.level c.args.procedure.around _ c.in-Ok.ensures c.if-granted.false c.drop_operands.ensures

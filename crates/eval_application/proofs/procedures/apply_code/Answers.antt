@@ -19,6 +19,6 @@ pub returns : goal.returns
 returns c =
     on_ok c.enter_procedure.result _ _
     (code_entered c.args.machine.now c.enter_procedure.new.machine (λ names. entered_option names c.args.code c.args.activation)
-    (λ names. entered_of names (record { procedure = c.in-Some-code.code.procedure; words = c.in-Some-code.code.words; activation = c.args.activation })) c.args.operands c.args.level c.in-Some.below c.args.around (omega (arith, c.in-Some.ensures))
+    (λ names. entered_of names (record { procedure = c.in-Some-code.code.procedure; words = c.in-Some-code.code.words; activation = c.args.activation; level = c.in-Some.below; around = c.args.around })) c.args.operands c.args.level c.in-Some.below c.args.around (omega (arith, c.in-Some.ensures))
     (λ names. ap (λ k. entered_option names k c.args.activation) c.in-Some-code.is))
     c.enter_procedure.ensures

@@ -207,7 +207,7 @@ flat_kind-returns-in_ok-boxed-in-OverForm t c =
 
 pub flat_kind-returns-in_ok-first-in-OverTwo : goal.flat_kind-returns-in_ok-first-in-OverTwo
 flat_kind-returns-in_ok-first-in-OverTwo t c =
-    formed _ (λ (m : FlatForm × FlatForm). over_two c.in-OverTwo.kind m.0 m.1) _ _ _ _ _ _ _ _ _ _ c.in_ok-first-in-OverTwo.ensures c.form-in-OverTwo.ensures c.in-OverTwo.ensures.1
+    formed _ (λ (m : FlatForm × FlatForm). over_two c.in-OverTwo.kind m.0 m.1) _ _ _ _ _ _ _ _ _ _ c.in_ok-first-in-OverTwo.ensures c.over_two.ensures c.in-OverTwo.ensures.1
 
 pub flat_kind-returns-in_ok-flat_forms-in-OverForms : goal.flat_kind-returns-in_ok-flat_forms-in-OverForms
 flat_kind-returns-in_ok-flat_forms-in-OverForms t c =

@@ -7,7 +7,7 @@ use Rattle.flat_language.specs.Flatten.{flat}
 use Rattle.flat_conversion.specs.Places.{scope_of}
 use Rattle.flat_conversion.specs.declared.shapes.OverForm.TheVariants as one
 use Rattle.flat_conversion.specs.declared.shapes.OverForms.TheVariants as many
-use Rattle.flat_conversion.specs.declared.shapes.OverTwo.TheVariants as two
+use Rattle.lang_meaning.specs.declared.kinds.OverTwo.TheVariants as two
 use Rattle.flat_conversion.proofs.Shaping.{made_at, over_form_at, over_two_at, over_forms_at}
 use Rattle.flat_conversion.proofs.shapes.shape_of.Goals as goal
 

@@ -3,9 +3,9 @@ use Rattle.std.proofs.Common.{rules}
 use Rattle.front_files.proofs.Both.{too_long_refused, no_program}
 use Rattle.front_files.proofs.program.read_program.Goals as goal
 
-pub returns-then-text-gt-LONGEST_FILE-clause-stops :
-    goal.returns-then-text-gt-LONGEST_FILE-clause-stops
-returns-then-text-gt-LONGEST_FILE-clause-stops c = too_long_refused c.args.prelude.now c.args.text.now c.args.mode (search rules)
+pub returns-then-text-gt-LONGEST_TEXT-clause-stops :
+    goal.returns-then-text-gt-LONGEST_TEXT-clause-stops
+returns-then-text-gt-LONGEST_TEXT-clause-stops c = too_long_refused c.args.prelude.now c.args.text.now c.args.mode (search rules)
 
 pub returns-in-Err-clause-stops : goal.returns-in-Err-clause-stops
 returns-in-Err-clause-stops c =

@@ -11,7 +11,7 @@ pub begin_kind-requires : goal.begin_kind-requires
 begin_kind-requires c = form_alone c.args.form.now c.in_default.not-Global c.in_default.not-Dynamic c.in_default.not-Call c.in_default.not-CallValue c.in_default.not-Prim c.in_default.not-NextMethod
 
 pub returns-in-Global : goal.returns-in-Global
-returns-in-Global c = runs_begun c.global.result _ _ c.args.situation _ _ (ap view_form c.in-Global.is) c.global.ensures
+returns-in-Global c = runs_begun c.named.result _ _ c.args.situation _ _ (ap view_form c.in-Global.is) c.named.ensures
 
 pub returns-in-Dynamic : goal.returns-in-Dynamic
 returns-in-Dynamic c = runs_begun c.dynamic.result _ _ c.args.situation _ _ (ap view_form c.in-Dynamic.is) c.dynamic.ensures

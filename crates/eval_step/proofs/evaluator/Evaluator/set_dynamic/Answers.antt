@@ -7,7 +7,8 @@ use Rattle.eval_machine.specs.Moment.{ended}
 use Rattle.eval_store.specs.Words.{value_of_word}
 use Rattle.eval_state.specs.View.{at}
 use Rattle.eval_control.specs.Bindings.{IsBindingFound}
-use Rattle.eval_step.specs.Outermost.{set_outermost_step}
+use Rattle.eval_step.specs.declared.named.Table.TheVariants.{Dynamics}
+use Rattle.eval_step.specs.Named.{set_named_step}
 use Rattle.eval_step.proofs.Searching.{found_runs, unfound_runs, variable_set}
 use Rattle.eval_step.proofs.evaluator.Evaluator.set_dynamic.Goals as goal
 
@@ -20,7 +21,7 @@ returns-in-Some c =
     let m = c.gives.new.self in
     found_runs e mid m n c.in-Some.number q
     (λ names v frs z. ended (gives (value_of_word names c.args.word) (on_state (λ y. set_at (Some v) (value_of_word names c.args.word) y) z)) frs)
-    (λ names s. set_outermost_step s (text s.names n) (value_of_word names c.args.word) (at names e.machine q))
+    (λ names s. set_named_step Dynamics s (text s.names n) (value_of_word names c.args.word) (at names e.machine q))
     (subst (IsBindingFound e.machine mid n q.around.bindings) c.in-Some.is c.in_ok-number.ensures)
     (variable_set mid m c.set_variable.new.self c.in-Some.number c.args.word c.set_variable.ensures c.gives.ensures)
 
@@ -30,9 +31,9 @@ returns-in-None c =
     let q = c.args.situation in
     let n = c.args.name.0 in
     let mid = c.find_binding.new.machine in
-    on_ok_weaker c.set_outermost.result
-    (unfound_runs e c.set_outermost.new.self mid n q
+    on_ok_weaker c.set_named.result
+    (unfound_runs e c.set_named.new.self mid n q
     (λ names v frs z. ended (gives (value_of_word names c.args.word) (on_state (λ y. set_at (Some v) (value_of_word names c.args.word) y) z)) frs)
-    (λ names s at_q. set_outermost_step s (text s.names n) (value_of_word names c.args.word) at_q)
+    (λ names s at_q. set_named_step Dynamics s (text s.names n) (value_of_word names c.args.word) at_q)
     (subst (IsBindingFound e.machine mid n q.around.bindings) c.in-None.is c.in_ok-number.ensures))
-    c.set_outermost.ensures
+    c.set_named.ensures

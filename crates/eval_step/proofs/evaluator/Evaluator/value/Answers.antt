@@ -19,13 +19,13 @@ value-requires c = record {
 
 pub returns-in-SetGlobal : goal.returns-in-SetGlobal
 returns-in-SetGlobal c =
-    runs_framed c.set_global.result c.args.self.now c.set_global.new.self (λ names. value (value_of_word names c.args.word)) c.args.frame _ c.in-SetGlobal.is
-    c.set_global.ensures
+    runs_framed c.set_named.result c.args.self.now c.set_named.new.self (λ names. value (value_of_word names c.args.word)) c.args.frame _ c.in-SetGlobal.is
+    c.set_named.ensures
 
 pub returns-in-DefGlobal : goal.returns-in-DefGlobal
 returns-in-DefGlobal c =
-    runs_framed c.define_global.result c.args.self.now c.define_global.new.self (λ names. value (value_of_word names c.args.word)) c.args.frame _ c.in-DefGlobal.is
-    c.define_global.ensures
+    runs_framed c.define_named.result c.args.self.now c.define_named.new.self (λ names. value (value_of_word names c.args.word)) c.args.frame _ c.in-DefGlobal.is
+    c.define_named.ensures
 
 pub returns-in-Argument : goal.returns-in-Argument
 returns-in-Argument c =
@@ -44,8 +44,8 @@ returns-in-SetDynamic c =
 
 pub returns-in-DefDynamic : goal.returns-in-DefDynamic
 returns-in-DefDynamic c =
-    runs_framed c.define_dynamic.result c.args.self.now c.define_dynamic.new.self (λ names. value (value_of_word names c.args.word)) c.args.frame _ c.in-DefDynamic.is
-    c.define_dynamic.ensures
+    runs_framed c.define_named-in-DefDynamic.result c.args.self.now c.define_named-in-DefDynamic.new.self (λ names. value (value_of_word names c.args.word)) c.args.frame _ c.in-DefDynamic.is
+    c.define_named-in-DefDynamic.ensures
 
 pub returns-in-HandlerValue : goal.returns-in-HandlerValue
 returns-in-HandlerValue c =

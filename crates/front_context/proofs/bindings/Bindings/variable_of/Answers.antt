@@ -1,7 +1,7 @@
 -- The innermost one is found.
 use Rattle.std.proofs.Common.{ap, ◌∙◌}
 use Rattle.front_profile.specs.Names.{variable_of}
-use Rattle.front_context.specs.Found.{under}
+use Rattle.front_context.specs.Spaces.{under}
 use Rattle.front_context.proofs.Places.{variable_found}
 use Rattle.front_context.proofs.bindings.Bindings.variable_of.Goals as goal
 

@@ -1,4 +1,4 @@
-use Rattle.rv_machine.specs.Arithmetic.{high_signed}
+use Rattle.base.specs.Arithmetic.{high_signed}
 use Rattle.rv_machine.proofs.Numbers.{bits_of_both}
 use Rattle.rv_machine.proofs.machine.arithmetic.high_signed.Goals as goal
 

@@ -1,5 +1,5 @@
 use Rattle.std.proofs.Common.{◌∙◌, ap, ◌%◌, ◌^◌}
-use Rattle.rv_machine.specs.Arithmetic.{shifted_down, low_word, shift_right_signed}
+use Rattle.base.specs.Arithmetic.{shifted_down, low_word, shift_right_signed}
 use Rattle.rv_machine.proofs.Numbers.{shifted_low}
 use Rattle.rv_machine.proofs.machine.arithmetic.shift_right_signed.Goals as goal
 

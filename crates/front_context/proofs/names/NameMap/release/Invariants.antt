@@ -1,6 +1,0 @@
--- So many names are released.
-use Rattle.std.proofs.Common.{◌≡◌, drop}
-use Rattle.front_context.proofs.names.NameMap.release.Given as goal
-
-abbrev pub invariant-loop : goal.invariant-loop
-invariant-loop g l = l.self ≡ drop l.counter l.initial.self
