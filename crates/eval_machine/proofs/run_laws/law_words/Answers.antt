@@ -1,6 +1,6 @@
 -- The law of words is a lemma.
 use Rattle.eval_machine.proofs.KeptLaw.{law_of_words}
-use Rattle.eval_machine.proofs.laws.law_words.Goals as goal
+use Rattle.eval_machine.proofs.run_laws.law_words.Goals as goal
 
 pub returns : goal.returns
 returns c = law_of_words
