@@ -1,6 +1,6 @@
 -- The law is five lemmas.
 use Rattle.front_profile.proofs.Suiting.{form_known, plain_known, function_known, part_known, through_known}
-use Rattle.front_profile.proofs.laws.law_known.Goals as goal
+use Rattle.front_profile.proofs.whole_laws.law_known.Goals as goal
 
 pub returns-clause-forms : goal.returns-clause-forms
 returns-clause-forms c = form_known c.law_definitions.ensures.names

@@ -1,7 +1,7 @@
 -- The law is five lemmas.
 use Rattle.front_profile.proofs.Known.{sound_known}
 use Rattle.front_profile.proofs.Suiting.{node_suits, plain_suits, function_suits, through_suits}
-use Rattle.front_profile.proofs.laws.law_suits.Goals as goal
+use Rattle.front_profile.proofs.whole_laws.law_suits.Goals as goal
 
 pub returns-clause-sound : goal.returns-clause-sound
 returns-clause-sound c = sound_known

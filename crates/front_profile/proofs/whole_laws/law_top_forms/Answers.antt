@@ -1,7 +1,7 @@
 -- A top-level form is one where nothing is bound.
 use Rattle.front_profile.specs.Definitions.{defined}
 use Rattle.front_profile.proofs.Programs.{form_came, nothing_good, first_between, file_between, prelude_between}
-use Rattle.front_profile.proofs.laws.law_top_forms.Goals as goal
+use Rattle.front_profile.proofs.whole_laws.law_top_forms.Goals as goal
 
 pub returns-clause-first : goal.returns-clause-first
 returns-clause-first c = first_between

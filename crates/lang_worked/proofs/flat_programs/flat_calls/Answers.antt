@@ -1,6 +1,6 @@
 -- Each program is a lemma of its own.
 use Rattle.lang_worked.proofs.FlatExamples.{methods_in_order, seen_through_a_call, full_at_the_form, full_at_the_cons}
-use Rattle.lang_worked.proofs.worked.flat_calls.Goals as goal
+use Rattle.lang_worked.proofs.flat_programs.flat_calls.Goals as goal
 
 pub returns-clause-methods_in_order : goal.returns-clause-methods_in_order
 returns-clause-methods_in_order c = methods_in_order

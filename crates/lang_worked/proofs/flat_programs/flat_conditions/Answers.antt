@@ -1,6 +1,6 @@
 -- Each program is a lemma of its own.
 use Rattle.lang_worked.proofs.FlatExamples.{without_itself, continued, not_continuable, returning, cleanup_runs, no_catch_left, replaced, handler_fails}
-use Rattle.lang_worked.proofs.worked.flat_conditions.Goals as goal
+use Rattle.lang_worked.proofs.flat_programs.flat_conditions.Goals as goal
 
 pub returns-clause-without_itself : goal.returns-clause-without_itself
 returns-clause-without_itself c = without_itself

@@ -1,6 +1,6 @@
 -- Each program is a lemma of its own.
 use Rattle.lang_worked.proofs.FlatExamples.{dotted_list, string_in_a_vector, changed_literal, rest_list, applied, applied_to_a_dotted_list, too_many_arguments, floors, overflow, no_function, no_value, counting, set_binding, slot_places, slot_initarg, slot_form, unbound_slot, set_slot}
-use Rattle.lang_worked.proofs.worked.flat_data.Goals as goal
+use Rattle.lang_worked.proofs.flat_programs.flat_data.Goals as goal
 
 pub returns-clause-dotted_list : goal.returns-clause-dotted_list
 returns-clause-dotted_list c = dotted_list

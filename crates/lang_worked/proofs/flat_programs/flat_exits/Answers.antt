@@ -1,6 +1,6 @@
 -- Each program is a lemma of its own.
 use Rattle.lang_worked.proofs.FlatExamples.{inner_first, inner_catch, outer_catch, earlier_turn, too_few_levels, stale_exit, many_cleanups}
-use Rattle.lang_worked.proofs.worked.flat_exits.Goals as goal
+use Rattle.lang_worked.proofs.flat_programs.flat_exits.Goals as goal
 
 pub returns-clause-inner_first : goal.returns-clause-inner_first
 returns-clause-inner_first c = inner_first

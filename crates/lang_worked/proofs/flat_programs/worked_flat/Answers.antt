@@ -1,6 +1,6 @@
 -- Each program is a lemma of its own.
 use Rattle.lang_worked.proofs.FlatExamples.{one_application, two_bytes, counting_words, counting_flat, own_slots, slots_left}
-use Rattle.lang_worked.proofs.worked.worked_flat.Goals as goal
+use Rattle.lang_worked.proofs.flat_programs.worked_flat.Goals as goal
 
 pub returns-clause-one_application : goal.returns-clause-one_application
 returns-clause-one_application c = one_application
