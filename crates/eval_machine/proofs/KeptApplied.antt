@@ -20,7 +20,7 @@ use Rattle.flat_language.specs.FlatState.{Captured, FlatState, captured_by, give
 use Rattle.flat_language.specs.FlatSignals.{inside, marked}
 use Rattle.eval_machine.specs.Moment.{Setting, Frame, awaits, catches, restores_stack, method_value, before_methods, handler_return, Step, ended}
 use Rattle.eval_machine.specs.Applications.{signal_class, signal_domain, begin_body, enter, apply_procedure, apply_function, apply_each, run_primary, run_around, run_chain, apply_chain, apply_generic, apply_object, apply_value, apply_callee, apply_row, signal_under, answered, to_exit, transfer, throw_to, continue_with, variable_values}
-use Rattle.eval_machine.proofs.Kept.{Progress, progress, same, further, counts, Leads, there, framed, earlier, beneath, Gives, gives_earlier, given, ends, on, either, some, searches, descends}
+use Rattle.eval_machine.proofs.Kept.{Progress, progress, same, further, counts, Leads, there, framed, earlier, beneath, gives_earlier, given, ends, on, either, some, searches, descends}
 use Rattle.eval_machine.proofs.KeptAnswers.{Answers}
 use Rattle.eval_machine.proofs.KeptWords.{requests_words, makes_object, makes_rest, makes_condition, records, cells, condition_marked}
 

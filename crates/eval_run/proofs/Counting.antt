@@ -1,10 +1,8 @@
 -- Steps of the machine one behind another, the forms that begin in them, what was printed, and what is left of the input: from a moment
 -- to the end, and behind it.
-use Rattle.std.proofs.Common.{◌≡◌, ◌≤◌, ℕ, zero, suc, ◌+◌, Bool, true, false, if◌then◌else◌, List, None, refl, ap, sym, ◌∙◌, subst, arith}
+use Rattle.std.proofs.Common.{◌≡◌, ◌≤◌, ℕ, zero, suc, ◌+◌, if◌then◌else◌, refl, ap, sym, ◌∙◌, subst, arith}
 use Rattle.lang_meaning.specs.Prefixes.{IsPrefix, IsLastOf}
-use Rattle.flat_language.specs.FlatState.{FlatState}
-use Rattle.eval_machine.specs.Moment.{Setting, Control, evaluate, signals, come_to, Frame, Moment}
-use Rattle.eval_machine.specs.Step.{control_step}
+use Rattle.eval_machine.specs.Moment.{Setting, Moment}
 use Rattle.eval_machine.specs.Run.{steps, next, next_or, begins, forms_begun, IsEnd}
 use Rattle.eval_machine.specs.RunLaws.{printed_at, left_at, units_at, LawOfPrinting, LawOfReading, LawOfUnits}
 

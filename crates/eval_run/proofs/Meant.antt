@@ -1,5 +1,5 @@
 -- What a run of the machine comes to is what the program means.
-use Rattle.std.proofs.Common.{◌≡◌, ◌≤◌, ◌<◌, ◌+◌, ℕ, suc, true, Bool, if◌then◌else◌, List, ◌++◌, Option, None, refl, ap, sym, ◌∙◌, subst, append_assoc, arith}
+use Rattle.std.proofs.Common.{◌≡◌, ◌≤◌, ◌<◌, ◌+◌, ℕ, suc, true, false, Bool, if◌then◌else◌, List, ◌++◌, Option, None, refl, ap, sym, ◌∙◌, subst, append_assoc, arith}
 use Rattle.lang_meaning.specs.Objects.{Object}
 use Rattle.lang_meaning.specs.Values.{Value}
 use Rattle.lang_meaning.specs.State.{Outcome, value, exit, full, more, at_segment, at_site, words}

@@ -189,14 +189,14 @@ taken_still (Some input) left' left'' t same w = (w.0, subst (λ l. IfSome l (λ
 pub wants : (e : Evaluation) (left left' left'' given given' : Option (List ℕ)) (forms : ℕ) (v : Evaluator) → IfSome left' (λ xs. left'' ≡ Some xs)
     → v.printed.items ≡ [] → control_reads v.machine.control ≡ true → drop v.taken v.ahead.items ≡ [] → v.ended ≡ false
     → UnderWay e left left' given given' forms v → HasRun e left left'' given given' endings.ReadFault
-wants e left left' left'' given given' forms v same none reads all_taken open u = record {
+wants e left left' left'' given given' forms v same none reads all_taken not_met u = record {
   taken = u.taken;
   was_taken = taken_still left left' left'' u.taken same u.was_taken;
   comes = λ input b.
       let m : Moment = moment_after e input u.count in
       let a : IsAt e.names v u.written b.rest m = (u.comes input b).is_at in
       record {
-        not_all = u.all_is ∙ open;
+        not_all = u.all_is ∙ not_met;
         count = u.count;
         wants = ap (λ (x : Moment). wants_byte x.control) (sym a.is) ∙ wants_so e.names v.machine v.machine.control reads;
         left = ap (λ (x : Moment). x.state.state.input) (sym a.is) ∙ a.stands.input ∙ ap (λ xs. xs ++ b.rest) all_taken;
