@@ -17,7 +17,7 @@ use Rattle.lang_derived.specs.FormPlaces.{Role, no_form, a_form, a_list, Shape, 
 use Rattle.lang_derived.proofs.Parts.{GoesDown, fit_all_too}
 use Rattle.lang_derived.proofs.Quotations.{AllIn, Keeps, template_kept}
 use Rattle.lang_derived.proofs.Names.{both_true, PlainWord, setter_named}
-use Rattle.lang_derived.proofs.Writing.{Each, repeated_each}
+use Rattle.lang_derived.proofs.Writing.{repeated_each}
 use Rattle.lang_derived.proofs.Derivations.{OfDerivation, OfArguments, OfBehind, RowKeeps, AllGroups, passed_groups, row_kept, derivation_kept}
 
 -- nothing is known of the data of a form
@@ -123,11 +123,11 @@ quotation_stands = record {
   of_appended = λ xs h. all_stand xs h;
 }
 
-free : (xs : List Piece) → Each (StandsAs no_form) xs
+free : (xs : List Piece) → AllOf (StandsAs no_form) xs
 free [] = tt
 free (x ∷ xs) = (tt, free xs)
 
-taken_stand : (role : Role) (ds : List Item) → Each (StandsAs role) (all_taken ds)
+taken_stand : (role : Role) (ds : List Item) → AllOf (StandsAs role) (all_taken ds)
 taken_stand role [] = tt
 taken_stand no_form (d ∷ ds) = (tt, taken_stand no_form ds)
 taken_stand a_form (d ∷ ds) = (tt, taken_stand a_form ds)
@@ -144,11 +144,11 @@ quoted_stands names (d ∷ ds) = template_kept Any (StandsAs a_form) any_down qu
 word_stands : (x : Piece) → PlainWord x → StandsAs a_form x
 word_stands x w = subst (StandsAs a_form) (sym w.is) tt
 
-both_by : (role : Role) (xs ys : List Piece) → Each (StandsAs role) xs → StandBy (each role) (pieces_of ys) → StandBy (each role) (pieces_of (xs ++ ys))
+both_by : (role : Role) (xs ys : List Piece) → AllOf (StandsAs role) xs → StandBy (each role) (pieces_of ys) → StandBy (each role) (pieces_of (xs ++ ys))
 both_by role [] ys g h = h
 both_by role (x ∷ xs) ys g h = (g.0, both_by role xs ys g.1 h)
 
-each_by : (role : Role) (xs : List Piece) → StandBy (each role) (pieces_of xs) → Each (StandsAs role) xs
+each_by : (role : Role) (xs : List Piece) → StandBy (each role) (pieces_of xs) → AllOf (StandsAs role) xs
 each_by role [] h = tt
 each_by role (x ∷ xs) h = (h.0, each_by role xs h.1)
 
@@ -173,7 +173,7 @@ module _ (names : List (List ℕ)) (s : ℕ) where
   mutual
     unfolding write
 
-    write_stands : (x : Template) (role : Role) → stands x role ≡ true → (own : ℕ) (parts : Parts) → Each (StandsAs role) (write names s x own parts)
+    write_stands : (x : Template) (role : Role) → stands x role ≡ true → (own : ℕ) (parts : Parts) → AllOf (StandsAs role) (write names s x own parts)
     write_stands (datum i) no_form h own parts = (tt, tt)
     write_stands (datum i) a_form h own parts = (first_stands (part_of parts i), tt)
     write_stands (datum i) (a_list shape) h own parts = absurd (cc)
@@ -232,7 +232,7 @@ module _ (names : List (List ℕ)) (s : ℕ) where
         both_true (writes_one x) (if stands x role then stand_by xs shape else false) h in
         let b : (stands x role ≡ true) × (stand_by xs shape ≡ true) = both_true (stands x role) (stand_by xs shape) a.1 in
         let o : One (write names s x own parts) = one_written x a.0 own parts in
-        let y : Each (StandsAs role) (o.piece ∷ []) = subst (Each (StandsAs role)) o.is (write_stands x role b.0 own parts) in
+        let y : AllOf (StandsAs role) (o.piece ∷ []) = subst (AllOf (StandsAs role)) o.is (write_stands x role b.0 own parts) in
         subst (λ zs. StandBy (first role shape) (pieces_of (zs ++ write_all names s xs own parts))) (sym o.is) (y.0, write_by xs shape b.1 own parts)
 
 -- all rows
