@@ -1,0 +1,6 @@
+pub mod Each
+pub mod FirstTables
+pub mod NameTables
+pub mod Drafts
+pub mod Judging
+pub mod Taking
