@@ -61,7 +61,7 @@ abbrev mutual
 
 -- where it passes, the trees are spelled right
 
-blanks : (g after : List ℕ) → blank_all g ≡ true → Gap g after
+pub blanks : (g after : List ℕ) → blank_all g ≡ true → Gap g after
 blanks [] after h = no_gap after
 blanks (b ∷ g) after h =
     let both = and_parts (is_blank b) (blank_all g) h in
@@ -84,7 +84,7 @@ spells_word w after t h =
 mutual
   unfolding Stands StandsAll
 
-  stands : (n : ℕ) (d : Draft) (after : List ℕ) → good n d after ≡ true → Stands n (tree_of d) after
+  pub stands : (n : ℕ) (d : Draft) (after : List ℕ) → good n d after ≡ true → Stands n (tree_of d) after
   stands n (word w) after h =
       let both = and_parts (token_test w after) (word_test w) h in spells_word w after both.0 both.1
   stands n (number w) after h =
@@ -96,7 +96,7 @@ mutual
       let both = and_parts (nat_lt n 256) (good_all (suc n) ds (41 ∷ after)) h in
       (ltb-true n 256 both.0, stands_all (suc n) ds (41 ∷ after) both.1, no_gap (41 ∷ after))
 
-  stands_all : (n : ℕ) (ds : Drafts) (after : List ℕ) → good_all n ds after ≡ true → StandsAll n (trees_of ds) after
+  pub stands_all : (n : ℕ) (ds : Drafts) (after : List ℕ) → good_all n ds after ≡ true → StandsAll n (trees_of ds) after
   stands_all n nothing after h = tt
   stands_all n (then ds g d) after h =
       let a = and_parts (good_all n ds (g ++ spelled (tree_of d) after)) (blank_all g && good n d after) h in
@@ -139,7 +139,7 @@ abbrev mutual
 mutual
   unfolding Means MeansAll
 
-  means : (numbers : List ℕ → Option ℕ) (p : Place) (d : Draft) → known numbers d ≡ true → Means numbers p (tree_of d) (datum_of numbers p d)
+  pub means : (numbers : List ℕ → Option ℕ) (p : Place) (d : Draft) → known numbers d ≡ true → Means numbers p (tree_of d) (datum_of numbers p d)
   means numbers p (word w) h =
       let o : Option Content = atom_content numbers (a_symbol (map folded w)) in
       (content_or o, (content_there o h, refl))
@@ -147,7 +147,7 @@ mutual
   means numbers p (letter b) h = (character b, (refl, refl))
   means numbers p (group ds) h = (data_of numbers (place_behind p (40 ∷ [])) ds, (means_all numbers (place_behind p (40 ∷ [])) ds h, refl))
 
-  means_all : (numbers : List ℕ → Option ℕ) (p : Place) (ds : Drafts) → known_all numbers ds ≡ true → MeansAll numbers p (trees_of ds) (data_of numbers p ds)
+  pub means_all : (numbers : List ℕ → Option ℕ) (p : Place) (ds : Drafts) → known_all numbers ds ≡ true → MeansAll numbers p (trees_of ds) (data_of numbers p ds)
   means_all numbers p nothing h = refl
   means_all numbers p (then ds g d) h =
       let both = and_parts (known_all numbers ds) (known numbers d) h in
@@ -158,13 +158,13 @@ mutual
 mutual
   unfolding spelled spelled_all
 
-  followed : (d : Draft) (rest after : List ℕ) → spelled (tree_of d) rest ++ after ≡ spelled (tree_of d) (rest ++ after)
+  pub followed : (d : Draft) (rest after : List ℕ) → spelled (tree_of d) rest ++ after ≡ spelled (tree_of d) (rest ++ after)
   followed (word w) rest after = append_assoc w rest after
   followed (number w) rest after = append_assoc w rest after
   followed (letter b) rest after = refl
   followed (group ds) rest after = ap (λ bs. 40 ∷ bs) (followed_all ds (41 ∷ rest) after)
 
-  followed_all : (ds : Drafts) (rest after : List ℕ) → spelled_all (trees_of ds) rest ++ after ≡ spelled_all (trees_of ds) (rest ++ after)
+  pub followed_all : (ds : Drafts) (rest after : List ℕ) → spelled_all (trees_of ds) rest ++ after ≡ spelled_all (trees_of ds) (rest ++ after)
   followed_all nothing rest after = refl
   followed_all (then ds g d) rest after =
       followed_all ds (g ++ spelled (tree_of d) rest) after

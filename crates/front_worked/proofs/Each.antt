@@ -1,5 +1,5 @@
 -- What holds at each place of a list, by one equation of lists that compute.
-use Rattle.std.proofs.Common.{◌≡◌, ℕ, ◌+◌, ◌≤◌, zero, suc, Bool, true, false, nat_le, List, [], ◌∷◌, Some, All, slice_get, refl, ap, sym, ◌∙◌, subst, arith, zero-add, leb-true}
+use Rattle.std.proofs.Common.{◌≡◌, ℕ, ◌+◌, ◌≤◌, zero, suc, Bool, true, false, nat_le, List, [], ◌∷◌, Some, All, slice_get, refl, ap, sym, ◌∙◌, subst, arith, zero-add, add-zero, leb-true}
 use Rattle.std.specs.List.{list_all}
 use Rattle.std.proofs.lemmas.Bool.{and_parts}
 use Rattle.std.proofs.lemmas.List.Elements.{All-nil, All-cons}
@@ -14,7 +14,7 @@ same_from f g k [] e i x h = absurd (cc)
 same_from f g k (y ∷ ys) e zero x h =
     let same : y ≡ x = cc in
     let here : f k y ≡ g k y = cc in
-    subst (λ z. f k z ≡ g k z) same here
+    subst (λ n. f n x ≡ g n x) (sym (add-zero k)) (subst (λ z. f k z ≡ g k z) same here)
 same_from f g k (y ∷ ys) e (suc i) x h =
     let rest : each f (k + 1) ys ≡ each g (k + 1) ys = cc in
     let number : k + 1 + i ≡ k + suc i = omega arith in

@@ -4,3 +4,4 @@ pub mod NameTables
 pub mod Drafts
 pub mod Judging
 pub mod Taking
+pub mod Small
