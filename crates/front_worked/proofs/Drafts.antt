@@ -1,6 +1,6 @@
 -- Texts that are laid out by hand: words, numbers, characters and lists, with blanks between them. Where a test of what is laid out
 -- passes, the grammar reads it.
-use Rattle.std.proofs.Common.{◌≡◌, ℕ, suc, ◌<◌, ◌≤◌, Bool, true, false, not, ◌&&◌, nat_lt, nat_le, List, [], ◌∷◌, ◌++◌, Option, Some, None, is_some, map, length, refl, ap, sym, ◌∙◌, subst, append_assoc, leb-true, ltb-true}
+use Rattle.std.proofs.Common.{◌≡◌, ℕ, suc, ◌<◌, ◌≤◌, Bool, true, false, not, ◌&&◌, nat_lt, nat_le, List, [], ◌∷◌, ◌++◌, Option, Some, None, is_some, map, length, replicate, refl, ap, sym, ◌∙◌, subst, append_assoc, leb-true, ltb-true}
 use Rattle.std.specs.List.{list_all}
 use Rattle.std.proofs.lemmas.Bool.{and_parts, not-true}
 use Rattle.base.specs.declared.place.Place.{Place}
@@ -24,6 +24,18 @@ mutual
   pub data Drafts : Type 0 where
     nothing : Drafts
     then : Drafts → List ℕ → Draft → Drafts
+
+-- a list's first draft, one more behind a blank, and one more on a new line, behind so many blanks
+abbrev pub begin : Draft → Drafts
+begin d = then nothing [] d
+
+infixl 60 ◌&◌
+
+abbrev pub ◌&◌ : Drafts → Draft → Drafts
+◌&◌ ds d = then ds (32 ∷ []) d
+
+abbrev pub lined : ℕ → Drafts → Draft → Drafts
+lined n ds d = then ds (10 ∷ replicate n 32) d
 
 -- the trees of the grammar
 abbrev mutual

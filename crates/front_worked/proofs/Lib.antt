@@ -5,3 +5,4 @@ pub mod Drafts
 pub mod Judging
 pub mod Taking
 pub mod Small
+pub mod Program

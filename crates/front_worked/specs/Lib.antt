@@ -1,3 +1,4 @@
 pub mod Names
 pub mod Statements
 pub mod Small
+pub mod Program
