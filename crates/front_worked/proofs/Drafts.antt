@@ -1,6 +1,7 @@
 -- Texts that are laid out by hand: words, numbers, characters and lists, with blanks between them. Where a test of what is laid out
 -- passes, the grammar reads it.
-use Rattle.std.proofs.Common.{◌≡◌, ℕ, suc, ◌<◌, ◌≤◌, Bool, true, false, not, ◌&&◌, nat_lt, nat_le, List, [], ◌∷◌, ◌++◌, Option, Some, None, is_some, map, length, replicate, refl, ap, sym, ◌∙◌, subst, append_assoc, leb-true, ltb-true}
+use Prim.Native.String.{String}
+use Rattle.std.proofs.Common.{◌≡◌, ℕ, suc, ◌<◌, ◌≤◌, Bool, true, false, not, ◌&&◌, nat_lt, nat_le, List, [], ◌∷◌, ◌++◌, Option, Some, None, is_some, map, length, replicate, codes, refl, ap, sym, ◌∙◌, subst, append_assoc, leb-true, ltb-true}
 use Rattle.std.specs.List.{list_all}
 use Rattle.std.proofs.lemmas.Bool.{and_parts, not-true}
 use Rattle.base.specs.declared.place.Place.{Place}
@@ -24,6 +25,10 @@ mutual
   pub data Drafts : Type 0 where
     nothing : Drafts
     then : Drafts → List ℕ → Draft → Drafts
+
+-- a word of that text
+abbrev pub w : String → Draft
+w t = word (codes t)
 
 -- a list's first draft, one more behind a blank, and one more on a new line, behind so many blanks
 abbrev pub begin : Draft → Drafts

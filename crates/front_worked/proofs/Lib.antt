@@ -4,5 +4,7 @@ pub mod NameTables
 pub mod Drafts
 pub mod Judging
 pub mod Taking
-pub mod Small
 pub mod Program
+pub mod Library
+pub mod Calling
+pub mod Refused

@@ -1,5 +1,4 @@
 -- The file is read, judged and run.
-use Prim.Native.String.{String}
 use Rattle.std.proofs.Common.{◌≡◌, ℕ, List, [], ◌∷◌, ◌++◌, codes, take, refl, arith}
 use Rattle.base.specs.declared.origin.Origin.TheVariants.{File}
 use Rattle.base.specs.declared.place.Place.{Place}
@@ -23,21 +22,19 @@ use Rattle.front_scope.specs.Scopes.{top, with_main}
 use Rattle.front_files.specs.declared.mode.Mode.TheVariants.{Run}
 use Rattle.front_files.specs.Verdicts.{FormTaken, at_end, form_taken, file_accepted}
 use Rattle.front_worked.specs.Names.{first}
-use Rattle.front_worked.specs.Program.{at, program_text, program_names, program, program_literals, program_procedures, program_functions, function_sites, program_call, FileIsProgram}
+use Rattle.front_worked.specs.ByHand.{at}
+use Rattle.front_worked.specs.Program.{program_text, program_names, program, program_literals, program_procedures, program_functions, function_sites, program_call, FileIsProgram}
 use Rattle.front_worked.proofs.NameTables.{is_table}
 use Rattle.front_worked.proofs.FirstTables.{is_first}
-use Rattle.front_worked.proofs.Drafts.{Draft, word, number, letter, group, begin, ◌&◌, lined, datum_of, bytes_of, next}
+use Rattle.front_worked.proofs.Drafts.{Draft, w, number, letter, group, begin, ◌&◌, lined, datum_of, bytes_of, next}
 use Rattle.front_worked.proofs.Taking.{Found, taken}
 
 -- what is written
 
-abbrev w : String → Draft
-w t = word (codes t)
-
-abbrev returning : Draft
+abbrev pub returning : Draft
 returning = group (begin (w "return-from") & w "b" & w "x")
 
-abbrev handler : Draft
+abbrev pub handler : Draft
 handler = group (begin (w "lambda") & group (begin (w "c")) & returning)
 
 abbrev printing : Draft
@@ -55,7 +52,7 @@ blocked = group (lined 2 (begin (w "block") & w "b") handling)
 abbrev definition : Draft
 definition = group (lined 1 (begin (w "defun") & w "f" & group (begin (w "x"))) blocked)
 
-abbrev calling : Draft
+abbrev pub calling : Draft
 calling = group (begin (w "f") & number (codes "5"))
 
 -- what is read

@@ -1,4 +1,6 @@
+pub mod ByHand
 pub mod Names
 pub mod Statements
-pub mod Small
 pub mod Program
+pub mod Library
+pub mod Refused

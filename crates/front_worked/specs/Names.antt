@@ -1,7 +1,6 @@
 -- The names that are there for every file, each at its number, and the built-in classes and tables under them (ISO/IEC
 -- 13816:2007, 29.3).
 use Rattle.std.specs.Prelude.{ℕ, ◌+◌, ◌==◌, false, List, [], ◌∷◌, ◌++◌, None, codes, if◌then◌else◌}
-use Rattle.base.specs.declared.datum.Name.{Name}
 use Rattle.lang_meaning.specs.declared.program.ClassRow.{ClassRow}
 use Rattle.lang_meaning.specs.declared.program.SlotRow.{SlotRow}
 use Rattle.lang_meaning.specs.BuiltIn.{built_in_precedence, class_texts}
@@ -9,9 +8,7 @@ use Rattle.lang_classes.specs.InheritedClasses.{Hierarchy}
 use Rattle.front_profile.specs.declared.tables.ReservedWords.{ReservedWords}
 use Rattle.front_profile.specs.declared.tables.Tables.{Tables}
 use Rattle.front_scope.specs.Scopes.{first_tables}
-
-abbrev pub name : ℕ → Name
-name n = record { 0 = n }
+use Rattle.front_worked.specs.ByHand.{name}
 
 -- the classes' names are 0 to 33, those of their slots 34 to 38, and the words that no variable has 39 to 41
 abbrev pub first_names : List (List ℕ)

@@ -1,21 +1,18 @@
 -- A file with a function, a block that a handler leaves through a cleanup, and a condition, written out with its program.
 use Rattle.std.specs.Prelude.{ℕ, pos, List, [], ◌∷◌, ◌++◌, Some, None, codes}
-use Rattle.base.specs.declared.datum.Symbol.TheVariants.{Named}
 use Rattle.base.specs.declared.place.Place.{Place}
-use Rattle.base.specs.Data as datum
 use Rattle.lang_meaning.specs.declared.part.Part.TheVariants.{Variable, Exit}
 use Rattle.lang_meaning.specs.declared.primitive.Primitive.TheVariants.{Car, StandardOutput, PutChar}
-use Rattle.lang_meaning.specs.declared.program.Callee.TheVariants as callee
 use Rattle.lang_meaning.specs.declared.program.FunctionRow.{FunctionRow}
 use Rattle.lang_meaning.specs.declared.program.LiteralRow.{LiteralRow}
-use Rattle.lang_meaning.specs.declared.program.LiteralRow.TheVariants as row
 use Rattle.lang_meaning.specs.declared.program.Procedure.{Procedure}
 use Rattle.lang_meaning.specs.declared.program.ProgramRows.{ProgramRows}
-use Rattle.lang_meaning.specs.Form.{Form, literal, local, sequence, lambda, call, prim, block, return_from, unwind, with_handler, sited}
+use Rattle.lang_meaning.specs.Form.{Form, literal, local, lambda, call, prim, block, return_from, unwind, with_handler, sited}
 use Rattle.lang_meaning.specs.model.View.{forms}
 use Rattle.lang_meaning.specs.Meaning.{with_value}
 use Rattle.lang_meaning.specs.Values.{integer}
-use Rattle.front_worked.specs.Names.{name, first_names, class_rows}
+use Rattle.front_worked.specs.ByHand.{name, at, a_symbol, a_character, a_number, a_function, body}
+use Rattle.front_worked.specs.Names.{first_names, class_rows}
 use Rattle.front_worked.specs.Statements.{IsProgram}
 
 -- (defun f (x)
@@ -33,26 +30,15 @@ program_text =
     ++ (codes "    (format-char (standard-output) #\\x)))))\n"
     ++ codes "(f 5)"))))
 
--- the names of its symbols, from 42 on
+-- the names of its symbols are 42 to 54
 abbrev pub program_names : List (List ℕ)
 program_names =
     first_names
     ++ (codes "defun" ∷ codes "f" ∷ codes "x" ∷ codes "block" ∷ codes "b" ∷ codes "with-handler" ∷ codes "lambda" ∷ codes "c"
     ∷ codes "return-from" ∷ codes "unwind-protect" ∷ codes "car" ∷ codes "format-char" ∷ codes "standard-output" ∷ [])
 
-abbrev pub at : ℕ → ℕ → Place
-at line column = record { line = line; column = column }
-
-abbrev pub body : List Form → Form
-body fs = sequence (forms fs)
-
--- f, #\x and 5
 abbrev pub program_literals : List LiteralRow
-program_literals =
-    row.Datum (datum.item (at 1 8) (datum.symbol (Named (name 43))))
-    ∷ row.Datum (datum.item (at 5 36) (datum.character 120))
-    ∷ row.Datum (datum.item (at 6 4) (datum.integer (pos 5)))
-    ∷ []
+program_literals = a_symbol (at 1 8) 43 ∷ a_character (at 5 36) 120 ∷ a_number (at 6 4) 5 ∷ []
 
 -- x is variable 0, c variable 1, and b exit 0
 abbrev pub handler_form : Form
@@ -71,7 +57,7 @@ abbrev pub program_procedures : List Procedure
 program_procedures = record { name = Some (name 43); required = 0 ∷ []; rest = None; body = body (sited 1 block_form ∷ []) } ∷ []
 
 abbrev pub program_functions : List FunctionRow
-program_functions = record { name = name 43; callee = callee.Procedure 0 } ∷ []
+program_functions = a_function 43 0 ∷ []
 
 -- the sites of the definition, and that of the call
 abbrev pub function_sites : List Place
