@@ -1,7 +1,6 @@
 -- The file behind the library is read, judged and run.
-use Rattle.std.proofs.Common.{◌≡◌, ℕ, List, [], ◌∷◌, ◌++◌, codes, take, refl, arith}
+use Rattle.std.proofs.Common.{ℕ, List, [], ◌∷◌, codes, take, refl, arith}
 use Rattle.base.specs.declared.origin.Origin.TheVariants.{File}
-use Rattle.base.specs.declared.place.Place.{Place}
 use Rattle.base.specs.Data.{Item}
 use Rattle.base.specs.DataMeasures.{size_of}
 use Rattle.base.specs.Names.{IsTable}
@@ -24,23 +23,23 @@ use Rattle.front_files.specs.Verdicts.{FormTaken, at_end, form_taken, file_accep
 use Rattle.front_worked.specs.ByHand.{at}
 use Rattle.front_worked.specs.Library.{library_names, calling_text, calling_literals, calling_procedures, calling_functions, calling_sites, last_call, calling_program, FileBehindLibrary}
 use Rattle.front_worked.proofs.NameTables.{is_table}
-use Rattle.front_worked.proofs.Drafts.{Draft, w, letter, group, begin, ◌&◌, lined, datum_of, next}
-use Rattle.front_worked.proofs.Taking.{Found, taken}
+use Rattle.front_worked.proofs.Sketches.{Sketch, w, letter, group, begin, ◌&◌, lined, datum_of, next}
+use Rattle.front_worked.proofs.Taking.{ComesByTest, taken}
 use Rattle.front_worked.proofs.Program.{handler, calling}
 use Rattle.front_worked.proofs.Library.{behind_library, library_taken}
 
 -- what is written
 
-abbrev protected : Draft
+abbrev protected : Sketch
 protected = group (lined 4 (begin (w "unwind-protect") & group (begin (w "g") & w "x")) (group (begin (w "h") & letter 120)))
 
-abbrev handling : Draft
+abbrev handling : Sketch
 handling = group (lined 3 (begin (w "with-handler") & handler) protected)
 
-abbrev blocked : Draft
+abbrev blocked : Sketch
 blocked = group (lined 2 (begin (w "block") & w "b") handling)
 
-abbrev definition : Draft
+abbrev definition : Sketch
 definition = group (lined 1 (begin (w "defun") & w "f" & group (begin (w "x"))) blocked)
 
 -- what is read
@@ -80,11 +79,11 @@ tables_behind = with_main File (literal 0) found_definition
 abbrev found_call : Tables
 found_call = record tables_behind { literals = calling_literals; sites = calling_program.sites }
 
-definition_found : Found library_names (top File) behind_library the_definition (stands (record { form = literal 0; tables = found_definition }))
+definition_found : ComesByTest library_names (top File) behind_library the_definition (stands (record { form = literal 0; tables = found_definition }))
 unfolding node derivation number_in folded is_derived table conditional_rows binding_rows case_rows case_using_rows loop_rows place_rows function_rows condition_rows class_rows quotation_rows place_after behind behind_all
 definition_found more = refl
 
-call_found : Found library_names (top File) tables_behind the_call (stands (record { form = last_call; tables = found_call }))
+call_found : ComesByTest library_names (top File) tables_behind the_call (stands (record { form = last_call; tables = found_call }))
 unfolding node derivation number_in folded magnitude digit_value is_derived table conditional_rows binding_rows case_rows case_using_rows loop_rows place_rows function_rows condition_rows class_rows quotation_rows place_after behind behind_all
 call_found more = refl
 

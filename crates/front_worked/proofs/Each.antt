@@ -1,5 +1,5 @@
 -- What holds at each place of a list, by one equation of lists that compute.
-use Rattle.std.proofs.Common.{◌≡◌, ℕ, ◌+◌, ◌≤◌, zero, suc, Bool, true, false, nat_le, List, [], ◌∷◌, Some, All, slice_get, refl, ap, sym, ◌∙◌, subst, arith, zero-add, add-zero, leb-true}
+use Rattle.std.proofs.Common.{◌≡◌, ℕ, ◌+◌, ◌≤◌, zero, suc, true, nat_le, List, [], ◌∷◌, Some, All, slice_get, sym, subst, arith, zero-add, add-zero, leb-true}
 use Rattle.std.specs.List.{list_all}
 use Rattle.std.proofs.lemmas.Bool.{and_parts}
 use Rattle.std.proofs.lemmas.List.Elements.{All-nil, All-cons}

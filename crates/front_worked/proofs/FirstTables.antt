@@ -1,16 +1,15 @@
 -- The tables in front of all forms, under names that begin with the first ones.
-use Rattle.std.proofs.Common.{◌≡◌, ℕ, ◌+◌, ◌≤◌, Bool, true, false, nat_le, List, [], ◌∷◌, ◌++◌, Option, Some, All, map, take, length, slice_get, refl, ap, sym, ◌∙◌, arith, leb-true}
+use Rattle.std.proofs.Common.{◌≡◌, ℕ, ◌+◌, ◌≤◌, true, false, nat_le, List, ◌++◌, Some, All, map, take, length, slice_get, refl, arith, leb-true}
 use Rattle.std.specs.List.{list_all}
 use Rattle.std.proofs.lemmas.Option.{slice_get_within}
-use Rattle.base.specs.declared.datum.Name.{Name}
 use Rattle.lang_meaning.specs.declared.program.ClassRow.{ClassRow}
 use Rattle.lang_meaning.specs.declared.program.SlotRow.{SlotRow}
 use Rattle.lang_meaning.specs.BuiltIn.{built_in_precedence, built_in_slots, class_texts}
 use Rattle.lang_classes.specs.InheritedSlots.{names_of, said_by, united}
-use Rattle.lang_classes.specs.InheritedClasses.{Hierarchy, IsRow, AreClasses, IsBuiltIn, IsHierarchy, class_named, slot_limit}
-use Rattle.lang_classes.specs.InheritedBuiltIn.{SaysSlots, AreNamed, AreBuiltIn, built_in_own, own_initarg, texts_of}
+use Rattle.lang_classes.specs.InheritedClasses.{IsRow, IsBuiltIn, IsHierarchy, class_named, slot_limit}
+use Rattle.lang_classes.specs.InheritedBuiltIn.{AreNamed, built_in_own, own_initarg, texts_of}
 use Rattle.front_scope.specs.Scopes.{IsFirst}
-use Rattle.front_worked.specs.Names.{first_names, class_rows, classes, words, first}
+use Rattle.front_worked.specs.Names.{first_names, class_rows, classes, first}
 use Rattle.front_worked.proofs.Each.{same_at, all_at_most}
 
 in_range : (c : ℕ) (row : ClassRow) → slice_get class_rows c ≡ Some row → All (λ d. d ≤ c) row.precedence

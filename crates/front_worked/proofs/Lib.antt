@@ -1,7 +1,7 @@
 pub mod Each
 pub mod FirstTables
 pub mod NameTables
-pub mod Drafts
+pub mod Sketches
 pub mod Judging
 pub mod Taking
 pub mod Program

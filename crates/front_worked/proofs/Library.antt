@@ -1,42 +1,40 @@
 -- The library of two functions is read and judged.
-use Rattle.std.proofs.Common.{◌≡◌, ℕ, List, [], ◌∷◌, ◌++◌, codes, take, refl, arith}
-use Rattle.base.specs.declared.origin.Origin.TheVariants.{Prelude, File}
+use Rattle.std.proofs.Common.{ℕ, List, [], ◌∷◌, codes, take, refl}
+use Rattle.base.specs.declared.origin.Origin.TheVariants.{Prelude}
 use Rattle.base.specs.declared.place.Place.{Place}
 use Rattle.base.specs.Data.{Item}
 use Rattle.base.specs.DataMeasures.{size_of}
-use Rattle.base.specs.Names.{IsTable}
 use Rattle.lang_derived.specs.Derived.{derivation}
 use Rattle.lang_derived.specs.Table.{is_derived, table, conditional_rows, binding_rows, case_rows, case_using_rows, loop_rows, place_rows, function_rows, condition_rows, class_rows, quotation_rows}
-use Rattle.lang_meaning.specs.Form.{literal, sequence, no_form}
-use Rattle.lang_meaning.specs.Meaning.{meaning, mean, meaning_at}
+use Rattle.lang_meaning.specs.Form.{sequence, no_form}
 use Rattle.front_profile.specs.declared.tables.Tables.{Tables}
 use Rattle.front_profile.specs.Nodes.{stands}
 use Rattle.front_profile.specs.Rows.{node}
 use Rattle.front_reader.specs.Characters.{is_blank, is_token, folded, digit_value, place_after}
-use Rattle.front_reader.specs.Tokens.{magnitude, is_float}
+use Rattle.front_reader.specs.Tokens.{is_float}
 use Rattle.front_reader.specs.Trees.{spelled, behind, behind_all}
 use Rattle.front_reader.specs.Meanings.{number_in}
 use Rattle.front_reader.specs.Gaps.{no_gap}
 use Rattle.front_reader.specs.Reads.{ReadsNext}
-use Rattle.front_scope.specs.Scopes.{top, with_main}
+use Rattle.front_scope.specs.Scopes.{top}
 use Rattle.front_files.specs.declared.mode.Mode.TheVariants.{Run}
 use Rattle.front_files.specs.Verdicts.{FormTaken, BehindPrelude, all_taken, at_end, form_taken}
 use Rattle.front_worked.specs.ByHand.{at, name}
 use Rattle.front_worked.specs.Names.{first}
 use Rattle.front_worked.specs.Library.{library_text, library_names, library_procedures, library_functions}
 use Rattle.front_worked.proofs.FirstTables.{is_first}
-use Rattle.front_worked.proofs.Drafts.{Draft, w, group, begin, ◌&◌, datum_of, next}
-use Rattle.front_worked.proofs.Taking.{Found, taken}
+use Rattle.front_worked.proofs.Sketches.{Sketch, w, group, begin, ◌&◌, datum_of, next}
+use Rattle.front_worked.proofs.Taking.{ComesByTest, taken}
 
 -- what is written
 
-abbrev first_definition : Draft
+abbrev first_definition : Sketch
 first_definition = group (begin (w "defun") & w "g" & group (begin (w "x")) & group (begin (w "car") & w "x"))
 
-abbrev printing : Draft
+abbrev printing : Sketch
 printing = group (begin (w "format-char") & group (begin (w "standard-output")) & w "x")
 
-abbrev second_definition : Draft
+abbrev second_definition : Sketch
 second_definition = group (begin (w "defun") & w "h" & group (begin (w "x")) & printing)
 
 -- what is read, without places
@@ -79,11 +77,11 @@ behind_library = record first {
   variables = 2;
 }
 
-first_found : Found library_names (top Prelude) first first_datum (stands (record { form = sequence no_form; tables = found_first }))
+first_found : ComesByTest library_names (top Prelude) first first_datum (stands (record { form = sequence no_form; tables = found_first }))
 unfolding node derivation number_in folded is_derived table conditional_rows binding_rows case_rows case_using_rows loop_rows place_rows function_rows condition_rows class_rows quotation_rows place_after behind behind_all
 first_found more = refl
 
-second_found : Found library_names (top Prelude) found_first second_datum (stands (record { form = sequence no_form; tables = behind_library }))
+second_found : ComesByTest library_names (top Prelude) found_first second_datum (stands (record { form = sequence no_form; tables = behind_library }))
 unfolding node derivation number_in folded is_derived table conditional_rows binding_rows case_rows case_using_rows loop_rows place_rows function_rows condition_rows class_rows quotation_rows place_after behind behind_all
 second_found more = refl
 

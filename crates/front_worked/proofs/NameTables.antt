@@ -1,5 +1,5 @@
 -- A table of names, made by putting one text after another into it.
-use Rattle.std.proofs.Common.{◌≡◌, ℕ, ◌≤◌, Bool, true, nat_le, List, [], ◌∷◌, Some, length, slice_get, refl, leb-true}
+use Rattle.std.proofs.Common.{◌≡◌, ℕ, Bool, true, nat_le, List, [], ◌∷◌, length, leb-true}
 use Rattle.std.specs.List.{list_all}
 use Rattle.std.proofs.lemmas.Bool.{and_parts}
 use Rattle.base.specs.Names.{IsTable, with_text, IsTable-with_text}

@@ -1,7 +1,6 @@
 -- The file is read, judged and run.
-use Rattle.std.proofs.Common.{◌≡◌, ℕ, List, [], ◌∷◌, ◌++◌, codes, take, refl, arith}
+use Rattle.std.proofs.Common.{ℕ, List, [], ◌∷◌, codes, take, refl, arith}
 use Rattle.base.specs.declared.origin.Origin.TheVariants.{File}
-use Rattle.base.specs.declared.place.Place.{Place}
 use Rattle.base.specs.Data.{Item}
 use Rattle.base.specs.DataMeasures.{size_of}
 use Rattle.base.specs.Names.{IsTable}
@@ -26,33 +25,33 @@ use Rattle.front_worked.specs.ByHand.{at}
 use Rattle.front_worked.specs.Program.{program_text, program_names, program, program_literals, program_procedures, program_functions, function_sites, program_call, FileIsProgram}
 use Rattle.front_worked.proofs.NameTables.{is_table}
 use Rattle.front_worked.proofs.FirstTables.{is_first}
-use Rattle.front_worked.proofs.Drafts.{Draft, w, number, letter, group, begin, ◌&◌, lined, datum_of, bytes_of, next}
-use Rattle.front_worked.proofs.Taking.{Found, taken}
+use Rattle.front_worked.proofs.Sketches.{Sketch, w, number, letter, group, begin, ◌&◌, lined, datum_of, next}
+use Rattle.front_worked.proofs.Taking.{ComesByTest, taken}
 
 -- what is written
 
-abbrev pub returning : Draft
+abbrev pub returning : Sketch
 returning = group (begin (w "return-from") & w "b" & w "x")
 
-abbrev pub handler : Draft
+abbrev pub handler : Sketch
 handler = group (begin (w "lambda") & group (begin (w "c")) & returning)
 
-abbrev printing : Draft
+abbrev printing : Sketch
 printing = group (begin (w "format-char") & group (begin (w "standard-output")) & letter 120)
 
-abbrev protected : Draft
+abbrev protected : Sketch
 protected = group (lined 4 (begin (w "unwind-protect") & group (begin (w "car") & w "x")) printing)
 
-abbrev handling : Draft
+abbrev handling : Sketch
 handling = group (lined 3 (begin (w "with-handler") & handler) protected)
 
-abbrev blocked : Draft
+abbrev blocked : Sketch
 blocked = group (lined 2 (begin (w "block") & w "b") handling)
 
-abbrev definition : Draft
+abbrev definition : Sketch
 definition = group (lined 1 (begin (w "defun") & w "f" & group (begin (w "x"))) blocked)
 
-abbrev pub calling : Draft
+abbrev pub calling : Sketch
 calling = group (begin (w "f") & number (codes "5"))
 
 -- what is read
@@ -92,11 +91,11 @@ tables_behind = with_main File (literal 0) found_definition
 abbrev found_call : Tables
 found_call = record tables_behind { literals = program_literals; sites = program.sites }
 
-definition_found : Found program_names (top File) first the_definition (stands (record { form = literal 0; tables = found_definition }))
+definition_found : ComesByTest program_names (top File) first the_definition (stands (record { form = literal 0; tables = found_definition }))
 unfolding node derivation number_in folded is_derived table conditional_rows binding_rows case_rows case_using_rows loop_rows place_rows function_rows condition_rows class_rows quotation_rows place_after behind behind_all
 definition_found more = refl
 
-call_found : Found program_names (top File) tables_behind the_call (stands (record { form = program_call; tables = found_call }))
+call_found : ComesByTest program_names (top File) tables_behind the_call (stands (record { form = program_call; tables = found_call }))
 unfolding node derivation number_in folded magnitude digit_value is_derived table conditional_rows binding_rows case_rows case_using_rows loop_rows place_rows function_rows condition_rows class_rows quotation_rows place_after behind behind_all
 call_found more = refl
 

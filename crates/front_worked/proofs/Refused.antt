@@ -1,10 +1,8 @@
 -- Files are read and refused.
-use Rattle.std.proofs.Common.{◌≡◌, ℕ, List, [], ◌∷◌, ◌++◌, Some, None, codes, refl, arith}
+use Rattle.std.proofs.Common.{ℕ, List, [], ◌∷◌, ◌++◌, Some, None, codes, refl, arith}
 use Rattle.base.specs.declared.origin.Origin.TheVariants.{File}
-use Rattle.base.specs.declared.place.Place.{Place}
 use Rattle.base.specs.Data.{Item}
 use Rattle.base.specs.DataMeasures.{size_of}
-use Rattle.base.specs.Names.{IsTable}
 use Rattle.lang_derived.specs.Derived.{derivation}
 use Rattle.lang_derived.specs.Table.{is_derived, table, conditional_rows, binding_rows, case_rows, case_using_rows, loop_rows, place_rows, function_rows, condition_rows, class_rows, quotation_rows}
 use Rattle.lang_meaning.specs.declared.program.Procedure.{Procedure}
@@ -24,12 +22,12 @@ use Rattle.base.specs.declared.reason.Reason.TheVariants.{UnknownBlock, Reserved
 use Rattle.front_files.specs.Verdicts.{FormTaken, FormRefused, at_end, form_taken, form_refused, file_refused}
 use Rattle.front_worked.specs.ByHand.{at, name, a_symbol, a_function, body}
 use Rattle.front_worked.specs.Names.{first, first_names}
-use Rattle.front_worked.specs.Library.{library_text, library_names}
+use Rattle.front_worked.specs.Library.{library_names}
 use Rattle.front_worked.specs.Refused.{no_block_text, library_name_text, FileIsRefused, FileIsRefusedBehindLibrary}
 use Rattle.front_worked.proofs.NameTables.{is_table}
 use Rattle.front_worked.proofs.FirstTables.{is_first}
-use Rattle.front_worked.proofs.Drafts.{Draft, w, number, group, begin, ◌&◌, datum_of, next}
-use Rattle.front_worked.proofs.Taking.{Found, taken, is_refused}
+use Rattle.front_worked.proofs.Sketches.{Sketch, w, number, group, begin, ◌&◌, datum_of, next}
+use Rattle.front_worked.proofs.Taking.{ComesByTest, taken, is_refused}
 use Rattle.front_worked.proofs.Library.{behind_library, library_taken}
 use Rattle.front_worked.proofs.Calling.{library_names_are}
 
@@ -38,10 +36,10 @@ use Rattle.front_worked.proofs.Calling.{library_names_are}
 abbrev names : List (List ℕ)
 names = first_names ++ (codes "defun" ∷ codes "f" ∷ codes "x" ∷ codes "return-from" ∷ codes "b" ∷ [])
 
-abbrev definition : Draft
+abbrev definition : Sketch
 definition = group (begin (w "defun") & w "f" & group (begin (w "x")) & w "x")
 
-abbrev calling : Draft
+abbrev calling : Sketch
 calling = group (begin (w "f") & group (begin (w "return-from") & w "b" & number (codes "5")))
 
 abbrev behind_definition : List ℕ
@@ -75,11 +73,11 @@ found_definition = record first {
 abbrev tables_behind : Tables
 tables_behind = with_main File (literal 0) found_definition
 
-definition_found : Found names (top File) first the_definition (stands (record { form = literal 0; tables = found_definition }))
+definition_found : ComesByTest names (top File) first the_definition (stands (record { form = literal 0; tables = found_definition }))
 unfolding node derivation number_in folded is_derived table conditional_rows binding_rows case_rows case_using_rows loop_rows place_rows function_rows condition_rows class_rows quotation_rows place_after behind behind_all
 definition_found more = refl
 
-call_found : Found names (top File) tables_behind the_call (ended (refused (at 2 4) UnknownBlock))
+call_found : ComesByTest names (top File) tables_behind the_call (ended (refused (at 2 4) UnknownBlock))
 unfolding node derivation number_in folded magnitude digit_value is_derived table conditional_rows binding_rows case_rows case_using_rows loop_rows place_rows function_rows condition_rows class_rows quotation_rows place_after behind behind_all
 call_found more = refl
 
@@ -103,7 +101,7 @@ file_is_refused = record {
 
 -- the file that defines a function of the library
 
-abbrev defining : Draft
+abbrev defining : Sketch
 defining = group (begin (w "defun") & w "h" & group (begin (w "x")) & w "x")
 
 abbrev the_defining : Item
@@ -113,7 +111,7 @@ reads_defining : ReadsNext library_names library_name_text (at 1 1) the_defining
 unfolding is_blank is_token digit_value is_float spelled folded number_in
 reads_defining = next library_names (at 1 1) [] defining [] refl refl refl
 
-defining_found : Found library_names (top File) behind_library the_defining (ended (refused (at 1 1) ReservedName))
+defining_found : ComesByTest library_names (top File) behind_library the_defining (ended (refused (at 1 1) ReservedName))
 unfolding node derivation number_in folded is_derived table conditional_rows binding_rows case_rows case_using_rows loop_rows place_rows function_rows condition_rows class_rows quotation_rows place_after behind behind_all
 defining_found more = refl
 
