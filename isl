@@ -43,7 +43,8 @@ try() {
 if [[ $# == 1 && $1 == --build ]]; then
     build || exit 1
 elif [[ ! -x $program ]]; then
-    echo 'isl: nothing of this run is proved; ./isl --build proves and builds the program' >&2
+    echo 'isl: nothing is built yet, so this try takes one to three minutes, and nothing of it is proved;' >&2
+    echo 'isl: ./isl --build proves and builds the program' >&2
     try "$@"
 else
     is_old && echo 'isl: a source is newer than the program; ./isl --build proves and builds it' >&2

@@ -1,5 +1,5 @@
 pub mod Capturing
-pub mod Making
+pub mod ObjectsMade
 pub mod Setting
 pub mod Parts
 pub mod Spelt

@@ -60,7 +60,7 @@ impl<'p> Store<'p> {
     }
 
     /// The object of a word, where it is one.
-    #[tactic(auto, using(crate::proofs::Making::fetched))]
+    #[tactic(auto, using(crate::proofs::ObjectsMade::fetched))]
     pub fn fetch(&self, word: Word) -> Option<&Object<'p>>
         ensures { IsFetched self.now word (option_copied result) }
     {
@@ -147,7 +147,7 @@ impl<'p> Store<'p> {
     }
 
     /// An object more, and its number; nothing is counted.
-    #[tactic(auto, using(crate::proofs::Making::placed_seen, crate::proofs::Making::same_seen, crate::proofs::Making::length_of))]
+    #[tactic(auto, using(crate::proofs::ObjectsMade::placed_seen, crate::proofs::ObjectsMade::same_seen, crate::proofs::ObjectsMade::length_of))]
     pub fn add(&mut self, object: Object<'p>) -> Result<usize, NoMemory>
         ensures number { IfOk result (λ n. (names : List (List ℕ)) (b : Beside) → n ≡ length (seen names self.old b).state.store) }
         ensures ok { OnOk result (Becomes self.old self.new (λ names b. placed names object.entry)) }

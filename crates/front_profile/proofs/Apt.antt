@@ -37,7 +37,7 @@ use Rattle.front_profile.proofs.Numbers.{AllNumbered, OwnNumbers, make_numbered,
 use Rattle.front_profile.proofs.FoundNodes.{none_found}
 use Rattle.front_profile.proofs.Good.{good_later, good_deeper}
 use Rattle.front_profile.proofs.Matches.{new_variables}
-use Rattle.front_profile.proofs.Made.{made_literal}
+use Rattle.front_profile.proofs.MadeForms.{made_literal}
 use Rattle.front_profile.proofs.Wanted.{spots, AllCame, AllApt, all_ordinary, counted_nodes, counted_at_most, came_leaves, AptAt, Stage}
 
 -- tests

@@ -34,11 +34,11 @@ use Rattle.front_profile.proofs.FoundNodes.{both_plain, below_plain, inner_plain
 use Rattle.front_profile.proofs.Good.{good_deeper, good_functions, MaybeFunctions, are_functions, functions_scope}
 use Rattle.front_profile.proofs.Captured.{IsCaptured, is_captured}
 use Rattle.front_profile.proofs.Matches.{new_variables, AllMatch, BoundMatch, bound_match, ParametersMatch, parameters_match, DynamicsMatch, dynamics_match}
-use Rattle.front_profile.proofs.Made.{made_let, made_dynamic_let, made_lambda, made_body}
+use Rattle.front_profile.proofs.MadeForms.{made_let, made_dynamic_let, made_lambda, made_body}
 use Rattle.front_profile.proofs.Wanted.{spots, AllCame, AllApt, AptAt, Stage, all_ordinary}
 use Rattle.front_profile.proofs.Apt.{apt_within, apt_made, plain_parts, both_apt, below_apt, inner_apt, bound_apt, parameters_apt}
 use Rattle.front_profile.proofs.Procedures.{inner_ordinary}
-use Rattle.front_profile.proofs.Found.{found_inner, parameters_are, symbols_counted}
+use Rattle.front_profile.proofs.PartsFound.{found_inner, parameters_are, symbols_counted}
 use Rattle.front_profile.proofs.ExitRows.{two_deeper}
 
 -- let

@@ -33,7 +33,7 @@ use Rattle.front_profile.proofs.Matches.{Spots, AllMatch, forms_match, forms_as_
 use Rattle.front_profile.proofs.Nodes.{nodes_in, found_nodes, call_nodes, call_value_nodes, prim_nodes, two_nodes, local_call_nodes}
 use Rattle.front_profile.proofs.Numbers.{OwnNumbers}
 use Rattle.front_profile.proofs.FoundNodes.{forms_plain, forms_counted, enough_nodes}
-use Rattle.front_profile.proofs.Made.{made_two, made_call, made_call_value, made_prim, made_local_call}
+use Rattle.front_profile.proofs.MadeForms.{made_two, made_call, made_call_value, made_prim, made_local_call}
 use Rattle.front_profile.proofs.Wanted.{spots, AptAt, Stage}
 use Rattle.front_profile.proofs.Apt.{apt_within, apt_made, plain_parts, forms_apt}
 

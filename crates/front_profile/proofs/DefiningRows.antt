@@ -44,7 +44,7 @@ use Rattle.front_profile.proofs.FoundNodes.{both_plain, inner_plain, parameters_
 use Rattle.front_profile.proofs.Good.{good_later, good_alone}
 use Rattle.front_profile.proofs.Places.{any_front}
 use Rattle.front_profile.proofs.Matches.{parameters_match}
-use Rattle.front_profile.proofs.Made.{made_body, made_literal}
+use Rattle.front_profile.proofs.MadeForms.{made_body, made_literal}
 use Rattle.front_profile.proofs.Wanted.{spots, AptAt, Stage, all_ordinary, counted_nodes, counted_at_most}
 use Rattle.front_profile.proofs.Apt.{apt_if, apt_within}
 use Rattle.front_profile.proofs.ValueRows.{apt_one}

@@ -34,11 +34,11 @@ use Rattle.front_profile.proofs.Numbers.{next_number}
 use Rattle.front_profile.proofs.FoundNodes.{inner_plain, forms_counted, inner_as_many, lengths_added, enough_nodes}
 use Rattle.front_profile.proofs.Good.{good_deeper, good_block, good_tags, block_scope, tags_scope}
 use Rattle.front_profile.proofs.Places.{block_there, tag_there}
-use Rattle.front_profile.proofs.Made.{made_block, made_tagbody, made_go}
+use Rattle.front_profile.proofs.MadeForms.{made_block, made_tagbody, made_go}
 use Rattle.front_profile.proofs.Wanted.{spots, AptAt, Stage}
 use Rattle.front_profile.proofs.Apt.{apt_if, apt_within, apt_made, apt_at_once, inner_apt}
 use Rattle.front_profile.proofs.Procedures.{inner_ordinary}
-use Rattle.front_profile.proofs.Found.{found_inner}
+use Rattle.front_profile.proofs.PartsFound.{found_inner}
 use Rattle.front_profile.proofs.ValueRows.{apt_one}
 
 apt_no_such : (n : ℕ) (a : Around) (s : Tables) (p : Place) (r : Reason) (name : Option Name) → AptAt n a s (no_such p r name)

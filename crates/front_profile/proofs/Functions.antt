@@ -41,10 +41,10 @@ use Rattle.front_profile.proofs.Forms.{right_whole}
 use Rattle.front_profile.proofs.Definitions.{later_then, sound_later, all_push, Entered, entered_same, entered_then, entered_literal, entered_numbers, counted_same, counted_then}
 use Rattle.front_profile.proofs.Nodes.{nodes_in, found_nodes, body_nodes}
 use Rattle.front_profile.proofs.FoundNodes.{both_plain, inner_plain, parameters_plain, forms_counted}
-use Rattle.front_profile.proofs.Found.{symbols_counted}
+use Rattle.front_profile.proofs.PartsFound.{symbols_counted}
 use Rattle.front_profile.proofs.Good.{good_later, good_alone, scope_with}
 use Rattle.front_profile.proofs.Matches.{new_variables, ParametersMatch, parameters_match}
-use Rattle.front_profile.proofs.Made.{made_body, made_literal, made_local}
+use Rattle.front_profile.proofs.MadeForms.{made_body, made_literal, made_local}
 use Rattle.front_profile.proofs.Wanted.{spots, AptFunction, AllApt, all_ordinary, counted_nodes, counted_at_most, one_procedure, Apt}
 use Rattle.front_profile.proofs.BinderRows.{found_parameters, function_apt}
 use Rattle.front_profile.proofs.Procedures.{Takes, IsFor, all_low}

@@ -7,10 +7,10 @@ pub mod Captured
 pub mod Definitions
 pub mod Procedures
 pub mod Matches
-pub mod Made
+pub mod MadeForms
 pub mod Wanted
 pub mod Apt
-pub mod Found
+pub mod PartsFound
 pub mod ValueRows
 pub mod ExitRows
 pub mod CallRows

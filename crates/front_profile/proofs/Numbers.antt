@@ -22,7 +22,7 @@ use Rattle.front_profile.specs.Definitions.{Definitions, Later}
 use Rattle.front_profile.specs.Numbers.{is_from, numbers_fit, Numbered}
 use Rattle.front_profile.proofs.Tests.{all_more}
 use Rattle.front_profile.proofs.Forms.{each_more}
-use Rattle.front_profile.proofs.Made.{listed, each_taken, each_dropped}
+use Rattle.front_profile.proofs.MadeForms.{listed, each_taken, each_dropped}
 use Rattle.front_profile.proofs.Matches.{new_variables}
 
 -- wider bounds

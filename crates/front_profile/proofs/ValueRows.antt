@@ -41,11 +41,11 @@ use Rattle.front_profile.proofs.Nodes.{sequence_nodes, clauses_nodes}
 use Rattle.front_profile.proofs.FoundNodes.{inner_plain, clauses_plain, forms_counted, found_one_nodes, found_two_nodes, found_with_body_nodes, found_clauses_nodes, enough_nodes, enough_more}
 use Rattle.front_profile.proofs.Good.{good_at_top}
 use Rattle.front_profile.proofs.Places.{variable_there, function_there}
-use Rattle.front_profile.proofs.Made.{OneStands, made_local, made_clauses, made_body}
+use Rattle.front_profile.proofs.MadeForms.{OneStands, made_local, made_clauses, made_body}
 use Rattle.front_profile.proofs.Wanted.{spots, AllApt, AptAt, Stage}
 use Rattle.front_profile.proofs.Apt.{apt_if, apt_within, apt_unsited, apt_literal, apt_made, plain_parts, apt_at_once, both_apt, below_apt, inner_apt}
 use Rattle.front_profile.proofs.Procedures.{inner_ordinary}
-use Rattle.front_profile.proofs.Found.{found_one, one_ends, found_two, found_with_body, found_inner, found_clauses}
+use Rattle.front_profile.proofs.PartsFound.{found_one, one_ends, found_two, found_with_body, found_inner, found_clauses}
 
 -- a symbol
 

@@ -1,5 +1,5 @@
 -- The object stands in the store.
-use Rattle.eval_store.proofs.Making.{placed_seen}
+use Rattle.eval_store.proofs.ObjectsMade.{placed_seen}
 use Rattle.eval_store.proofs.store.Store.add.Goals as goal
 
 pub returns-clause-ok : goal.returns-clause-ok

@@ -1,5 +1,5 @@
 -- The object stands in the store, and its words and units are counted.
-use Rattle.eval_store.proofs.Making.{made_seen}
+use Rattle.eval_store.proofs.ObjectsMade.{made_seen}
 use Rattle.eval_store.proofs.store.Store.make.Goals as goal
 
 pub returns-clause-answer : goal.returns-clause-answer

@@ -1,6 +1,6 @@
 -- The symbol stands in the store, and its serial is counted.
 use Rattle.std.proofs.Common.{arith}
-use Rattle.eval_store.proofs.Making.{symbol_seen, symbol_fails}
+use Rattle.eval_store.proofs.ObjectsMade.{symbol_seen, symbol_fails}
 use Rattle.eval_store.proofs.store.Store.make_symbol.Goals as goal
 
 pub returns-in-Ok-clause-answer : goal.returns-in-Ok-clause-answer

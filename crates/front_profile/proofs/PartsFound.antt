@@ -23,7 +23,7 @@ use Rattle.front_profile.specs.Definitions.{Definitions, defined}
 use Rattle.front_profile.specs.Places.{scope_of}
 use Rattle.front_profile.specs.Right.{RightIn, RightAt}
 use Rattle.front_profile.proofs.Matches.{new_variables, Spots, RightOutside, RightBelow, AllMatch, taken_front, dropped_front, below_match, inner_match, BodyThen, body_then}
-use Rattle.front_profile.proofs.Made.{OneStands, made_one, made_two, made_with_body, made_body}
+use Rattle.front_profile.proofs.MadeForms.{OneStands, made_one, made_two, made_with_body, made_body}
 use Rattle.front_profile.proofs.Wanted.{spots}
 
 -- one form, two, and a form with a body
