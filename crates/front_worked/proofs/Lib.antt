@@ -1,0 +1,10 @@
+pub mod Each
+pub mod FirstTables
+pub mod NameTables
+pub mod Sketches
+pub mod Judging
+pub mod Taking
+pub mod Program
+pub mod Library
+pub mod Calling
+pub mod Refused
