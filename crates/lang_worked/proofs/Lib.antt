@@ -2,3 +2,13 @@ pub mod Examples
 pub mod ExampleData
 pub mod ExampleFacts
 pub mod FlatExamples
+pub mod EachPlace
+pub mod FirstTables
+pub mod NameTables
+pub mod Sketches
+pub mod Judging
+pub mod Taking
+pub mod FileProgram
+pub mod FileLibrary
+pub mod FileCalling
+pub mod FileRefused

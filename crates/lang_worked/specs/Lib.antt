@@ -6,3 +6,9 @@ pub mod Data
 pub mod Programs
 pub mod Flat
 pub mod Frames
+pub mod FileParts
+pub mod FileNames
+pub mod FileStatements
+pub mod FileProgram
+pub mod FileLibrary
+pub mod FileRefused

@@ -1,6 +1,8 @@
-// Worked programs: what some programs that are written out by hand do, by the definitions of the meaning, and the same made flat.
+// Worked programs: what some programs that are written out by hand do, by the definitions of the meaning, and the same made flat; and
+// small files, from their bytes to what they do or to why they are refused.
 #![tactic(auto)]
 
+pub mod files;
 pub mod flat_programs;
 pub mod worked;
 

@@ -9,8 +9,8 @@ use Rattle.lang_classes.specs.InheritedSlots.{names_of, said_by, united}
 use Rattle.lang_classes.specs.InheritedClasses.{IsRow, IsBuiltIn, IsHierarchy, class_named, slot_limit}
 use Rattle.lang_classes.specs.InheritedBuiltIn.{AreNamed, built_in_own, own_initarg, texts_of}
 use Rattle.front_scope.specs.Scopes.{IsFirst}
-use Rattle.front_worked.specs.Names.{first_names, class_rows, classes, first}
-use Rattle.front_worked.proofs.Each.{same_at, all_at_most}
+use Rattle.lang_worked.specs.FileNames.{first_names, class_rows, classes, first}
+use Rattle.lang_worked.proofs.EachPlace.{same_at, all_at_most}
 
 in_range : (c : ℕ) (row : ClassRow) → slice_get class_rows c ≡ Some row → All (λ d. d ≤ c) row.precedence
 in_range c row h =

@@ -1,11 +1,11 @@
 // Of some files it is shown what they are: programs that do what is written, or refused. So what is said of files is met.
 
-ghost use Rattle.front_worked.specs.Library.{FileBehindLibrary};
-ghost use Rattle.front_worked.specs.Program.{FileIsProgram};
-ghost use Rattle.front_worked.specs.Refused.{FileIsRefused, FileIsRefusedBehindLibrary};
+ghost use Rattle.lang_worked.specs.FileLibrary.{FileBehindLibrary};
+ghost use Rattle.lang_worked.specs.FileProgram.{FileIsProgram};
+ghost use Rattle.lang_worked.specs.FileRefused.{FileIsRefused, FileIsRefusedBehindLibrary};
 
 /// A file with a function, a block with a cleanup and a condition, behind an empty library, is that program, and does what
-/// its comment in `specs/Program.antt` says.
+/// its comment in `specs/FileProgram.antt` says.
 pub fn law_file_is_program()
     ensures { FileIsProgram }
 {}
@@ -16,7 +16,7 @@ pub fn law_file_is_refused()
 {}
 
 /// The same file behind a library of two functions, which it calls, is that program, and does what its comment in
-/// `specs/Library.antt` says.
+/// `specs/FileLibrary.antt` says.
 pub fn law_file_behind_library()
     ensures { FileBehindLibrary }
 {}

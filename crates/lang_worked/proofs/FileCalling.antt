@@ -20,13 +20,13 @@ use Rattle.front_reader.specs.Reads.{ReadsNext}
 use Rattle.front_scope.specs.Scopes.{top, with_main}
 use Rattle.front_files.specs.declared.mode.Mode.TheVariants.{Run}
 use Rattle.front_files.specs.Verdicts.{FormTaken, at_end, form_taken, file_accepted}
-use Rattle.front_worked.specs.ByHand.{at}
-use Rattle.front_worked.specs.Library.{library_names, calling_text, calling_literals, calling_procedures, calling_functions, calling_sites, last_call, calling_program, FileBehindLibrary}
-use Rattle.front_worked.proofs.NameTables.{is_table}
-use Rattle.front_worked.proofs.Sketches.{Sketch, w, letter, group, begin, ◌&◌, lined, datum_of, next}
-use Rattle.front_worked.proofs.Taking.{ComesByTest, taken}
-use Rattle.front_worked.proofs.Program.{handler, calling}
-use Rattle.front_worked.proofs.Library.{behind_library, library_taken}
+use Rattle.lang_worked.specs.FileParts.{at}
+use Rattle.lang_worked.specs.FileLibrary.{library_names, calling_text, calling_literals, calling_procedures, calling_functions, calling_sites, last_call, calling_program, FileBehindLibrary}
+use Rattle.lang_worked.proofs.NameTables.{is_table}
+use Rattle.lang_worked.proofs.Sketches.{Sketch, w, letter, group, begin, ◌&◌, lined, datum_of, next}
+use Rattle.lang_worked.proofs.Taking.{ComesByTest, taken}
+use Rattle.lang_worked.proofs.FileProgram.{handler, calling}
+use Rattle.lang_worked.proofs.FileLibrary.{behind_library, library_taken}
 
 -- what is written
 

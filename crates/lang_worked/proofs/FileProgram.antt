@@ -20,13 +20,13 @@ use Rattle.front_reader.specs.Reads.{ReadsNext}
 use Rattle.front_scope.specs.Scopes.{top, with_main}
 use Rattle.front_files.specs.declared.mode.Mode.TheVariants.{Run}
 use Rattle.front_files.specs.Verdicts.{FormTaken, at_end, form_taken, file_accepted}
-use Rattle.front_worked.specs.Names.{first}
-use Rattle.front_worked.specs.ByHand.{at}
-use Rattle.front_worked.specs.Program.{program_text, program_names, program, program_literals, program_procedures, program_functions, function_sites, program_call, FileIsProgram}
-use Rattle.front_worked.proofs.NameTables.{is_table}
-use Rattle.front_worked.proofs.FirstTables.{is_first}
-use Rattle.front_worked.proofs.Sketches.{Sketch, w, number, letter, group, begin, ◌&◌, lined, datum_of, next}
-use Rattle.front_worked.proofs.Taking.{ComesByTest, taken}
+use Rattle.lang_worked.specs.FileNames.{first}
+use Rattle.lang_worked.specs.FileParts.{at}
+use Rattle.lang_worked.specs.FileProgram.{program_text, program_names, program, program_literals, program_procedures, program_functions, function_sites, program_call, FileIsProgram}
+use Rattle.lang_worked.proofs.NameTables.{is_table}
+use Rattle.lang_worked.proofs.FirstTables.{is_first}
+use Rattle.lang_worked.proofs.Sketches.{Sketch, w, number, letter, group, begin, ◌&◌, lined, datum_of, next}
+use Rattle.lang_worked.proofs.Taking.{ComesByTest, taken}
 
 -- what is written
 

@@ -11,9 +11,9 @@ use Rattle.lang_meaning.specs.Form.{Form, literal, local, lambda, call, prim, bl
 use Rattle.lang_meaning.specs.model.View.{forms}
 use Rattle.lang_meaning.specs.Meaning.{with_value}
 use Rattle.lang_meaning.specs.Values.{integer}
-use Rattle.front_worked.specs.ByHand.{name, at, a_symbol, a_character, a_number, a_function, body}
-use Rattle.front_worked.specs.Names.{first_names, class_rows}
-use Rattle.front_worked.specs.Statements.{IsProgram}
+use Rattle.lang_worked.specs.FileParts.{name, at, a_symbol, a_character, a_number, a_function, body}
+use Rattle.lang_worked.specs.FileNames.{first_names, class_rows}
+use Rattle.lang_worked.specs.FileStatements.{IsProgram}
 
 -- (defun f (x)
 --  (block b

@@ -19,12 +19,12 @@ use Rattle.front_reader.specs.Reads.{ReadsNext}
 use Rattle.front_scope.specs.Scopes.{top}
 use Rattle.front_files.specs.declared.mode.Mode.TheVariants.{Run}
 use Rattle.front_files.specs.Verdicts.{FormTaken, BehindPrelude, all_taken, at_end, form_taken}
-use Rattle.front_worked.specs.ByHand.{at, name}
-use Rattle.front_worked.specs.Names.{first}
-use Rattle.front_worked.specs.Library.{library_text, library_names, library_procedures, library_functions}
-use Rattle.front_worked.proofs.FirstTables.{is_first}
-use Rattle.front_worked.proofs.Sketches.{Sketch, w, group, begin, ◌&◌, datum_of, next}
-use Rattle.front_worked.proofs.Taking.{ComesByTest, taken}
+use Rattle.lang_worked.specs.FileParts.{at, name}
+use Rattle.lang_worked.specs.FileNames.{first}
+use Rattle.lang_worked.specs.FileLibrary.{library_text, library_names, library_procedures, library_functions}
+use Rattle.lang_worked.proofs.FirstTables.{is_first}
+use Rattle.lang_worked.proofs.Sketches.{Sketch, w, group, begin, ◌&◌, datum_of, next}
+use Rattle.lang_worked.proofs.Taking.{ComesByTest, taken}
 
 -- what is written
 

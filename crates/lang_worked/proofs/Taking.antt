@@ -14,7 +14,7 @@ use Rattle.front_scope.specs.Scopes.{top, with_main, nodes_of, most_nodes, cells
 use Rattle.front_files.specs.declared.mode.Mode.TheVariants.{Run}
 use Rattle.front_files.specs.Shown.{runs}
 use Rattle.front_files.specs.Verdicts.{FormTaken, FormRefused}
-use Rattle.front_worked.proofs.Judging.{comes_to, comes}
+use Rattle.lang_worked.proofs.Judging.{comes_to, comes}
 
 -- what is found under the names and any more
 abbrev pub ComesByTest : List (List ℕ) → Around → Tables → Item → Verdict → Type 0

@@ -3,8 +3,8 @@ use Rattle.std.specs.Prelude.{ℕ, List, [], ◌++◌, codes}
 use Rattle.base.specs.declared.reason.Reason.TheVariants.{UnknownBlock, ReservedName}
 use Rattle.front_files.specs.declared.mode.Mode.TheVariants.{Run}
 use Rattle.front_files.specs.Verdicts.{Refuses}
-use Rattle.front_worked.specs.ByHand.{at}
-use Rattle.front_worked.specs.Library.{library_text}
+use Rattle.lang_worked.specs.FileParts.{at}
+use Rattle.lang_worked.specs.FileLibrary.{library_text}
 
 -- (defun f (x) x)
 -- (f (return-from b 5))

@@ -20,16 +20,16 @@ use Rattle.front_scope.specs.Scopes.{top, with_main}
 use Rattle.front_files.specs.declared.mode.Mode.TheVariants.{Run}
 use Rattle.base.specs.declared.reason.Reason.TheVariants.{UnknownBlock, ReservedName}
 use Rattle.front_files.specs.Verdicts.{FormTaken, FormRefused, at_end, form_taken, form_refused, file_refused}
-use Rattle.front_worked.specs.ByHand.{at, name, a_symbol, a_function, body}
-use Rattle.front_worked.specs.Names.{first, first_names}
-use Rattle.front_worked.specs.Library.{library_names}
-use Rattle.front_worked.specs.Refused.{no_block_text, library_name_text, FileIsRefused, FileIsRefusedBehindLibrary}
-use Rattle.front_worked.proofs.NameTables.{is_table}
-use Rattle.front_worked.proofs.FirstTables.{is_first}
-use Rattle.front_worked.proofs.Sketches.{Sketch, w, number, group, begin, ◌&◌, datum_of, next}
-use Rattle.front_worked.proofs.Taking.{ComesByTest, taken, is_refused}
-use Rattle.front_worked.proofs.Library.{behind_library, library_taken}
-use Rattle.front_worked.proofs.Calling.{library_names_are}
+use Rattle.lang_worked.specs.FileParts.{at, name, a_symbol, a_function, body}
+use Rattle.lang_worked.specs.FileNames.{first, first_names}
+use Rattle.lang_worked.specs.FileLibrary.{library_names}
+use Rattle.lang_worked.specs.FileRefused.{no_block_text, library_name_text, FileIsRefused, FileIsRefusedBehindLibrary}
+use Rattle.lang_worked.proofs.NameTables.{is_table}
+use Rattle.lang_worked.proofs.FirstTables.{is_first}
+use Rattle.lang_worked.proofs.Sketches.{Sketch, w, number, group, begin, ◌&◌, datum_of, next}
+use Rattle.lang_worked.proofs.Taking.{ComesByTest, taken, is_refused}
+use Rattle.lang_worked.proofs.FileLibrary.{behind_library, library_taken}
+use Rattle.lang_worked.proofs.FileCalling.{library_names_are}
 
 -- the file whose second form is refused
 

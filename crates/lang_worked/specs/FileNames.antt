@@ -8,7 +8,7 @@ use Rattle.lang_classes.specs.InheritedClasses.{Hierarchy}
 use Rattle.front_profile.specs.declared.tables.ReservedWords.{ReservedWords}
 use Rattle.front_profile.specs.declared.tables.Tables.{Tables}
 use Rattle.front_scope.specs.Scopes.{first_tables}
-use Rattle.front_worked.specs.ByHand.{name}
+use Rattle.lang_worked.specs.FileParts.{name}
 
 -- the classes' names are 0 to 33, those of their slots 34 to 38, and the words that no variable has 39 to 41
 abbrev pub first_names : List (List ℕ)

@@ -1,0 +1,5 @@
+use Rattle.lang_worked.proofs.FileRefused.{file_is_refused_behind_library}
+use Rattle.lang_worked.proofs.files.law_file_is_refused_behind_library.Goals as goal
+
+pub returns : goal.returns
+returns c = file_is_refused_behind_library
